@@ -1,0 +1,60 @@
+-- What digits write, read from the front, and the last digits of a number.
+use Rattle.std.proofs.Common.{◌≡◌, ℕ, ◌+◌, ◌-◌, ◌*◌, ◌/◌, ◌%◌, ◌<◌, ◌≤◌, Bool, true, false, ◌&&◌, List, [], ◌∷◌, ◌++◌, length, get_or, take, drop, map, refl, sym, ap, subst, ◌∙◌, arith, length-append, suc, zero}
+use Rattle.std.specs.Char.{digit_value}
+use Rattle.std.specs.List.{list_all}
+use Rattle.std.specs.Int.Digits.{number_from_digits_after}
+use Rattle.std.proofs.lemmas.Int.Digits.{digits_value_is, digits_value_more, number_after_append, number_after_ge}
+use Rattle.std.proofs.lemmas.Str.{digit_value_digit}
+use Rattle.std.proofs.lemmas.Bool.{false≢true}
+use Rattle.std.proofs.lemmas.Bool.Decides.{nat_tests}
+use Rattle.std.proofs.lemmas.List.{take-append-drop, map-append}
+use Rattle.std.proofs.lemmas.List.Folds.{list_all_at}
+use Rattle.th_units.specs.Lens.{is_digit, are_digits, number}
+use Rattle.th_units.specs.Metres.{last_digits}
+
+-- a test that each element passes is passed at each place
+pub list_all-get_or : (p : ℕ → Bool) (xs : List ℕ) (i : ℕ) → i < length xs → list_all p xs ≡ true → p (get_or xs i 0) ≡ true
+list_all-get_or p xs i within passes =
+    elim (p (get_or xs i 0)) as (λ b. p (get_or xs i 0) ≡ b → b ≡ true) [
+      | true ↦ λ e. refl
+      | false ↦ λ e. absurd (false≢true (sym (list_all_at p xs i 0 within e) ∙ passes))
+    ] refl
+
+-- a byte that passes the test for digits lies from 48 to 57
+pub digit_bounds : (byte : ℕ) → is_digit byte ≡ true → (48 ≤ byte) × (byte ≤ 57)
+digit_bounds byte h = (grind (arith, nat_tests), grind (arith, nat_tests))
+
+-- each of the bytes that are digits lies from 48 to 57
+pub digits_at : (bytes : List ℕ) (i : ℕ) → are_digits bytes ≡ true → i < length bytes → (48 ≤ get_or bytes i 0) × (get_or bytes i 0 ≤ 57)
+digits_at bytes i h within = digit_bounds (get_or bytes i 0) (list_all-get_or is_digit bytes i within (second_test _ _ h))
+  where
+    second_test : (a b : Bool) → (a && b) ≡ true → b ≡ true
+    second_test true b h = h
+    second_test false b h = absurd (false≢true h)
+
+-- one more digit: ten times the number so far, plus the digit
+pub number_more : (bytes : List ℕ) (i : ℕ) → are_digits bytes ≡ true → i < length bytes → number (take (i + 1) bytes) ≡ 10 * number (take i bytes) + (get_or bytes i 0 - 48)
+number_more bytes i h within =
+    let bounds : (48 ≤ get_or bytes i 0) × (get_or bytes i 0 ≤ 57) = digits_at bytes i h within in
+    let value : digit_value (get_or bytes i 0) + 48 ≡ get_or bytes i 0 = digit_value_digit (get_or bytes i 0) bounds in
+    omega (arith, digits_value_more 10 bytes i within)
+
+-- a front of some digits writes no larger number
+pub number_front : (bytes : List ℕ) (i : ℕ) → number (take i bytes) ≤ number bytes
+number_front bytes i =
+    let P : List ℕ → Type 0 = λ whole. number (take i bytes) ≤ number whole in
+    subst P (take-append-drop i bytes) (grows (take i bytes) (drop i bytes))
+  where
+    grows : (front rest : List ℕ) → number front ≤ number (front ++ rest)
+    grows front rest =
+        let joined : number (front ++ rest) ≡ number_from_digits_after 10 (number front) (map digit_value rest) =
+        digits_value_is 10 (front ++ rest) ∙ ap (number_from_digits_after 10 0) (map-append digit_value front rest)
+        ∙ number_after_append 10 0 (map digit_value front) (map digit_value rest)
+        ∙ ap (λ n. number_from_digits_after 10 n (map digit_value rest)) (sym (digits_value_is 10 front)) in
+        omega (arith, joined, number_after_ge 10 (number front) (map digit_value rest) (omega arith))
+
+pub length-last_digits : (count n : ℕ) → length (last_digits count n) ≡ count
+unfolding last_digits
+length-last_digits zero n = refl
+length-last_digits (suc count) n =
+    omega (arith, length-append (last_digits count (n / 10)) ((48 + n % 10) ∷ []), length-last_digits count (n / 10))

@@ -1,0 +1,31 @@
+use Rattle.std.specs.Prelude.{ℕ, ℤ, pos, neg_ℤ, ◌*◌, ◌&&◌, Bool, List, length, Result, Ok, Err, if◌then◌else◌, nat_le, nat_lt}
+use Rattle.std.specs.List.{list_all}
+use Rattle.std.specs.Str.Parse.{digits_value}
+use Rattle.th_units.specs.Units.{step}
+use Rattle.th_units.specs.declared.units.Unit.{Unit}
+use Rattle.th_units.specs.declared.lens.LenFault.{LenFault}
+use Rattle.th_units.specs.declared.lens.LenFault.TheVariants.{NotDigits, TooLarge}
+use Rattle.th_units.specs.declared.lens.TheConstants.{MAX_LEN}
+
+-- one of the characters '0' to '9'
+abbrev pub is_digit : ℕ → Bool
+is_digit byte = nat_le 48 byte && nat_le byte 57
+
+-- at least one byte, and each a digit
+abbrev pub are_digits : List ℕ → Bool
+are_digits bytes = nat_lt 0 (length bytes) && list_all is_digit bytes
+
+-- the number that digits write, with any number of zeros before it
+abbrev pub number : List ℕ → ℕ
+number digits = digits_value 10 digits
+
+-- a size with its sign: minus zero is zero
+abbrev pub signed : Bool → ℕ → ℤ
+signed negative size = if negative then neg_ℤ (pos size) else pos size
+
+-- sign times number times step, where the bytes are digits and the size is within the limit
+abbrev pub length_of : Bool → List ℕ → Unit → Result ℤ LenFault
+length_of negative digits unit =
+    if are_digits digits
+    then (if nat_le (number digits * step unit) MAX_LEN then Ok (signed negative (number digits * step unit)) else Err TooLarge)
+    else Err NotDigits

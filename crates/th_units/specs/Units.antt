@@ -1,0 +1,21 @@
+use Rattle.std.specs.Prelude.{ℕ, Option, Some, None, if◌then◌else◌, ◌==◌}
+use Rattle.th_units.specs.declared.units.Unit.{Unit}
+use Rattle.th_units.specs.declared.units.Unit.TheVariants.{Mm, MilliFoot, TenthMm, TenMilliFoot, HundredthMm}
+
+-- how long one of a unit is, in units of 10 nm; a foot is 0.3048 m
+abbrev pub step : Unit → ℕ
+step Mm = 100000
+step MilliFoot = 30480
+step TenthMm = 10000
+step TenMilliFoot = 3048
+step HundredthMm = 1000
+
+-- the unit that the characters '0', '1', '6', '7' and '8' stand for
+abbrev pub unit_of : ℕ → Option Unit
+unit_of code =
+    if code == 48 then Some Mm
+    else (if code == 49 then Some MilliFoot
+    else (if code == 54 then Some TenthMm
+    else (if code == 55 then Some TenMilliFoot
+    else (if code == 56 then Some HundredthMm
+    else None))))

@@ -1,0 +1,16 @@
+//! Lengths in whole units of ten nanometres, and the texts in metres that show them.
+//!
+//! A metre is 100,000,000 units, so each unit of length that a total station writes is a whole
+//! number of units, and nothing here rounds. A length of a book is a `Len`, whose type keeps it
+//! within 10 km of zero.
+#![tactic(auto)]
+
+mod lens;
+mod metres;
+#[cfg(test)]
+mod tests;
+mod units;
+
+pub use lens::{Len, LenFault, MAX_LEN, to_len};
+pub use metres::{MetreText, metre_text};
+pub use units::{Unit, step, unit_of};

@@ -1,0 +1,42 @@
+ghost use Rattle.std.specs.Prelude.{◌≡◌, pos};
+ghost use Rattle.th_units.specs.Units.{step, unit_of};
+
+/// The unit of a book's length: what one of its last digit stands for.
+///
+/// The codes are those of the Leica GSI Online manual, position 6 of a data word. Feet are
+/// international feet of 0.3048 m; codes of other units have no meaning here.
+#[derive(Clone, Copy, Debug, PartialEq, Eq)]
+pub enum Unit {
+    Mm,
+    MilliFoot,
+    TenthMm,
+    TenMilliFoot,
+    HundredthMm,
+}
+
+/// The unit with this ASCII character as its code, if there is one.
+pub fn unit_of(code: u8) -> Option<Unit>
+    ensures { result ≡ unit_of code }
+{
+    match code {
+        b'0' => Some(Unit::Mm),
+        b'1' => Some(Unit::MilliFoot),
+        b'6' => Some(Unit::TenthMm),
+        b'7' => Some(Unit::TenMilliFoot),
+        b'8' => Some(Unit::HundredthMm),
+        _ => None,
+    }
+}
+
+/// How long one of a unit is, in units of 10 nm.
+pub fn step(unit: Unit) -> i64
+    ensures { result ≡ pos (step unit) }
+{
+    match unit {
+        Unit::Mm => 100_000,
+        Unit::MilliFoot => 30_480,
+        Unit::TenthMm => 10_000,
+        Unit::TenMilliFoot => 3_048,
+        Unit::HundredthMm => 1_000,
+    }
+}
