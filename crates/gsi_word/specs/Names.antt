@@ -1,0 +1,26 @@
+use Rattle.std.specs.Prelude.{ℕ, ◌-◌, ◌==◌, not, List, [], ◌∷◌, length, Option, Some, None, if◌then◌else◌, nat_lt, take, drop}
+use Rattle.std.specs.List.{list_all, list_any, prefix_len, suffix_len}
+use Rattle.gsi_word.specs.Bytes.{is_data, is_padding, is_space, is_zero}
+use Rattle.gsi_word.specs.declared.names.TheConstants.{MAX_NAME}
+
+-- bytes without their leading run of zeros and spaces
+abbrev pub without_leading : List ℕ → List ℕ
+without_leading bytes = drop (prefix_len is_padding bytes) bytes
+
+-- bytes without their trailing spaces
+abbrev pub without_trailing : List ℕ → List ℕ
+without_trailing bytes = take (length bytes - suffix_len is_space bytes) bytes
+
+-- the reduced form of some data, before it is asked whether it is empty or too long
+abbrev pub reduced : List ℕ → List ℕ
+reduced bytes = without_trailing (without_leading bytes)
+
+-- The name of some data is its reduced form, or `0` where only zeros and spaces were there, at least one zero.
+-- There is none where there is no byte or only spaces, a byte that is not printable, or more than sixteen bytes are left.
+abbrev pub name_of : List ℕ → Option (List ℕ)
+name_of bytes =
+    let name = reduced bytes in
+    if not (list_all is_data bytes) then None
+    else (if length name == 0 then (if list_any is_zero bytes then Some (48 ∷ []) else None)
+    else (if nat_lt MAX_NAME (length name) then None
+    else Some name))

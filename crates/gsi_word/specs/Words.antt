@@ -1,0 +1,66 @@
+use Rattle.std.specs.Prelude.{◌≡◌, ℕ, ◌+◌, ◌==◌, not, Bool, true, List, length, Result, Ok, Err, if◌then◌else◌, nat_lt, slice_index, slice_range, take, drop}
+use Rattle.std.specs.List.{list_all}
+use Rattle.std.specs.Result.{result_map_both}
+use Rattle.th_units.specs.Lens.{is_digit, number}
+use Rattle.gsi_word.specs.Bytes.{is_info, is_sign, is_data}
+use Rattle.gsi_word.specs.declared.words.Width.{Width}
+use Rattle.gsi_word.specs.declared.words.Width.TheVariants.{Eight, Sixteen}
+use Rattle.gsi_word.specs.declared.words.Word.{Word}
+use Rattle.gsi_word.specs.declared.words.WordFault.{WordFault}
+use Rattle.gsi_word.specs.declared.words.WordFault.TheVariants.{Short, BadIndex, BadInfo, BadSign, BadData}
+
+-- a word's parts: the index, the information of positions 3 to 6, whether the sign is a minus, and the data
+pub record Parts : Type 0 where
+  pub index : ℕ
+  pub info : List ℕ
+  pub negative : Bool
+  pub body : List ℕ
+
+-- the parts of a word of the code
+abbrev pub parts_of : Word → Parts
+parts_of word = record { index = word.index; info = word.info; negative = word.negative; body = word.body.now }
+
+-- a result whose value is seen by a function
+abbrev pub result_map : {A B E : Type 0} → (A → B) → Result A E → Result B E
+result_map see result = result_map_both see (λ fault. fault) result
+
+-- how many bytes of data a word has
+abbrev pub data_len : Width → ℕ
+data_len Eight = 8
+data_len Sixteen = 16
+
+-- how many bytes a spelling has: two of the index, four of information, the sign, and the data
+abbrev pub spelling_len : Width → ℕ
+spelling_len width = 7 + data_len width
+
+-- the bytes are a word's spelling, place by place
+pub record Spells (word : Parts) (bytes : List ℕ) (width : Width) : Type 0 where
+  pub length : length bytes ≡ spelling_len width
+  pub index_digits : list_all is_digit (take 2 bytes) ≡ true
+  pub index : word.index ≡ number (take 2 bytes)
+  pub info_bytes : list_all is_info word.info ≡ true
+  pub info : word.info ≡ slice_range bytes 2 6
+  pub sign : is_sign (slice_index bytes 6) ≡ true
+  pub negative : word.negative ≡ (slice_index bytes 6 == 45)
+  pub body_bytes : list_all is_data word.body ≡ true
+  pub body : word.body ≡ drop 7 bytes
+
+-- the parts that stand in a spelling's places
+abbrev pub parts_in : List ℕ → Parts
+parts_in bytes = record {
+  index = number (take 2 bytes);
+  info = slice_range bytes 2 6;
+  negative = slice_index bytes 6 == 45;
+  body = drop 7 bytes;
+}
+
+-- the word that the front of the bytes spells, or the first part that holds a byte not allowed there
+abbrev pub word_at : Width → List ℕ → Result Parts WordFault
+word_at width bytes =
+    let spelling = take (spelling_len width) bytes in
+    if nat_lt (length bytes) (spelling_len width) then Err Short
+    else (if not (list_all is_digit (take 2 spelling)) then Err BadIndex
+    else (if not (list_all is_info (slice_range spelling 2 6)) then Err BadInfo
+    else (if not (is_sign (slice_index spelling 6)) then Err BadSign
+    else (if not (list_all is_data (drop 7 spelling)) then Err BadData
+    else Ok (parts_in spelling)))))

@@ -1,0 +1,13 @@
+//! The words of a GSI block: how they are spelled, and the names and the lengths that they hold.
+//!
+//! A word is read from the front of its line's bytes and lends its data from them, so nothing is
+//! copied. A `Name` is a point's name in reduced form, with a value of its own.
+#![tactic(auto)]
+
+mod data;
+mod names;
+mod words;
+
+pub use data::LengthFault;
+pub use names::MAX_NAME;
+pub use words::{Width, Word, WordFault};

@@ -1,0 +1,108 @@
+ghost use Rattle.std.specs.Prelude.{◌≡◌, ◌<◌, ◌==◌, ◌||◌, IsTrue, length};
+ghost use Rattle.std.specs.List.{list_all};
+ghost use Rattle.gsi_word.specs.Bytes.{is_info, is_sign, is_data};
+
+use std::default::Default;
+
+/// How many bytes of data a word has: 8 in GSI-8, 16 in GSI-16 (Leica GSI Online manual, word format).
+#[derive(Clone, Copy, Debug, PartialEq, Eq)]
+pub enum Width {
+    Eight,
+    Sixteen,
+}
+
+impl Width {
+    ghost use Rattle.gsi_word.specs.Words.{spelling_len};
+
+    /// How many bytes a spelling has, without the space that closes it in its block.
+    pub fn spelling_len(self) -> usize
+        ensures { result ≡ spelling_len self }
+    {
+        match self {
+            Width::Eight => 15,
+            Width::Sixteen => 23,
+        }
+    }
+}
+
+/// Why the front of some bytes spells no word: the first part that holds a byte not allowed there.
+#[derive(Clone, Copy, Debug, PartialEq, Eq)]
+pub enum WordFault {
+    /// There are fewer bytes than a spelling has.
+    Short,
+    /// Positions 1 and 2 are not two digits.
+    BadIndex,
+    /// Positions 3 to 6 hold another byte than a digit or a dot.
+    BadInfo,
+    /// Position 7 is neither `+` nor `-`.
+    BadSign,
+    /// The data hold a byte that is not printable ASCII.
+    BadData,
+}
+
+/// A word of a block, with its data lent from the line that it was read from.
+#[derive(Clone, Copy, Debug)]
+pub struct Word<'a> {
+    index: u8,
+    info: [u8; 4],
+    negative: bool,
+    body: &'a [u8],
+    ghost index_in_range: { index < 100 },
+    ghost info_allowed: { IsTrue (list_all is_info info) },
+    ghost body_long: { IsTrue ((length body.now == 8) || (length body.now == 16)) },
+    ghost body_allowed: { IsTrue (list_all is_data body.now) },
+}
+
+impl<'a> Word<'a> {
+    ghost use Rattle.gsi_word.specs.Words.{parts_of, data_len};
+
+    /// The word index of positions 1 and 2.
+    pub fn index(&self) -> u8
+        ensures { result ≡ (parts_of self.now).index }
+    {
+        self.index
+    }
+
+    /// The information of positions 3 to 6, each a digit or a dot.
+    pub fn info(&self) -> [u8; 4]
+        ensures { result ≡ (parts_of self.now).info }
+    {
+        self.info
+    }
+
+    /// Whether the sign of position 7 is a minus.
+    pub fn negative(&self) -> bool
+        ensures { result ≡ (parts_of self.now).negative }
+    {
+        self.negative
+    }
+
+    /// The data, 8 or 16 printable bytes.
+    pub fn body(&self) -> &'a [u8]
+        ensures { result.now ≡ (parts_of self.now).body }
+    {
+        self.body
+    }
+
+    /// The width whose data these are.
+    pub fn width(&self) -> Width
+        ensures { data_len result ≡ length (parts_of self.now).body }
+    {
+        if self.body.len() == 8 {
+            Width::Eight
+        } else {
+            Width::Sixteen
+        }
+    }
+}
+
+impl Default for Word<'_> {
+    fn default() -> Self {
+        Word {
+            index: 0,
+            info: *b"....",
+            negative: false,
+            body: b"00000000",
+        }
+    }
+}
