@@ -1,0 +1,76 @@
+use Rattle.std.specs.Prelude.{◌≡◌, ℕ, ◌+◌, ◌==◌, ◌≤◌, Bool, IsTrue, List, [], ◌∷◌, ◌++◌, length, map, Option, Some, None, Result, Ok, Err, if◌then◌else◌, nat_lt, slice_index, drop, zero, suc}
+use Rattle.std.specs.List.{list_all}
+use Rattle.std.specs.Result.{result_map_both}
+use Rattle.gsi_word.specs.Bytes.{is_space}
+use Rattle.gsi_word.specs.Words.{Parts, Spells, parts_of, result_map, spelling_len, word_at}
+use Rattle.gsi_word.specs.declared.words.Width.{Width}
+use Rattle.gsi_word.specs.declared.words.Width.TheVariants.{Eight, Sixteen}
+use Rattle.gsi_word.specs.declared.words.WordFault.TheVariants.{Short}
+use Rattle.gsi_word.specs.declared.words.WordFault.{WordFault}
+use Rattle.gsi_block.specs.declared.blocks.Block.{Block}
+use Rattle.gsi_block.specs.declared.blocks.BlockFault.{BlockFault}
+use Rattle.gsi_block.specs.declared.blocks.BlockFault.TheVariants.{BadWord, TooManyWords, LineTooLong, BadSeparator}
+use Rattle.gsi_block.specs.declared.blocks.TheConstants.{MAX_LINE, MAX_WORDS}
+
+-- what a line says as a block: the width of its words, and their parts from left to right
+pub record BlockParts : Type 0 where
+  pub width : Width
+  pub words : List Parts
+
+-- the parts of a block of the code
+abbrev pub parts_in : Block → BlockParts
+parts_in block = record { width = block.width; words = map parts_of block.words.items }
+
+-- the mark of a GSI-16 block
+abbrev pub is_star : ℕ → Bool
+is_star byte = byte == 42
+
+-- nothing but spaces, or nothing at all
+abbrev pub is_blank : List ℕ → Bool
+is_blank bytes = list_all is_space bytes
+
+-- Word k and those behind it: nothing but spaces may follow it, or one space and then further words.
+abbrev pub word_and_further : ℕ → Result Parts WordFault → List ℕ → Result (List Parts) BlockFault → Result (List Parts) BlockFault
+word_and_further k (Err fault) after further = Err (BadWord k fault)
+word_and_further k (Ok word) after further =
+    if is_blank after then Ok (word ∷ [])
+    else (if is_space (slice_index after 0) then result_map (λ words. word ∷ words) further
+    else Err (BadSeparator k))
+
+-- the words from word k on, which begins where the bytes begin, while `room` more may stand; or the first reason from the left why they are none
+unfoldable pub words_from : ℕ → Width → ℕ → List ℕ → Result (List Parts) BlockFault
+words_from zero width k bytes = Err TooManyWords
+words_from (suc room) width k bytes =
+    let after = drop (spelling_len width) bytes in
+    word_and_further k (word_at width bytes) after (words_from room width (k + 1) (drop 1 after))
+
+-- the block of these words
+abbrev pub block_of : Width → List ℕ → Result (Option BlockParts) BlockFault
+block_of width bytes = result_map (λ words. Some (record { width = width; words = words })) (words_from MAX_WORDS width 1 bytes)
+
+-- A line says nothing where it is blank, and else a block: with a star before its words where they are GSI-16. A star alone is too short for a word.
+abbrev pub block_at : List ℕ → Result (Option BlockParts) BlockFault
+block_at line =
+    if nat_lt MAX_LINE (length line) then Err LineTooLong
+    else (if is_blank line then Ok None
+    else (if is_star (slice_index line 0) then (if is_blank (drop 1 line) then Err (BadWord 1 Short) else block_of Sixteen (drop 1 line))
+    else block_of Eight line))
+
+-- what stands before the words of a width
+abbrev pub mark : Width → List ℕ
+mark Eight = []
+mark Sixteen = 42 ∷ []
+
+-- the spellings of some words, one space between two neighbours, and then any number of spaces
+abbrev pub SpellsRow : Width → List Parts → List ℕ → Type 0
+SpellsRow width [] bytes = ⊥
+SpellsRow width (word ∷ []) bytes =
+    (spelling : List ℕ) × (spaces : List ℕ) × Spells word spelling width × IsTrue (is_blank spaces) × (bytes ≡ spelling ++ spaces)
+SpellsRow width (word ∷ next ∷ words) bytes =
+    (spelling : List ℕ) × (rest : List ℕ) × Spells word spelling width × SpellsRow width (next ∷ words) rest × (bytes ≡ spelling ++ 32 ∷ rest)
+
+-- the line is a block of these words
+pub record IsBlock (line : List ℕ) (block : BlockParts) : Type 0 where
+  pub short : length line ≤ MAX_LINE
+  pub few : length block.words ≤ MAX_WORDS
+  pub row : (bytes : List ℕ) × (line ≡ mark block.width ++ bytes) × SpellsRow block.width block.words bytes
