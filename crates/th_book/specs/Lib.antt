@@ -1,0 +1,5 @@
+pub mod Observed
+pub mod Lines
+pub mod Places
+pub mod Faults
+pub mod Books

@@ -1,0 +1,42 @@
+use gsi_block::BlockFault;
+
+/// The most bytes that a book has: 64 MiB.
+pub const MAX_BOOK: usize = 67_108_864;
+
+/// What a line of a book breaks; of several, the first of this order.
+#[derive(Clone, Copy, Debug, PartialEq, Eq)]
+pub enum BookKind {
+    /// B1: the line is neither blank nor a block.
+    Block(BlockFault),
+    /// B2: two counting words have one index of 33 and 84 to 88.
+    RepeatedWord,
+    /// B3: the first word of a sight or a setup is no point number.
+    NoPointNumber,
+    /// B4: the first word of a sight or a setup gives no name.
+    BadName,
+    /// B5: the data of a counting word 33, 87 or 88 are not all digits.
+    BadNumber,
+    /// B6: the unit of a counting word 33, 87 or 88 is none of a book's.
+    BadUnit,
+    /// B7: a counting word 33, 87 or 88 is more than 10 km.
+    TooLarge,
+    /// B8: no setup stands before the sight.
+    SightBeforeSetup,
+    /// B9: no instrument height stands from the setup to the sight.
+    NoInstrumentHeight,
+    /// B10: no reflector height stands from the setup to the sight.
+    NoReflectorHeight,
+    /// B11: the sight's station and target have one name.
+    SightToItself,
+    /// B12: the book has more than 64 MiB. It stands at line 0 and comes before all others.
+    BookTooLong,
+    /// Memory for an observation was refused.
+    NoMemory,
+}
+
+/// The first fault of a book, and its line from 1.
+#[derive(Clone, Copy, Debug, PartialEq, Eq)]
+pub struct BookFault {
+    pub line: u32,
+    pub kind: BookKind,
+}

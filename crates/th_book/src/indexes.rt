@@ -1,0 +1,22 @@
+//! The word indexes that have a meaning in a book (Leica GSI Online manual, table of word indexes).
+
+/// A point's number: the name of a station or a target.
+pub const POINT_NUMBER: u8 = 11;
+
+/// The height difference, in this project's profile from the tilting axis to the reflector.
+pub const HEIGHT_DIFFERENCE: u8 = 33;
+
+/// The station's easting, which only marks a setup.
+pub const STATION_EASTING: u8 = 84;
+
+/// The station's northing, which only marks a setup.
+pub const STATION_NORTHING: u8 = 85;
+
+/// The station's height, which only marks a setup.
+pub const STATION_HEIGHT: u8 = 86;
+
+/// The height of the reflector above the target.
+pub const REFLECTOR_HEIGHT: u8 = 87;
+
+/// The height of the instrument's tilting axis above the station.
+pub const INSTRUMENT_HEIGHT: u8 = 88;

@@ -1,0 +1,14 @@
+//! The observations of a book: the height differences from its setups to the points sighted.
+//!
+//! A `Book` takes the lines of a book one by one and keeps what a later sight needs: the station,
+//! the last instrument height and the last reflector height. `read_book` reads a whole book.
+#![tactic(auto)]
+
+mod faults;
+mod indexes;
+
+pub use faults::{BookFault, BookKind, MAX_BOOK};
+pub use indexes::{
+    HEIGHT_DIFFERENCE, INSTRUMENT_HEIGHT, POINT_NUMBER, REFLECTOR_HEIGHT, STATION_EASTING,
+    STATION_HEIGHT, STATION_NORTHING,
+};
