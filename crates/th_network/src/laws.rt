@@ -1,0 +1,54 @@
+//! Laws over the definitions alone. A law is its contract: it calls nothing and computes nothing.
+
+ghost use Rattle.std.specs.Prelude.{◌≡◌, ℕ, ℤ, ◌-ℤ◌, List};
+ghost use Rattle.th_book.specs.Observed.{Observed};
+ghost use Rattle.th_network.specs.Tables.{BenchmarkRows, WeightRows};
+ghost use Rattle.th_network.specs.Faults.{NetFault, HasFault, IsNetwork};
+ghost use Rattle.th_network.specs.Heights.{IsHeights, residual, Least, LeastFine};
+ghost use Rattle.th_network.specs.Circulation.{Circulation, Shows};
+ghost use Rattle.th_network.specs.Links.{IsRelative, link_difference};
+
+/// Observations and benchmarks have one fault at most, and where they make a network they have none.
+pub fn faults_exclude_each_other()
+    ensures one { (observations : List Observed) (benchmarks : BenchmarkRows)
+        (first second : NetFault)
+        → HasFault observations benchmarks first
+        → HasFault observations benchmarks second
+        → first ≡ second }
+    ensures none { (observations : List Observed) (benchmarks : BenchmarkRows)
+        → IsNetwork observations benchmarks
+        → (fault : NetFault) → ¬ HasFault observations benchmarks fault }
+{}
+
+/// A circulation that shows heights proves that no others cost less, in whole units or finer ones.
+///
+/// This is complementary slackness (Ahuja, Magnanti and Orlin, Network Flows, section 9.3), used for
+/// least absolute residuals: whatever the heights, each weighted size of a residual is at least the
+/// flow times that residual. The flows are in balance, so the sum of these products is the same for
+/// all heights that keep the benchmarks, and at the heights that are shown it is their cost.
+pub fn circulation_shows_least()
+    ensures { (observations : List Observed) (benchmarks : BenchmarkRows) (weights : WeightRows)
+        (heights : List ℕ → ℤ) (flows : List ℤ)
+        → IsHeights benchmarks heights
+        → Circulation observations benchmarks weights flows
+        → Shows observations weights flows heights
+        → LeastFine observations benchmarks weights heights }
+{}
+
+/// Heights that are least in every finer unit are least among whole numbers.
+pub fn least_in_finer_units_is_least()
+    ensures { (observations : List Observed) (benchmarks : BenchmarkRows) (weights : WeightRows)
+        (heights : List ℕ → ℤ)
+        → LeastFine observations benchmarks weights heights
+        → Least observations benchmarks weights heights }
+{}
+
+/// An observation's residual is that of its link, with heights relative to the benchmarks: the
+/// benchmarks' heights may be taken out of the differences, and every benchmark set to zero.
+pub fn link_keeps_residual()
+    ensures { (o : Observed) (benchmarks : BenchmarkRows) (heights relative : List ℕ → ℤ)
+        → IsHeights benchmarks heights
+        → IsRelative benchmarks heights relative
+        → residual o heights
+        ≡ link_difference benchmarks o -ℤ (relative o.target -ℤ relative o.station) }
+{}
