@@ -1,5 +1,5 @@
 -- What the places of a spelling hold, in terms of the bytes from which it is read.
-use Rattle.std.proofs.Common.{◌≡◌, ℕ, ◌+◌, ◌*◌, ◌-◌, ◌<◌, ◌≤◌, Bool, true, false, not, nat_lt, if◌then◌else◌, ◌==◌, List, [], ◌∷◌, length, get_or, take, drop, Result, Ok, Err, refl, ◌∙◌, arith}
+use Rattle.std.proofs.Common.{◌≡◌, ℕ, ◌+◌, ◌*◌, ◌-◌, ◌≤◌, true, false, not, nat_lt, if◌then◌else◌, ◌==◌, List, [], ◌∷◌, length, get_or, Result, Ok, Err, refl, ◌∙◌, arith}
 use Rattle.std.specs.List.{list_all, slice_range}
 use Rattle.std.proofs.lemmas.Bool.Decides.{nat_tests}
 use Rattle.std.specs.Char.{digit_value}
@@ -11,7 +11,7 @@ use Rattle.gsi_word.specs.Words.{Parts, spelling_len, word_at}
 use Rattle.gsi_word.specs.declared.words.Width.{Width}
 use Rattle.gsi_word.specs.declared.words.Width.TheVariants.{Eight, Sixteen}
 use Rattle.gsi_word.specs.declared.words.WordFault.{WordFault}
-use Rattle.gsi_word.specs.declared.words.WordFault.TheVariants.{Short, BadIndex, BadInfo, BadSign, BadData}
+use Rattle.gsi_word.specs.declared.words.WordFault.TheVariants.{BadIndex, BadInfo, BadSign, BadData}
 
 -- the word of seven bytes and some data, or the first part that holds a byte not allowed there
 abbrev pub word_of : List ℕ → List ℕ → ℕ → List ℕ → Result Parts WordFault

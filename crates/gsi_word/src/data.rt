@@ -1,7 +1,9 @@
 ghost use Rattle.std.specs.Prelude.{◌≡◌};
 ghost use Rattle.gsi_word.specs.Data.{two_digit, length_of};
 ghost use Rattle.gsi_word.specs.Words.{parts_of};
+ghost use Rattle.th_units.specs.Lens.{are_digits};
 
+use crate::readings::is_digit;
 use crate::words::Word;
 use th_units::{Len, LenFault, to_len, unit_of};
 
@@ -34,13 +36,22 @@ pub fn two_digit(word: &Word) -> Option<u8>
 pub fn length_of(word: &Word) -> Result<Len, LengthFault>
     ensures { result ≡ length_of (parts_of word.now) }
 {
+    if !are_digits(word.body()) {
+        return Err(LengthFault::BadNumber);
+    }
     let [_, _, _, code] = word.info();
     let Some(unit) = unit_of(code) else {
-        return Err(if are_digits(word.body()) {
-            LengthFault::BadUnit
-        } else {
-            LengthFault::BadNumber
-        });
+        return Err(LengthFault::BadUnit);
     };
-    to_len(word.negative(), word.body(), unit).map_err(to_length_fault)
+    to_len(word.negative(), word.body(), unit).map_err(|fault| match fault {
+        LenFault::NotDigits => LengthFault::BadNumber,
+        LenFault::TooLarge => LengthFault::TooLarge,
+    })
+}
+
+/// Whether there is at least one byte, and each is a digit.
+fn are_digits(bytes: &[u8]) -> bool
+    ensures { result ≡ are_digits bytes.now }
+{
+    !bytes.is_empty() && bytes.iter().all(|byte| is_digit(*byte))
 }

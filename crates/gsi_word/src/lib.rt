@@ -9,7 +9,7 @@ mod names;
 mod readings;
 mod words;
 
-pub use data::LengthFault;
+pub use data::{LengthFault, length_of, two_digit};
 pub use names::MAX_NAME;
 pub use readings::read_word;
 pub use words::{Width, Word, WordFault};

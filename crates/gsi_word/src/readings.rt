@@ -1,4 +1,4 @@
-ghost use Rattle.std.specs.Prelude.{◌≡◌, ◌+◌, ◌*◌, ◌-◌, ◌==◌, length};
+ghost use Rattle.std.specs.Prelude.{◌≡◌};
 ghost use Rattle.std.specs.List.{list_all};
 ghost use Rattle.gsi_word.specs.Bytes.{is_info, is_sign, is_data};
 ghost use Rattle.gsi_word.specs.Words.{parts_of, result_map, word_at};
@@ -42,7 +42,7 @@ pub fn read_word(bytes: &[u8], width: Width) -> Result<Word<'_>, WordFault>
 }
 
 /// Whether a byte is one of the characters '0' to '9'.
-fn is_digit(byte: u8) -> bool
+pub(crate) fn is_digit(byte: u8) -> bool
     ensures { result ≡ is_digit byte }
 {
     b'0' <= byte && byte <= b'9'
