@@ -10,6 +10,6 @@ mod readings;
 mod words;
 
 pub use data::{LengthFault, length_of, two_digit};
-pub use names::MAX_NAME;
+pub use names::{MAX_NAME, Name, name_of};
 pub use readings::read_word;
 pub use words::{Width, Word, WordFault};

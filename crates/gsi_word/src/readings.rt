@@ -71,7 +71,7 @@ fn is_sign(byte: u8) -> bool
 }
 
 /// Whether each byte is printable ASCII.
-fn are_data(bytes: &[u8]) -> bool
+pub(crate) fn are_data(bytes: &[u8]) -> bool
     ensures { result ≡ list_all is_data bytes.now }
 {
     bytes.iter().all(|byte| b' ' <= *byte && *byte <= b'~')
