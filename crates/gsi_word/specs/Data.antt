@@ -1,4 +1,4 @@
-use Rattle.std.specs.Prelude.{ℕ, ℤ, ◌==◌, not, Bool, List, Option, Some, None, Result, Ok, Err, if◌then◌else◌, slice_index}
+use Rattle.std.specs.Prelude.{ℕ, ℤ, ◌==◌, not, Option, Some, None, Result, Err, if◌then◌else◌, slice_index}
 use Rattle.std.specs.Result.{result_map_both}
 use Rattle.th_units.specs.Lens.{are_digits}
 use Rattle.th_units.specs.Lens as lens

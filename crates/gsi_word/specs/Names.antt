@@ -1,4 +1,4 @@
-use Rattle.std.specs.Prelude.{ℕ, ◌-◌, ◌==◌, not, List, [], ◌∷◌, length, Option, Some, None, if◌then◌else◌, nat_lt, take, drop}
+use Rattle.std.specs.Prelude.{◌≡◌, ℕ, ◌-◌, ◌==◌, ◌≤◌, not, List, [], ◌∷◌, ◌++◌, length, Option, Some, None, if◌then◌else◌, nat_lt, take, drop, replicate}
 use Rattle.std.specs.List.{list_all, list_any, prefix_len, suffix_len}
 use Rattle.gsi_word.specs.Bytes.{is_data, is_padding, is_space, is_zero}
 use Rattle.gsi_word.specs.declared.names.TheConstants.{MAX_NAME}
@@ -24,3 +24,14 @@ name_of bytes =
     else (if length name == 0 then (if list_any is_zero bytes then Some (48 ∷ []) else None)
     else (if nat_lt MAX_NAME (length name) then None
     else Some name))
+
+-- a name's bytes with zero bytes after them, sixteen in all
+abbrev pub padded : List ℕ → List ℕ
+padded name = name ++ replicate (MAX_NAME - length name) 0
+
+-- sixteen bytes of which so many are a name in reduced form, and the rest are zero bytes
+pub record IsPaddedName (bytes : List ℕ) (len : ℕ) : Type 0 where
+  pub within : len ≤ MAX_NAME
+  pub length : length (take len bytes) ≡ len
+  pub padded : bytes ≡ padded (take len bytes)
+  pub reduced : name_of (take len bytes) ≡ Some (take len bytes)

@@ -1,3 +1,12 @@
+ghost use Rattle.std.specs.Prelude.{◌≡◌};
+ghost use Rattle.gsi_word.specs.Data.{two_digit, length_of};
+ghost use Rattle.gsi_word.specs.Words.{parts_of};
+ghost use Rattle.th_units.specs.Lens.{are_digits};
+
+use crate::readings::is_digit;
+use crate::words::Word;
+use th_units::{Len, LenFault, to_len, unit_of};
+
 /// Why a word's data give no length.
 #[derive(Clone, Copy, Debug, PartialEq, Eq)]
 pub enum LengthFault {
@@ -7,4 +16,42 @@ pub enum LengthFault {
     BadUnit,
     /// The length is more than 10 km in size.
     TooLarge,
+}
+
+/// The index of a word whose position 3 is a dot; other words have an index of three digits.
+pub fn two_digit(word: &Word) -> Option<u8>
+    ensures { result ≡ two_digit (parts_of word.now) }
+{
+    let [first, ..] = word.info();
+    if first == b'.' {
+        Some(word.index())
+    } else {
+        None
+    }
+}
+
+/// The length that a word writes, in units of 10 nm: its sign and data, in the unit of position 6.
+///
+/// The data are asked before the unit, and the unit before the size (Leica GSI Online manual, units).
+pub fn length_of(word: &Word) -> Result<Len, LengthFault>
+    ensures { result ≡ length_of (parts_of word.now) }
+{
+    if !are_digits(word.body()) {
+        return Err(LengthFault::BadNumber);
+    }
+    let [_, _, _, code] = word.info();
+    let Some(unit) = unit_of(code) else {
+        return Err(LengthFault::BadUnit);
+    };
+    to_len(word.negative(), word.body(), unit).map_err(|fault| match fault {
+        LenFault::NotDigits => LengthFault::BadNumber,
+        LenFault::TooLarge => LengthFault::TooLarge,
+    })
+}
+
+/// Whether there is at least one byte, and each is a digit.
+fn are_digits(bytes: &[u8]) -> bool
+    ensures { result ≡ are_digits bytes.now }
+{
+    !bytes.is_empty() && bytes.iter().all(|byte| is_digit(*byte))
 }

@@ -6,8 +6,10 @@
 
 mod data;
 mod names;
+mod readings;
 mod words;
 
-pub use data::LengthFault;
-pub use names::MAX_NAME;
+pub use data::{LengthFault, length_of, two_digit};
+pub use names::{MAX_NAME, Name, name_of};
+pub use readings::read_word;
 pub use words::{Width, Word, WordFault};

@@ -1,2 +1,171 @@
+ghost use Rattle.std.specs.Prelude.{◌≡◌, ◌≤◌, length, nat_eq, refl, Some};
+ghost use Rattle.std.specs.Cmp.{partial_equiv_from_equiv};
+ghost use Rattle.std.specs.Cmp.Lexicographic.{pointwise, slice_cmp, nat_list_eq_equiv, nat_list_cmp_total, texts_ties, texts_po};
+ghost use Rattle.std.specs.Cmp.Rules.{hashing};
+ghost use Rattle.std.specs.Hash as fed;
+ghost use Rattle.std.specs.Ordering.{nat_cmp};
+ghost use Rattle.std.proofs.Common.{rules};
+ghost use Rattle.gsi_word.specs.Bytes.{is_padding};
+ghost use Rattle.gsi_word.specs.Names.{name_of, without_leading, without_trailing};
+
+use crate::readings::are_data;
+use std::cmp::Ordering;
+use std::fmt;
+use std::hash::{Hash, Hasher};
+use std::marker::Model;
+
 /// The most bytes that a name has.
 pub const MAX_NAME: usize = 16;
+
+/// A point's name in reduced form: 1 to 16 printable bytes, compared and hashed as bytes.
+#[derive(Clone, Copy)]
+pub struct Name {
+    bytes: [u8; MAX_NAME],
+    len: u8,
+}
+
+impl Model for Name {
+    ghost use Rattle.std.specs.Prelude.{◌≡◌, List, ℕ, length, take};
+    ghost use Rattle.gsi_word.specs.Names.{padded, IsPaddedName};
+
+    ghost Value = { List ℕ };
+
+    ghost view = { λ name. take name.len name.bytes };
+
+    ghost invariant = { λ name. IsPaddedName name.bytes name.len };
+
+    ghost inverse = { λ bytes. record { bytes = padded bytes; len = length bytes } };
+}
+
+impl Name {
+    /// The name that has these bytes, which are in reduced form.
+    fn of(name: &[u8]) -> Name
+        requires { name_of name.now ≡ Some name.now }
+        ensures { result ≡ name.now }
+    {
+        let mut bytes = [0; MAX_NAME];
+        bytes[..name.len()].copy_from_slice(name);
+        Name {
+            bytes,
+            len: name.len() as u8,
+        }
+    }
+
+    /// The name's bytes, which are the name that they have themselves.
+    pub fn as_bytes(&self) -> &[u8]
+        ensures bytes { result.now ≡ self.now }
+        ensures reduced { name_of self.now ≡ Some self.now }
+    {
+        &self.bytes[..usize::from(self.len)]
+    }
+}
+
+impl PartialEq for Name {
+    ghost eq = { pointwise nat_eq };
+
+    ghost laws = { partial_equiv_from_equiv nat_list_eq_equiv };
+
+    fn eq(&self, other: &Name) -> bool {
+        self.as_bytes() == other.as_bytes()
+    }
+}
+
+impl Eq for Name {
+    ghost laws = { nat_list_eq_equiv };
+}
+
+impl PartialOrd for Name {
+    ghost partial_cmp = { λ x y. Some (slice_cmp nat_cmp x y) };
+
+    ghost laws = { texts_po };
+
+    fn partial_cmp(&self, other: &Name) -> Option<Ordering> {
+        Some(self.cmp(other))
+    }
+}
+
+impl Ord for Name {
+    ghost cmp = { slice_cmp nat_cmp };
+
+    ghost total = { nat_list_cmp_total };
+
+    ghost matches_partial_cmp = { λ x y. refl };
+
+    ghost matches_eq = { texts_ties };
+
+    fn cmp(&self, other: &Name) -> Ordering {
+        self.as_bytes().cmp(other.as_bytes())
+    }
+}
+
+impl Hash for Name {
+    ghost hash_input = { fed.slice fed.u8 };
+
+    ghost respects_eq = { Prim.search (hashing, rules) };
+
+    fn hash<H: Hasher>(&self, state: &mut H) {
+        self.as_bytes().hash(state);
+    }
+}
+
+impl fmt::Debug for Name {
+    fn fmt<W: fmt::Write>(&self, f: &mut fmt::Formatter<W>) -> fmt::Result {
+        fmt::Debug::fmt(self.as_bytes(), f)
+    }
+}
+
+/// The name that some data give: their reduced form, in which the leading zeros and spaces and the
+/// trailing spaces are left out, or `0` where that leaves nothing and a zero was there.
+///
+/// There is none where the data are empty or only spaces, hold a byte that is not printable ASCII,
+/// or leave more than `MAX_NAME` bytes.
+pub fn name_of(bytes: &[u8]) -> Option<Name>
+    ensures { result ≡ name_of bytes.now }
+{
+    if !are_data(bytes) {
+        return None;
+    }
+    let name = without_trailing(without_leading(bytes));
+    if name.is_empty() {
+        if bytes.contains(&b'0') {
+            return Some(Name::of(b"0"));
+        }
+        return None;
+    }
+    if name.len() > MAX_NAME {
+        return None;
+    }
+    Some(Name::of(name))
+}
+
+/// The bytes without their leading run of zeros and spaces.
+fn without_leading(bytes: &[u8]) -> &[u8]
+    ensures { result.now ≡ without_leading bytes.now }
+{
+    let mut left = bytes;
+    while let [first, rest @ ..] = left {
+        if !is_padding(*first) {
+            return left;
+        }
+        left = rest;
+    }
+    left
+}
+
+/// Whether a byte is one that a name does not begin with.
+fn is_padding(byte: u8) -> bool
+    ensures { result ≡ is_padding byte }
+{
+    byte == b'0' || byte == b' '
+}
+
+/// The bytes without their trailing spaces.
+fn without_trailing(bytes: &[u8]) -> &[u8]
+    ensures { result.now ≡ without_trailing bytes.now }
+{
+    let mut left = bytes;
+    while let [rest @ .., b' '] = left {
+        left = rest;
+    }
+    left
+}

@@ -43,10 +43,10 @@ pub enum WordFault {
 /// A word of a block, with its data lent from the line that it was read from.
 #[derive(Clone, Copy, Debug)]
 pub struct Word<'a> {
-    index: u8,
-    info: [u8; 4],
-    negative: bool,
-    body: &'a [u8],
+    pub(crate) index: u8,
+    pub(crate) info: [u8; 4],
+    pub(crate) negative: bool,
+    pub(crate) body: &'a [u8],
     ghost index_in_range: { index < 100 },
     ghost info_allowed: { IsTrue (list_all is_info info) },
     ghost body_long: { IsTrue ((length body.now == 8) || (length body.now == 16)) },

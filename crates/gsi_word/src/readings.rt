@@ -1,0 +1,78 @@
+ghost use Rattle.std.specs.Prelude.{◌≡◌};
+ghost use Rattle.std.specs.List.{list_all};
+ghost use Rattle.gsi_word.specs.Bytes.{is_info, is_sign, is_data};
+ghost use Rattle.gsi_word.specs.Words.{parts_of, result_map, word_at};
+ghost use Rattle.th_units.specs.Lens.{is_digit};
+
+use crate::words::{Width, Word, WordFault};
+
+/// The word that the front of some bytes spells; bytes after the spelling are not looked at.
+///
+/// The parts are tested in the order index, information, sign, data, after the number of bytes
+/// (Leica GSI Online manual, word format).
+pub fn read_word(bytes: &[u8], width: Width) -> Result<Word<'_>, WordFault>
+    ensures { result_map parts_of result ≡ word_at width bytes.now }
+{
+    let end = width.spelling_len();
+    if bytes.len() < end {
+        return Err(WordFault::Short);
+    }
+    let [tens, ones] = [bytes[0], bytes[1]];
+    if !is_digit(tens) || !is_digit(ones) {
+        return Err(WordFault::BadIndex);
+    }
+    let info = [bytes[2], bytes[3], bytes[4], bytes[5]];
+    if !are_info(info) {
+        return Err(WordFault::BadInfo);
+    }
+    let sign = bytes[6];
+    if !is_sign(sign) {
+        return Err(WordFault::BadSign);
+    }
+    let body = &bytes[7..end];
+    if !are_data(body) {
+        return Err(WordFault::BadData);
+    }
+    Ok(Word {
+        index: 10 * (tens - b'0') + (ones - b'0'),
+        info,
+        negative: sign == b'-',
+        body,
+    })
+}
+
+/// Whether a byte is one of the characters '0' to '9'.
+pub(crate) fn is_digit(byte: u8) -> bool
+    ensures { result ≡ is_digit byte }
+{
+    b'0' <= byte && byte <= b'9'
+}
+
+/// Whether each byte is a digit or a dot.
+fn are_info(bytes: [u8; 4]) -> bool
+    ensures { result ≡ list_all is_info bytes }
+{
+    let [first, second, third, fourth] = bytes;
+    is_info(first) && is_info(second) && is_info(third) && is_info(fourth)
+}
+
+/// Whether a byte is a digit or a dot.
+fn is_info(byte: u8) -> bool
+    ensures { result ≡ is_info byte }
+{
+    byte == b'.' || is_digit(byte)
+}
+
+/// Whether a byte is a plus or a minus.
+fn is_sign(byte: u8) -> bool
+    ensures { result ≡ is_sign byte }
+{
+    byte == b'+' || byte == b'-'
+}
+
+/// Whether each byte is printable ASCII.
+pub(crate) fn are_data(bytes: &[u8]) -> bool
+    ensures { result ≡ list_all is_data bytes.now }
+{
+    bytes.iter().all(|byte| b' ' <= *byte && *byte <= b'~')
+}
