@@ -1,6 +1,5 @@
 use Rattle.std.specs.Prelude.{◌≡◌, ℕ, ◌+◌, ◌==◌, ◌≤◌, Bool, IsTrue, List, [], ◌∷◌, ◌++◌, length, map, Option, Some, None, Result, Ok, Err, if◌then◌else◌, nat_lt, slice_index, drop, zero, suc}
 use Rattle.std.specs.List.{list_all}
-use Rattle.std.specs.Result.{result_map_both}
 use Rattle.gsi_word.specs.Bytes.{is_space}
 use Rattle.gsi_word.specs.Words.{Parts, Spells, parts_of, result_map, spelling_len, word_at}
 use Rattle.gsi_word.specs.declared.words.Width.{Width}

@@ -1,5 +1,6 @@
-use Rattle.std.specs.Prelude.{◌≡◌, ◌≢◌, ℕ, ◌==◌, ◌&&◌, ◌||◌, ◌⊎◌, not, Bool, IsTrue, List, [], ◌∷◌, ◌++◌, if◌then◌else◌, slice_index}
+use Rattle.std.specs.Prelude.{◌≡◌, ◌≢◌, ℕ, ◌==◌, ◌&&◌, ◌||◌, ◌⊎◌, not, Bool, IsTrue, List, [], ◌∷◌, ◌++◌, if◌then◌else◌, slice_index, Option, Some, None}
 use Rattle.std.specs.List.{list_all}
+use Rattle.std.specs.Borrow.{Bor}
 
 abbrev pub is_carriage_return : ℕ → Bool
 is_carriage_return byte = byte == 13
@@ -25,6 +26,24 @@ lines_of (byte ∷ bytes) =
     else (if is_end_byte byte then [] ∷ lines_of bytes
     else onto_first byte (lines_of bytes))
 
+-- what a cursor still owes: the lines of the bytes that are left
+abbrev pub due : List ℕ → List (List ℕ)
+due rest = lines_of rest
+
+-- The first line that was owed is given and the rest is owed then, or none was owed and none is.
+abbrev pub GivesNext : Option (Bor (List ℕ)) → List (List ℕ) → List (List ℕ) → Type 0
+GivesNext None before after = (before ≡ []) × (after ≡ [])
+GivesNext (Some line) before after = before ≡ line.now ∷ after
+
+-- a byte that no end is made of
+abbrev pub is_in_line : ℕ → Bool
+is_in_line byte = not (is_end_byte byte)
+
+-- how many bytes the end has that stands at the front, none where nothing stands there
+abbrev pub end_len : List ℕ → ℕ
+end_len [] = 0
+end_len (byte ∷ bytes) = if is_carriage_return byte && is_line_feed (slice_index bytes 0) then 2 else 1
+
 -- the bytes that end a line, where these bytes come after: CR LF, LF, or a CR that no LF follows
 abbrev pub EndsLine : List ℕ → List ℕ → Type 0
 EndsLine end rest =
@@ -34,6 +53,6 @@ EndsLine end rest =
 abbrev pub AreLines : List (List ℕ) → List ℕ → Type 0
 AreLines [] text = text ≡ []
 AreLines (line ∷ lines) text =
-    IsTrue (list_all (λ byte. not (is_end_byte byte)) line)
+    IsTrue (list_all is_in_line line)
     × ((end : List ℕ) × (rest : List ℕ) × (text ≡ line ++ end ++ rest) × AreLines lines rest
     × (EndsLine end rest ⊎ ((end ≡ []) × (rest ≡ []) × (line ≢ []))))

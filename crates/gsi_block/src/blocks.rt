@@ -26,8 +26,8 @@ pub enum BlockFault {
 /// The words of a line, all of one width, with their data lent from the line.
 #[derive(Debug, Drop)]
 pub struct Block<'a> {
-    width: Width,
-    words: ArrayVec<Word<'a>, MAX_WORDS>,
+    pub(crate) width: Width,
+    pub(crate) words: ArrayVec<Word<'a>, MAX_WORDS>,
 }
 
 impl<'a> Block<'a> {

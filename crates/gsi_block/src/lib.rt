@@ -5,5 +5,11 @@
 #![tactic(auto)]
 
 mod blocks;
+mod lines;
+mod readings;
+#[cfg(test)]
+mod tests;
 
 pub use blocks::{Block, BlockFault, MAX_LINE, MAX_WORDS};
+pub use lines::LineCursor;
+pub use readings::read_block;
