@@ -5,7 +5,7 @@ use Rattle.std.proofs.lemmas.Bool.Decides.{nat_tests}
 use Rattle.gsi_block.specs.Lines.{is_in_line, onto_first, lines_of, end_len}
 
 -- a byte of a line goes before the first of the lines behind it
-lines_of-in_line : (byte : ℕ) (bytes : List ℕ) → is_in_line byte ≡ true → lines_of (byte ∷ bytes) ≡ onto_first byte (lines_of bytes)
+pub lines_of-in_line : (byte : ℕ) (bytes : List ℕ) → is_in_line byte ≡ true → lines_of (byte ∷ bytes) ≡ onto_first byte (lines_of bytes)
 unfolding lines_of
 lines_of-in_line byte bytes h = grind (arith, nat_tests)
 

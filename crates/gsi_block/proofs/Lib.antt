@@ -1,2 +1,5 @@
 pub mod FirstLine
 pub mod Rows
+pub mod LinesLaw
+pub mod BlocksLaw
+pub mod RowsLaw

@@ -1,4 +1,4 @@
-use Rattle.std.specs.Prelude.{◌≡◌, ℕ, ◌+◌, ◌==◌, ◌≤◌, Bool, IsTrue, List, [], ◌∷◌, ◌++◌, length, map, Option, Some, None, Result, Ok, Err, if◌then◌else◌, nat_lt, slice_index, drop, zero, suc}
+use Rattle.std.specs.Prelude.{◌≡◌, ℕ, ◌+◌, ◌==◌, ◌≤◌, Bool, IsTrue, List, [], ◌∷◌, ◌++◌, length, map, Option, Some, None, Result, Ok, Err, if◌then◌else◌, nat_lt, slice_index, drop, replicate, zero, suc}
 use Rattle.std.specs.List.{list_all}
 use Rattle.gsi_word.specs.Bytes.{is_space}
 use Rattle.gsi_word.specs.Words.{Parts, Spells, parts_of, result_map, spelling_len, word_at}
@@ -54,6 +54,10 @@ block_at line =
     else (if is_blank line then Ok None
     else (if is_star (slice_index line 0) then (if is_blank (drop 1 line) then Err (BadWord 1 Short) else block_of Sixteen (drop 1 line))
     else block_of Eight line))
+
+-- the line is at most 1,600 spaces and nothing else
+abbrev pub IsBlankLine : List ℕ → Type 0
+IsBlankLine line = (spaces : ℕ) × (spaces ≤ MAX_LINE) × (line ≡ replicate spaces 32)
 
 -- what stands before the words of a width
 abbrev pub mark : Width → List ℕ

@@ -5,6 +5,7 @@
 #![tactic(auto)]
 
 mod blocks;
+pub mod laws;
 mod lines;
 mod readings;
 #[cfg(test)]

@@ -1,5 +1,8 @@
 use crate::*;
+use gsi_word::{Width, WordFault};
+use std::alloc::{AllocError, Global};
 use std::process::Abort;
+use std::test::Fail;
 
 /// A text and its lines.
 type Text = (&'static [u8], &'static [&'static [u8]]);
@@ -55,4 +58,243 @@ fn bytes_in_lines(text: &[u8]) -> usize {
 #[test]
 fn a_loop_over_lines(rt: HostRuntime) {
     assert_eq!(rt; bytes_in_lines(b"one\r\ntwo\rthree\n\nx"), 12);
+}
+
+/// A word's index, information, whether its sign is a minus, and its data.
+type Parts = (u8, &'static [u8; 4], bool, &'static [u8]);
+
+/// A line, the width of its words, and their parts.
+type Reading = (&'static [u8], Width, &'static [Parts]);
+
+const READINGS: [Reading; 6] = [
+    (
+        b"110001+0000000A",
+        Width::Eight,
+        &[(11, b"0001", false, b"0000000A")],
+    ),
+    (
+        b"110001+0000000A    ",
+        Width::Eight,
+        &[(11, b"0001", false, b"0000000A")],
+    ),
+    (
+        b"110002+0000000B 33..18-00001234 87..10+00001500 ",
+        Width::Eight,
+        &[
+            (11, b"0002", false, b"0000000B"),
+            (33, b"..18", true, b"00001234"),
+            (87, b"..10", false, b"00001500"),
+        ],
+    ),
+    (
+        b"*110001+00000000000000P1 88..18+0000000000150000",
+        Width::Sixteen,
+        &[
+            (11, b"0001", false, b"00000000000000P1"),
+            (88, b"..18", false, b"0000000000150000"),
+        ],
+    ),
+    (
+        b"110001+         33....+~~~~~~~~",
+        Width::Eight,
+        &[
+            (11, b"0001", false, b"        "),
+            (33, b"....", false, b"~~~~~~~~"),
+        ],
+    ),
+    (
+        b"110001+* 1 2 3  33....+        ",
+        Width::Eight,
+        &[
+            (11, b"0001", false, b"* 1 2 3 "),
+            (33, b"....", false, b"        "),
+        ],
+    ),
+];
+
+fn reads(rt: &impl Abort, row: &Reading) {
+    let (line, width, words) = *row;
+    let read = read_block(line);
+    let Ok(Some(block)) = &read else {
+        panic!(rt; "{line:?} is a block, and was read as {read:?}");
+    };
+    assert!(rt; block.width() == width, "the width of {line:?}");
+    assert_eq!(rt; block.words().len(), words.len(), "words of {line:?}");
+    for (word, (index, info, negative, body)) in block.words().iter().zip(words) {
+        assert_eq!(rt; word.index(), *index, "an index of {line:?}");
+        assert!(rt; word.info() == **info, "information of {line:?}");
+        assert!(rt; word.negative() == *negative, "a sign of {line:?}");
+        assert!(rt; word.body() == *body, "data of {line:?}");
+        assert!(rt; word.width() == width, "a word's width of {line:?}");
+    }
+}
+
+#[test]
+fn blocks_of_lines(rt: HostRuntime) {
+    for row in &READINGS {
+        reads(&rt, row);
+    }
+}
+
+/// Lines that are neither blank nor a block, with the reason.
+const FAULTS: [(&[u8], BlockFault); 22] = [
+    (b"*", BlockFault::BadWord(1, WordFault::Short)),
+    (b"*     ", BlockFault::BadWord(1, WordFault::Short)),
+    (
+        b"* 110001+0000000A",
+        BlockFault::BadWord(1, WordFault::Short),
+    ),
+    (b"110001+0000000AX", BlockFault::BadSeparator(1)),
+    (
+        b" 110001+0000000A",
+        BlockFault::BadWord(1, WordFault::BadIndex),
+    ),
+    (
+        b"110001 0000000A",
+        BlockFault::BadWord(1, WordFault::BadSign),
+    ),
+    (
+        b"11000A+0000000A",
+        BlockFault::BadWord(1, WordFault::BadInfo),
+    ),
+    (
+        b"110001+000000\x7F0",
+        BlockFault::BadWord(1, WordFault::BadData),
+    ),
+    (
+        b"110001+0000\0000",
+        BlockFault::BadWord(1, WordFault::BadData),
+    ),
+    (b"110001+0000000", BlockFault::BadWord(1, WordFault::Short)),
+    (
+        b"110001+0000000\n",
+        BlockFault::BadWord(1, WordFault::BadData),
+    ),
+    (
+        b"**110001+00000000000000P1",
+        BlockFault::BadWord(1, WordFault::BadIndex),
+    ),
+    (
+        b"*110001+0000000A",
+        BlockFault::BadWord(1, WordFault::Short),
+    ),
+    (
+        b"*110001+0000000A 110002+0000000B",
+        BlockFault::BadSeparator(1),
+    ),
+    (b"110001+00000000000000P1", BlockFault::BadSeparator(1)),
+    (
+        b"110001+0000000A  110002+0000000B",
+        BlockFault::BadWord(2, WordFault::BadIndex),
+    ),
+    (
+        b"110001+0000000A 110002+000000B",
+        BlockFault::BadWord(2, WordFault::Short),
+    ),
+    (
+        b"110001+0000000A   x",
+        BlockFault::BadWord(2, WordFault::Short),
+    ),
+    (b"110001+0000000A\t", BlockFault::BadSeparator(1)),
+    (
+        b"110001+0000000A 110002+0000000B!",
+        BlockFault::BadSeparator(2),
+    ),
+    (b"\x1A", BlockFault::BadWord(1, WordFault::Short)),
+    (b"  \t", BlockFault::BadWord(1, WordFault::Short)),
+];
+
+#[test]
+fn faults_of_lines(rt: HostRuntime) {
+    for (line, fault) in &FAULTS {
+        match read_block(line) {
+            Err(found) => assert!(rt; found == *fault, "{line:?} has {found:?}"),
+            Ok(_) => panic!(&rt; "{line:?} is a block"),
+        }
+    }
+}
+
+const NARROW: &[u8] = b"110001+0000000A";
+
+const WIDE: &[u8] = b"110001+00000000000000P1";
+
+/// What stands first in a line, a word and how often it stands there, what stands behind them and
+/// how many spaces at last; and how many words are read, None from a blank line, or the fault.
+type LongLine = (
+    &'static [u8],
+    &'static [u8],
+    usize,
+    &'static [u8],
+    usize,
+    Result<Option<usize>, BlockFault>,
+);
+
+const LONG_LINES: [LongLine; 22] = [
+    (b"", b"", 0, b"", 0, Ok(None)),
+    (b"", b"", 0, b"", 1, Ok(None)),
+    (b"", b"", 0, b"", 1_600, Ok(None)),
+    (b"", b"", 0, b"", 1_601, Err(BlockFault::LineTooLong)),
+    (
+        b"*",
+        b"",
+        0,
+        b"",
+        1_599,
+        Err(BlockFault::BadWord(1, WordFault::Short)),
+    ),
+    (b"*", b"", 0, b"", 1_600, Err(BlockFault::LineTooLong)),
+    (b"", NARROW, 1, b"", 1_585, Ok(Some(1))),
+    (b"", NARROW, 1, b"", 1_586, Err(BlockFault::LineTooLong)),
+    (b"", NARROW, 64, b"", 0, Ok(Some(64))),
+    (b"", NARROW, 64, b"", 1, Ok(Some(64))),
+    (b"", NARROW, 64, b"", 577, Ok(Some(64))),
+    (b"", NARROW, 64, b"", 578, Err(BlockFault::LineTooLong)),
+    (b"", NARROW, 65, b"", 0, Err(BlockFault::TooManyWords)),
+    (b"", NARROW, 64, b" x", 0, Err(BlockFault::TooManyWords)),
+    (b"", NARROW, 64, b"   x", 9, Err(BlockFault::TooManyWords)),
+    (b"", NARROW, 64, b"x", 0, Err(BlockFault::BadSeparator(64))),
+    (
+        b"",
+        NARROW,
+        63,
+        b" x",
+        0,
+        Err(BlockFault::BadWord(64, WordFault::Short)),
+    ),
+    (b"", NARROW, 100, b"", 1, Err(BlockFault::TooManyWords)),
+    (b"", NARROW, 100, b"", 2, Err(BlockFault::LineTooLong)),
+    (b"*", WIDE, 64, b"", 64, Ok(Some(64))),
+    (b"*", WIDE, 64, b"", 65, Err(BlockFault::LineTooLong)),
+    (b"*", WIDE, 65, b"", 0, Err(BlockFault::TooManyWords)),
+];
+
+/// The bytes of a long line, with one space between two words.
+fn bytes_of(alloc: Global, line: &LongLine) -> Result<Vec<u8>, AllocError> {
+    let (first, word, words, tail, spaces, _wanted) = *line;
+    let mut bytes = Vec::from_slice(alloc, first)?;
+    for place in 0..words {
+        if place > 0 {
+            bytes.push(b' ')?;
+        }
+        bytes.extend_from_slice(word)?;
+    }
+    bytes.extend_from_slice(tail)?;
+    for _space in 0..spaces {
+        bytes.push(b' ')?;
+    }
+    Ok(bytes)
+}
+
+/// How many words a line is read as, None from a blank one.
+fn words_read(line: &[u8]) -> Result<Option<usize>, BlockFault> {
+    Ok(read_block(line)?.map(|block| block.words().len()))
+}
+
+#[test]
+fn long_lines(rt: HostRuntime) -> Result<(), Fail> {
+    for (row, line) in LONG_LINES.iter().enumerate() {
+        let bytes = bytes_of(rt.alloc(), line)?;
+        assert!(rt; words_read(bytes.as_slice()) == line.5, "in row {row}");
+    }
+    Ok(())
 }

@@ -1,2 +1,4 @@
+pub mod CallerLemmas
 pub mod NameLemmas
+pub mod SpellingLaw
 pub mod Spellings

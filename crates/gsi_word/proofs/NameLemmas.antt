@@ -7,7 +7,8 @@ use Rattle.std.proofs.Math.Seq.{take-append_seam}
 use Rattle.std.proofs.lemmas.List.Folds.{list_all-append, prefix_len-append}
 use Rattle.std.proofs.lemmas.List.Sums.{prefix_len_stops, prefix_len-drop_no, prefix_len-drop_all, suffix_len-take_no}
 use Rattle.gsi_word.specs.Bytes.{is_data, is_padding, is_space, is_zero}
-use Rattle.gsi_word.specs.Names.{name_of, reduced, without_leading, without_trailing, IsPaddedName}
+use Rattle.gsi_word.specs.Names.{name_of, reduced, without_leading, without_trailing}
+use Rattle.gsi_word.specs.PaddedNames.{IsPaddedName}
 use Rattle.gsi_word.specs.declared.names.TheConstants.{MAX_NAME}
 
 -- a test that each element of a list passes is passed by each of its front and of its rest

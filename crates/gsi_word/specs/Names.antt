@@ -1,4 +1,5 @@
-use Rattle.std.specs.Prelude.{◌≡◌, ℕ, ◌-◌, ◌==◌, ◌≤◌, not, List, [], ◌∷◌, ◌++◌, length, Option, Some, None, if◌then◌else◌, nat_lt, take, drop, replicate}
+use Rattle.std.specs.Prelude.{ℕ, ◌-◌, ◌==◌, ◌&&◌, not, nat_eq, Bool, List, [], ◌∷◌, length, Option, Some, None, if◌then◌else◌, nat_lt, take, drop}
+use Rattle.std.specs.Cmp.Lexicographic.{pointwise}
 use Rattle.std.specs.List.{list_all, list_any, prefix_len, suffix_len}
 use Rattle.gsi_word.specs.Bytes.{is_data, is_padding, is_space, is_zero}
 use Rattle.gsi_word.specs.declared.names.TheConstants.{MAX_NAME}
@@ -25,13 +26,10 @@ name_of bytes =
     else (if nat_lt MAX_NAME (length name) then None
     else Some name))
 
--- a name's bytes with zero bytes after them, sixteen in all
-abbrev pub padded : List ℕ → List ℕ
-padded name = name ++ replicate (MAX_NAME - length name) 0
+-- whether two names have the same bytes: what `==` of names computes, and a map with names as keys goes by
+abbrev pub same_name : List ℕ → List ℕ → Bool
+same_name = pointwise nat_eq
 
--- sixteen bytes of which so many are a name in reduced form, and the rest are zero bytes
-pub record IsPaddedName (bytes : List ℕ) (len : ℕ) : Type 0 where
-  pub within : len ≤ MAX_NAME
-  pub length : length (take len bytes) ≡ len
-  pub padded : bytes ≡ padded (take len bytes)
-  pub reduced : name_of (take len bytes) ≡ Some (take len bytes)
+-- the same of two pairs of names
+abbrev pub same_pair : List ℕ × List ℕ → List ℕ × List ℕ → Bool
+same_pair pair other = same_name pair.0 other.0 && same_name pair.1 other.1

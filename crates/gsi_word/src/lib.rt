@@ -5,8 +5,11 @@
 #![tactic(auto)]
 
 mod data;
+pub mod laws;
 mod names;
 mod readings;
+#[cfg(test)]
+mod tests;
 mod words;
 
 pub use data::{LengthFault, length_of, two_digit};

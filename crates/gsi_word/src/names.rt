@@ -1,18 +1,16 @@
 ghost use Rattle.std.specs.Prelude.{◌≡◌, ◌≤◌, length, nat_eq, refl, Some};
 ghost use Rattle.std.specs.Cmp.{partial_equiv_from_equiv};
-ghost use Rattle.std.specs.Cmp.Lexicographic.{pointwise, slice_cmp, nat_list_eq_equiv, nat_list_cmp_total, texts_ties, texts_po};
-ghost use Rattle.std.specs.Cmp.Rules.{hashing};
+ghost use Rattle.std.specs.Cmp.Lexicographic.{pointwise, bytes_decides, slice_cmp, nat_list_eq_equiv, nat_list_cmp_total, texts_ties, texts_po};
 ghost use Rattle.std.specs.Hash as fed;
 ghost use Rattle.std.specs.Ordering.{nat_cmp};
-ghost use Rattle.std.proofs.Common.{rules};
 ghost use Rattle.gsi_word.specs.Bytes.{is_padding};
 ghost use Rattle.gsi_word.specs.Names.{name_of, without_leading, without_trailing};
 
 use crate::readings::are_data;
 use std::cmp::Ordering;
-use std::fmt;
 use std::hash::{Hash, Hasher};
 use std::marker::Model;
+use std::{fmt, str};
 
 /// The most bytes that a name has.
 pub const MAX_NAME: usize = 16;
@@ -26,7 +24,7 @@ pub struct Name {
 
 impl Model for Name {
     ghost use Rattle.std.specs.Prelude.{◌≡◌, List, ℕ, length, take};
-    ghost use Rattle.gsi_word.specs.Names.{padded, IsPaddedName};
+    ghost use Rattle.gsi_word.specs.PaddedNames.{padded, IsPaddedName};
 
     ghost Value = { List ℕ };
 
@@ -101,7 +99,7 @@ impl Ord for Name {
 impl Hash for Name {
     ghost hash_input = { fed.slice fed.u8 };
 
-    ghost respects_eq = { Prim.search (hashing, rules) };
+    ghost respects_eq = { (fed.same_Alike (fed.slice fed.u8) bytes_decides).fed };
 
     fn hash<H: Hasher>(&self, state: &mut H) {
         self.as_bytes().hash(state);
@@ -110,7 +108,10 @@ impl Hash for Name {
 
 impl fmt::Debug for Name {
     fn fmt<W: fmt::Write>(&self, f: &mut fmt::Formatter<W>) -> fmt::Result {
-        fmt::Debug::fmt(self.as_bytes(), f)
+        match str::from_utf8(self.as_bytes()) {
+            Ok(text) => fmt::Debug::fmt(text, f),
+            Err(_) => fmt::Debug::fmt(self.as_bytes(), f),
+        }
     }
 }
 

@@ -1,0 +1,17 @@
+//! Laws of the definitions: what they say of one another, with no call of the code.
+
+ghost use Rattle.std.specs.Prelude.{◌≡◌, ◌↔◌, ℕ, List, Ok, Some, take};
+ghost use Rattle.gsi_word.specs.Names.{name_of};
+ghost use Rattle.gsi_word.specs.Words.{Parts, Spells, spelling_len, word_at};
+ghost use Rattle.gsi_word.specs.declared.words.Width.{Width};
+
+/// A word is read from bytes just where their front is its spelling.
+pub fn word_at_reads_spellings()
+    ensures { (width : Width) (bytes : List ℕ) (word : Parts) →
+        (word_at width bytes ≡ Ok word) ↔ Spells word (take (spelling_len width) bytes) width }
+{}
+
+/// A name's name is itself.
+pub fn name_of_name_is_itself()
+    ensures { (bytes name : List ℕ) → name_of bytes ≡ Some name → name_of name ≡ Some name }
+{}
