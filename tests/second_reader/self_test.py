@@ -27,6 +27,18 @@ class Mistake(NamedTuple):
     wrong: str
 
 
+# Pieces of reader.py that several mistakes edit.
+SIGHT_OR_SETUP = "    if is_sight(words) or is_setup(words):\n"
+POINT_NUMBER_CHECKED = "        check_point_number(words[0])\n"
+REPEATED_WORDS_CHECKED = "    check_repeated_words(words)\n"
+HEIGHTS_TAKEN = "        if self.setup is not None:\n            self.setup.take_heights(words)\n"
+SIGHT_OBSERVED = "        if is_sight(words):\n            self.observations.append(observe(self.setup, words))\n"
+INSTRUMENT_LOOKED_FOR = '    if setup.instrument_height is None:\n        raise LineFault("B9", "no instrument height")\n'
+REFLECTOR_LOOKED_FOR = '    if setup.reflector_height is None:\n        raise LineFault("B10", "no reflector height")\n'
+NEEDS_QUOTES = "if b\",\" in name or b'\"' in name:"
+ONLY_DIGITS = "all(is_made_of(word.data, DIGITS) for word in lengths)"
+HEADER = 'records = [b"number,from,to,difference\\n"]'
+
 MISTAKES = (
     Mistake("a book of the largest size is refused", "len(book) > LARGEST_BOOK", "len(book) >= LARGEST_BOOK"),
     Mistake("a book too long is read", "LARGEST_BOOK = 67_108_864", "LARGEST_BOOK = 67_108_865"),
@@ -51,7 +63,7 @@ MISTAKES = (
     Mistake("a word counts with a digit at position 3", "self.index in COUNTING_INDEXES and position_3 == DOT", "self.index in COUNTING_INDEXES"),
     Mistake("the unit stands at position 5", "self.information[3:4]  # position 6", "self.information[2:3]"),
     Mistake("1/1000 ft is 30,479", "30_480", "30_479"),
-    Mistake("1/10,000 ft is 1/1000 ft", "3_048}"[:-1] + ",", "30_480,"),
+    Mistake("1/10,000 ft is 1/1000 ft", "3_048", "30_480"),
     Mistake("1/100 mm is 1/10 mm", 'b"8": 1_000}', 'b"8": 10_000}'),
     Mistake("unit 2 is 1 mm", 'UNITS = {', 'UNITS = {b"2": 100_000, '),
     Mistake("10 km is too large", "abs(length_of(word)) <= LARGEST_LENGTH", "abs(length_of(word)) < LARGEST_LENGTH"),
@@ -68,30 +80,25 @@ MISTAKES = (
     Mistake("repeated station words are let through", "for index in COUNTING_INDEXES):", "for index in LENGTH_INDEXES):"),
     Mistake("repeated words are let through", "> 1 for index in COUNTING_INDEXES", "> 2 for index in COUNTING_INDEXES"),
     Mistake("the point number is looked at before repeated words",
-            "    check_repeated_words(words)\n    if is_sight(words) or is_setup(words):\n        check_point_number(words[0])\n",
-            "    if is_sight(words) or is_setup(words):\n        check_point_number(words[0])\n    check_repeated_words(words)\n"),
-    Mistake("a setup needs no point number", "if is_sight(words) or is_setup(words):\n        check_point", "if is_sight(words):\n        check_point"),
-    Mistake("every block needs a point number", "if is_sight(words) or is_setup(words):\n        check_point", "if True:\n        check_point"),
-    Mistake("lengths are looked at in sights and setups only", "    check_lengths([", "    if is_sight(words) or is_setup(words):\n        check_lengths(["),
+            REPEATED_WORDS_CHECKED + SIGHT_OR_SETUP + POINT_NUMBER_CHECKED,
+            SIGHT_OR_SETUP + POINT_NUMBER_CHECKED + REPEATED_WORDS_CHECKED),
+    Mistake("a setup needs no point number", SIGHT_OR_SETUP + POINT_NUMBER_CHECKED, "    if is_sight(words):\n" + POINT_NUMBER_CHECKED),
+    Mistake("every block needs a point number", SIGHT_OR_SETUP + POINT_NUMBER_CHECKED, "    if True:\n" + POINT_NUMBER_CHECKED),
+    Mistake("lengths are looked at in sights and setups only", "    check_lengths([", SIGHT_OR_SETUP + "        check_lengths(["),
     Mistake("a bad unit is named before a bad number",
-            'all(is_made_of(word.data, DIGITS) for word in lengths)', 'all(is_made_of(word.data, DIGITS) or word.unit() not in UNITS for word in lengths)'),
+            ONLY_DIGITS, "all(is_made_of(word.data, DIGITS) or word.unit() not in UNITS for word in lengths)"),
     Mistake("heights stay over a setup", "            self.setup = Setup(station)\n",
             "            old, self.setup = self.setup or Setup(station), Setup(station)\n"
             "            self.setup.instrument_height, self.setup.reflector_height = old.instrument_height, old.reflector_height\n"),
     Mistake("the instrument height is 0 at first", "self.instrument_height: Optional[int] = None", "self.instrument_height: Optional[int] = 0"),
     Mistake("the reflector height is 0 at first", "self.reflector_height: Optional[int] = None", "self.reflector_height: Optional[int] = 0"),
     Mistake("the setup's own heights do not count",
-            "        if self.setup is not None:\n            self.setup.take_heights(words)",
-            "        if self.setup is not None and not is_setup(words):\n            self.setup.take_heights(words)"),
+            HEIGHTS_TAKEN, HEIGHTS_TAKEN.replace("not None:", "not None and not is_setup(words):")),
     Mistake("heights of other blocks do not count",
-            "        if self.setup is not None:\n            self.setup.take_heights(words)",
-            "        if self.setup is not None and (is_setup(words) or is_sight(words)):\n            self.setup.take_heights(words)"),
-    Mistake("the sight's own heights come too late",
-            "        if self.setup is not None:\n            self.setup.take_heights(words)\n        if is_sight(words):\n            self.observations.append(observe(self.setup, words))",
-            "        if is_sight(words):\n            self.observations.append(observe(self.setup, words))\n        if self.setup is not None:\n            self.setup.take_heights(words)"),
+            HEIGHTS_TAKEN, HEIGHTS_TAKEN.replace("not None:", "not None and (is_setup(words) or is_sight(words)):")),
+    Mistake("the sight's own heights come too late", HEIGHTS_TAKEN + SIGHT_OBSERVED, SIGHT_OBSERVED + HEIGHTS_TAKEN),
     Mistake("the reflector's height is looked for first",
-            'if setup.instrument_height is None:\n        raise LineFault("B9", "no instrument height")',
-            'if setup.reflector_height is None:\n        raise LineFault("B10", "no reflector height")\n    if setup.instrument_height is None:\n        raise LineFault("B9", "no instrument height")'),
+            INSTRUMENT_LOOKED_FOR + REFLECTOR_LOOKED_FOR, REFLECTOR_LOOKED_FOR + INSTRUMENT_LOOKED_FOR),
     Mistake("a sight may go to itself", "if target == setup.station:", "if False:"),
     Mistake("the heights are exchanged", "+ setup.instrument_height - setup.reflector_height", "- setup.instrument_height + setup.reflector_height"),
     Mistake("lines are numbered from 0", "start=1):\n        try", "start=0):\n        try"),
@@ -99,11 +106,11 @@ MISTAKES = (
     Mistake("minus is rounded down", "divmod(abs(length), METRE)", "divmod(length, METRE)"),
     Mistake("minus zero has a sign", '"-" if length < 0 else ""', '"-" if length <= 0 else ""'),
     Mistake("seven digits behind the dot", "{rest:08}", "{rest:07}"),
-    Mistake("a comma needs no quotes", "if b\",\" in name or b'\"' in name:", "if b'\"' in name:"),
-    Mistake("a quote needs no quotes", "if b\",\" in name or b'\"' in name:", 'if b"," in name:'),
-    Mistake("a space needs quotes", "if b\",\" in name or b'\"' in name:", "if b\",\" in name or b'\"' in name or b' ' in name:"),
+    Mistake("a comma needs no quotes", NEEDS_QUOTES, "if b'\"' in name:"),
+    Mistake("a quote needs no quotes", NEEDS_QUOTES, 'if b"," in name:'),
+    Mistake("a space needs quotes", NEEDS_QUOTES, NEEDS_QUOTES.replace("if ", "if b' ' in name or ")),
     Mistake("a quote is not doubled", """.replace(b'"', b'""')""", ""),
-    Mistake("a list of nothing has no header", 'records = [b"number,from,to,difference\\n"]', 'records = [b"number,from,to,difference\\n"] if observations else []'),
+    Mistake("a list of nothing has no header", HEADER, HEADER + " if observations else []"),
 )
 
 

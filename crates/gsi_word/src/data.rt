@@ -1,11 +1,9 @@
 ghost use Rattle.std.specs.Prelude.{◌≡◌};
 ghost use Rattle.gsi_word.specs.Data.{two_digit, length_of};
 ghost use Rattle.gsi_word.specs.Words.{parts_of};
-ghost use Rattle.th_units.specs.Lens.{are_digits};
 
-use crate::readings::is_digit;
 use crate::words::Word;
-use th_units::{Len, LenFault, to_len, unit_of};
+use th_units::{Len, LenFault, are_digits, to_len, unit_of};
 
 /// Why a word's data give no length.
 #[derive(Clone, Copy, Debug, PartialEq, Eq)]
@@ -47,11 +45,4 @@ pub fn length_of(word: &Word) -> Result<Len, LengthFault>
         LenFault::NotDigits => LengthFault::BadNumber,
         LenFault::TooLarge => LengthFault::TooLarge,
     })
-}
-
-/// Whether there is at least one byte, and each is a digit.
-fn are_digits(bytes: &[u8]) -> bool
-    ensures { result ≡ are_digits bytes.now }
-{
-    !bytes.is_empty() && bytes.iter().all(|byte| is_digit(*byte))
 }

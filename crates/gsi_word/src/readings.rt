@@ -2,9 +2,9 @@ ghost use Rattle.std.specs.Prelude.{◌≡◌};
 ghost use Rattle.std.specs.List.{list_all};
 ghost use Rattle.gsi_word.specs.Bytes.{is_info, is_sign, is_data};
 ghost use Rattle.gsi_word.specs.Words.{parts_of, result_map, word_at};
-ghost use Rattle.th_units.specs.Lens.{is_digit};
 
 use crate::words::{Width, Word, WordFault};
+use th_units::is_digit;
 
 /// The word that the front of some bytes spells; bytes after the spelling are not looked at.
 ///
@@ -39,13 +39,6 @@ pub fn read_word(bytes: &[u8], width: Width) -> Result<Word<'_>, WordFault>
         negative: sign == b'-',
         body,
     })
-}
-
-/// Whether a byte is one of the characters '0' to '9'.
-pub(crate) fn is_digit(byte: u8) -> bool
-    ensures { result ≡ is_digit byte }
-{
-    b'0' <= byte && byte <= b'9'
 }
 
 /// Whether each byte is a digit or a dot.

@@ -3,6 +3,8 @@ ghost use Rattle.std.specs.List.{list_all};
 ghost use Rattle.gsi_word.specs.Bytes.{is_info, is_sign, is_data};
 
 use std::default::Default;
+use std::error::Error;
+use std::fmt;
 
 /// How many bytes of data a word has: 8 in GSI-8, 16 in GSI-16 (Leica GSI Online manual, word format).
 #[derive(Clone, Copy, Debug, PartialEq, Eq)]
@@ -39,6 +41,20 @@ pub enum WordFault {
     /// The data hold a byte that is not printable ASCII.
     BadData,
 }
+
+impl fmt::Display for WordFault {
+    fn fmt<W: fmt::Write>(&self, f: &mut fmt::Formatter<W>) -> fmt::Result {
+        f.write_str(match self {
+            WordFault::Short => "short",
+            WordFault::BadIndex => "bad index",
+            WordFault::BadInfo => "bad information",
+            WordFault::BadSign => "bad sign",
+            WordFault::BadData => "bad data",
+        })
+    }
+}
+
+impl Error for WordFault {}
 
 /// A word of a block, with its data lent from the line that it was read from.
 #[derive(Clone, Copy, Debug)]

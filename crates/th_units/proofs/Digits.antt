@@ -1,9 +1,11 @@
 -- What digits write, read from the front, and the last digits of a number.
-use Rattle.std.proofs.Common.{◌≡◌, ℕ, ◌+◌, ◌-◌, ◌*◌, ◌/◌, ◌%◌, ◌<◌, ◌≤◌, Bool, true, false, ◌&&◌, List, [], ◌∷◌, ◌++◌, length, get_or, take, drop, map, refl, sym, ap, subst, ◌∙◌, arith, length-append, suc, zero}
+use Rattle.std.proofs.Common.{◌≡◌, ℕ, ◌+◌, ◌-◌, ◌*◌, ◌/◌, ◌%◌, ◌^◌, ◌<◌, ◌≤◌, Bool, true, false, ◌&&◌, List, [], ◌∷◌, ◌++◌, length, get_or, take, drop, map, refl, sym, ap, subst, ◌∙◌, arith, length-append, suc, zero}
 use Rattle.std.specs.Char.{digit_value}
 use Rattle.std.specs.List.{list_all}
 use Rattle.std.specs.Int.Digits.{number_from_digits_after}
-use Rattle.std.proofs.lemmas.Int.Digits.{digits_value_is, digits_value_more, number_after_append, number_after_ge}
+use Rattle.std.specs.Str.Parse.{AllDigits}
+use Rattle.std.proofs.Math.Nat.{pow-le-pow_right}
+use Rattle.std.proofs.lemmas.Int.Digits.{digits_value_is, digits_value_more, digits_value-lt, number_after_append, number_after_ge}
 use Rattle.std.proofs.lemmas.Str.{digit_value_digit}
 use Rattle.std.proofs.lemmas.Bool.{false≢true}
 use Rattle.std.proofs.lemmas.Bool.Decides.{nat_tests}
@@ -24,20 +26,39 @@ list_all-get_or p xs i within passes =
 pub digit_bounds : (byte : ℕ) → is_digit byte ≡ true → (48 ≤ byte) × (byte ≤ 57)
 digit_bounds byte h = (grind (arith, nat_tests), grind (arith, nat_tests))
 
--- each of the bytes that are digits lies from 48 to 57
-pub digits_at : (bytes : List ℕ) (i : ℕ) → are_digits bytes ≡ true → i < length bytes → (48 ≤ get_or bytes i 0) × (get_or bytes i 0 ≤ 57)
-digits_at bytes i h within = digit_bounds (get_or bytes i 0) (list_all-get_or is_digit bytes i within (second_test _ _ h))
+-- each byte of what passes the test for digits is a digit
+pub all_digits : (bytes : List ℕ) → are_digits bytes ≡ true → list_all is_digit bytes ≡ true
+all_digits bytes h = second_test _ _ h
   where
     second_test : (a b : Bool) → (a && b) ≡ true → b ≡ true
     second_test true b h = h
     second_test false b h = absurd (false≢true h)
 
 -- one more digit: ten times the number so far, plus the digit
-pub number_more : (bytes : List ℕ) (i : ℕ) → are_digits bytes ≡ true → i < length bytes → number (take (i + 1) bytes) ≡ 10 * number (take i bytes) + (get_or bytes i 0 - 48)
+pub number_more : (bytes : List ℕ) (i : ℕ) → list_all is_digit bytes ≡ true → i < length bytes → number (take (i + 1) bytes) ≡ 10 * number (take i bytes) + (get_or bytes i 0 - 48)
 number_more bytes i h within =
-    let bounds : (48 ≤ get_or bytes i 0) × (get_or bytes i 0 ≤ 57) = digits_at bytes i h within in
+    let bounds : (48 ≤ get_or bytes i 0) × (get_or bytes i 0 ≤ 57) = digit_bounds (get_or bytes i 0) (list_all-get_or is_digit bytes i within h) in
     let value : digit_value (get_or bytes i 0) + 48 ≡ get_or bytes i 0 = digit_value_digit (get_or bytes i 0) bounds in
     omega (arith, digits_value_more 10 bytes i within)
+
+-- bytes that are digits, as std says it
+pub AllDigits-from_list_all : (bytes : List ℕ) → list_all is_digit bytes ≡ true → AllDigits 10 bytes
+AllDigits-from_list_all [] h = tt
+AllDigits-from_list_all (byte ∷ bytes) h =
+    let first : is_digit byte ≡ true = list_all-get_or is_digit (byte ∷ bytes) 0 (omega arith) h in
+    let bounds : (48 ≤ byte) × (byte ≤ 57) = digit_bounds byte first in
+    let value : digit_value byte + 48 ≡ byte = digit_value_digit byte bounds in
+    (omega arith, AllDigits-from_list_all bytes (sym (ap (λ b. b && list_all is_digit bytes) first) ∙ h))
+
+-- digits write a number with no more digits
+pub number-lt : (bytes : List ℕ) → list_all is_digit bytes ≡ true → number bytes < 10 ^ length bytes
+number-lt bytes h = digits_value-lt 10 bytes (AllDigits-from_list_all bytes h)
+
+-- at most so many digits write a number below that power of ten
+pub number_below : (bytes : List ℕ) (most : ℕ) → list_all is_digit bytes ≡ true → length bytes ≤ most → number bytes < 10 ^ most
+number_below bytes most h short =
+    let power : 10 ^ length bytes ≤ 10 ^ most = pow-le-pow_right (omega arith) short in
+    omega (arith, number-lt bytes h)
 
 -- a front of some digits writes no larger number
 pub number_front : (bytes : List ℕ) (i : ℕ) → number (take i bytes) ≤ number bytes

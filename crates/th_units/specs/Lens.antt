@@ -1,10 +1,11 @@
-use Rattle.std.specs.Prelude.{ℕ, ℤ, pos, neg_ℤ, ◌*◌, ◌&&◌, Bool, List, length, Result, Ok, Err, if◌then◌else◌, nat_le, nat_lt}
+use Rattle.std.specs.Prelude.{ℕ, ℤ, pos, neg_ℤ, ◌*◌, ◌&&◌, Bool, List, length, Option, Some, None, Result, Ok, Err, if◌then◌else◌, nat_le, nat_lt}
 use Rattle.std.specs.List.{list_all}
 use Rattle.std.specs.Str.Parse.{digits_value}
 use Rattle.th_units.specs.Units.{step}
 use Rattle.th_units.specs.declared.units.Unit.{Unit}
 use Rattle.th_units.specs.declared.lens.LenFault.{LenFault}
 use Rattle.th_units.specs.declared.lens.LenFault.TheVariants.{NotDigits, TooLarge}
+use Rattle.th_units.specs.declared.short_numbers.TheConstants.{MAX_SHORT}
 use Rattle.th_units.specs.declared.lens.TheConstants.{MAX_LEN}
 
 -- one of the characters '0' to '9'
@@ -18,6 +19,10 @@ are_digits bytes = nat_lt 0 (length bytes) && list_all is_digit bytes
 -- the number that digits write, with any number of zeros before it
 abbrev pub number : List ℕ → ℕ
 number digits = digits_value 10 digits
+
+-- the number that one to nine digits write
+abbrev pub short_number : List ℕ → Option ℕ
+short_number bytes = if are_digits bytes && nat_le (length bytes) MAX_SHORT then Some (number bytes) else None
 
 -- a size with its sign: minus zero is zero
 abbrev pub signed : Bool → ℕ → ℤ

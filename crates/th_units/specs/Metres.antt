@@ -1,6 +1,12 @@
-use Rattle.std.specs.Prelude.{ℕ, ℤ, zero, suc, ◌+◌, ◌/◌, ◌%◌, List, [], ◌∷◌, ◌++◌, if◌then◌else◌, decimal, unsigned_abs}
+use Rattle.std.specs.Prelude.{ℕ, ℤ, zero, suc, ◌+◌, ◌-◌, ◌*◌, ◌/◌, ◌%◌, ◌^◌, ◌==◌, ◌&&◌, ◌||◌, not, Bool, true, List, [], ◌∷◌, ◌++◌, length, position, slice_index, drop, Option, Some, None, is_some, unwrap_or, nat_le, nat_lt, Result, Ok, Err, if◌then◌else◌, decimal, unsigned_abs}
 use Rattle.std.specs.Int.{is_negative}
-use Rattle.th_units.specs.declared.metres.TheConstants.{UNITS_PER_METRE}
+use Rattle.std.specs.List.{before_first, after_first}
+use Rattle.std.specs.Option.{option_map_or}
+use Rattle.std.specs.Result.{result_map_both}
+use Rattle.th_units.specs.Lens.{are_digits, number, signed}
+use Rattle.th_units.specs.declared.lens.LenFault.{LenFault}
+use Rattle.th_units.specs.declared.lens.LenFault.TheVariants.{NotDigits, TooLarge}
+use Rattle.th_units.specs.declared.metres.TheConstants.{UNITS_PER_METRE, MAX_DECIMALS, MAX_WHOLE_DIGITS}
 
 -- the last digits of a number, so many of them, with zeros before a shorter number
 unfoldable pub last_digits : ℕ → ℕ → List ℕ
@@ -14,3 +20,49 @@ size_in_metres size = decimal (size / UNITS_PER_METRE) ++ 46 ∷ last_digits 8 (
 -- a length in metres, with a minus sign below zero
 abbrev pub metres : ℤ → List ℕ
 metres n = if is_negative n then 45 ∷ size_in_metres (unsigned_abs n) else size_in_metres (unsigned_abs n)
+
+-- whether a text begins with a minus sign
+abbrev pub has_minus : List ℕ → Bool
+has_minus text = slice_index text 0 == 45
+
+-- whether a text begins with a plus or a minus sign
+abbrev pub has_sign : List ℕ → Bool
+has_sign text = (slice_index text 0 == 43) || has_minus text
+
+-- a text without the sign that it may begin with
+abbrev pub without_sign : List ℕ → List ℕ
+without_sign text = drop (if has_sign text then 1 else 0) text
+
+abbrev pub is_dot : ℕ → Bool
+is_dot byte = byte == 46
+
+-- what stands before the first dot, or all of a text without a dot
+abbrev pub whole : List ℕ → List ℕ
+whole text = before_first is_dot text
+
+-- what stands after the first dot, if there is one
+abbrev pub decimals : List ℕ → Option (List ℕ)
+decimals text = if is_some (position is_dot text) then Some (after_first is_dot text) else None
+
+-- one to eight digits
+abbrev pub are_decimals : List ℕ → Bool
+are_decimals bytes = are_digits bytes && nat_le (length bytes) MAX_DECIMALS
+
+-- one or more digits, and, where there is a dot, one to eight digits after it
+abbrev pub is_in_metres : List ℕ → Bool
+is_in_metres text = are_digits (whole text) && option_map_or are_decimals (decimals text) true
+
+-- the size that whole metres and decimals write, in units of 10 nm
+abbrev pub units_of : List ℕ → List ℕ → ℕ
+units_of whole decimals = number whole * UNITS_PER_METRE + number decimals * 10 ^ (MAX_DECIMALS - length decimals)
+
+-- the size that a text in metres without a sign writes: another form is no number, and more than nine digits before the dot are too large
+abbrev pub size_value : List ℕ → Result ℕ LenFault
+size_value text =
+    if not (is_in_metres text) then Err NotDigits
+    else (if nat_lt MAX_WHOLE_DIGITS (length (whole text)) then Err TooLarge
+    else Ok (units_of (whole text) (unwrap_or (decimals text) [])))
+
+-- the number of a text in metres, in units of 10 nm: the size that stands after an optional sign
+abbrev pub value : List ℕ → Result ℤ LenFault
+value text = result_map_both (signed (has_minus text)) (λ fault. fault) (size_value (without_sign text))

@@ -1,4 +1,4 @@
-ghost use Rattle.std.specs.Prelude.{◌≡◌, ◌≤◌, true};
+ghost use Rattle.std.specs.Prelude.{◌≡◌, ◌≤◌, true, unsigned_abs};
 ghost use Rattle.std.specs.Option.{SomeIff};
 ghost use Rattle.th_units.specs.Lens.{length_of, is_digit, are_digits, number};
 
@@ -30,7 +30,8 @@ impl Model for Len {
 impl Len {
     /// The length in units of 10 nm.
     pub fn get(self) -> i64
-        ensures { result ≡ self }
+        ensures value { result ≡ self }
+        ensures in_range { unsigned_abs result ≤ MAX_LEN }
     {
         self.units
     }
@@ -66,14 +67,14 @@ pub fn to_len(negative: bool, digits: &[u8], unit: Unit) -> Result<Len, LenFault
 }
 
 /// Whether there is at least one byte, and each is a digit.
-fn are_digits(bytes: &[u8]) -> bool
+pub fn are_digits(bytes: &[u8]) -> bool
     ensures { result ≡ are_digits bytes.now }
 {
     !bytes.is_empty() && bytes.iter().all(|byte| is_digit(*byte))
 }
 
 /// Whether a byte is one of the characters '0' to '9'.
-fn is_digit(byte: u8) -> bool
+pub fn is_digit(byte: u8) -> bool
     ensures { result ≡ is_digit byte }
 {
     b'0' <= byte && byte <= b'9'

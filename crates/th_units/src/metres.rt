@@ -1,10 +1,21 @@
-ghost use Rattle.std.specs.Prelude.{◌≡◌, ◌+◌, ◌<◌, ◌≤◌, [], ◌∷◌, ◌++◌, length, decimal};
-ghost use Rattle.th_units.specs.Metres.{metres, last_digits};
+ghost use Rattle.std.specs.Prelude.{◌≡◌, ◌+◌, ◌<◌, ◌≤◌, ◌^◌, IfOk, true, [], ◌∷◌, ◌++◌, length, decimal};
+ghost use Rattle.std.specs.List.{list_all};
+ghost use Rattle.std.specs.Option.{option_copied};
+ghost use Rattle.th_units.specs.Lens.{is_digit, number};
+ghost use Rattle.th_units.specs.Metres.{metres, last_digits, are_decimals, decimals, has_minus, size_value, units_of, value, whole, without_sign};
 
+use crate::lens::{LenFault, are_digits};
+use crate::short_numbers::{MAX_SHORT, number};
 use std::marker::Model;
 
 /// How many units of 10 nm a metre has.
 pub const UNITS_PER_METRE: u64 = 100_000_000;
+
+/// How many decimals a text in metres has at most: the last one counts units of 10 nm.
+const MAX_DECIMALS: usize = 8;
+
+/// How many digits a text in metres has at most before its dot.
+const MAX_WHOLE_DIGITS: usize = MAX_SHORT;
 
 /// The most bytes that the text of a length in metres has.
 const CAPACITY: usize = 24;
@@ -94,4 +105,79 @@ pub fn metre_text(units: i64) -> MetreText
         text.prepend(b'-');
     }
     text
+}
+
+/// The length in units of 10 nm that a text in metres writes.
+///
+/// The form is an optional `+` or `-`, one or more digits, and optionally a dot and one to eight
+/// digits. `NotDigits` for a text of another form; `TooLarge` for one with more than nine digits
+/// before the dot, where leading zeros count.
+pub fn parse_metres(text: &[u8]) -> Result<i64, LenFault>
+    ensures { result ≡ value text.now }
+{
+    let size = parse_size(without_sign(text))? as i64;
+    Ok(if has_minus(text) { -size } else { size })
+}
+
+/// Whether a text begins with a minus sign.
+fn has_minus(text: &[u8]) -> bool
+    ensures { result ≡ has_minus text.now }
+{
+    matches!(text, [b'-', ..])
+}
+
+/// A text without the sign that it may begin with.
+fn without_sign(text: &[u8]) -> &[u8]
+    ensures { result.now ≡ without_sign text.now }
+{
+    match text {
+        [b'+' | b'-', size @ ..] => size,
+        _ => text,
+    }
+}
+
+/// The size in units of 10 nm that a text in metres without a sign writes.
+fn parse_size(text: &[u8]) -> Result<u64, LenFault>
+    ensures value { result ≡ size_value text.now }
+    ensures bound { IfOk result (λ size. size < 10 ^ 17) }
+{
+    let (whole, decimals) = split_at_dot(text);
+    if !are_digits(whole) || !decimals.is_none_or(are_decimals) {
+        return Err(LenFault::NotDigits);
+    }
+    if whole.len() > MAX_WHOLE_DIGITS {
+        return Err(LenFault::TooLarge);
+    }
+    Ok(units_of(whole, decimals.unwrap_or(&[])))
+}
+
+/// What stands before the first dot, and what stands after it if there is one.
+fn split_at_dot(text: &[u8]) -> (&[u8], Option<&[u8]>)
+    ensures whole { result.0.now ≡ whole text.now }
+    ensures decimals { option_copied result.1 ≡ decimals text.now }
+{
+    match text.iter().position(|byte| *byte == b'.') {
+        Some(dot) => (&text[..dot], Some(&text[dot + 1..])),
+        None => (text, None),
+    }
+}
+
+/// Whether there are one to eight bytes, and each is a digit.
+fn are_decimals(bytes: &[u8]) -> bool
+    ensures { result ≡ are_decimals bytes.now }
+{
+    are_digits(bytes) && bytes.len() <= MAX_DECIMALS
+}
+
+/// The size that whole metres and decimals write, in units of 10 nm.
+fn units_of(whole: &[u8], decimals: &[u8]) -> u64
+    requires whole_digits { list_all is_digit whole.now ≡ true }
+    requires whole_short { length whole.now ≤ MAX_WHOLE_DIGITS }
+    requires decimal_digits { list_all is_digit decimals.now ≡ true }
+    requires decimals_short { length decimals.now ≤ MAX_DECIMALS }
+    ensures value { result ≡ units_of whole.now decimals.now }
+    ensures bound { result < 10 ^ 17 }
+{
+    let tens = 10_u64.pow((MAX_DECIMALS - decimals.len()) as u32);
+    u64::from(number(whole)) * UNITS_PER_METRE + u64::from(number(decimals)) * tens
 }

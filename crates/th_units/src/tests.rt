@@ -85,3 +85,58 @@ fn codes_of_other_units(rt: HostRuntime) {
         assert_eq!(rt; unit_of(code), None);
     }
 }
+
+const METRES_READ: [(&[u8], Result<i64, LenFault>); 22] = [
+    (b"100", Ok(10_000_000_000)),
+    (b"+0.5", Ok(50_000_000)),
+    (b"-0.00000001", Ok(-1)),
+    (b"999999999.99999999", Ok(99_999_999_999_999_999)),
+    (b"-999999999.99999999", Ok(-99_999_999_999_999_999)),
+    (b"000000001.0", Ok(100_000_000)),
+    (b"-0", Ok(0)),
+    (b"1000000000", Err(LenFault::TooLarge)),
+    (b"0000000001", Err(LenFault::TooLarge)),
+    (b"-1000000000.5", Err(LenFault::TooLarge)),
+    (b"1.", Err(LenFault::NotDigits)),
+    (b".5", Err(LenFault::NotDigits)),
+    (b"1.000000001", Err(LenFault::NotDigits)),
+    (b"1000000000.000000001", Err(LenFault::NotDigits)),
+    (b"", Err(LenFault::NotDigits)),
+    (b"+", Err(LenFault::NotDigits)),
+    (b".", Err(LenFault::NotDigits)),
+    (b"+-1", Err(LenFault::NotDigits)),
+    (b"1.5.5", Err(LenFault::NotDigits)),
+    (b"1.5x", Err(LenFault::NotDigits)),
+    (b" 1", Err(LenFault::NotDigits)),
+    (b"1,5", Err(LenFault::NotDigits)),
+];
+
+#[test]
+fn metres_read(rt: HostRuntime) {
+    for (text, wanted) in &METRES_READ {
+        assert!(rt; parse_metres(text) == *wanted, "{text:?}");
+    }
+}
+
+#[test]
+fn metres_read_as_they_were_written(rt: HostRuntime) {
+    for units in [0, 1, -1, 99_999_999, -100_000_000, 99_999_999_999_999_999] {
+        assert_eq!(rt; parse_metres(metre_text(units).as_bytes()), Ok(units));
+    }
+}
+
+#[test]
+fn short_numbers(rt: HostRuntime) {
+    let rows: [(&[u8], Option<u32>); 7] = [
+        (b"0", Some(0)),
+        (b"000000007", Some(7)),
+        (b"999999999", Some(999_999_999)),
+        (b"0000000001", None),
+        (b"", None),
+        (b"+1", None),
+        (b"1 ", None),
+    ];
+    for (digits, wanted) in &rows {
+        assert!(rt; short_number(digits) == *wanted, "{digits:?}");
+    }
+}
