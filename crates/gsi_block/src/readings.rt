@@ -1,6 +1,4 @@
 ghost use Rattle.std.specs.Prelude.{◌≡◌, option_map};
-ghost use Rattle.std.specs.List.{list_all};
-ghost use Rattle.gsi_word.specs.Bytes.{is_space};
 ghost use Rattle.gsi_word.specs.Words.{result_map};
 ghost use Rattle.gsi_block.specs.Blocks.{parts_in, is_blank, block_at, block_of};
 

@@ -1,16 +1,14 @@
-use Rattle.std.specs.Prelude.{ℕ, ℤ, ◌+◌, ◌==◌, ◌&&◌, ◌||◌, not, Bool, true, false, List, [], ◌∷◌, Option, Some, None, Result, Ok, Err, if◌then◌else◌, count_by, nat_lt, option_map, is_none, slice_get, slice_index, length, nat_eq}
+use Rattle.std.specs.Prelude.{ℕ, ℤ, ◌+◌, ◌==◌, ◌&&◌, ◌||◌, not, Bool, true, false, List, [], ◌∷◌, Option, Some, None, Result, Ok, Err, if◌then◌else◌, count_by, nat_lt, option_map, is_none, is_some, slice_get, slice_index, length}
 use Rattle.std.specs.List.{list_any, filter_map, range_with_len}
-use Rattle.std.specs.Cmp.Lexicographic.{pointwise}
 use Rattle.th_units.specs.Lens.{are_digits}
 use Rattle.th_units.specs.Units.{unit_of}
 use Rattle.gsi_word.specs.Words.{Parts}
+use Rattle.gsi_word.specs.Names.{same_name}
 use Rattle.gsi_word.specs.Data.{length_of}
 use Rattle.gsi_word.specs.declared.data.LengthFault.{LengthFault}
 use Rattle.gsi_word.specs.declared.data.LengthFault.TheVariants as length_fault
-use Rattle.gsi_block.specs.Blocks.{BlockParts, block_at}
-use Rattle.gsi_block.specs.declared.blocks.BlockFault.{BlockFault}
-use Rattle.th_book.specs.Lines.{counts_for, is_setup, is_sight, point_name}
-use Rattle.th_book.specs.Places.{last_with, line_at, setup_of, station_at}
+use Rattle.th_book.specs.Lines.{Said, counts_for, is_setup, is_sight, point_name}
+use Rattle.th_book.specs.Places.{last_with, said_at, setup_of, station_at}
 use Rattle.th_book.specs.declared.faults.BookKind.{BookKind}
 use Rattle.th_book.specs.declared.faults.BookKind.TheVariants.{Block, RepeatedWord, NoPointNumber, BadName, BadNumber, BadUnit, TooLarge, SightBeforeSetup, NoInstrumentHeight, NoReflectorHeight, SightToItself}
 use Rattle.th_book.specs.declared.faults.BookFault.{BookFault}
@@ -54,12 +52,28 @@ begins_with_point [] = false
 begins_with_point (word ∷ words) = word.index == POINT_NUMBER
 
 -- two names are there, and are one
-abbrev pub same_name : Option (List ℕ) → Option (List ℕ) → Bool
-same_name (Some a) (Some b) = pointwise nat_eq a b
-same_name (Some a) None = false
-same_name None other = false
+abbrev pub are_one : Option (List ℕ) → Option (List ℕ) → Bool
+are_one (Some name) (Some other) = same_name name other
+are_one (Some name) None = false
+are_one None other = false
 
--- a row of the table of faults: where the fault stands, and which it is
+-- what stands before a sight, or in it: a setup, an instrument height and a reflector height from that setup on, and the station's name
+pub record Standing : Type 0 where
+  pub setup : Bool
+  pub instrument : Bool
+  pub reflector : Bool
+  pub station : Option (List ℕ)
+
+-- what stands for a sight at a place
+abbrev pub standing_at : List Said → ℕ → Standing
+standing_at said place = record {
+  setup = is_some (setup_of said place);
+  instrument = is_some (last_with INSTRUMENT_HEIGHT said place);
+  reflector = is_some (last_with REFLECTOR_HEIGHT said place);
+  station = station_at said place;
+}
+
+-- a row of the table of faults: whether the fault is there, and which it is
 abbrev pub Row : Type 0
 Row = Bool × BookKind
 
@@ -68,39 +82,45 @@ abbrev pub first_applying : List Row → Option BookKind
 first_applying [] = None
 first_applying (row ∷ rows) = if row.0 then Some row.1 else first_applying rows
 
--- the table of the faults of a block at a place
-abbrev pub block_faults : List (List ℕ) → ℕ → List Parts → List Row
-block_faults lines place words =
-    let line = line_at lines place in
-    let sight = is_sight line in
-    let named = sight || is_setup line in
+-- the table of the faults of a block
+abbrev pub block_faults : Standing → List Parts → List Row
+block_faults standing words =
+    let sight = is_sight words in
+    let named = sight || is_setup words in
     (repeats_word words, RepeatedWord)
     ∷ (named && not (begins_with_point words), NoPointNumber)
-    ∷ (named && is_none (point_name line), BadName)
+    ∷ (named && is_none (point_name words), BadName)
     ∷ (some_length has_bad_number words, BadNumber)
     ∷ (some_length has_bad_unit words, BadUnit)
     ∷ (some_length is_too_large words, TooLarge)
-    ∷ (sight && is_none (setup_of lines place), SightBeforeSetup)
-    ∷ (sight && is_none (last_with INSTRUMENT_HEIGHT lines place), NoInstrumentHeight)
-    ∷ (sight && is_none (last_with REFLECTOR_HEIGHT lines place), NoReflectorHeight)
-    ∷ (sight && same_name (station_at lines place) (point_name line), SightToItself)
+    ∷ (sight && not standing.setup, SightBeforeSetup)
+    ∷ (sight && not standing.instrument, NoInstrumentHeight)
+    ∷ (sight && not standing.reflector, NoReflectorHeight)
+    ∷ (sight && are_one standing.station (point_name words), SightToItself)
     ∷ []
 
--- the first kind of fault of the line at a place, by what the line says as a block
-abbrev pub kind_by : List (List ℕ) → ℕ → Result (Option BlockParts) BlockFault → Option BookKind
-kind_by lines place (Err fault) = Some (Block fault)
-kind_by lines place (Ok None) = None
-kind_by lines place (Ok (Some block)) = first_applying (block_faults lines place block.words)
+-- the first kind of fault of a line, by what it says
+abbrev pub kind_of : Standing → Said → Option BookKind
+kind_of standing (Err fault) = Some (Block fault)
+kind_of standing (Ok None) = None
+kind_of standing (Ok (Some block)) = first_applying (block_faults standing block.words)
+
+-- the kind of fault of the line at a place
+abbrev pub kind_at : List Said → ℕ → Option BookKind
+kind_at said place = kind_of (standing_at said place) (said_at said place)
+
+-- a fault of this kind in the line at a place
+abbrev pub fault_in : ℕ → BookKind → BookFault
+fault_in place kind = record { line = place + 1; kind = kind }
 
 -- the fault of the line at a place
-abbrev pub fault_at : List (List ℕ) → ℕ → Option BookFault
-fault_at lines place =
-    option_map (λ kind. record { line = place + 1; kind = kind }) (kind_by lines place (block_at (line_at lines place)))
+abbrev pub fault_at : List Said → ℕ → Option BookFault
+fault_at said place = option_map (fault_in place) (kind_at said place)
 
 -- the faults of a book's lines, in their order
-abbrev pub faults_of : List (List ℕ) → List BookFault
-faults_of lines = filter_map (fault_at lines) (range_with_len 0 (length lines))
+abbrev pub faults_of : List Said → List BookFault
+faults_of said = filter_map (fault_at said) (range_with_len 0 (length said))
 
 -- the fault that counts: that of the first line that has one
-abbrev pub first_fault : List (List ℕ) → Option BookFault
-first_fault lines = slice_get (faults_of lines) 0
+abbrev pub first_fault : List Said → Option BookFault
+first_fault said = slice_get (faults_of said) 0

@@ -3,3 +3,4 @@ pub mod Lines
 pub mod Places
 pub mod Faults
 pub mod Books
+pub mod Due

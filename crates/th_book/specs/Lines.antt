@@ -5,43 +5,41 @@ use Rattle.std.specs.Result.{result_ok}
 use Rattle.gsi_word.specs.Words.{Parts}
 use Rattle.gsi_word.specs.Names.{name_of}
 use Rattle.gsi_word.specs.Data.{length_of, two_digit}
-use Rattle.gsi_block.specs.Blocks.{BlockParts, block_at}
+use Rattle.gsi_block.specs.Blocks.{BlockParts}
 use Rattle.gsi_block.specs.declared.blocks.BlockFault.{BlockFault}
 use Rattle.th_book.specs.declared.indexes.TheConstants.{HEIGHT_DIFFERENCE, STATION_EASTING, STATION_NORTHING, STATION_HEIGHT}
 
--- the words of a block; a blank line has none, nor has one that is no block
-abbrev pub words_in : Result (Option BlockParts) BlockFault → List Parts
+-- what a line says: nothing, a block, or why it is neither
+abbrev pub Said : Type 0
+Said = Result (Option BlockParts) BlockFault
+
+-- the words of a line's block; a blank line has none, nor has one that is no block
+abbrev pub words_in : Said → List Parts
 words_in (Ok (Some block)) = block.words
 words_in (Ok None) = []
 words_in (Err fault) = []
-
-abbrev pub words_of : List ℕ → List Parts
-words_of line = words_in (block_at line)
 
 -- a word counts for an index where it has it and its position 3 is a dot
 abbrev pub counts_for : ℕ → Parts → Bool
 counts_for index word = option_map_or (λ own. own == index) (two_digit word) false
 
--- a line holds an index where a word of it counts for it
-abbrev pub holds : ℕ → List ℕ → Bool
-holds index line = list_any (counts_for index) (words_of line)
+-- a block holds an index where a word of it counts for it
+abbrev pub holds : ℕ → List Parts → Bool
+holds index words = list_any (counts_for index) words
 
 -- a sight is a block with a height difference
-abbrev pub is_sight : List ℕ → Bool
-is_sight line = holds HEIGHT_DIFFERENCE line
+abbrev pub is_sight : List Parts → Bool
+is_sight words = holds HEIGHT_DIFFERENCE words
 
 -- a setup is a block with a coordinate of the station, and no sight
-abbrev pub is_setup : List ℕ → Bool
-is_setup line = not (is_sight line) && (holds STATION_EASTING line || (holds STATION_NORTHING line || holds STATION_HEIGHT line))
+abbrev pub is_setup : List Parts → Bool
+is_setup words = not (is_sight words) && (holds STATION_EASTING words || (holds STATION_NORTHING words || holds STATION_HEIGHT words))
 
 -- the name of the point that a sight or a setup begins with
-abbrev pub first_name : List Parts → Option (List ℕ)
-first_name [] = None
-first_name (word ∷ words) = name_of word.body
-
-abbrev pub point_name : List ℕ → Option (List ℕ)
-point_name line = first_name (words_of line)
+abbrev pub point_name : List Parts → Option (List ℕ)
+point_name [] = None
+point_name (word ∷ words) = name_of word.body
 
 -- the length of the first word that counts for an index
-abbrev pub length_in : ℕ → List ℕ → Option ℤ
-length_in index line = option_and_then (λ word. result_ok (length_of word)) (find (counts_for index) (words_of line))
+abbrev pub length_in : ℕ → List Parts → Option ℤ
+length_in index words = option_and_then (λ word. result_ok (length_of word)) (find (counts_for index) words)

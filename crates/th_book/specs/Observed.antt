@@ -1,4 +1,5 @@
-use Rattle.std.specs.Prelude.{ℕ, ℤ, List}
+use Rattle.std.specs.Prelude.{◌≢◌, ◌≤◌, ℕ, ℤ, List, unsigned_abs}
+use Rattle.th_book.specs.declared.observations.TheConstants.{MAX_DIFFERENCE}
 
 -- a height difference observed from a station to a target, in units of 10 nm, and where it stands: the book's number and the line, both from 1
 pub record Observed : Type 0 where
@@ -7,3 +8,8 @@ pub record Observed : Type 0 where
   pub difference : ℤ
   pub book : ℕ
   pub line : ℕ
+
+-- the ends are two points, and the difference is at most three lengths in size
+pub record IsBetweenPoints (observed : Observed) : Type 0 where
+  pub distinct : observed.station ≢ observed.target
+  pub in_range : unsigned_abs observed.difference ≤ MAX_DIFFERENCE

@@ -6,9 +6,12 @@
 
 mod faults;
 mod indexes;
+pub mod laws;
+mod observations;
 
 pub use faults::{BookFault, BookKind, MAX_BOOK};
 pub use indexes::{
     HEIGHT_DIFFERENCE, INSTRUMENT_HEIGHT, POINT_NUMBER, REFLECTOR_HEIGHT, STATION_EASTING,
     STATION_HEIGHT, STATION_NORTHING,
 };
+pub use observations::{MAX_DIFFERENCE, Observation};

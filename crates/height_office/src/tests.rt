@@ -1,0 +1,148 @@
+//! What no clause says: that calls succeed where memory is ample, and what real files do.
+use crate::command_lines::plan;
+use crate::devices::Failed;
+use crate::files::{FileSink, FileSource};
+use crate::memory::{TextSink, TextSource};
+use crate::plans::{Plan, PlanFault};
+use crate::transfer::{ReadFault, read_all, write_all};
+use clap::error::ErrorKind;
+use std::fs;
+use std::test::Fail;
+
+/// A text of 70 bytes.
+const TEXT: &[u8] = b"kind,key,value\nV,1,1\nH,A,100.00000000\nH,B,102.54500000\nF,1,0\nZ,cost,0\n";
+
+#[test]
+fn reads_to_the_end_or_past_the_limit(rt: HostRuntime) {
+    // The most bytes that a read gives, the limit, and how many bytes are then read.
+    for (piece, limit, length) in [
+        (1, 100, 70),
+        (20, 70, 70),
+        (20, 69, 70),
+        (20, 40, 41),
+        (1000, 0, 1),
+    ] {
+        assert!(rt; piece >= 1);
+        let mut source = TextSource::new(TEXT, piece, None);
+        let bytes = read_all(rt.alloc(), &mut source, limit);
+        let bytes = bytes.ok().expect(&rt, "all the bytes");
+        assert_eq!(rt; bytes.len(), length, "piece {piece}, limit {limit}");
+        assert!(rt; TEXT.starts_with(bytes.as_slice()));
+    }
+}
+
+#[test]
+fn a_read_that_fails_takes_nothing(rt: HostRuntime) {
+    // The read that fails, and how many bytes are left then.
+    for (fail_at, left) in [(1, 70), (2, 50), (3, 30), (4, 10), (5, 0)] {
+        let mut source = TextSource::new(TEXT, 20, Some(fail_at));
+        let answer = read_all(rt.alloc(), &mut source, 100);
+        assert!(rt; matches!(answer, Err(ReadFault::Failed)), "read {fail_at}");
+        let rest = read_all(rt.alloc(), &mut source, 100);
+        let rest = rest.ok().expect(&rt, "the rest");
+        assert_eq!(rt; rest.len(), left, "read {fail_at}");
+    }
+    let mut source = TextSource::new(TEXT, 20, Some(6));
+    assert!(rt; read_all(rt.alloc(), &mut source, 100).is_ok());
+}
+
+#[test]
+fn a_call_that_fails_leaves_a_beginning(rt: HostRuntime) -> Result<(), Fail> {
+    // The call that fails, and how many bytes are held then.
+    for (fail_at, held) in [(1, 0), (2, 0), (3, 20), (4, 40), (5, 60), (6, 70)] {
+        let mut sink = TextSink::new(rt.alloc(), 70, 20, Some(fail_at))?;
+        assert_eq!(rt; write_all(&mut sink, TEXT), Err(Failed), "call {fail_at}");
+        assert_eq!(rt; sink.bytes().len(), held, "call {fail_at}");
+        assert_eq!(rt; write_all(&mut sink, TEXT), Ok(()), "after call {fail_at}");
+        assert!(rt; sink.bytes() == TEXT);
+    }
+    let mut sink = TextSink::new(rt.alloc(), 70, 20, Some(7))?;
+    assert_eq!(rt; write_all(&mut sink, TEXT), Ok(()));
+    let mut sink = TextSink::new(rt.alloc(), 69, 20, None)?;
+    assert_eq!(rt; write_all(&mut sink, TEXT), Err(Failed));
+    assert_eq!(rt; sink.bytes().len(), 69);
+    Ok(())
+}
+
+#[test]
+fn a_file_is_written_and_read_back(rt: HostRuntime) {
+    let name = "written.csv";
+    let mut sink = FileSink::new(&rt, name);
+    assert_eq!(rt;
+        write_all(
+            &mut sink,
+            b"a text that is longer than the one which is written over it, by some bytes"
+        ),
+        Ok(())
+    );
+    assert_eq!(rt; write_all(&mut sink, TEXT), Ok(()));
+    let mut source = FileSource::new(&rt, name);
+    let bytes = read_all(rt.alloc(), &mut source, 100);
+    let bytes = bytes.ok().expect(&rt, "the file");
+    assert!(rt; bytes.as_slice() == TEXT);
+    assert!(rt; fs::remove_file(&rt, name).is_ok());
+}
+
+#[test]
+fn a_file_that_cannot_be_opened_fails_its_call(rt: HostRuntime) {
+    let mut source = FileSource::new(&rt, "no-such-folder/book.gsi");
+    let answer = read_all(rt.alloc(), &mut source, 100);
+    assert!(rt; matches!(answer, Err(ReadFault::Failed)));
+    let mut sink = FileSink::new(&rt, "no-such-folder/heights.csv");
+    assert_eq!(rt; write_all(&mut sink, TEXT), Err(Failed));
+}
+
+#[test]
+fn words_are_a_plan(rt: HostRuntime) {
+    let answer = plan(rt.alloc(), &["height_office"]);
+    assert!(rt; matches!(answer, Ok(Plan::Standard)));
+    for words in [
+        ["height_office", "list", "k.gsi"],
+        ["height_office", "list", "-"],
+    ] {
+        match plan(rt.alloc(), &words) {
+            Ok(Plan::List(book)) => assert!(rt; book == words[2]),
+            _ => assert!(rt; false, "a book to list"),
+        }
+    }
+}
+
+#[test]
+fn wrong_words_are_a_fault(rt: HostRuntime) {
+    for (words, kind) in [
+        (
+            ["height_office", "list"].as_slice(),
+            ErrorKind::MissingRequiredArgument,
+        ),
+        (
+            ["height_office", "list", "a", "b"].as_slice(),
+            ErrorKind::UnknownArgument,
+        ),
+        (
+            ["height_office", "lisst", "a"].as_slice(),
+            ErrorKind::InvalidSubcommand,
+        ),
+        (
+            ["height_office", "--wide"].as_slice(),
+            ErrorKind::UnknownArgument,
+        ),
+        (
+            ["height_office", "--"].as_slice(),
+            ErrorKind::MissingSubcommand,
+        ),
+        (
+            ["height_office", "--help"].as_slice(),
+            ErrorKind::DisplayHelp,
+        ),
+        (["height_office", "help"].as_slice(), ErrorKind::DisplayHelp),
+        (
+            ["height_office", "list", "-h"].as_slice(),
+            ErrorKind::DisplayHelp,
+        ),
+    ] {
+        match plan(rt.alloc(), words) {
+            Err(PlanFault::Line(error)) => assert_eq!(rt; error.kind(), kind),
+            _ => assert!(rt; false, "a fault"),
+        }
+    }
+}

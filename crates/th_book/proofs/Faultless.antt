@@ -1,0 +1,121 @@
+-- What a line without a fault is: the lengths that count can be read, and a sight or a setup has a name.
+use Rattle.std.proofs.Common.{◌≡◌, ℕ, ℤ, Bool, true, false, not, cond, ◌&&◌, ◌||◌, List, [], ◌∷◌, Option, Some, None, Result, Ok, Err, refl, sym, subst}
+use Rattle.std.specs.Prelude.{is_some, is_none, find, option_and_then, nat_le, slice_index, ◌*◌}
+use Rattle.std.specs.Result.{result_map_both, result_ok}
+use Rattle.std.proofs.lemmas.Bool.{false≢true, true≢false, or_parts, not-false, cond-false}
+use Rattle.th_units.specs.Lens.{are_digits, number, signed}
+use Rattle.th_units.specs.Units.{step, unit_of}
+use Rattle.th_units.specs.declared.units.Unit.{Unit}
+use Rattle.th_units.specs.declared.lens.LenFault.TheVariants as len_fault
+use Rattle.th_units.specs.declared.lens.TheConstants.{MAX_LEN}
+use Rattle.gsi_word.specs.Words.{Parts}
+use Rattle.gsi_word.specs.Data.{in_unit, length_fault, length_of}
+use Rattle.gsi_word.specs.declared.data.LengthFault.{LengthFault}
+use Rattle.th_book.specs.Lines.{Said, counts_for, holds, is_setup, is_sight, length_in, point_name, words_in}
+use Rattle.th_book.specs.Faults.{Standing, begins_with_point, block_faults, exceeds, first_applying, has_bad_number, has_bad_unit, is_length, is_too_large, kind_of, repeats_word, are_one, some_length}
+use Rattle.th_book.specs.declared.faults.BookKind.{BookKind}
+
+-- no row of the table applies to these words
+pub record IsFaultless (standing : Standing) (words : List Parts) : Type 0 where
+  pub once : repeats_word words ≡ false
+  pub pointed : ((is_sight words || is_setup words) && not (begins_with_point words)) ≡ false
+  pub named : ((is_sight words || is_setup words) && is_none (point_name words)) ≡ false
+  pub numbers : some_length has_bad_number words ≡ false
+  pub units : some_length has_bad_unit words ≡ false
+  pub sizes : some_length is_too_large words ≡ false
+  pub placed : (is_sight words && not standing.setup) ≡ false
+  pub instrument : (is_sight words && not standing.instrument) ≡ false
+  pub reflector : (is_sight words && not standing.reflector) ≡ false
+  pub apart : (is_sight words && are_one standing.station (point_name words)) ≡ false
+
+-- a row that does not apply is passed over
+passed : (applies : Bool) (kind : BookKind) (rest : Option BookKind) → cond applies (Some kind) rest ≡ None → (applies ≡ false) × (rest ≡ None)
+passed true kind rest h = (cc, cc)
+passed false kind rest h = (refl, h)
+
+rows_pass : (standing : Standing) (words : List Parts) → first_applying (block_faults standing words) ≡ None → IsFaultless standing words
+rows_pass standing words h =
+    let once = passed _ _ _ h in
+    let pointed = passed _ _ _ once.1 in
+    let named = passed _ _ _ pointed.1 in
+    let numbers = passed _ _ _ named.1 in
+    let units = passed _ _ _ numbers.1 in
+    let sizes = passed _ _ _ units.1 in
+    let placed = passed _ _ _ sizes.1 in
+    let instrument = passed _ _ _ placed.1 in
+    let reflector = passed _ _ _ instrument.1 in
+    let apart = passed _ _ _ reflector.1 in
+    record {
+      once = once.0;
+      pointed = pointed.0;
+      named = named.0;
+      numbers = numbers.0;
+      units = units.0;
+      sizes = sizes.0;
+      placed = placed.0;
+      instrument = instrument.0;
+      reflector = reflector.0;
+      apart = apart.0;
+    }
+
+-- a line that says no words has no fault in them
+no_words : (standing : Standing) → IsFaultless standing []
+no_words standing = record {
+  once = refl;
+  pointed = refl;
+  named = refl;
+  numbers = refl;
+  units = refl;
+  sizes = refl;
+  placed = refl;
+  instrument = refl;
+  reflector = refl;
+  apart = refl;
+}
+
+pub faultless : (standing : Standing) (said : Said) → kind_of standing said ≡ None → IsFaultless standing (words_in said)
+faultless standing (Err fault) h = cc
+faultless standing (Ok None) h = no_words standing
+faultless standing (Ok (Some block)) h = rows_pass standing block.words h
+
+-- a length whose data are digits is read, or it is too large
+digits_read : (digits within : Bool) (length : ℤ) → digits ≡ true → exceeds (result_map_both (λ read. read) length_fault (cond digits (cond within (Ok length) (Err len_fault.TooLarge)) (Err len_fault.NotDigits))) ≡ false → is_some (result_ok (result_map_both (λ read. read) length_fault (cond digits (cond within (Ok length) (Err len_fault.TooLarge)) (Err len_fault.NotDigits)))) ≡ true
+digits_read true true length d h = refl
+digits_read true false length d h = absurd (true≢false h)
+digits_read false within length d h = absurd (false≢true d)
+
+unit_read : (word : Parts) (unit : Option Unit) → are_digits word.body ≡ true → is_none unit ≡ false → exceeds (in_unit word unit) ≡ false → is_some (result_ok (in_unit word unit)) ≡ true
+unit_read word None d u h = absurd (true≢false u)
+unit_read word (Some unit) d u h =
+    let size = number word.body * step unit in
+    digits_read (are_digits word.body) (nat_le size MAX_LEN) (signed word.negative size) d h
+
+-- the length of a word without a defect is read
+word_read : (word : Parts) → has_bad_number word ≡ false → has_bad_unit word ≡ false → is_too_large word ≡ false → is_some (result_ok (length_of word)) ≡ true
+word_read word numbered with_unit within =
+    let read : length_of word ≡ in_unit word (unit_of (slice_index word.info 3)) = cond-false _ _ _ numbered in
+    subst
+    (λ (length : Result ℤ LengthFault). is_some (result_ok length) ≡ true)
+    (sym read)
+    (unit_read word (unit_of (slice_index word.info 3)) (not-false (are_digits word.body) numbered) with_unit (subst (λ (length : Result ℤ LengthFault). exceeds length ≡ false) read within))
+
+-- a word that counts has no defect that no length has
+sound : (is defect : Bool) → is ≡ true → (is && defect) ≡ false → defect ≡ false
+sound true defect e h = h
+sound false defect e h = absurd (false≢true e)
+
+-- a height that is held without a defect is read
+pub held_is_read : (index : ℕ) → ((word : Parts) → counts_for index word ≡ true → is_length word ≡ true) → (words : List Parts) → some_length has_bad_number words ≡ false → some_length has_bad_unit words ≡ false → some_length is_too_large words ≡ false → holds index words ≡ true → is_some (length_in index words) ≡ true
+held_is_read index lengthy [] numbers units sizes h = absurd (false≢true h)
+held_is_read index lengthy (word ∷ words) numbers units sizes h =
+    go (counts_for index word) refl h
+    (held_is_read index lengthy words (or_parts _ _ numbers).1 (or_parts _ _ units).1 (or_parts _ _ sizes).1)
+  where
+    go : (counts : Bool) → counts_for index word ≡ counts → (counts || holds index words) ≡ true → (holds index words ≡ true → is_some (length_in index words) ≡ true) → is_some (option_and_then (λ (own : Parts). result_ok (length_of own)) (cond counts (Some word) (find (counts_for index) words))) ≡ true
+    go true e first later =
+        let is = lengthy word e in
+        word_read word
+        (sound _ _ is (or_parts _ _ numbers).0)
+        (sound _ _ is (or_parts _ _ units).0)
+        (sound _ _ is (or_parts _ _ sizes).0)
+    go false e first later = later first

@@ -1,0 +1,3 @@
+pub mod Faultless
+pub mod Running
+pub mod Keeping

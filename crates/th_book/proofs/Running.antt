@@ -1,0 +1,116 @@
+-- The running setup: its heights are those of the last lines that hold them, from its own line on.
+use Rattle.std.proofs.Common.{◌≡◌, ℕ, ℤ, zero, suc, ◌<◌, ◌≤◌, Bool, true, false, cond, ◌&&◌, List, Option, Some, None, refl, sym, ap, ◌∙◌, arith}
+use Rattle.std.specs.Prelude.{is_some, nat_le, option_and_then, option_map}
+use Rattle.std.proofs.lemmas.Bool.{false≢true, and_left, cond-false, le-leb, lt-leb}
+use Rattle.gsi_word.specs.Words.{Parts}
+use Rattle.th_book.specs.Lines.{Said, holds, is_setup, length_in, point_name}
+use Rattle.th_book.specs.Places.{holds_from, last_below, setup_of, words_at}
+use Rattle.th_book.specs.Books.{known_name}
+use Rattle.th_book.specs.Due.{Setup, begun, latest, setup_after, with_heights}
+use Rattle.th_book.specs.declared.indexes.TheConstants.{REFLECTOR_HEIGHT, INSTRUMENT_HEIGHT}
+
+-- the last place below a bound lies below it
+pub last_below-lt : (test : ℕ → Bool) (bound place : ℕ) → last_below test bound ≡ Some place → place < bound
+last_below-lt test zero place h = cc
+last_below-lt test (suc bound) place h = go (test bound) h (last_below-lt test bound place)
+  where
+    go : (passes : Bool) → cond passes (Some bound) (last_below test bound) ≡ Some place → (last_below test bound ≡ Some place → place < bound) → place < suc bound
+    go true e below = let same : bound ≡ place = cc in omega arith
+    go false e below = let before : place < bound = below e in omega arith
+
+-- no place is the last where none passes
+pub last_below-none : (test : ℕ → Bool) (bound : ℕ) → ((k : ℕ) → k < bound → test k ≡ false) → last_below test bound ≡ None
+last_below-none test zero fails = refl
+last_below-none test (suc bound) fails =
+    cond-false (test bound) _ _ (fails bound (omega arith)) ∙ last_below-none test bound (λ k below. fails k (omega arith))
+
+-- a running height: that of the last line from the setup's on and below a bound, and it is there just where such a line is
+pub record IsHeight (index : ℕ) (said : List Said) (from bound : ℕ) (height : Option ℤ) : Type 0 where
+  pub length : height ≡ option_and_then (λ k. length_in index (words_at said k)) (last_below (holds_from said index from) bound)
+  pub there : is_some height ≡ is_some (last_below (holds_from said index from) bound)
+
+-- one more line from the setup's on
+pub last_below-holds : (index : ℕ) (said : List Said) (from n : ℕ) → from ≤ n → last_below (holds_from said index from) (suc n) ≡ cond (holds index (words_at said n)) (Some n) (last_below (holds_from said index from) n)
+last_below-holds index said from n after =
+    ap (λ late. cond (late && holds index (words_at said n)) (Some n) (last_below (holds_from said index from) n)) (le-leb from n after)
+
+-- the height that one more line leaves
+pub IsHeight-more : (index : ℕ) (said : List Said) (from n : ℕ) (height : Option ℤ) → from ≤ n → IsHeight index said from n height → (holds index (words_at said n) ≡ true → is_some (length_in index (words_at said n)) ≡ true) → IsHeight index said from (suc n) (latest index (words_at said n) height)
+IsHeight-more index said from n height after was read =
+    let more = last_below-holds index said from n after in
+    record {
+      length = length_after (holds index (words_at said n)) ∙ ap (option_and_then (λ k. length_in index (words_at said k))) (sym more);
+      there = there_after (holds index (words_at said n)) read ∙ ap is_some (sym more);
+    }
+  where
+    length_after : (here : Bool) → cond here (length_in index (words_at said n)) height ≡ option_and_then (λ k. length_in index (words_at said k)) (cond here (Some n) (last_below (holds_from said index from) n))
+    length_after true = refl
+    length_after false = was.length
+
+    there_after : (here : Bool) → (here ≡ true → is_some (length_in index (words_at said n)) ≡ true) → is_some (cond here (length_in index (words_at said n)) height) ≡ is_some (cond here (Some n) (last_below (holds_from said index from) n))
+    there_after true r = r refl
+    there_after false r = was.there
+
+-- a new setup has no height before its own line
+pub IsHeight-new : (index : ℕ) (said : List Said) (n : ℕ) → IsHeight index said n n None
+IsHeight-new index said n =
+    let none = last_below-none (holds_from said index n) n (λ k below. and_left (nat_le n k) (holds index (words_at said k)) (lt-leb n k below)) in
+    record {
+      length = ap (option_and_then (λ k. length_in index (words_at said k))) (sym none);
+      there = ap is_some (sym none);
+    }
+
+-- a setup that is kept stands at a place: it has the name of the point there, and the last heights since
+pub record StandsAt (said : List Said) (from bound : ℕ) (setup : Setup) : Type 0 where
+  pub before : from < bound
+  pub name : point_name (words_at said from) ≡ Some setup.station
+  pub instrument : IsHeight INSTRUMENT_HEIGHT said from bound setup.instrument
+  pub reflector : IsHeight REFLECTOR_HEIGHT said from bound setup.reflector
+
+-- what is kept is the last setup below a bound, if there is one
+abbrev pub IsRunning : List Said → ℕ → Option ℕ → Option Setup → Type 0
+IsRunning said bound None None = Unit {0}
+IsRunning said bound None (Some setup) = ⊥
+IsRunning said bound (Some from) None = ⊥
+IsRunning said bound (Some from) (Some setup) = StandsAt said from bound setup
+
+-- the heights of a line can be read where it holds them
+pub record AreRead (words : List Parts) : Type 0 where
+  pub instrument : holds INSTRUMENT_HEIGHT words ≡ true → is_some (length_in INSTRUMENT_HEIGHT words) ≡ true
+  pub reflector : holds REFLECTOR_HEIGHT words ≡ true → is_some (length_in REFLECTOR_HEIGHT words) ≡ true
+
+-- a setup that stood before a line stands after it, with the line's heights
+pub StandsAt-more : (said : List Said) (from n : ℕ) (setup : Setup) → StandsAt said from n setup → AreRead (words_at said n) → StandsAt said from (suc n) (with_heights (words_at said n) setup)
+StandsAt-more said from n setup stands read = record {
+  before = omega (arith, stands.before);
+  name = stands.name;
+  instrument = IsHeight-more INSTRUMENT_HEIGHT said from n setup.instrument (omega (arith, stands.before)) stands.instrument read.instrument;
+  reflector = IsHeight-more REFLECTOR_HEIGHT said from n setup.reflector (omega (arith, stands.before)) stands.reflector read.reflector;
+}
+
+-- a setup stands from its own line on
+pub StandsAt-new : (said : List Said) (n : ℕ) → is_some (point_name (words_at said n)) ≡ true → AreRead (words_at said n) → StandsAt said n (suc n) (with_heights (words_at said n) (begun (words_at said n)))
+StandsAt-new said n named read = record {
+  before = omega arith;
+  name = known (point_name (words_at said n)) named;
+  instrument = IsHeight-more INSTRUMENT_HEIGHT said n n None (omega arith) (IsHeight-new INSTRUMENT_HEIGHT said n) read.instrument;
+  reflector = IsHeight-more REFLECTOR_HEIGHT said n n None (omega arith) (IsHeight-new REFLECTOR_HEIGHT said n) read.reflector;
+}
+  where
+    known : (name : Option (List ℕ)) → is_some name ≡ true → name ≡ Some (known_name name)
+    known None h = absurd (false≢true h)
+    known (Some name) h = refl
+
+-- the running setup after one more line
+pub IsRunning-more : (said : List Said) (n : ℕ) (setup : Option Setup) → IsRunning said n (setup_of said n) setup → (is_setup (words_at said n) ≡ true → is_some (point_name (words_at said n)) ≡ true) → AreRead (words_at said n) → IsRunning said (suc n) (setup_of said (suc n)) (setup_after setup (words_at said n))
+IsRunning-more said n setup was named read = go (is_setup (words_at said n)) named
+  where
+    kept : (found : Option ℕ) (held : Option Setup) → IsRunning said n found held → IsRunning said (suc n) found (option_map (with_heights (words_at said n)) held)
+    kept None None r = tt
+    kept None (Some own) r = r
+    kept (Some from) None r = r
+    kept (Some from) (Some own) r = StandsAt-more said from n own r read
+
+    go : (begins : Bool) → (begins ≡ true → is_some (point_name (words_at said n)) ≡ true) → IsRunning said (suc n) (cond begins (Some n) (setup_of said n)) (option_map (with_heights (words_at said n)) (cond begins (Some (begun (words_at said n))) setup))
+    go true names = StandsAt-new said n (names refl) read
+    go false names = kept (setup_of said n) setup was
