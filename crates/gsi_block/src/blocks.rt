@@ -3,6 +3,8 @@ ghost use Rattle.gsi_word.specs.Words.{parts_of};
 
 use arrayvec::ArrayVec;
 use gsi_word::{Width, Word, WordFault};
+use std::error::Error;
+use std::fmt;
 
 /// The most bytes that a line of a book has, without its end.
 pub const MAX_LINE: usize = 1_600;
@@ -22,6 +24,19 @@ pub enum BlockFault {
     /// The byte after this word is no space.
     BadSeparator(u32),
 }
+
+impl fmt::Display for BlockFault {
+    fn fmt<W: fmt::Write>(&self, f: &mut fmt::Formatter<W>) -> fmt::Result {
+        match self {
+            BlockFault::BadWord(number, fault) => write!(f, "word {number}: {fault}"),
+            BlockFault::TooManyWords => f.write_str("too many words"),
+            BlockFault::LineTooLong => f.write_str("line too long"),
+            BlockFault::BadSeparator(number) => write!(f, "no space after word {number}"),
+        }
+    }
+}
+
+impl Error for BlockFault {}
 
 /// The words of a line, all of one width, with their data lent from the line.
 #[derive(Debug, Drop)]
