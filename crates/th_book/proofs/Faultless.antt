@@ -9,10 +9,12 @@ use Rattle.th_units.specs.declared.units.Unit.{Unit}
 use Rattle.th_units.specs.declared.lens.LenFault.TheVariants as len_fault
 use Rattle.th_units.specs.declared.lens.TheConstants.{MAX_LEN}
 use Rattle.gsi_word.specs.Words.{Parts}
-use Rattle.gsi_word.specs.Data.{in_unit, length_fault, length_of}
+use Rattle.gsi_word.specs.Data as word_data
+use Rattle.gsi_word.specs.Data.{in_unit, length_of}
 use Rattle.gsi_word.specs.declared.data.LengthFault.{LengthFault}
+use Rattle.gsi_word.specs.declared.data.LengthFault.TheVariants as length_fault
 use Rattle.th_book.specs.Lines.{Said, counts_for, holds, is_setup, is_sight, length_in, point_name, words_in}
-use Rattle.th_book.specs.Faults.{Standing, begins_with_point, block_faults, exceeds, first_applying, has_bad_number, has_bad_unit, is_length, is_too_large, kind_of, repeats_word, are_one, some_length}
+use Rattle.th_book.specs.Faults.{Standing, begins_with_point, block_faults, first_applying, has_bad_number, has_bad_unit, is_length, is_refused, is_too_large, kind_of, repeats_word, are_one, some_length}
 use Rattle.th_book.specs.declared.faults.BookKind.{BookKind}
 
 -- no row of the table applies to these words
@@ -79,12 +81,12 @@ faultless standing (Ok None) h = no_words standing
 faultless standing (Ok (Some block)) h = rows_pass standing block.words h
 
 -- a length whose data are digits is read, or it is too large
-digits_read : (digits within : Bool) (length : ℤ) → digits ≡ true → exceeds (result_map_both (λ read. read) length_fault (cond digits (cond within (Ok length) (Err len_fault.TooLarge)) (Err len_fault.NotDigits))) ≡ false → is_some (result_ok (result_map_both (λ read. read) length_fault (cond digits (cond within (Ok length) (Err len_fault.TooLarge)) (Err len_fault.NotDigits)))) ≡ true
+digits_read : (digits within : Bool) (length : ℤ) → digits ≡ true → is_refused length_fault.TooLarge (result_map_both (λ read. read) word_data.length_fault (cond digits (cond within (Ok length) (Err len_fault.TooLarge)) (Err len_fault.NotDigits))) ≡ false → is_some (result_ok (result_map_both (λ read. read) word_data.length_fault (cond digits (cond within (Ok length) (Err len_fault.TooLarge)) (Err len_fault.NotDigits)))) ≡ true
 digits_read true true length d h = refl
 digits_read true false length d h = absurd (true≢false h)
 digits_read false within length d h = absurd (false≢true d)
 
-unit_read : (word : Parts) (unit : Option Unit) → are_digits word.body ≡ true → is_none unit ≡ false → exceeds (in_unit word unit) ≡ false → is_some (result_ok (in_unit word unit)) ≡ true
+unit_read : (word : Parts) (unit : Option Unit) → are_digits word.body ≡ true → is_none unit ≡ false → is_refused length_fault.TooLarge (in_unit word unit) ≡ false → is_some (result_ok (in_unit word unit)) ≡ true
 unit_read word None d u h = absurd (true≢false u)
 unit_read word (Some unit) d u h =
     let size = number word.body * step unit in
@@ -97,7 +99,7 @@ word_read word numbered with_unit within =
     subst
     (λ (length : Result ℤ LengthFault). is_some (result_ok length) ≡ true)
     (sym read)
-    (unit_read word (unit_of (slice_index word.info 3)) (not-false (are_digits word.body) numbered) with_unit (subst (λ (length : Result ℤ LengthFault). exceeds length ≡ false) read within))
+    (unit_read word (unit_of (slice_index word.info 3)) (not-false (are_digits word.body) numbered) with_unit (subst (λ (length : Result ℤ LengthFault). is_refused length_fault.TooLarge length ≡ false) read within))
 
 -- a word that counts has no defect that no length has
 sound : (is defect : Bool) → is ≡ true → (is && defect) ≡ false → defect ≡ false

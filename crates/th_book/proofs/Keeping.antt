@@ -11,7 +11,8 @@ use Rattle.th_book.specs.Lines.{Said, holds, is_setup, is_sight, length_in, poin
 use Rattle.th_book.specs.Places.{holds_from, last_below, said_at, setup_of, words_at}
 use Rattle.th_book.specs.Faults.{Standing, fault_at, fault_in, kind_at, kind_of, standing_at}
 use Rattle.th_book.specs.Books.{answer, answer_of, difference, known_name, observations_of, observed_at}
-use Rattle.th_book.specs.Due.{Held, Setup, begun, after_said, after_unless, after_words, due_said, empty, observed_in, observations_after, setup_after, standing_in, with_heights}
+use Rattle.th_book.specs.Due.{Held, begun, after_said, after_unless, after_words, due_said, empty, observed_in, observations_after, setup_after, standing_in, with_heights}
+use Rattle.th_book.specs.declared.setups.Setup.{Setup}
 use Rattle.th_book.specs.declared.faults.BookKind.{BookKind}
 use Rattle.th_book.specs.declared.faults.BookFault.{BookFault}
 use Rattle.th_book.specs.declared.indexes.TheConstants.{HEIGHT_DIFFERENCE, REFLECTOR_HEIGHT, INSTRUMENT_HEIGHT}

@@ -6,7 +6,8 @@ use Rattle.gsi_word.specs.Words.{Parts}
 use Rattle.th_book.specs.Lines.{Said, holds, is_setup, length_in, point_name}
 use Rattle.th_book.specs.Places.{holds_from, last_below, setup_of, words_at}
 use Rattle.th_book.specs.Books.{known_name}
-use Rattle.th_book.specs.Due.{Setup, begun, latest, setup_after, with_heights}
+use Rattle.th_book.specs.Due.{begun, latest, setup_after, with_heights}
+use Rattle.th_book.specs.declared.setups.Setup.{Setup}
 use Rattle.th_book.specs.declared.indexes.TheConstants.{REFLECTOR_HEIGHT, INSTRUMENT_HEIGHT}
 
 -- the last place below a bound lies below it

@@ -1,19 +1,15 @@
-use Rattle.std.specs.Prelude.{ℕ, ℤ, ◌+◌, ◌||◌, false, List, [], ◌∷◌, ◌++◌, Option, Some, None, Result, if◌then◌else◌, is_some, map, option_and_then, option_map}
+use Rattle.std.specs.Prelude.{◌≡◌, ◌≢◌, ℕ, ℤ, ◌+◌, ◌||◌, false, List, [], ◌∷◌, ◌++◌, Option, Some, None, Result, Ok, Err, if◌then◌else◌, is_none, is_some, map, option_and_then, option_map}
 use Rattle.gsi_word.specs.Words.{Parts}
 use Rattle.gsi_block.specs.Blocks.{block_at}
 use Rattle.th_book.specs.Observed.{Observed}
 use Rattle.th_book.specs.Lines.{Said, holds, is_setup, is_sight, length_in, point_name, words_in}
 use Rattle.th_book.specs.Faults.{Standing, fault_in, kind_of}
 use Rattle.th_book.specs.Books.{answer, difference, known_name}
+use Rattle.th_book.specs.declared.setups.Setup.{Setup}
 use Rattle.th_book.specs.declared.faults.BookKind.{BookKind}
+use Rattle.th_book.specs.declared.faults.BookKind.TheVariants.{NoMemory}
 use Rattle.th_book.specs.declared.faults.BookFault.{BookFault}
 use Rattle.th_book.specs.declared.indexes.TheConstants.{HEIGHT_DIFFERENCE, REFLECTOR_HEIGHT, INSTRUMENT_HEIGHT}
-
--- a setup, with the last instrument and reflector height since it
-pub record Setup : Type 0 where
-  pub station : List ℕ
-  pub instrument : Option ℤ
-  pub reflector : Option ℤ
 
 -- what a `Book` holds: its number, how many lines were taken, the running setup, the observations so far, and the fault if one was found
 pub record Held : Type 0 where
@@ -112,3 +108,30 @@ due_said held (said ∷ rest) = due_said (after_said held said) rest
 -- what is still to come from a book that holds this, if these lines follow: the observations of the whole book or its fault
 abbrev pub due : Held → List (List ℕ) → Result (List Observed) BookFault
 due held lines = due_said held (map block_at lines)
+
+-- a line was taken: what was due with this line before it is due now, and no line had a fault
+pub record IsTaken (old new : Held) (line : List ℕ) : Type 0 where
+  pub keeps : (rest : List (List ℕ)) → due new rest ≡ due old (line ∷ rest)
+  pub faultless : new.fault ≡ None
+  pub lines : new.lines ≡ old.lines + 1
+
+-- a fault was answered: it was due with this line, and it stays due whatever follows; only the line where it was found is counted
+pub record IsRefused (old new : Held) (line : List ℕ) (fault : BookFault) : Type 0 where
+  pub was : (rest : List (List ℕ)) → due old (line ∷ rest) ≡ Err fault
+  pub stays : (rest : List (List ℕ)) → due new rest ≡ Err fault
+  pub lines : new.lines ≡ (if is_none old.fault then old.lines + 1 else old.lines)
+
+-- some lines have no fault, and the last of their observations stands at this line
+abbrev pub EndsWithSight : Result (List Observed) BookFault → ℕ → Type 0
+EndsWithSight answer line = (before : List Observed) × (last : Observed) × (answer ≡ Ok (before ++ last ∷ [])) × (last.line ≡ line)
+
+-- memory was wanting for the observation of this line: the book is as before it
+pub record IsWanting (old new : Held) (line : List ℕ) (fault : BookFault) : Type 0 where
+  pub unchanged : new ≡ old
+  pub at_line : fault.line ≡ old.lines + 1
+  pub observes : EndsWithSight (due old (line ∷ [])) fault.line
+
+-- a fault that is kept is no want of memory
+abbrev pub IsLasting : Option BookFault → Type 0
+IsLasting None = Unit {0}
+IsLasting (Some fault) = fault.kind ≢ NoMemory

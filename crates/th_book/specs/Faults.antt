@@ -36,15 +36,21 @@ has_bad_number word = not (are_digits word.body)
 abbrev pub has_bad_unit : Parts → Bool
 has_bad_unit word = is_none (unit_of (slice_index word.info 3))
 
--- a length is too large, which is asked where its number and its unit are good
-abbrev pub exceeds : Result ℤ LengthFault → Bool
-exceeds (Ok length) = false
-exceeds (Err length_fault.BadNumber) = false
-exceeds (Err length_fault.BadUnit) = false
-exceeds (Err length_fault.TooLarge) = true
+-- a fault of a length is this one
+abbrev pub is_fault : LengthFault → LengthFault → Bool
+is_fault length_fault.BadNumber length_fault.BadNumber = true
+is_fault length_fault.BadUnit length_fault.BadUnit = true
+is_fault length_fault.TooLarge length_fault.TooLarge = true
+is_fault _ _ = false
 
+-- a length is refused for this fault
+abbrev pub is_refused : LengthFault → Result ℤ LengthFault → Bool
+is_refused fault (Ok length) = false
+is_refused fault (Err own) = is_fault fault own
+
+-- a length is too large, which is asked where its number and its unit are good
 abbrev pub is_too_large : Parts → Bool
-is_too_large word = exceeds (length_of word)
+is_too_large word = is_refused length_fault.TooLarge (length_of word)
 
 -- the first word of a block is a point number
 abbrev pub begins_with_point : List Parts → Bool

@@ -4,3 +4,4 @@ pub mod Places
 pub mod Faults
 pub mod Books
 pub mod Due
+pub mod Steps

@@ -1,4 +1,6 @@
 use gsi_block::BlockFault;
+use std::error::Error;
+use std::fmt;
 
 /// The most bytes that a book has: 64 MiB.
 pub const MAX_BOOK: usize = 67_108_864;
@@ -40,3 +42,35 @@ pub struct BookFault {
     pub line: u32,
     pub kind: BookKind,
 }
+
+impl fmt::Display for BookKind {
+    fn fmt<W: fmt::Write>(&self, f: &mut fmt::Formatter<W>) -> fmt::Result {
+        match self {
+            BookKind::Block(fault) => write!(f, "B1 {fault}"),
+            BookKind::RepeatedWord => f.write_str("B2 repeated word"),
+            BookKind::NoPointNumber => f.write_str("B3 no point number"),
+            BookKind::BadName => f.write_str("B4 bad name"),
+            BookKind::BadNumber => f.write_str("B5 bad number"),
+            BookKind::BadUnit => f.write_str("B6 bad unit"),
+            BookKind::TooLarge => f.write_str("B7 too large"),
+            BookKind::SightBeforeSetup => f.write_str("B8 sight before setup"),
+            BookKind::NoInstrumentHeight => f.write_str("B9 no instrument height"),
+            BookKind::NoReflectorHeight => f.write_str("B10 no reflector height"),
+            BookKind::SightToItself => f.write_str("B11 sight to itself"),
+            BookKind::BookTooLong => f.write_str("B12 book too long"),
+            BookKind::NoMemory => f.write_str("out of memory"),
+        }
+    }
+}
+
+impl Error for BookKind {}
+
+impl fmt::Display for BookFault {
+    fn fmt<W: fmt::Write>(&self, f: &mut fmt::Formatter<W>) -> fmt::Result {
+        let line = self.line;
+        let kind = self.kind;
+        write!(f, "line {line}: {kind}")
+    }
+}
+
+impl Error for BookFault {}

@@ -4,11 +4,16 @@
 //! the last instrument height and the last reflector height. `read_book` reads a whole book.
 #![tactic(auto)]
 
+mod books;
+mod countings;
 mod faults;
 mod indexes;
 pub mod laws;
 mod observations;
+mod setups;
+mod steps;
 
+pub use books::{Book, read_book};
 pub use faults::{BookFault, BookKind, MAX_BOOK};
 pub use indexes::{
     HEIGHT_DIFFERENCE, INSTRUMENT_HEIGHT, POINT_NUMBER, REFLECTOR_HEIGHT, STATION_EASTING,

@@ -1,0 +1,161 @@
+ghost use Rattle.std.specs.Prelude.{◌≡◌, ◌≢◌, ◌<◌, ◌≤◌, [], List, ℕ, None, length, take, IfErr, IfOk, IsSome, OnErr, OnOk};
+ghost use Rattle.gsi_block.specs.Lines.{lines_of};
+ghost use Rattle.gsi_word.specs.Words.{result_map};
+ghost use Rattle.th_book.specs.Books.{lines_answer, book_answer};
+ghost use Rattle.th_book.specs.Faults.{fault_in};
+ghost use Rattle.th_book.specs.Due.{due, empty, EndsWithSight, IsTaken, IsRefused, IsWanting};
+ghost use Rattle.th_book.specs.Steps.{held_with, held_refusing};
+
+use crate::faults::{BookFault, BookKind, MAX_BOOK};
+use crate::observations::Observation;
+use crate::setups::Setup;
+use crate::steps::{Step, step_of_line};
+use gsi_block::LineCursor;
+use std::alloc::Global;
+use std::marker::Model;
+
+/// A book that is read line by line: it keeps the running setup, the observations and the first
+/// fault, but no line.
+#[derive(Drop)]
+pub struct Book {
+    number: u32,
+    lines: u32,
+    setup: Option<Setup>,
+    observations: Vec<Observation>,
+    fault: Option<BookFault>,
+}
+
+impl Model for Book {
+    ghost use Rattle.th_book.specs.Due.{Held, IsLasting};
+
+    ghost Value = { Held };
+
+    ghost view = { λ b. record { book = b.number; lines = b.lines; setup = b.setup; observations = b.observations.items; fault = b.fault } };
+
+    ghost invariant = { λ b. IsLasting b.fault };
+}
+
+impl Book {
+    /// A book with its number, from 1, of which no line was taken yet.
+    pub fn new(alloc: Global, book: u32) -> Book
+        ensures holds { result ≡ empty book }
+        ensures owes { (lines : List (List ℕ)) → due result lines ≡ lines_answer book lines }
+    {
+        Book {
+            number: book,
+            lines: 0,
+            setup: None,
+            observations: Vec::new(alloc),
+            fault: None,
+        }
+    }
+
+    /// Takes the next line, without its end. There may be as many as a book has bytes.
+    ///
+    /// A fault is kept: it is answered by this call, by each later one and by `finish`. `NoMemory` is
+    /// answered where the room for one more observation was refused, and is not kept: the book is as
+    /// before the line, which may be given again.
+    pub fn line(&mut self, line: &[u8]) -> Result<(), BookFault>
+        requires { self.old.lines < MAX_BOOK }
+        ensures taken { OnOk result (IsTaken self.old self.new line.now) }
+        ensures refused { IfErr result
+            (λ fault. fault.kind ≢ BookKind.NoMemory → IsRefused self.old self.new line.now fault) }
+        ensures wanting { IfErr result
+            (λ fault. fault.kind ≡ BookKind.NoMemory → IsWanting self.old self.new line.now fault) }
+    {
+        if let Some(fault) = self.fault {
+            return Err(fault);
+        }
+        match step_of_line(self.setup, line, self.number, self.lines + 1) {
+            Ok(step) => self.take(step),
+            Err(kind) => Err(self.refuse(kind)),
+        }
+    }
+
+    /// How many lines were taken, one with a fault included.
+    pub fn lines(&self) -> u32
+        ensures { result ≡ self.now.lines }
+    {
+        self.lines
+    }
+
+    /// The observations in the order of their sights, or the fault of the first line that has one.
+    pub fn finish(self) -> Result<Vec<Observation>, BookFault>
+        ensures answer { result_map (λ observations. observations.items) result ≡ due self [] }
+        ensures lasting { IfErr result (λ fault. fault.kind ≢ BookKind.NoMemory) }
+    {
+        let Book {
+            observations,
+            fault,
+            ..
+        } = self;
+        match fault {
+            Some(fault) => Err(fault),
+            None => Ok(observations),
+        }
+    }
+
+    /// Takes what a line without a fault leaves.
+    fn take(&mut self, step: Step) -> Result<(), BookFault>
+        requires { self.old.lines < MAX_BOOK }
+        ensures taken { OnOk result (self.new ≡ held_with self.old step) }
+        ensures wanting { IfErr result
+            (λ fault. (self.new ≡ self.old) × (fault ≡ fault_in self.old.lines BookKind.NoMemory)) }
+        ensures sight { OnErr result (IsSome step.observation) }
+    {
+        if let Some(observation) = step.observation {
+            if self.observations.push(observation).is_err() {
+                return Err(BookFault {
+                    line: self.lines + 1,
+                    kind: BookKind::NoMemory,
+                });
+            }
+        }
+        self.setup = step.setup;
+        self.lines += 1;
+        Ok(())
+    }
+
+    /// Keeps a fault of the next line.
+    fn refuse(&mut self, kind: BookKind) -> BookFault
+        requires room { self.old.lines < MAX_BOOK }
+        requires lasting { kind ≢ BookKind.NoMemory }
+        ensures fault { result ≡ fault_in self.old.lines kind }
+        ensures kept { self.new ≡ held_refusing self.old kind }
+    {
+        let fault = BookFault {
+            line: self.lines + 1,
+            kind,
+        };
+        self.lines += 1;
+        self.fault = Some(fault);
+        fault
+    }
+}
+
+/// The observations of a whole book, in the order of their sights, or its fault.
+///
+/// A book of more than `MAX_BOOK` bytes has that fault, at line 0, before all others. `NoMemory` is
+/// answered at the line for whose observation room was refused.
+pub fn read_book(alloc: Global, book: u32, bytes: &[u8]) -> Result<Vec<Observation>, BookFault>
+    ensures ok { IfOk result
+        (λ observations. book_answer book bytes.now ≡ Ok observations.items) }
+    ensures fault { IfErr result
+        (λ fault. fault.kind ≢ BookKind.NoMemory → book_answer book bytes.now ≡ Err fault) }
+    ensures wanting { IfErr result
+        (λ fault. fault.kind ≡ BookKind.NoMemory
+        → EndsWithSight (lines_answer book (take fault.line (lines_of bytes.now))) fault.line) }
+{
+    if bytes.len() > MAX_BOOK {
+        return Err(BookFault {
+            line: 0,
+            kind: BookKind::BookTooLong,
+        });
+    }
+    let mut reader = Book::new(alloc, book);
+    let mut cursor = LineCursor::new(bytes);
+    'lines: while let Some(line) = cursor.next() {
+        reader.line(line)?;
+    }
+    reader.finish()
+}
