@@ -12,7 +12,7 @@ help:
 	@echo 'make test      the gate (every proof from nothing, must-fail edits, tests, program runs), the examples and the second reader'
 	@echo 'make gate      rt ci alone'
 	@echo 'make examples  compare what the built program gives for the books of examples/ with what stands beside them'
-	@echo 'make compare   compare the built program with the second reader on mutated books (BOOKS=10000 SEED=1)'
+	@echo 'make compare   compare the built program with the second reader on mutated books (BOOKS=$(BOOKS) SEED=$(SEED))'
 	@echo 'make bench     throughput and peak memory, beside a plain C++ lister, wc and awk'
 	@echo 'make install   copy the built program to $(PREFIX)/bin'
 	@echo 'make clean     remove what was built'
@@ -33,7 +33,7 @@ examples: build
 	@tests/examples
 
 BOOKS ?= 10000
-SEED ?= 1
+SEED ?= 20240607
 compare: build
 	@python3 tests/second_reader/compare.py --program $(PROGRAM) --books $(BOOKS) --seed $(SEED)
 

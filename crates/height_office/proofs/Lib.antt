@@ -1,2 +1,4 @@
 pub mod TransferLemmas
 pub mod PlanLemmas
+pub mod ListLemmas
+pub mod BookFronts

@@ -3,3 +3,7 @@ pub mod Memory
 pub mod Transfer
 pub mod Plans
 pub mod Files
+pub mod Lists
+pub mod CsvWriters
+pub mod Refusals
+pub mod Runs

@@ -1,15 +1,91 @@
 //! Lists the height differences that a book of a total station holds.
+//!
+//! The words of the command line become a plan, the plan a run over devices, and the answer of the
+//! run a status, with one line on standard error where it is a refusal.
 #![tactic(auto)]
+
+ghost use Rattle.std.specs.Prelude.{◌≡◌, ◌<◌, ◌≤◌};
+ghost use Rattle.height_office.specs.Refusals.{status_of};
 
 mod command_lines;
 mod devices;
 mod files;
+mod lists;
 mod memory;
 mod plans;
+mod refusals;
+mod runs;
 mod streams;
 mod transfer;
 
-fn main() {}
+use command_lines::plan;
+use devices::Source;
+use files::FileSource;
+use plans::{Plan, PlanFault};
+use refusals::{DEVICE_FAILED, DONE, NO_MEMORY, Refusal, USAGE, status_of};
+use runs::run_list;
+use std::io::ErrorKind;
+use std::process::ExitCode;
+use std::rt::{Env, Files};
+use std::{env, io};
+use streams::{StandardInput, StandardOutput};
+use transfer::CALLS_BEFORE;
+
+fn main(rt: HostRuntime) -> ExitCode {
+    ExitCode::from(run_words(&rt))
+}
+
+/// Does what the words of the command line ask for, and says the status to end with.
+fn run_words<R: Env + AllocGlobal + Files + Input + Print + Eprint>(rt: &R) -> u8 {
+    match words_of(rt) {
+        Ok(words) => run(rt, words.as_slice()),
+        Err(error) if error.kind() == ErrorKind::InvalidData => {
+            let _ = rt.eprintln("error: a word of the command line is no text");
+            USAGE
+        }
+        Err(_) => refuse(rt, &Refusal::NoMemory),
+    }
+}
+
+/// The words of the command line, the program's own name first. The only errors are a word that is
+/// no text, and want of memory.
+fn words_of<R: Env + AllocGlobal>(rt: &R) -> io::Result<Vec<String>> {
+    Ok(env::args(rt)?.collect(rt.alloc())?)
+}
+
+/// Does what these words ask for, the program's own name first, and says the status to end with.
+fn run<R: AllocGlobal + Files + Input + Print + Eprint>(rt: &R, words: &[String]) -> u8 {
+    match plan(rt.alloc(), words) {
+        Ok(Plan::Standard) => list(rt, &mut StandardInput::new(rt)),
+        Ok(Plan::List(name)) => list(rt, &mut FileSource::new(rt, name)),
+        Err(PlanFault::Line(error)) => {
+            let _ = rt.eprint(&error);
+            USAGE
+        }
+        Err(PlanFault::NoMemory) => refuse(rt, &Refusal::NoMemory),
+    }
+}
+
+/// Lists a book on standard output, and says the status to end with.
+fn list<R: AllocGlobal + Print + Eprint, S: Source>(rt: &R, book: &mut S) -> u8
+    requires { S.calls book.old ≤ CALLS_BEFORE }
+    ensures { S.failures book.old < S.failures book.new → result ≡ DEVICE_FAILED }
+{
+    match run_list(rt.alloc(), book, &mut StandardOutput::new(rt)) {
+        Ok(()) => DONE,
+        Err(refusal) => refuse(rt, &refusal),
+    }
+}
+
+/// Says a refusal in one line on standard error, and the status to end with.
+///
+/// Where standard error does not take the line, the status still tells.
+fn refuse<R: Eprint>(rt: &R, refusal: &Refusal) -> u8
+    ensures { result ≡ status_of refusal.now }
+{
+    let _ = rt.eprintln(refusal);
+    status_of(refusal)
+}
 
 #[cfg(test)]
 mod tests;

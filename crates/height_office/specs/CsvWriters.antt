@@ -1,0 +1,18 @@
+use Rattle.std.specs.Prelude.{◌≡◌, ◌++◌, ℕ, List, Vec, false}
+use Rattle.std.specs.declared.alloc.Global.{Global}
+use Rattle.csv.specs.Writing.{default_writer, fields_written, has_written, writer_pending, writer_setup, writer_under}
+use Rattle.csv.specs.declared.writer.Writer.{Writer}
+
+-- a writer of `csv` over memory
+abbrev pub MemoryWriter : Type 0
+MemoryWriter = Writer (Vec ℕ Global)
+
+-- the text that it was given: what it passed on, and then what it still keeps
+abbrev pub text_in : MemoryWriter → List ℕ
+text_in writer = (writer_under writer).items ++ writer_pending writer
+
+-- it has the settings that are `csv`'s default, and stands between two records
+pub record IsReady (writer : MemoryWriter) : Type 0 where
+  pub settings : writer_setup writer ≡ default_writer
+  pub no_field : fields_written writer ≡ 0
+  pub no_byte : has_written writer ≡ false
