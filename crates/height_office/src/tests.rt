@@ -1,4 +1,6 @@
 //! What no clause says: that calls succeed where memory is ample, and what real files do.
+mod listing;
+
 use crate::command_lines::plan;
 use crate::devices::Failed;
 use crate::files::{FileSink, FileSource};

@@ -12,6 +12,8 @@ pub mod laws;
 mod observations;
 mod setups;
 mod steps;
+#[cfg(test)]
+mod tests;
 
 pub use books::{Book, read_book};
 pub use faults::{BookFault, BookKind, MAX_BOOK};

@@ -1,0 +1,482 @@
+use crate::*;
+use gsi_block::{BlockFault, LineCursor};
+use gsi_word::WordFault;
+use std::alloc::{AllocError, Global};
+use std::process::Abort;
+use std::test::Fail;
+
+/// A setup at A with an instrument height of 1.500 m.
+const S: &[u8] =
+    b"110001+0000000A 84..10+00000000 85..10+00000000 86..10+00100000 88..10+00001500 ";
+
+/// The same without its instrument height.
+const S_WITHOUT_HEIGHT: &[u8] = b"110001+0000000A 84..10+00000000 85..10+00000000 86..10+00100000 ";
+
+/// A sight to B with a reflector height of 1.300 m.
+const P: &[u8] = b"110002+0000000B 33..00+00002345 87..10+00001300 ";
+
+/// An observation's ends and difference, and its line.
+type Seen = (&'static [u8], &'static [u8], i64, u32);
+
+/// The lines of a book, and its observations or the line and kind of its fault.
+type Row = (
+    &'static [&'static [u8]],
+    Result<&'static [Seen], (u32, BookKind)>,
+);
+
+/// What S and P give.
+const SEEN: Seen = (b"A", b"B", 254_500_000, 2);
+
+const DIFFERENCES: [Row; 15] = [
+    (&[], Ok(&[])),
+    (&[S, P], Ok(&[SEEN])),
+    (
+        &[
+            S,
+            b"*110002+000000000000000B 33..07+0000000000076940 87..08+0000000000130000 ",
+        ],
+        Ok(&[(b"A", b"B", 254_513_120, 2)]),
+    ),
+    (
+        &[
+            S,
+            P,
+            b"110003+0000000B 33..00+00002346 ",
+            b"110004+0000000B 33..00+00003345 ",
+        ],
+        Ok(&[
+            SEEN,
+            (b"A", b"B", 254_600_000, 3),
+            (b"A", b"B", 354_500_000, 4),
+        ]),
+    ),
+    (
+        &[
+            b"110001+0000000A 84..10+00000000 88..10+00001500 ",
+            b"110002+0000000B 33..00+00001000 87..10+00001500 ",
+            b"110003+0000000B 84..10+00000000 88..10+00001500 ",
+            b"110004+0000000C 33..00+00001000 87..10+00001500 ",
+            b"110005+0000000C 84..10+00000000 88..10+00001500 ",
+            b"110006+0000000A 33..00-00002000 87..10+00001500 ",
+            b"110007+0000000A 84..10+00000000 88..10+00001500 ",
+            b"110008+0000000C 33..00+00002500 87..10+00001500 ",
+        ],
+        Ok(&[
+            (b"A", b"B", 100_000_000, 2),
+            (b"B", b"C", 100_000_000, 4),
+            (b"C", b"A", -200_000_000, 6),
+            (b"A", b"C", 250_000_000, 8),
+        ]),
+    ),
+    (
+        &[
+            S,
+            P,
+            b"110003+0000000B 84..10+00000000 88..10+00001450 ",
+            b"110004+0000000A 33..00-00002705 87..10+00001300 ",
+        ],
+        Ok(&[SEEN, (b"B", b"A", -255_500_000, 4)]),
+    ),
+    // a word 33 with a third digit is no height difference
+    (
+        &[b"110001+00000007 331.08+00012345 ", S, P],
+        Ok(&[(b"A", b"B", 254_500_000, 3)]),
+    ),
+    // the greatest lengths
+    (
+        &[S, b"110002+0000000B 33..00+10000000 87..10+00001300 "],
+        Ok(&[(b"A", b"B", 1_000_020_000_000, 2)]),
+    ),
+    (
+        &[
+            b"110001+0000000A 84..10+00000000 88..10+10000000 ",
+            b"110002+0000000B 33..00+10000000 87..10-10000000 ",
+        ],
+        Ok(&[(b"A", b"B", 3_000_000_000_000, 2)]),
+    ),
+    // without its closing space
+    (
+        &[S, b"110002+0000000B 33..00+00002345 87..10+00001300"],
+        Ok(&[SEEN]),
+    ),
+    // heights in a block between, and a later one in the sight itself
+    (
+        &[
+            S_WITHOUT_HEIGHT,
+            b"88..10+00001500 87..10+00001300 ",
+            b"110002+0000000B 33..00+00002345 ",
+            b"110002+0000000B 33..00+00002345 88..10+00001600 ",
+            b"110002+0000000B 33..00+00002345 ",
+        ],
+        Ok(&[
+            (b"A", b"B", 254_500_000, 3),
+            (b"A", b"B", 264_500_000, 4),
+            (b"A", b"B", 264_500_000, 5),
+        ]),
+    ),
+    // a block with a coordinate and a height difference is a sight
+    (
+        &[
+            S,
+            b"110002+0000000B 33..00+00002345 84..10+00000000 87..10+00001300 ",
+            b"110003+0000000C 33..00+00002345 ",
+        ],
+        Ok(&[SEEN, (b"A", b"C", 254_500_000, 3)]),
+    ),
+    // data of coordinates are not read
+    (
+        &[b"110001+0000000A 86..1X+NOTHING. 88..10+00001500 ", P],
+        Err((
+            1,
+            BookKind::Block(BlockFault::BadWord(2, WordFault::BadInfo)),
+        )),
+    ),
+    (
+        &[b"110001+0000000A 86..19+NOTHING. 88..10+00001500 ", P],
+        Ok(&[SEEN]),
+    ),
+    // blank lines and blocks without a meaning, in another order of words
+    (
+        &[
+            b"",
+            b"410001+0000000? 42....+REMARK.. ",
+            S,
+            b"    ",
+            b"110002+0000000B 87..10+00001300 21.102+12345678 33..00+00002345 11....+NOTHING. ",
+        ],
+        Ok(&[(b"A", b"B", 254_500_000, 5)]),
+    ),
+];
+
+const NAMES: [Row; 4] = [
+    (
+        &[S, b"110002+00000000 33..00+00002345 87..10+00001300 "],
+        Ok(&[(b"A", b"0", 254_500_000, 2)]),
+    ),
+    (
+        &[S, b"110002+0000A0 0 33..00+00002345 87..10+00001300 "],
+        Ok(&[(b"A", b"A0 0", 254_500_000, 2)]),
+    ),
+    (
+        &[S, b"110002+00 0A B  33..00+00002345 87..10+00001300 "],
+        Ok(&[(b"A", b"A B", 254_500_000, 2)]),
+    ),
+    (
+        &[S, b"110002+         33..00+00002345 87..10+00001300 "],
+        Err((2, BookKind::BadName)),
+    ),
+];
+
+/// What a line that is no block gives as the second of a book, and where the fault is.
+const LINES: [(&[u8], BlockFault); 5] = [
+    (
+        b"110002+0000000B 33..00+00002345 87..10+000013",
+        BlockFault::BadWord(3, WordFault::Short),
+    ),
+    (b"*", BlockFault::BadWord(1, WordFault::Short)),
+    (b"110001+0000000AX", BlockFault::BadSeparator(1)),
+    (
+        b" 110001+0000000A",
+        BlockFault::BadWord(1, WordFault::BadIndex),
+    ),
+    (
+        b"110001 0000000A",
+        BlockFault::BadWord(1, WordFault::BadSign),
+    ),
+];
+
+const FAULTS: [Row; 24] = [
+    (
+        &[S, P, b"87..10+00001300 87..10+00001300 "],
+        Err((3, BookKind::RepeatedWord)),
+    ),
+    (
+        &[
+            S,
+            b"110002+0000000B 33..00+00002345 87..10+00001300 87..10+00001300 ",
+        ],
+        Err((2, BookKind::RepeatedWord)),
+    ),
+    (
+        &[b"110001+0000000A 84..10+00000000 84..10+00000000 "],
+        Err((1, BookKind::RepeatedWord)),
+    ),
+    (
+        &[S, b"33..00+00002345 110002+0000000B 87..10+00001300 "],
+        Err((2, BookKind::NoPointNumber)),
+    ),
+    (&[b"85..10+00000000 "], Err((1, BookKind::NoPointNumber))),
+    (
+        &[b"110001+         86..10+00000000 "],
+        Err((1, BookKind::BadName)),
+    ),
+    (
+        &[S, b"110002+0000000B 33..00+0000 345 87..10+00001300 "],
+        Err((2, BookKind::BadNumber)),
+    ),
+    (&[b"88..10+0000000X "], Err((1, BookKind::BadNumber))),
+    (
+        &[S, b"110002+0000000B 33..02+00002345 87..10+00001300 "],
+        Err((2, BookKind::BadUnit)),
+    ),
+    (
+        &[S, b"110002+0000000B 33..00+10000001 87..10+00001300 "],
+        Err((2, BookKind::TooLarge)),
+    ),
+    (&[P], Err((1, BookKind::SightBeforeSetup))),
+    (
+        &[S_WITHOUT_HEIGHT, P],
+        Err((2, BookKind::NoInstrumentHeight)),
+    ),
+    // heights from before the setup
+    (
+        &[b"88..10+00001500 ", S_WITHOUT_HEIGHT, P],
+        Err((3, BookKind::NoInstrumentHeight)),
+    ),
+    (
+        &[
+            S,
+            P,
+            b"110003+0000000B 84..10+00000000 88..10+00001400 ",
+            b"110004+0000000C 33..00+00001000 ",
+        ],
+        Err((4, BookKind::NoReflectorHeight)),
+    ),
+    (
+        &[S, b"110002+0000000A 33..00+00002345 87..10+00001300 "],
+        Err((2, BookKind::SightToItself)),
+    ),
+    // of several kinds in one line the first counts
+    (
+        &[b"33..02+00002345 33..00+0000000X "],
+        Err((1, BookKind::RepeatedWord)),
+    ),
+    (&[b"33..02+0000000X "], Err((1, BookKind::NoPointNumber))),
+    (
+        &[b"110002+         33..02+0000000X "],
+        Err((1, BookKind::BadName)),
+    ),
+    (
+        &[b"110002+0000000B 33..02+00002345 87..10+0000000X "],
+        Err((1, BookKind::BadNumber)),
+    ),
+    (
+        &[b"110002+0000000B 33..00+99999999 87..12+00001300 "],
+        Err((1, BookKind::BadUnit)),
+    ),
+    (
+        &[b"110002+0000000B 33..00+99999999 "],
+        Err((1, BookKind::TooLarge)),
+    ),
+    (
+        &[S_WITHOUT_HEIGHT, b"110002+0000000A 33..00+00002345 "],
+        Err((2, BookKind::NoInstrumentHeight)),
+    ),
+    (
+        &[S, b"110002+0000000A 33..00+00002345 "],
+        Err((2, BookKind::NoReflectorHeight)),
+    ),
+    // of several lines too
+    (
+        &[P, S, b"*", b"33..00+00002345 "],
+        Err((1, BookKind::SightBeforeSetup)),
+    ),
+];
+
+fn fault_at(line: u32, kind: BookKind) -> BookFault {
+    BookFault { line, kind }
+}
+
+/// The observations are those wanted, of book 7.
+fn are_seen(rt: &impl Abort, observations: &[Observation], wanted: &[Seen]) {
+    assert_eq!(rt; observations.len(), wanted.len());
+    for (observation, seen) in observations.iter().zip(wanted) {
+        let (station, target) = observation.ends();
+        assert!(rt;
+            station.as_bytes() == seen.0 && target.as_bytes() == seen.1,
+            "at {}",
+            seen.3
+        );
+        assert_eq!(rt; observation.difference(), seen.2);
+        assert_eq!(rt; observation.line, seen.3);
+        assert_eq!(rt; observation.book, 7);
+    }
+}
+
+fn is_answer(
+    rt: &impl Abort,
+    answer: Result<Vec<Observation>, BookFault>,
+    wanted: &Result<&[Seen], (u32, BookKind)>,
+) {
+    match (answer, wanted) {
+        (Ok(observations), Ok(seen)) => are_seen(rt, &observations, seen),
+        (Err(fault), Err((line, kind))) => assert_eq!(rt; fault, fault_at(*line, *kind)),
+        (Err(fault), Ok(_)) => panic!(rt; "{fault:?}"),
+        (Ok(_), Err(wanted)) => panic!(rt; "no {wanted:?}"),
+    }
+}
+
+/// Takes a line, and once more where memory was wanting: the book is then as before it.
+fn take(rt: &impl Abort, book: &mut Book, line: &[u8]) -> Result<(), BookFault> {
+    let before = book.lines();
+    assert!(rt; (before as usize) < MAX_BOOK);
+    let first = book.line(line);
+    if first != Err(fault_at(before + 1, BookKind::NoMemory)) {
+        return first;
+    }
+    assert_eq!(rt; book.lines(), before);
+    book.line(line)
+}
+
+fn line_by_line(
+    rt: &impl Abort,
+    alloc: Global,
+    lines: &[&[u8]],
+) -> Result<Vec<Observation>, BookFault> {
+    let mut book = Book::new(alloc, 7);
+    for line in lines {
+        let _ = take(rt, &mut book, line);
+    }
+    book.finish()
+}
+
+fn joined(alloc: Global, lines: &[&[u8]]) -> Result<Vec<u8>, AllocError> {
+    let mut bytes = Vec::new(alloc);
+    for line in lines {
+        bytes.extend_from_slice(line)?;
+        bytes.push(b'\n')?;
+    }
+    Ok(bytes)
+}
+
+fn gives(rt: &impl Abort, alloc: Global, row: &Row) -> Result<(), AllocError> {
+    let (lines, wanted) = row;
+    is_answer(rt, line_by_line(rt, alloc, lines), wanted);
+    let bytes = joined(alloc, lines)?;
+    is_answer(rt, read_book(alloc, 7, &bytes), wanted);
+    Ok(())
+}
+
+#[test]
+fn books_and_their_differences(rt: HostRuntime) -> Result<(), Fail> {
+    for row in &DIFFERENCES {
+        gives(&rt, rt.alloc(), row)?;
+    }
+    Ok(())
+}
+
+#[test]
+fn names_in_sights(rt: HostRuntime) -> Result<(), Fail> {
+    for row in &NAMES {
+        gives(&rt, rt.alloc(), row)?;
+    }
+    Ok(())
+}
+
+#[test]
+fn books_and_their_faults(rt: HostRuntime) -> Result<(), Fail> {
+    for row in &FAULTS {
+        gives(&rt, rt.alloc(), row)?;
+    }
+    Ok(())
+}
+
+#[test]
+fn lines_that_are_no_blocks(rt: HostRuntime) {
+    for (line, fault) in &LINES {
+        let answer = line_by_line(&rt, rt.alloc(), &[S, line, P]);
+        is_answer(&rt, answer, &Err((2, BookKind::Block(*fault))));
+    }
+}
+
+#[test]
+fn lines_of_spaces(rt: HostRuntime) {
+    let spaces = [b' '; 1_601];
+    is_answer(
+        &rt,
+        line_by_line(&rt, rt.alloc(), &[S, &spaces[..1_600], P]),
+        &Ok(&[(b"A", b"B", 254_500_000, 3)]),
+    );
+    is_answer(
+        &rt,
+        line_by_line(&rt, rt.alloc(), &[S, &spaces, P]),
+        &Err((2, BookKind::Block(BlockFault::LineTooLong))),
+    );
+}
+
+#[test]
+fn ends_of_lines(rt: HostRuntime) -> Result<(), Fail> {
+    let mut bytes = Vec::from_slice(rt.alloc(), S)?;
+    bytes.extend_from_slice(b"\r\r\n")?;
+    bytes.extend_from_slice(P)?;
+    bytes.extend_from_slice(b"\r\n")?;
+    is_answer(
+        &rt,
+        read_book(rt.alloc(), 7, &bytes),
+        &Ok(&[(b"A", b"B", 254_500_000, 3)]),
+    );
+    Ok(())
+}
+
+#[test]
+fn longest_book(rt: HostRuntime) -> Result<(), Fail> {
+    let mut bytes = vec![in rt.alloc(); b'\n'; MAX_BOOK]?;
+    match read_book(rt.alloc(), 7, &bytes) {
+        Ok(observations) => assert!(rt; observations.is_empty()),
+        Err(fault) => panic!(rt; "{fault:?}"),
+    }
+    bytes.push(b'\n')?;
+    match read_book(rt.alloc(), 7, &bytes) {
+        Ok(_) => panic!(rt; "a book that is too long"),
+        Err(fault) => assert_eq!(rt; fault, fault_at(0, BookKind::BookTooLong)),
+    }
+    Ok(())
+}
+
+#[test]
+fn fault_is_kept(rt: HostRuntime) {
+    let mut book = Book::new(rt.alloc(), 7);
+    let fault = fault_at(
+        2,
+        BookKind::Block(BlockFault::BadWord(1, WordFault::BadIndex)),
+    );
+    assert_eq!(rt; take(&rt, &mut book, S), Ok(()));
+    assert_eq!(rt; book.lines(), 1);
+    assert_eq!(rt; take(&rt, &mut book, b" 110001+0000000A"), Err(fault));
+    assert_eq!(rt; book.lines(), 2);
+    assert_eq!(rt; take(&rt, &mut book, P), Err(fault));
+    assert_eq!(rt; book.lines(), 2);
+    is_answer(&rt, book.finish(), &Err((2, fault.kind)));
+}
+
+/// A setup and five sights.
+const SIX_LINES: &[u8] = b"110001+0000000A 84..10+00000000 88..10+00001500
+110002+0000000B 33..00+00002345 87..10+00001300
+110003+0000000B 33..00+00002345
+110004+0000000B 33..00+00002345
+110005+0000000B 33..00+00002345
+110006+0000000B 33..00+00002345
+";
+
+// With ample memory, and with each allocation refused in turn.
+#[test]
+fn want_of_memory_is_not_kept(rt: HostRuntime) {
+    let mut book = Book::new(rt.alloc(), 7);
+    let mut lines = LineCursor::new(SIX_LINES);
+    for _ in 0..6 {
+        let line = lines.next().expect(&rt, "six lines");
+        assert_eq!(rt; take(&rt, &mut book, line), Ok(()));
+    }
+    assert_eq!(rt; book.lines(), 6);
+    match book.finish() {
+        Ok(observations) => assert_eq!(rt; observations.len(), 5),
+        Err(fault) => panic!(rt; "{fault:?}"),
+    }
+    match read_book(rt.alloc(), 7, SIX_LINES) {
+        Ok(observations) => assert_eq!(rt; observations.len(), 5),
+        Err(fault) => {
+            assert_eq!(rt; fault.kind, BookKind::NoMemory);
+            assert!(rt; 2 <= fault.line && fault.line <= 6);
+        }
+    }
+}

@@ -1,0 +1,5 @@
+pub mod Records
+pub mod Rows
+pub mod Fields
+pub mod Tables
+pub mod Reading

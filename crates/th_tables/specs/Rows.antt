@@ -1,0 +1,35 @@
+use Rattle.std.specs.Prelude.{◌≤◌, ℕ, ℤ, ◌&&◌, Bool, All, List, Option, unwrap_or, bytes_eq, unsigned_abs}
+use Rattle.std.specs.List.{IsDistinct}
+use Rattle.std.specs.Map.{keys_of, lookup}
+use Rattle.th_tables.specs.declared.fields.TheConstants.{MAX_WEIGHT}
+use Rattle.th_units.specs.declared.lens.TheConstants.{MAX_LEN}
+
+-- the rows of the benchmarks: each name and its height in units of 10 nm
+abbrev pub BenchmarkRows : Type 0
+BenchmarkRows = List (List ℕ × ℤ)
+
+-- the rows of the weights: each station and target, and the weight of their observations
+abbrev pub WeightRows : Type 0
+WeightRows = List ((List ℕ × List ℕ) × ℕ)
+
+-- whether two pairs of a station and a target are the same
+abbrev pub same_ends : List ℕ × List ℕ → List ℕ × List ℕ → Bool
+same_ends ends other = bytes_eq ends.0 other.0 && bytes_eq ends.1 other.1
+
+-- the height of a benchmark, and none for another name
+abbrev pub height_of : BenchmarkRows → List ℕ → Option ℤ
+height_of benchmarks name = lookup (bytes_eq name) benchmarks
+
+-- the weight listed for a station and a target, in this order, or 1
+abbrev pub weight_of : WeightRows → List ℕ → List ℕ → ℕ
+weight_of weights station target = unwrap_or (lookup (same_ends (station, target)) weights) 1
+
+-- the rows of a table of benchmarks: a name has one row, and a height is at most 10 km in size
+pub record AreBenchmarks (rows : BenchmarkRows) : Type 0 where
+  pub distinct : IsDistinct bytes_eq (keys_of rows)
+  pub heights : All (λ row. unsigned_abs row.1 ≤ MAX_LEN) rows
+
+-- the rows of a table of weights: a station and a target have one row, and a weight is 1 to 1,000
+pub record AreWeights (rows : WeightRows) : Type 0 where
+  pub distinct : IsDistinct same_ends (keys_of rows)
+  pub weights : All (λ row. (1 ≤ row.1) × (row.1 ≤ MAX_WEIGHT)) rows

@@ -1,0 +1,59 @@
+use Rattle.std.specs.Prelude.{ℕ, ◌+◌, ◌==◌, Bool, false, List, [], ◌∷◌, ◌++◌, length, Result, Ok, Err, if◌then◌else◌, bytes_eq, nat_lt}
+use Rattle.std.specs.List.{list_any}
+use Rattle.th_tables.specs.Fields.{benchmark_in, is_benchmarks_header, is_weights_header, weighted_in}
+use Rattle.th_tables.specs.Records.{Record, records_of}
+use Rattle.th_tables.specs.Rows.{BenchmarkRows, WeightRows, same_ends}
+use Rattle.th_tables.specs.declared.faults.TableFault.{TableFault}
+use Rattle.th_tables.specs.declared.faults.TableKind.{TableKind}
+use Rattle.th_tables.specs.declared.faults.TableKind.TheVariants.{BadHeader, NoMemory, Repeated, TableTooLong}
+use Rattle.th_tables.specs.declared.tables.TheConstants.{MAX_TABLE_LEN}
+
+-- want of memory, a table that is too long, and a table whose first record is not its header
+abbrev pub no_memory : TableFault
+no_memory = record { row = 0; kind = NoMemory }
+
+abbrev pub too_long : TableFault
+too_long = record { row = 0; kind = TableTooLong }
+
+abbrev pub bad_header : TableFault
+bad_header = record { row = 1; kind = BadHeader }
+
+module _ {K V : Type 0} where
+  -- what a record says is a row with this key
+  abbrev pub is_row_with : (K → K → Bool) → K → Result (K × V) TableKind → Bool
+  is_row_with same key (Ok row) = same key row.0
+  is_row_with same key (Err kind) = false
+
+  -- a row before the rows of the later records, or the fault of the record that comes after so many under the header, which is record 1
+  abbrev pub row_first : ℕ → Result (K × V) TableKind → Result (List (K × V)) TableFault → Result (List (K × V)) TableFault
+  row_first above (Err kind) later = Err (record { row = above + 2; kind = kind })
+  row_first above (Ok row) (Err fault) = Err fault
+  row_first above (Ok row) (Ok rows) = Ok (row ∷ rows)
+
+module _ {K V : Type 0} (same : K → K → Bool) (row_in : Record → Result (K × V) TableKind) where
+  -- a row, if no earlier record has its key
+  abbrev pub unless_repeated : List Record → Result (K × V) TableKind → Result (K × V) TableKind
+  unless_repeated earlier (Err kind) = Err kind
+  unless_repeated earlier (Ok row) = if list_any (λ other. is_row_with same row.0 (row_in other)) earlier then Err Repeated else Ok row
+
+  -- the rows of records, in their order, or the fault of the first that has one; the earlier records stand between the header and them
+  abbrev pub rows_after : List Record → List Record → Result (List (K × V)) TableFault
+  rows_after earlier [] = Ok []
+  rows_after earlier (this ∷ later) = row_first (length earlier) (unless_repeated earlier (row_in this)) (rows_after (earlier ++ this ∷ []) later)
+
+  -- the rows of all records under the header
+  abbrev pub rows_under : (Record → Bool) → List Record → Result (List (K × V)) TableFault
+  rows_under is_header [] = Err bad_header
+  rows_under is_header (first ∷ rest) = if is_header first then rows_after [] rest else Err bad_header
+
+-- a table that is not too long
+abbrev pub if_short : {X : Type 0} → List ℕ → Result X TableFault → Result X TableFault
+if_short bytes table = if nat_lt MAX_TABLE_LEN (length bytes) then Err too_long else table
+
+-- the benchmarks that a table's bytes stand for, or its first fault
+abbrev pub benchmarks_of : List ℕ → Result BenchmarkRows TableFault
+benchmarks_of bytes = if_short bytes (rows_under bytes_eq benchmark_in is_benchmarks_header (records_of bytes))
+
+-- the weights that a table's bytes stand for, none for no bytes, or its first fault
+abbrev pub weights_of : List ℕ → Result WeightRows TableFault
+weights_of bytes = if length bytes == 0 then Ok [] else if_short bytes (rows_under same_ends weighted_in is_weights_header (records_of bytes))

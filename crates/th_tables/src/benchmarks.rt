@@ -1,0 +1,101 @@
+ghost use Rattle.std.specs.Prelude.{◌≡◌, ◌⊎◌, ◌<◌, ◌≤◌, ◌^◌, ◌+◌, [], Ok, Err, IfErr, IfOk, IfSome, bytes_eq, length, slice_get, unsigned_abs};
+ghost use Rattle.th_tables.specs.Fields.{benchmark_in};
+ghost use Rattle.th_tables.specs.Reading.{IsReading, records_left};
+ghost use Rattle.th_tables.specs.Rows.{AreBenchmarks, height_of};
+ghost use Rattle.th_units.specs.declared.lens.TheConstants.{MAX_LEN};
+ghost use Rattle.th_tables.specs.Tables.{benchmarks_of, no_memory, rows_after};
+
+use crate::faults::{TableFault, TableKind};
+use crate::fields::{benchmark_in, is_benchmarks_header};
+use crate::records::{open, read_next};
+use crate::tables::MAX_TABLE_LEN;
+use csv::{ByteRecord, Reader};
+use gsi_word::Name;
+use indexmap::IndexMap;
+use std::alloc::Global;
+use std::marker::Model;
+
+/// The benchmarks: names and their heights in units of 10 nm, in the order of their table.
+#[derive(Debug, Drop)]
+pub struct Benchmarks {
+    heights: IndexMap<Name, i64>,
+}
+
+impl Model for Benchmarks {
+    ghost use Rattle.th_tables.specs.Rows.{AreBenchmarks, BenchmarkRows};
+
+    ghost Value = { BenchmarkRows };
+
+    ghost view = { λ benchmarks. benchmarks.heights.entries };
+
+    ghost invariant = { λ benchmarks. AreBenchmarks benchmarks.heights.entries };
+}
+
+impl Benchmarks {
+    /// The height of a benchmark, at most `MAX_LEN` in size; none for another name.
+    pub fn height_of(&self, name: &Name) -> Option<i64>
+        ensures value { result ≡ height_of self.now name.now }
+        ensures range { IfSome result (λ height. unsigned_abs height ≤ MAX_LEN) }
+    {
+        self.heights.get(name).copied()
+    }
+
+    /// The row at this place of the table, counted from 0; none past its end.
+    pub fn entry(&self, k: usize) -> Option<(Name, i64)>
+        ensures value { result ≡ slice_get self.now k }
+        ensures benchmarks { AreBenchmarks self.now }
+    {
+        self.heights
+            .as_slice()
+            .get_index(k)
+            .map(|(name, height)| (*name, *height))
+    }
+}
+
+/// The benchmarks of a table with the header `point,height`, or its first fault.
+///
+/// A record under the header has a name and metres of at most 10 km in size, and no name that an
+/// earlier record has.
+pub fn read_benchmarks(alloc: Global, bytes: &[u8]) -> Result<Benchmarks, TableFault>
+    ensures table { IfOk result (λ table. benchmarks_of bytes.now ≡ Ok table) }
+    ensures fault { IfErr result (λ fault. (fault ≡ no_memory) ⊎ (benchmarks_of bytes.now ≡ Err fault)) }
+{
+    if bytes.len() > MAX_TABLE_LEN {
+        return Err(TableFault::TOO_LONG);
+    }
+    let mut reader = open(alloc, bytes);
+    let mut record = ByteRecord::new(alloc);
+    if !read_next(&mut reader, &mut record)? || !is_benchmarks_header(&record) {
+        return Err(TableFault::BAD_HEADER);
+    }
+    read_rows(alloc, reader, record)
+}
+
+/// The benchmarks of the records that a reader has left, the first of which is record 2.
+fn read_rows(
+    alloc: Global,
+    mut reader: Reader<&[u8]>,
+    mut record: ByteRecord,
+) -> Result<Benchmarks, TableFault>
+    requires reading { IsReading reader }
+    requires few { length (records_left reader) + 2 < 2 ^ 32 }
+    ensures table { IfOk result (λ table. rows_after bytes_eq benchmark_in [] (records_left reader.entry) ≡ Ok table) }
+    ensures fault { IfErr result (λ fault. (fault ≡ no_memory) ⊎ (rows_after bytes_eq benchmark_in [] (records_left reader.entry) ≡ Err fault)) }
+{
+    let mut heights = IndexMap::new(alloc);
+    let mut row = 1;
+    'records: while read_next(&mut reader, &mut record)? {
+        row += 1;
+        let (name, height) = match benchmark_in(&record) {
+            Ok(benchmark) => benchmark,
+            Err(kind) => return Err(TableFault { row, kind }),
+        };
+        if heights.insert(name, height)?.is_some() {
+            return Err(TableFault {
+                row,
+                kind: TableKind::Repeated,
+            });
+        }
+    }
+    Ok(Benchmarks { heights })
+}

@@ -1,0 +1,71 @@
+ghost use Rattle.std.specs.Prelude.{◌≡◌};
+ghost use Rattle.th_tables.specs.declared.faults.TableKind.TheVariants.{NoMemory};
+
+use std::alloc::{AllocError, AllocFailed};
+
+/// What is wrong with a table. A record has the first kind that applies, in this order.
+#[derive(Clone, Copy, Debug, PartialEq, Eq)]
+pub enum TableKind {
+    /// Record 1 is not the table's header, or there is no record.
+    BadHeader,
+    /// A record has another number of fields than the header.
+    FieldCount,
+    /// A field gives no name.
+    BadName,
+    /// A height is not in metres, or more than 10 km in size.
+    BadHeight,
+    /// A weight is not one to four digits, or not 1 to 1,000.
+    BadWeight,
+    /// An earlier record has the same name, or the same station and target.
+    Repeated,
+    /// The table has more than `MAX_TABLE_LEN` bytes. This comes before all other kinds.
+    TableTooLong,
+    /// Memory was refused.
+    NoMemory,
+}
+
+/// Why a table is refused.
+#[derive(Clone, Copy, Debug, PartialEq, Eq)]
+pub struct TableFault {
+    /// The record, counted from 1, the header being record 1. It is 0 for `TableTooLong` and
+    /// `NoMemory`.
+    pub row: u32,
+    /// The first kind of fault that applies to it.
+    pub kind: TableKind,
+}
+
+impl TableFault {
+    /// Memory was refused.
+    pub(crate) const NO_MEMORY: TableFault = TableFault {
+        row: 0,
+        kind: TableKind::NoMemory,
+    };
+
+    /// The table has too many bytes.
+    pub(crate) const TOO_LONG: TableFault = TableFault {
+        row: 0,
+        kind: TableKind::TableTooLong,
+    };
+
+    /// Record 1 is not the header.
+    pub(crate) const BAD_HEADER: TableFault = TableFault {
+        row: 1,
+        kind: TableKind::BadHeader,
+    };
+}
+
+impl From<AllocError> for TableFault {
+    ghost from_gives = { λ _ fault. fault ≡ record { row = 0; kind = NoMemory } };
+
+    fn from(_error: AllocError) -> TableFault {
+        TableFault::NO_MEMORY
+    }
+}
+
+impl<T: Drop> From<AllocFailed<T>> for TableFault {
+    ghost from_gives = { λ _ fault. fault ≡ record { row = 0; kind = NoMemory } };
+
+    fn from(_refused: AllocFailed<T>) -> TableFault {
+        TableFault::NO_MEMORY
+    }
+}

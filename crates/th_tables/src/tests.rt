@@ -1,0 +1,239 @@
+use crate::*;
+use gsi_word::{Name, name_of};
+use std::alloc::AllocError;
+use std::process::Abort;
+
+/// A table of benchmarks, and one of its rows by its place; none past its end.
+type BenchmarkRow = (&'static [u8], usize, Option<(&'static [u8], i64)>);
+
+const BENCHMARK_ROWS: [BenchmarkRow; 16] = [
+    (b"point,height", 0, None),
+    (b"point,height\n", 0, None),
+    (b"point,height\nA,100\n", 0, Some((b"A", 10_000_000_000))),
+    (b"point,height\nA,100\n", 1, None),
+    (
+        b"point,height\r\nA,+0.5\r\n0B ,-1",
+        0,
+        Some((b"A", 50_000_000)),
+    ),
+    (
+        b"point,height\r\nA,+0.5\r\n0B ,-1",
+        1,
+        Some((b"B", -100_000_000)),
+    ),
+    (b"point,height\r\nA,+0.5\r\n0B ,-1", 2, None),
+    (
+        b"\"point\",\"height\"\n\"A\"\"B\",\"1\"\n",
+        0,
+        Some((b"A\"B", 100_000_000)),
+    ),
+    (
+        b"\xEF\xBB\xBFpoint,height\nA,1\n",
+        0,
+        Some((b"A", 100_000_000)),
+    ),
+    (
+        b"\n\npoint,height\n\r\n\nA,1\n\n",
+        0,
+        Some((b"A", 100_000_000)),
+    ),
+    (b"\n\npoint,height\n\r\n\nA,1\n\n", 1, None),
+    (b"point,height\n000,1\n", 0, Some((b"0", 100_000_000))),
+    (
+        b"point,height\nA,10000\n",
+        0,
+        Some((b"A", 1_000_000_000_000)),
+    ),
+    (
+        b"point,height\nA,-10000.00000000\n",
+        0,
+        Some((b"A", -1_000_000_000_000)),
+    ),
+    (
+        b"point,height\n1234567890123456,0\n",
+        0,
+        Some((b"1234567890123456", 0)),
+    ),
+    (b"point,height\n\"A,B\",0\n", 0, Some((b"A,B", 0))),
+];
+
+/// A table of benchmarks that is refused, with its first faulty record and the kind.
+const BENCHMARK_FAULTS: [(&[u8], u32, TableKind); 29] = [
+    (b"", 1, TableKind::BadHeader),
+    (b"\n\n", 1, TableKind::BadHeader),
+    (b"\xEF\xBB\xBF", 1, TableKind::BadHeader),
+    (
+        b"\xEF\xBB\xBF\xEF\xBB\xBFpoint,height\n",
+        1,
+        TableKind::BadHeader,
+    ),
+    (b"height,point\n", 1, TableKind::BadHeader),
+    (b"Point,height\n", 1, TableKind::BadHeader),
+    (b" point,height\n", 1, TableKind::BadHeader),
+    (b"point\n", 1, TableKind::BadHeader),
+    (b"point,height,\n", 1, TableKind::BadHeader),
+    (b"from,to,weight\n", 1, TableKind::BadHeader),
+    (b"point,height\nA\n", 2, TableKind::FieldCount),
+    (b"point,height\nA,1,2\n", 2, TableKind::FieldCount),
+    (b"point,height\nA,1\n\nB,2\nC\n", 4, TableKind::FieldCount),
+    (b"point,height\n\"A,100\n", 2, TableKind::FieldCount),
+    (b"point,height\n,1\n", 2, TableKind::BadName),
+    (b"point,height\n  ,1\n", 2, TableKind::BadName),
+    (
+        b"point,height\n12345678901234567,1\n",
+        2,
+        TableKind::BadName,
+    ),
+    (b"point,height\n\xC3\xA4,1\n", 2, TableKind::BadName),
+    (b"point,height\n ,x\n", 2, TableKind::BadName),
+    (b"point,height\nA,\n", 2, TableKind::BadHeight),
+    (b"point,height\nA,1.\n", 2, TableKind::BadHeight),
+    (b"point,height\nA, 1\n", 2, TableKind::BadHeight),
+    (b"point,height\nA,10000.00000001\n", 2, TableKind::BadHeight),
+    (
+        b"point,height\nA,-10000.00000001\n",
+        2,
+        TableKind::BadHeight,
+    ),
+    (b"point,height\nA,0000000001\n", 2, TableKind::BadHeight),
+    (b"point,height\nA,1\nA,x\n", 3, TableKind::BadHeight),
+    (b"point,height\n00A,100\nA,101\n", 3, TableKind::Repeated),
+    (
+        b"point,height\nA,1\nB,2\nC,3\nB ,2\nD\n",
+        5,
+        TableKind::Repeated,
+    ),
+    (b"point,height\nA,1\nA,2\nB\n", 3, TableKind::Repeated),
+];
+
+/// A table of weights, a station and a target, and their weight.
+const WEIGHTS: [(&[u8], &[u8], &[u8], u32); 12] = [
+    (b"", b"A", b"B", 1),
+    (b"from,to,weight", b"A", b"B", 1),
+    (b"from,to,weight\nA,B,7\n", b"A", b"B", 7),
+    (b"from,to,weight\nA,B,7\n", b"B", b"A", 1),
+    (b"from,to,weight\nA,B,7\n", b"A", b"A", 1),
+    (b"from,to,weight\nA,B,2\nB,A,3\n", b"A", b"B", 2),
+    (b"from,to,weight\nA,B,2\nB,A,3\n", b"B", b"A", 3),
+    (b"from,to,weight\r\n\"00A\",B ,1000\r\n", b"A", b"B", 1_000),
+    (b"from,to,weight\nA,A,5\n", b"A", b"A", 5),
+    (b"from,to,weight\nA,B,0001\n", b"A", b"B", 1),
+    (b"from,to,weight\nA,B,0999\nC,D,12\n", b"C", b"D", 12),
+    (b"\xEF\xBB\xBFfrom,to,weight\nA,B,9\n", b"A", b"B", 9),
+];
+
+/// A table of weights that is refused, with its first faulty record and the kind.
+const WEIGHT_FAULTS: [(&[u8], u32, TableKind); 17] = [
+    (b"\n", 1, TableKind::BadHeader),
+    (b"\xEF\xBB\xBF", 1, TableKind::BadHeader),
+    (b"from,to\n", 1, TableKind::BadHeader),
+    (b"to,from,weight\n", 1, TableKind::BadHeader),
+    (b"from,to,weights\n", 1, TableKind::BadHeader),
+    (b"from,to,weight\nA,B\n", 2, TableKind::FieldCount),
+    (b"from,to,weight\nA,B,1,\n", 2, TableKind::FieldCount),
+    (b"from,to,weight\n ,B,1\n", 2, TableKind::BadName),
+    (b"from,to,weight\nA,,0\n", 2, TableKind::BadName),
+    (b"from,to,weight\nA,B,0\n", 2, TableKind::BadWeight),
+    (b"from,to,weight\nA,B,\n", 2, TableKind::BadWeight),
+    (b"from,to,weight\nA,B,1001\n", 2, TableKind::BadWeight),
+    (b"from,to,weight\nA,B,00001\n", 2, TableKind::BadWeight),
+    (b"from,to,weight\nA,B,+1\n", 2, TableKind::BadWeight),
+    (b"from,to,weight\nA,B,1.0\n", 2, TableKind::BadWeight),
+    (
+        b"from,to,weight\nA,B,1\nB,A,1\n00A, B ,2\n",
+        4,
+        TableKind::Repeated,
+    ),
+    (b"from,to,weight\nA,B,1\nA,B,x\n", 3, TableKind::BadWeight),
+];
+
+fn named(rt: &impl Abort, bytes: &[u8]) -> Name {
+    name_of(bytes).expect(rt, "a name")
+}
+
+#[test]
+fn rows_of_benchmarks(rt: HostRuntime) {
+    for (table, k, wanted) in &BENCHMARK_ROWS {
+        let benchmarks = read_benchmarks(rt.alloc(), table).expect(&rt, "benchmarks");
+        let wanted = wanted.map(|(name, height)| (named(&rt, name), height));
+        assert_eq!(rt; benchmarks.entry(*k), wanted, "row {k} of {table:?}");
+    }
+}
+
+#[test]
+fn heights_of_benchmarks(rt: HostRuntime) {
+    let table = b"point,height\nA,100\n00B,-2.5\n";
+    let benchmarks = read_benchmarks(rt.alloc(), table).expect(&rt, "benchmarks");
+    assert_eq!(rt;
+        benchmarks.height_of(&named(&rt, b"0A ")),
+        Some(10_000_000_000)
+    );
+    assert_eq!(rt; benchmarks.height_of(&named(&rt, b"B")), Some(-250_000_000));
+    assert_eq!(rt; benchmarks.height_of(&named(&rt, b"C")), None);
+}
+
+#[test]
+fn faults_of_benchmarks(rt: HostRuntime) {
+    for (table, row, kind) in &BENCHMARK_FAULTS {
+        let wanted = TableFault {
+            row: *row,
+            kind: *kind,
+        };
+        assert_eq!(rt;
+            read_benchmarks(rt.alloc(), table).err(),
+            Some(wanted),
+            "{table:?}"
+        );
+    }
+}
+
+#[test]
+fn weights_of_pairs(rt: HostRuntime) {
+    for (table, station, target, wanted) in &WEIGHTS {
+        let weights = read_weights(rt.alloc(), table).expect(&rt, "weights");
+        let weight = weights.of(&named(&rt, station), &named(&rt, target));
+        assert_eq!(rt; weight, *wanted, "{station:?} to {target:?} of {table:?}");
+    }
+    let none = Weights::empty(rt.alloc());
+    assert_eq!(rt; none.of(&named(&rt, b"A"), &named(&rt, b"B")), 1);
+}
+
+#[test]
+fn faults_of_weights(rt: HostRuntime) {
+    for (table, row, kind) in &WEIGHT_FAULTS {
+        let wanted = TableFault {
+            row: *row,
+            kind: *kind,
+        };
+        assert_eq!(rt;
+            read_weights(rt.alloc(), table).err(),
+            Some(wanted),
+            "{table:?}"
+        );
+    }
+}
+
+#[test]
+fn tables_as_long_as_they_may_be(rt: HostRuntime) -> Result<(), AllocError> {
+    let mut benchmarks = Vec::from_slice(rt.alloc(), b"point,height\nA,1")?;
+    let mut weights = Vec::from_slice(rt.alloc(), b"from,to,weight\nA,B,2")?;
+    benchmarks.resize(MAX_TABLE_LEN, b'\n')?;
+    weights.resize(MAX_TABLE_LEN, b'\n')?;
+    let benchmark = read_benchmarks(rt.alloc(), &benchmarks).expect(&rt, "benchmarks");
+    assert_eq!(rt; benchmark.height_of(&named(&rt, b"A")), Some(100_000_000));
+    let weight = read_weights(rt.alloc(), &weights).expect(&rt, "weights");
+    assert_eq!(rt; weight.of(&named(&rt, b"A"), &named(&rt, b"B")), 2);
+
+    benchmarks.push(b'\n')?;
+    weights.push(b'\n')?;
+    let too_long = TableFault {
+        row: 0,
+        kind: TableKind::TableTooLong,
+    };
+    assert_eq!(rt;
+        read_benchmarks(rt.alloc(), &benchmarks).err(),
+        Some(too_long)
+    );
+    assert_eq!(rt; read_weights(rt.alloc(), &weights).err(), Some(too_long));
+    Ok(())
+}

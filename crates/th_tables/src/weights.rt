@@ -1,0 +1,102 @@
+ghost use Rattle.std.specs.Prelude.{◌≡◌, ◌⊎◌, ◌<◌, ◌≤◌, ◌^◌, ◌+◌, [], Ok, Err, IfErr, IfOk, length};
+ghost use Rattle.th_tables.specs.Fields.{weighted_in};
+ghost use Rattle.th_tables.specs.Reading.{IsReading, records_left};
+ghost use Rattle.th_tables.specs.Rows.{same_ends, weight_of};
+ghost use Rattle.th_tables.specs.Tables.{no_memory, rows_after, weights_of};
+
+use crate::faults::{TableFault, TableKind};
+use crate::fields::{MAX_WEIGHT, is_weights_header, weighted_in};
+use crate::records::{open, read_next};
+use crate::tables::MAX_TABLE_LEN;
+use csv::{ByteRecord, Reader};
+use gsi_word::Name;
+use indexmap::IndexMap;
+use std::alloc::Global;
+use std::marker::Model;
+
+/// The weights of observations by their station and target, in the order of their table.
+#[derive(Debug, Drop)]
+pub struct Weights {
+    weights: IndexMap<(Name, Name), u32>,
+}
+
+impl Model for Weights {
+    ghost use Rattle.th_tables.specs.Rows.{AreWeights, WeightRows};
+
+    ghost Value = { WeightRows };
+
+    ghost view = { λ weights. weights.weights.entries };
+
+    ghost invariant = { λ weights. AreWeights weights.weights.entries };
+}
+
+impl Weights {
+    /// No weights: each observation weighs 1.
+    pub fn empty(alloc: Global) -> Weights
+        ensures { result ≡ [] }
+    {
+        Weights {
+            weights: IndexMap::new(alloc),
+        }
+    }
+
+    /// The weight of the observations from a station to a target, 1 where none is listed.
+    pub fn of(&self, station: &Name, target: &Name) -> u32
+        ensures value { result ≡ weight_of self.now station.now target.now }
+        ensures positive { 1 ≤ result }
+        ensures range { result ≤ MAX_WEIGHT }
+    {
+        self.weights.get(&(*station, *target)).copied().unwrap_or(1)
+    }
+}
+
+/// The weights of a table with the header `from,to,weight`, none for no bytes, or its first fault.
+///
+/// A record under the header has a station's and a target's name and a weight of 1 to `MAX_WEIGHT`,
+/// and no station and target that an earlier record has in this order.
+pub fn read_weights(alloc: Global, bytes: &[u8]) -> Result<Weights, TableFault>
+    ensures table { IfOk result (λ table. weights_of bytes.now ≡ Ok table) }
+    ensures fault { IfErr result (λ fault. (fault ≡ no_memory) ⊎ (weights_of bytes.now ≡ Err fault)) }
+{
+    if bytes.is_empty() {
+        return Ok(Weights::empty(alloc));
+    }
+    if bytes.len() > MAX_TABLE_LEN {
+        return Err(TableFault::TOO_LONG);
+    }
+    let mut reader = open(alloc, bytes);
+    let mut record = ByteRecord::new(alloc);
+    if !read_next(&mut reader, &mut record)? || !is_weights_header(&record) {
+        return Err(TableFault::BAD_HEADER);
+    }
+    read_rows(alloc, reader, record)
+}
+
+/// The weights of the records that a reader has left, the first of which is record 2.
+fn read_rows(
+    alloc: Global,
+    mut reader: Reader<&[u8]>,
+    mut record: ByteRecord,
+) -> Result<Weights, TableFault>
+    requires reading { IsReading reader }
+    requires few { length (records_left reader) + 2 < 2 ^ 32 }
+    ensures table { IfOk result (λ table. rows_after same_ends weighted_in [] (records_left reader.entry) ≡ Ok table) }
+    ensures fault { IfErr result (λ fault. (fault ≡ no_memory) ⊎ (rows_after same_ends weighted_in [] (records_left reader.entry) ≡ Err fault)) }
+{
+    let mut weights = IndexMap::new(alloc);
+    let mut row = 1;
+    'records: while read_next(&mut reader, &mut record)? {
+        row += 1;
+        let (ends, weight) = match weighted_in(&record) {
+            Ok(weighted) => weighted,
+            Err(kind) => return Err(TableFault { row, kind }),
+        };
+        if weights.insert(ends, weight)?.is_some() {
+            return Err(TableFault {
+                row,
+                kind: TableKind::Repeated,
+            });
+        }
+    }
+    Ok(Weights { weights })
+}
