@@ -2,9 +2,11 @@ use Rattle.std.specs.Prelude.{◌≡◌, ◌≢◌, ℕ, ◌==◌, ◌&&◌, ◌
 use Rattle.std.specs.List.{list_all}
 use Rattle.std.specs.Borrow.{Bor}
 
+-- CR
 abbrev pub is_carriage_return : ℕ → Bool
 is_carriage_return byte = byte == 13
 
+-- LF
 abbrev pub is_line_feed : ℕ → Bool
 is_line_feed byte = byte == 10
 
@@ -17,8 +19,9 @@ abbrev pub onto_first : ℕ → List (List ℕ) → List (List ℕ)
 onto_first byte [] = (byte ∷ []) ∷ []
 onto_first byte (line ∷ lines) = (byte ∷ line) ∷ lines
 
--- The lines of a text, without their ends. CR LF, CR and LF end a line, so a CR before an LF ends none by itself.
--- What stands after the last end is a line where there is any.
+-- The lines of a text, without their ends. CR LF, CR and LF end a line, so a CR directly before an LF ends none by itself, and LF CR are two ends.
+-- What stands after the last end is a line where there is any: an empty text has none. No other byte is an end, and none is dropped from a line.
+-- (`slice_index` of a list that has no such place is 0, which is no LF: a CR that ends the text ends a line.)
 unfoldable pub lines_of : List ℕ → List (List ℕ)
 lines_of [] = []
 lines_of (byte ∷ bytes) =
@@ -44,12 +47,12 @@ abbrev pub end_len : List ℕ → ℕ
 end_len [] = 0
 end_len (byte ∷ bytes) = if is_carriage_return byte && is_line_feed (slice_index bytes 0) then 2 else 1
 
--- the bytes that end a line, where these bytes come after: CR LF, LF, or a CR that no LF follows
+-- the bytes that end a line, where these bytes come after: CR LF, LF, or a CR that no LF follows, also as the text's last byte
 abbrev pub EndsLine : List ℕ → List ℕ → Type 0
 EndsLine end rest =
     (end ≡ 13 ∷ 10 ∷ []) ⊎ ((end ≡ 10 ∷ []) ⊎ ((end ≡ 13 ∷ []) × (slice_index rest 0 ≢ 10)))
 
--- The text is these lines, each followed by its end; the last may have none, and is then not empty. No line holds a byte of an end.
+-- The text is these lines, each followed by its end; the last, behind which nothing stands, may have none, and is then not empty. No line holds a CR or an LF.
 abbrev pub AreLines : List (List ℕ) → List ℕ → Type 0
 AreLines [] text = text ≡ []
 AreLines (line ∷ lines) text =

@@ -26,6 +26,10 @@ pub enum BlockFault {
 }
 
 impl fmt::Display for BlockFault {
+    ghost use Rattle.gsi_block.specs.Blocks.{fault_text};
+
+    ghost output = { fault_text };
+
     fn fmt<W: fmt::Write>(&self, f: &mut fmt::Formatter<W>) -> fmt::Result {
         match self {
             BlockFault::BadWord(number, fault) => write!(f, "word {number}: {fault}"),

@@ -9,7 +9,7 @@ is_info byte = (byte == 46) || is_digit byte
 abbrev pub is_sign : ℕ → Bool
 is_sign byte = (byte == 43) || (byte == 45)
 
--- printable ASCII
+-- printable ASCII, from the space to the tilde
 abbrev pub is_data : ℕ → Bool
 is_data byte = nat_le 32 byte && nat_le byte 126
 

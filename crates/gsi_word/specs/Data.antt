@@ -10,7 +10,7 @@ use Rattle.gsi_word.specs.Words.{Parts}
 use Rattle.gsi_word.specs.declared.data.LengthFault.{LengthFault}
 use Rattle.gsi_word.specs.declared.data.LengthFault.TheVariants.{BadNumber, BadUnit, TooLarge}
 
--- the index of a word whose information begins with a dot
+-- the index of a word whose information begins with a dot; what stands at positions 4 to 6 is not asked
 abbrev pub two_digit : Parts → Option ℕ
 two_digit word = if slice_index word.info 0 == 46 then Some word.index else None
 
@@ -24,6 +24,7 @@ abbrev pub in_unit : Parts → Option Unit → Result ℤ LengthFault
 in_unit word None = Err BadUnit
 in_unit word (Some unit) = result_map_both (λ length. length) length_fault (lens.length_of word.negative word.body unit)
 
--- the length that a word writes: its sign, data and the unit of position 6
+-- The length that a word writes: its sign, data and the unit of position 6. First the data have to be digits, then position 6
+-- has to be a unit, then the size has to be within the longest.
 abbrev pub length_of : Parts → Result ℤ LengthFault
 length_of word = if not (are_digits word.body) then Err BadNumber else in_unit word (unit_of (slice_index word.info 3))

@@ -2,13 +2,12 @@ use Rattle.std.specs.Prelude.{ℕ, ◌-◌, ◌==◌, ◌&&◌, not, nat_eq, Boo
 use Rattle.std.specs.Cmp.Lexicographic.{pointwise}
 use Rattle.std.specs.List.{list_all, list_any, prefix_len, suffix_len}
 use Rattle.gsi_word.specs.Bytes.{is_data, is_padding, is_space, is_zero}
-use Rattle.gsi_word.specs.declared.names.TheConstants.{MAX_NAME}
 
--- bytes without their leading run of zeros and spaces
+-- bytes without their leading run of zeros and spaces, in any order
 abbrev pub without_leading : List ℕ → List ℕ
 without_leading bytes = drop (prefix_len is_padding bytes) bytes
 
--- bytes without their trailing spaces
+-- bytes without their trailing spaces; zeros at the end stay
 abbrev pub without_trailing : List ℕ → List ℕ
 without_trailing bytes = take (length bytes - suffix_len is_space bytes) bytes
 
@@ -16,17 +15,22 @@ without_trailing bytes = take (length bytes - suffix_len is_space bytes) bytes
 abbrev pub reduced : List ℕ → List ℕ
 reduced bytes = without_trailing (without_leading bytes)
 
+-- the most bytes that a name has
+abbrev pub longest_name : ℕ
+longest_name = 16
+
 -- The name of some data is its reduced form, or `0` where only zeros and spaces were there, at least one zero.
--- There is none where there is no byte or only spaces, a byte that is not printable, or more than sixteen bytes are left.
+-- There is none where there is no byte or only spaces, a byte that is not printable, or more than sixteen bytes are left,
+-- however many there were.
 abbrev pub name_of : List ℕ → Option (List ℕ)
 name_of bytes =
     let name = reduced bytes in
     if not (list_all is_data bytes) then None
     else (if length name == 0 then (if list_any is_zero bytes then Some (48 ∷ []) else None)
-    else (if nat_lt MAX_NAME (length name) then None
+    else (if nat_lt longest_name (length name) then None
     else Some name))
 
--- whether two names have the same bytes: what `==` of names computes, and a map with names as keys goes by
+-- whether two names have the same bytes, `a` and `A` being two: what `==` of names computes, and a map with names as keys goes by
 abbrev pub same_name : List ℕ → List ℕ → Bool
 same_name = pointwise nat_eq
 

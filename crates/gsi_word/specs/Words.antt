@@ -1,4 +1,4 @@
-use Rattle.std.specs.Prelude.{◌≡◌, ℕ, ◌+◌, ◌==◌, not, Bool, true, List, length, Result, Ok, Err, if◌then◌else◌, nat_lt, slice_index, slice_range, take, drop}
+use Rattle.std.specs.Prelude.{◌≡◌, ℕ, ◌+◌, ◌==◌, not, Bool, true, false, List, length, Result, Ok, Err, if◌then◌else◌, nat_lt, slice_index, slice_range, take, drop, replicate, codes}
 use Rattle.std.specs.List.{list_all}
 use Rattle.std.specs.Result.{result_map_both}
 use Rattle.th_units.specs.Lens.{is_digit, number}
@@ -20,6 +20,10 @@ pub record Parts : Type 0 where
 abbrev pub parts_of : Word → Parts
 parts_of word = record { index = word.index; info = word.info; negative = word.negative; body = word.body.now }
 
+-- the word that fills an array before words are read: index 0, four dots, a plus and eight zeros
+abbrev pub filler : Parts
+filler = record { index = 0; info = replicate 4 46; negative = false; body = replicate 8 48 }
+
 -- a result whose value is seen by a function
 abbrev pub result_map : {A B E : Type 0} → (A → B) → Result A E → Result B E
 result_map see result = result_map_both see (λ fault. fault) result
@@ -29,11 +33,12 @@ abbrev pub data_len : Width → ℕ
 data_len Eight = 8
 data_len Sixteen = 16
 
--- how many bytes a spelling has: two of the index, four of information, the sign, and the data
+-- How many bytes a spelling has: two of the index, four of information, the sign, and the data. The star before a block of
+-- GSI-16 and the space after a word, which the manual counts as its last position, are the block's.
 abbrev pub spelling_len : Width → ℕ
 spelling_len width = 7 + data_len width
 
--- the bytes are a word's spelling, place by place
+-- The bytes are a word's spelling, place by place, and nothing after it. Positions are counted from 1, places of bytes from 0.
 pub record Spells (word : Parts) (bytes : List ℕ) (width : Width) : Type 0 where
   pub length : length bytes ≡ spelling_len width
   pub index_digits : list_all is_digit (take 2 bytes) ≡ true
@@ -54,7 +59,8 @@ parts_in bytes = record {
   body = drop 7 bytes;
 }
 
--- the word that the front of the bytes spells, or the first part that holds a byte not allowed there
+-- The word that the front of the bytes spells in a width that is given, whatever stands after the spelling. Where there is none,
+-- it is first said that there are too few bytes, whatever they are, then which part is the first with a byte not allowed there.
 abbrev pub word_at : Width → List ℕ → Result Parts WordFault
 word_at width bytes =
     let spelling = take (spelling_len width) bytes in
@@ -64,3 +70,11 @@ word_at width bytes =
     else (if not (is_sign (slice_index spelling 6)) then Err BadSign
     else (if not (list_all is_data (drop 7 spelling)) then Err BadData
     else Ok (parts_in spelling)))))
+
+-- how a fault is said
+abbrev pub fault_text : WordFault → List ℕ
+fault_text Short = codes "short"
+fault_text BadIndex = codes "bad index"
+fault_text BadInfo = codes "bad information"
+fault_text BadSign = codes "bad sign"
+fault_text BadData = codes "bad data"

@@ -68,6 +68,14 @@ fn names_in_order(rt: HostRuntime) {
 }
 
 #[test]
+fn a_name_printed_for_debugging(rt: HostRuntime) -> Result<(), AllocError> {
+    let name = name_of(b"00A B ").expect(&rt, "a name");
+    let text = format!(in rt.alloc(); "{name:?}")?;
+    assert_eq!(rt; text.as_str(), "\"A B\"");
+    Ok(())
+}
+
+#[test]
 fn spellings_of_one_name_in_a_map(rt: HostRuntime) -> Result<(), AllocError> {
     let mut seen = HashMap::new(rt.alloc());
     for (place, data) in [b"00A".as_slice(), b"A ", b"A", b"B"].iter().enumerate() {

@@ -43,6 +43,11 @@ pub enum WordFault {
 }
 
 impl fmt::Display for WordFault {
+    ghost use Rattle.std.specs.Prelude.{Some};
+    ghost use Rattle.gsi_word.specs.Words.{fault_text};
+
+    ghost output = { λ fault. Some (fault_text fault) };
+
     fn fmt<W: fmt::Write>(&self, f: &mut fmt::Formatter<W>) -> fmt::Result {
         f.write_str(match self {
             WordFault::Short => "short",
@@ -112,7 +117,12 @@ impl<'a> Word<'a> {
     }
 }
 
+/// The word that fills an array before words are read: index 0, four dots, a plus and eight zeros.
 impl Default for Word<'_> {
+    ghost use Rattle.gsi_word.specs.Words.{filler, parts_of};
+
+    ghost is_default = { λ word. parts_of word ≡ filler };
+
     fn default() -> Self {
         Word {
             index: 0,

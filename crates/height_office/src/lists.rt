@@ -1,5 +1,5 @@
 //! The list of a book's observations, as CSV.
-ghost use Rattle.std.specs.Prelude.{◌≡◌, ◌++◌, ◌∷◌, [], IfOk, OnOk, map};
+ghost use Rattle.std.specs.Prelude.{◌≡◌, ◌++◌, ◌∷◌, [], IfOk, OnOk, alloc_error, map};
 ghost use Rattle.height_office.specs.Lists.{csv_text, list_record, list_text};
 ghost use Rattle.height_office.specs.CsvWriters.{IsReady, text_in};
 
@@ -68,6 +68,8 @@ fn into_text(writer: Writer<Vec<u8>>) -> Result<Vec<u8>, AllocError>
 /// `csv` names more errors in the same types: bytes that are refused for another reason than
 /// memory, which a vector never does, and a record of another length than the first, where each
 /// record here has four fields. Neither can come.
-fn want_of_memory<E: Drop>(_error: E) -> AllocError {
+fn want_of_memory<E: Drop>(_error: E) -> AllocError
+    ensures { result ≡ alloc_error }
+{
     AllocError
 }

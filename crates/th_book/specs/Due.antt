@@ -1,4 +1,4 @@
-use Rattle.std.specs.Prelude.{◌≡◌, ◌≢◌, ℕ, ℤ, ◌+◌, ◌||◌, false, List, [], ◌∷◌, ◌++◌, Option, Some, None, Result, Ok, Err, if◌then◌else◌, is_none, is_some, map, option_and_then, option_map}
+use Rattle.std.specs.Prelude.{◌≡◌, ◌≢◌, ℕ, ℤ, ◌+◌, ◌||◌, true, false, List, [], ◌∷◌, ◌++◌, Option, Some, None, Result, Ok, Err, if◌then◌else◌, is_none, is_some, map, option_and_then, option_map}
 use Rattle.gsi_word.specs.Words.{Parts}
 use Rattle.gsi_block.specs.Blocks.{block_at}
 use Rattle.th_book.specs.Observed.{Observed}
@@ -27,7 +27,7 @@ empty book = record { book = book; lines = 0; setup = None; observations = []; f
 abbrev pub standing_in : Option Setup → List Parts → Standing
 standing_in None words = record { setup = false; instrument = false; reflector = false; station = None }
 standing_in (Some setup) words = record {
-  setup = is_some (Some setup);
+  setup = true;
   instrument = holds INSTRUMENT_HEIGHT words || is_some setup.instrument;
   reflector = holds REFLECTOR_HEIGHT words || is_some setup.reflector;
   station = Some setup.station;

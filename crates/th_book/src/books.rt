@@ -30,7 +30,13 @@ impl Model for Book {
 
     ghost Value = { Held };
 
-    ghost view = { λ b. record { book = b.number; lines = b.lines; setup = b.setup; observations = b.observations.items; fault = b.fault } };
+    ghost view = { λ b. record {
+      book = b.number;
+      lines = b.lines;
+      setup = b.setup;
+      observations = b.observations.items;
+      fault = b.fault;
+    } };
 
     ghost invariant = { λ b. IsLasting b.fault };
 }
@@ -146,7 +152,8 @@ pub fn read_book(alloc: Global, book: u32, bytes: &[u8]) -> Result<Vec<Observati
         (λ fault. fault.kind ≡ BookKind.NoMemory
         → EndsWithSight (lines_answer book (take fault.line (lines_of bytes.now))) fault.line) }
 {
-    if bytes.len() > MAX_BOOK {
+    let size = bytes.len();
+    if size > MAX_BOOK {
         return Err(BookFault {
             line: 0,
             kind: BookKind::BookTooLong,

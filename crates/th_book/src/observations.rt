@@ -24,11 +24,29 @@ impl Model for Observation {
 
     ghost Value = { Observed };
 
-    ghost view = { λ o. record { station = o.station; target = o.target; difference = o.diff; book = o.book; line = o.line } };
+    ghost view = { λ o. record {
+      station = o.station;
+      target = o.target;
+      difference = o.diff;
+      book = o.book;
+      line = o.line;
+    } };
 
-    ghost invariant = { λ o. IsBetweenPoints (record { station = o.station; target = o.target; difference = o.diff; book = o.book; line = o.line }) };
+    ghost invariant = { λ o. IsBetweenPoints (record {
+      station = o.station;
+      target = o.target;
+      difference = o.diff;
+      book = o.book;
+      line = o.line;
+    }) };
 
-    ghost inverse = { λ o. record { station = o.station; target = o.target; diff = o.difference; book = o.book; line = o.line } };
+    ghost inverse = { λ o. record {
+      station = o.station;
+      target = o.target;
+      diff = o.difference;
+      book = o.book;
+      line = o.line;
+    } };
 }
 
 impl Observation {

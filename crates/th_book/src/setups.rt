@@ -47,7 +47,8 @@ impl Setup {
         book: u32,
         line: u32,
     ) -> Result<Observation, BookKind>
-        ensures { result ≡ with_heights_of self.now self.now.instrument self.now.reflector target sighted book line }
+        ensures { let setup = self.now in
+            result ≡ with_heights_of setup setup.instrument setup.reflector target sighted book line }
     {
         let instrument = self.instrument.ok_or(BookKind::NoInstrumentHeight)?;
         let reflector = self.reflector.ok_or(BookKind::NoReflectorHeight)?;

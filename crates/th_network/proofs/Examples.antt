@@ -3,10 +3,11 @@ use Rattle.std.proofs.Common.{◌≡◌, ℕ, ℤ, pos, neg_ℤ, List, [], ◌�
 use Rattle.std.proofs.lemmas.List.Elements.{All-from_recursion, All-nil}
 use Rattle.std.proofs.lemmas.Slice.Eq.{bytes_eq-Decides}
 use Rattle.th_book.specs.Observed.{Observed}
-use Rattle.th_network.specs.Tables.{BenchmarkRows, height_of, weight_of}
+use Rattle.th_tables.specs.Rows.{BenchmarkRows, height_of, weight_of}
 use Rattle.th_network.specs.Points.{points}
 use Rattle.th_network.specs.Walks.{Walk, IsTied}
-use Rattle.th_network.specs.Faults.{NoBenchmark, HasFault}
+use Rattle.th_network.specs.declared.faults.NetFault.TheVariants.{NoBenchmark}
+use Rattle.th_network.specs.Faults.{HasFault}
 use Rattle.th_network.specs.Heights.{IsHeights, residual, cost, fine_cost, LeastFine}
 use Rattle.th_network.specs.Circulation.{arriving, leaving, Circulation, Shows}
 use Rattle.th_network.specs.Links.{link_difference}

@@ -3,10 +3,12 @@ use Rattle.std.proofs.Common.{◌≡◌, ℕ, ◌<◌, List, Some, All, take, sl
 use Rattle.std.proofs.lemmas.Option.{slice_get_within, get_or_from_slice_get}
 use Rattle.std.proofs.lemmas.List.{get_or-take}
 use Rattle.th_book.specs.Observed.{Observed}
-use Rattle.th_network.specs.Tables.{BenchmarkRows}
+use Rattle.th_tables.specs.Rows.{BenchmarkRows}
 use Rattle.th_network.specs.Points.{points}
 use Rattle.th_network.specs.Walks.{IsTied}
-use Rattle.th_network.specs.Faults.{NetFault, TooManyObservations, TooManyPoints, NoBenchmark, IsFirstUntied, HasFault, IsNetwork}
+use Rattle.th_network.specs.declared.faults.NetFault.{NetFault}
+use Rattle.th_network.specs.declared.faults.NetFault.TheVariants.{TooManyObservations, TooManyPoints, NoBenchmark, NoMemory}
+use Rattle.th_network.specs.Faults.{IsFirstUntied, HasFault, IsNetwork}
 
 -- what stands at k in a list of which the first n elements have a property, has it if k is below n
 at_below : (P : List ℕ → Type 0) (names : List (List ℕ)) (k n : ℕ) (name : List ℕ) → slice_get names k ≡ Some name → k < n → All P (take n names) → P name
@@ -26,6 +28,10 @@ first_untied_is_one : (observations : List Observed) (benchmarks : BenchmarkRows
 first_untied_is_one observations benchmarks first second p q = none_before (IsTied observations benchmarks) (points observations benchmarks) p.0 q.0 first second p.1 q.1 p.2 q.2 p.3 q.3
 
 pub one_fault : (observations : List Observed) (benchmarks : BenchmarkRows) (first second : NetFault) → HasFault observations benchmarks first → HasFault observations benchmarks second → first ≡ second
+one_fault observations benchmarks NoMemory second p q = absurd p
+one_fault observations benchmarks TooManyObservations NoMemory p q = absurd q
+one_fault observations benchmarks TooManyPoints NoMemory p q = absurd q
+one_fault observations benchmarks (NoBenchmark name) NoMemory p q = absurd q
 one_fault observations benchmarks TooManyObservations TooManyObservations p q = refl
 one_fault observations benchmarks TooManyObservations TooManyPoints p q = absurd (omega arith)
 one_fault observations benchmarks TooManyObservations (NoBenchmark name) p q = absurd (omega (arith, q.0))
@@ -37,6 +43,7 @@ one_fault observations benchmarks (NoBenchmark name) TooManyPoints p q = absurd 
 one_fault observations benchmarks (NoBenchmark name) (NoBenchmark other) p q = ap NoBenchmark (first_untied_is_one observations benchmarks name other p.2 q.2)
 
 pub no_fault : (observations : List Observed) (benchmarks : BenchmarkRows) → IsNetwork observations benchmarks → (fault : NetFault) → ¬ HasFault observations benchmarks fault
+no_fault observations benchmarks h NoMemory p = p
 no_fault observations benchmarks h TooManyObservations p = omega (arith, h.few_observations)
 no_fault observations benchmarks h TooManyPoints p = omega (arith, h.few_points)
 no_fault observations benchmarks h (NoBenchmark name) p =

@@ -1,6 +1,15 @@
 pub mod Products
 pub mod Balance
 pub mod PointLemmas
+pub mod PointOrder
+pub mod Gets
+pub mod GroupLemmas
+pub mod MarkLemmas
+pub mod AnchorLemmas
+pub mod TieLemmas
+pub mod VertexLemmas
+pub mod LinkLemmas
+pub mod NetworkLemmas
 pub mod Slackness
 pub mod WalkLemmas
 pub mod Examples

@@ -3,7 +3,7 @@ use Rattle.std.proofs.Common.{◌≡◌, ℕ, Bool, true, false, not, cond, ◌|
 use Rattle.std.proofs.lemmas.Slice.Eq.{bytes_eq-Decides}
 use Rattle.std.specs.List.{list_any, AllByRecursion}
 use Rattle.th_book.specs.Observed.{Observed}
-use Rattle.th_network.specs.Tables.{BenchmarkRows}
+use Rattle.th_tables.specs.Rows.{BenchmarkRows}
 use Rattle.th_network.specs.Points.{distinct, ends, points}
 
 -- whether a list has a name
@@ -29,7 +29,7 @@ among_append (first ∷ names) more name e = by (bytes_eq name first) (among_app
     by false h e = h e
 
 -- a name is among the rest or is the one that was taken out
-among_filter : (first name : List ℕ) (names : List (List ℕ)) → bytes_eq name first ≡ false → is_among (filter (λ later. not (bytes_eq first later)) names) name ≡ is_among names name
+pub among_filter : (first name : List ℕ) (names : List (List ℕ)) → bytes_eq name first ≡ false → is_among (filter (λ later. not (bytes_eq first later)) names) name ≡ is_among names name
 among_filter first name [] other = refl
 among_filter first name (next ∷ names) other = by (bytes_eq first next) (bytes_eq-Decides first next).0 (among_filter first name names other)
   where

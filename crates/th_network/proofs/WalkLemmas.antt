@@ -2,7 +2,7 @@
 use Rattle.std.proofs.Common.{◌≡◌, ℕ, Bool, true, false, inl, inr, List, [], ◌∷◌, All, Contains, IsSome, refl, ap, ◌∙◌, sym, arith}
 use Rattle.std.proofs.lemmas.List.Elements.{All-nil, All-cons, All-head, All-tail, All-contains}
 use Rattle.th_book.specs.Observed.{Observed}
-use Rattle.th_network.specs.Tables.{BenchmarkRows, height_of}
+use Rattle.th_tables.specs.Rows.{BenchmarkRows, height_of}
 use Rattle.th_network.specs.Walks.{Leads, IsTied}
 
 -- a benchmark is tied to itself

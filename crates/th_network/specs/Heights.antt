@@ -1,6 +1,6 @@
 use Rattle.std.specs.Prelude.{◌≡◌, ℕ, ◌*◌, ◌<◌, ◌≤◌, ℤ, pos, ◌-ℤ◌, ◌*ℤ◌, List, Some, sum_by, unsigned_abs}
 use Rattle.th_book.specs.Observed.{Observed}
-use Rattle.th_network.specs.Tables.{BenchmarkRows, WeightRows, height_of, weight_of}
+use Rattle.th_tables.specs.Rows.{BenchmarkRows, WeightRows, height_of, weight_of}
 
 -- the heights keep each benchmark
 abbrev pub IsHeights : BenchmarkRows → (List ℕ → ℤ) → Type 0

@@ -1,7 +1,11 @@
-pub mod Tables
 pub mod Points
+pub mod Places
+pub mod Groups
+pub mod Marks
 pub mod Walks
 pub mod Faults
 pub mod Heights
 pub mod Circulation
+pub mod Vertices
 pub mod Links
+pub mod Networks

@@ -1,6 +1,8 @@
 use Rattle.std.specs.Prelude.{◌≡◌, ℕ, ℤ, pos, ◌+ℤ◌, ◌-ℤ◌, List, unwrap_or, MatchOption}
 use Rattle.th_book.specs.Observed.{Observed}
-use Rattle.th_network.specs.Tables.{BenchmarkRows, height_of}
+use Rattle.th_tables.specs.Rows.{BenchmarkRows, height_of}
+use Rattle.th_network.specs.Vertices.{vertex_of}
+use Rattle.th_network.specs.declared.links.Link.{Link}
 
 -- the height of a benchmark, and zero for another name
 abbrev pub base : BenchmarkRows → List ℕ → ℤ
@@ -13,3 +15,8 @@ link_difference benchmarks o = o.difference +ℤ base benchmarks o.station -ℤ 
 -- relative heights: zero at each benchmark, the height at each other name
 abbrev pub IsRelative : BenchmarkRows → (List ℕ → ℤ) → (List ℕ → ℤ) → Type 0
 IsRelative benchmarks heights relative = (name : List ℕ) → MatchOption (height_of benchmarks name) (relative name ≡ heights name) (λ _. relative name ≡ pos 0)
+
+-- the link of an observation: from its station's vertex to its target's, with the benchmarks' heights taken out of its difference
+abbrev pub link_of : List Observed → BenchmarkRows → Observed → Link
+link_of observations benchmarks o =
+    record { tail = vertex_of observations benchmarks o.station; head = vertex_of observations benchmarks o.target; diff = link_difference benchmarks o }

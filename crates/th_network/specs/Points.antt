@@ -1,6 +1,6 @@
 use Rattle.std.specs.Prelude.{ℕ, List, [], ◌∷◌, ◌++◌, map, filter, flat_map, not, bytes_eq}
 use Rattle.th_book.specs.Observed.{Observed}
-use Rattle.th_network.specs.Tables.{BenchmarkRows}
+use Rattle.th_tables.specs.Rows.{BenchmarkRows}
 
 -- each name once, where it stands first
 abbrev pub distinct : List (List ℕ) → List (List ℕ)

@@ -1,12 +1,15 @@
 //! Laws over the definitions alone. A law is its contract: it calls nothing and computes nothing.
 
-ghost use Rattle.std.specs.Prelude.{◌≡◌, ℕ, ℤ, ◌-ℤ◌, List};
+ghost use Rattle.std.specs.Prelude.{◌≡◌, ℕ, ◌+◌, ℤ, ◌-ℤ◌, List, None, Some, if◌then◌else◌, slice_get};
 ghost use Rattle.th_book.specs.Observed.{Observed};
-ghost use Rattle.th_network.specs.Tables.{BenchmarkRows, WeightRows};
-ghost use Rattle.th_network.specs.Faults.{NetFault, HasFault, IsNetwork};
+ghost use Rattle.th_tables.specs.Rows.{BenchmarkRows, WeightRows, height_of};
+ghost use Rattle.th_network.specs.Faults.{HasFault, IsNetwork};
+ghost use Rattle.th_network.specs.declared.faults.NetFault.{NetFault};
 ghost use Rattle.th_network.specs.Heights.{IsHeights, residual, Least, LeastFine};
 ghost use Rattle.th_network.specs.Circulation.{Circulation, Shows};
 ghost use Rattle.th_network.specs.Links.{IsRelative, link_difference};
+ghost use Rattle.th_network.specs.Points.{points};
+ghost use Rattle.th_network.specs.Vertices.{free_before, is_free, vertex_of};
 
 /// Observations and benchmarks have one fault at most, and where they make a network they have none.
 pub fn faults_exclude_each_other()
@@ -51,4 +54,22 @@ pub fn link_keeps_residual()
         → IsRelative benchmarks heights relative
         → residual o heights
         ≡ link_difference benchmarks o -ℤ (relative o.target -ℤ relative o.station) }
+{}
+
+/// Vertices number the points that are no benchmark: each has one of its own, and it is one more than
+/// how many of them come before it.
+pub fn vertices_number_points()
+    ensures place { (observations : List Observed) (benchmarks : BenchmarkRows)
+        (place : ℕ) (name : List ℕ)
+        → slice_get (points observations benchmarks) place ≡ Some name
+        → vertex_of observations benchmarks name
+        ≡ (if is_free benchmarks name then free_before benchmarks (points observations benchmarks) place + 1 else 0) }
+    ensures apart { (observations : List Observed) (benchmarks : BenchmarkRows)
+        (j k : ℕ) (first second : List ℕ)
+        → slice_get (points observations benchmarks) j ≡ Some first
+        → slice_get (points observations benchmarks) k ≡ Some second
+        → height_of benchmarks first ≡ None
+        → height_of benchmarks second ≡ None
+        → vertex_of observations benchmarks first ≡ vertex_of observations benchmarks second
+        → first ≡ second }
 {}

@@ -1,3 +1,4 @@
 pub mod FieldLemmas
 pub mod RecordLemmas
 pub mod TableLemmas
+pub mod FaultLaws

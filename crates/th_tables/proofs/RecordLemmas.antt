@@ -2,7 +2,7 @@
 use Rattle.std.proofs.Common.{◌≡◌, ◌<◌, ◌≤◌, ◌+◌, ◌==◌, ◌||◌, ℕ, Bool, true, false, if◌then◌else◌, List, [], ◌∷◌, ◌++◌, length, Option, Some, None, IsSome, suc, zero, refl, sym, ap, subst, ◌∙◌, arith, add-one}
 use Rattle.std.proofs.lemmas.Bool.{false≢true}
 use Rattle.csv.specs.Machine.{Read, after_end, ends_at_end, field_after, fields_after, in_field, is_end, next_record, start_field, start_record, step}
-use Rattle.csv.specs.Reading.{is_bom, strip_bom, ReadRecord, Reached, Ready, default_config, records_from, records_next, reader_state}
+use Rattle.csv.specs.Reading.{is_bom, strip_bom, ReadRecord, Reached, Ready, default_config, is_flexible, records_from, records_next, reader_state}
 use Rattle.csv.specs.declared.parser.Action.{Action}
 use Rattle.csv.specs.declared.parser.Action.TheVariants as act
 use Rattle.csv.specs.declared.parser.Terminator.TheVariants as term
@@ -159,9 +159,9 @@ some_bytes None h = absurd (false≢true h)
 some_bytes (Some bytes) h = (bytes, refl)
 
 -- a read gives the first of the records that were left
-pub reads_one : (old new : BytesReader) (found : Bool) (fields : Record) → IsReading old → ReadRecord (λ s. Some s.now) old new found fields → Ready new → ReadsOne old new found fields
+pub reads_one : (old new : BytesReader) (found : Bool) (fields : Record) → IsReading old → ReadRecord (λ s. Some s.now) old new found fields → Ready new → is_flexible new ≡ is_flexible old → ReadsOne old new found fields
 unfolding Reached
-reads_one old new true fields reading read ready =
+reads_one old new true fields reading read ready flexible =
     let now = some_bytes (bytes_left old) reading.going in
     let more = rows-more (λ s. Some s.now) old new fields default_config (reader_state old) now.0 now.0 [] reading.plain now.1 (refl, refl) read in
     let next : Read = more.2.0 in
@@ -169,6 +169,7 @@ reads_one old new true fields reading read ready =
       record {
         ready = ready;
         untrimmed = read.3 ∙ reading.untrimmed;
+        flexible = flexible ∙ reading.flexible;
         plain = read.2 ∙ reading.plain;
         going = subst IsSome (sym more.1) refl;
         between = ap ends_at_end (sym more.2.3.0) ∙ taken.between;
@@ -180,7 +181,7 @@ reads_one old new true fields reading read ready =
           ∙ ap (λ bytes. fields ∷ records_from default_config (length bytes + 1) (reader_state new) bytes) more.2.3.1
           ∙ ap (λ left. fields ∷ records_from_state (reader_state new) left) (sym more.1),
     )
-reads_one old new false fields reading read ready =
+reads_one old new false fields reading read ready flexible =
     let now = some_bytes (bytes_left old) reading.going in
     ap (records_from_state (reader_state old)) now.1
     ∙ records_next_none (reader_state old) now.0 (rows-end (λ s. Some s.now) old new fields default_config now.0 reading.plain now.1 read)

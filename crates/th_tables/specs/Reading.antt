@@ -2,7 +2,7 @@
 use Rattle.std.specs.Prelude.{◌≡◌, ℕ, ◌+◌, Bool, true, false, List, [], ◌∷◌, length, Option, Some, None, IsSome}
 use Rattle.std.specs.Borrow.{Bor}
 use Rattle.csv.specs.Machine.{ends_at_end}
-use Rattle.csv.specs.Reading.{Ready, default_config, reader_config, reader_state, reader_trim, records_from, source_of}
+use Rattle.csv.specs.Reading.{Ready, default_config, is_flexible, reader_config, reader_state, reader_trim, records_from, source_of}
 use Rattle.csv.specs.declared.parser.State.{State}
 use Rattle.csv.specs.declared.reader.Reader.{Reader}
 use Rattle.csv.specs.declared.reader.Trim.TheVariants as trim
@@ -25,10 +25,11 @@ records_from_state state (Some bytes) = records_from default_config (length byte
 abbrev pub records_left : BytesReader → List Record
 records_left reader = records_from_state (reader_state reader) (bytes_left reader)
 
--- a reader that stands between two records, and gives each as it is
+-- a reader that stands between two records, and gives each as it is, whatever its length
 pub record IsReading (reader : BytesReader) : Type 0 where
   pub ready : Ready reader
   pub untrimmed : reader_trim reader ≡ trim.None
+  pub flexible : is_flexible reader ≡ true
   pub plain : reader_config reader ≡ default_config
   pub going : IsSome (bytes_left reader)
   pub between : ends_at_end (reader_state reader) ≡ false

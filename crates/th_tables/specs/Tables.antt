@@ -1,5 +1,6 @@
-use Rattle.std.specs.Prelude.{ℕ, ◌+◌, ◌==◌, Bool, false, List, [], ◌∷◌, ◌++◌, length, Result, Ok, Err, if◌then◌else◌, bytes_eq, nat_lt}
+use Rattle.std.specs.Prelude.{◌≡◌, ℕ, ◌+◌, ◌<◌, ◌==◌, Bool, false, List, [], ◌∷◌, ◌++◌, length, map, slice_get, take, Option, Some, None, Result, Ok, Err, if◌then◌else◌, bytes_eq, nat_lt}
 use Rattle.std.specs.List.{list_any}
+use Rattle.std.specs.Result.{result_err}
 use Rattle.th_tables.specs.Fields.{benchmark_in, is_benchmarks_header, is_weights_header, weighted_in}
 use Rattle.th_tables.specs.Records.{Record, records_of}
 use Rattle.th_tables.specs.Rows.{BenchmarkRows, WeightRows, same_ends}
@@ -45,6 +46,27 @@ module _ {K V : Type 0} (same : K → K → Bool) (row_in : Record → Result (K
   abbrev pub rows_under : (Record → Bool) → List Record → Result (List (K × V)) TableFault
   rows_under is_header [] = Err bad_header
   rows_under is_header (first ∷ rest) = if is_header first then rows_after [] rest else Err bad_header
+
+  -- the first kind of fault that a record has under the earlier ones, if it has one
+  abbrev pub kind_under : List Record → Option Record → Option TableKind
+  kind_under earlier None = None
+  kind_under earlier (Some this) = result_err (unless_repeated earlier (row_in this))
+
+  -- the same of the record at a place, counted from 0 under the header
+  abbrev pub kind_at : List Record → ℕ → Option TableKind
+  kind_at records place = kind_under (take place records) (slice_get records place)
+
+  -- no record has a fault, and the rows are what the records say
+  pub record AreRowsOf (records : List Record) (rows : List (K × V)) : Type 0 where
+    pub faultless : (place : ℕ) → kind_at records place ≡ None
+    pub said : map row_in records ≡ map Ok rows
+
+  -- the fault is that of the first record that has one, with its first kind; the record at place 0 is record 2
+  pub record IsFirstFault (records : List Record) (fault : TableFault) : Type 0 where
+    pub place : ℕ
+    pub number : fault.row ≡ place + 2
+    pub kind : kind_at records place ≡ Some fault.kind
+    pub earlier : (before : ℕ) → before < place → kind_at records before ≡ None
 
 -- a table that is not too long
 abbrev pub if_short : {X : Type 0} → List ℕ → Result X TableFault → Result X TableFault

@@ -44,6 +44,7 @@ impl Benchmarks {
     pub fn entry(&self, k: usize) -> Option<(Name, i64)>
         ensures value { result ≡ slice_get self.now k }
         ensures benchmarks { AreBenchmarks self.now }
+        ensures counted { length self.now < 2 ^ 64 }
     {
         self.heights
             .as_slice()

@@ -9,6 +9,7 @@
 mod benchmarks;
 mod faults;
 mod fields;
+pub mod laws;
 mod records;
 mod tables;
 #[cfg(test)]

@@ -1,4 +1,5 @@
-ghost use Rattle.std.specs.Prelude.{◌≡◌, ◌≢◌, ◌∷◌, [], length, IfOk, MatchOption};
+ghost use Rattle.std.specs.Prelude.{◌≡◌, ◌≢◌, ◌∷◌, [], length, true, IfOk, MatchOption};
+ghost use Rattle.csv.specs.Reading.{error_kind, stops_reader};
 ghost use Rattle.csv.specs.Records.{fields_of};
 ghost use Rattle.th_tables.specs.Reading.{IsReading, ReadsOne, records_left};
 ghost use Rattle.th_tables.specs.Records.{records_of};
@@ -28,9 +29,13 @@ pub fn read_next(reader: &mut Reader<&[u8]>, fields: &mut ByteRecord) -> Result<
 
 /// What an error of a read is answered as.
 ///
-/// Bytes in memory never fail to be read, records of other lengths are allowed, and a record of
-/// bytes need not be text. So of the errors that `csv` names only want of memory can come.
-fn want_of_memory(_error: csv::Error) -> AllocError {
+/// Records of other lengths are allowed and a record of bytes need not be text, so of the errors
+/// that `csv` names only a failed read and want of memory are left; and bytes in memory never fail
+/// to be read.
+fn want_of_memory(error: csv::Error) -> AllocError
+    requires { stops_reader (error_kind error) ≡ true }
+{
+    let _ = error;
     AllocError
 }
 

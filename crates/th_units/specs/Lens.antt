@@ -6,7 +6,6 @@ use Rattle.th_units.specs.declared.units.Unit.{Unit}
 use Rattle.th_units.specs.declared.lens.LenFault.{LenFault}
 use Rattle.th_units.specs.declared.lens.LenFault.TheVariants.{NotDigits, TooLarge}
 use Rattle.th_units.specs.declared.short_numbers.TheConstants.{MAX_SHORT}
-use Rattle.th_units.specs.declared.lens.TheConstants.{MAX_LEN}
 
 -- one of the characters '0' to '9'
 abbrev pub is_digit : ℕ → Bool
@@ -16,11 +15,11 @@ is_digit byte = nat_le 48 byte && nat_le byte 57
 abbrev pub are_digits : List ℕ → Bool
 are_digits bytes = nat_lt 0 (length bytes) && list_all is_digit bytes
 
--- the number that digits write, with any number of zeros before it
+-- the number that digits write, the first one counting most, with any number of zeros before it
 abbrev pub number : List ℕ → ℕ
 number digits = digits_value 10 digits
 
--- the number that one to nine digits write
+-- the number that one to nine digits write, zeros in front counted among the nine
 abbrev pub short_number : List ℕ → Option ℕ
 short_number bytes = if are_digits bytes && nat_le (length bytes) MAX_SHORT then Some (number bytes) else None
 
@@ -28,9 +27,14 @@ short_number bytes = if are_digits bytes && nat_le (length bytes) MAX_SHORT then
 abbrev pub signed : Bool → ℕ → ℤ
 signed negative size = if negative then neg_ℤ (pos size) else pos size
 
--- sign times number times step, where the bytes are digits and the size is within the limit
+-- the size that no length of a book exceeds: 10 km, in units of 10 nm
+abbrev pub longest : ℕ
+longest = 1000000000000
+
+-- Sign times number times step. First the bytes have to be digits, then the size, not the count of digits, has to be at most
+-- the longest.
 abbrev pub length_of : Bool → List ℕ → Unit → Result ℤ LenFault
 length_of negative digits unit =
     if are_digits digits
-    then (if nat_le (number digits * step unit) MAX_LEN then Ok (signed negative (number digits * step unit)) else Err TooLarge)
+    then (if nat_le (number digits * step unit) longest then Ok (signed negative (number digits * step unit)) else Err TooLarge)
     else Err NotDigits

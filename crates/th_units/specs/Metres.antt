@@ -13,15 +13,15 @@ unfoldable pub last_digits : ℕ → ℕ → List ℕ
 last_digits zero n = []
 last_digits (suc count) n = last_digits count (n / 10) ++ (48 + n % 10) ∷ []
 
--- a size in metres: the whole metres, a dot, and eight decimals
+-- a size in metres: the whole metres without zeros in front, `0` below a metre, then a dot and eight decimals
 abbrev pub size_in_metres : ℕ → List ℕ
 size_in_metres size = decimal (size / UNITS_PER_METRE) ++ 46 ∷ last_digits 8 (size % UNITS_PER_METRE)
 
--- a length in metres, with a minus sign below zero
+-- a length in metres, with a minus sign below zero and no sign otherwise
 abbrev pub metres : ℤ → List ℕ
 metres n = if is_negative n then 45 ∷ size_in_metres (unsigned_abs n) else size_in_metres (unsigned_abs n)
 
--- whether a text begins with a minus sign
+-- whether a text begins with a minus sign; an empty text does not
 abbrev pub has_minus : List ℕ → Bool
 has_minus text = slice_index text 0 == 45
 
@@ -29,7 +29,7 @@ has_minus text = slice_index text 0 == 45
 abbrev pub has_sign : List ℕ → Bool
 has_sign text = (slice_index text 0 == 43) || has_minus text
 
--- a text without the sign that it may begin with
+-- a text without the sign that it may begin with: a second sign stays
 abbrev pub without_sign : List ℕ → List ℕ
 without_sign text = drop (if has_sign text then 1 else 0) text
 
@@ -40,7 +40,7 @@ is_dot byte = byte == 46
 abbrev pub whole : List ℕ → List ℕ
 whole text = before_first is_dot text
 
--- what stands after the first dot, if there is one
+-- what stands after the first dot, if there is one, later dots with it
 abbrev pub decimals : List ℕ → Option (List ℕ)
 decimals text = if is_some (position is_dot text) then Some (after_first is_dot text) else None
 
@@ -52,17 +52,18 @@ are_decimals bytes = are_digits bytes && nat_le (length bytes) MAX_DECIMALS
 abbrev pub is_in_metres : List ℕ → Bool
 is_in_metres text = are_digits (whole text) && option_map_or are_decimals (decimals text) true
 
--- the size that whole metres and decimals write, in units of 10 nm
+-- the size that whole metres and decimals write, in units of 10 nm: the one decimal `5` is half a metre
 abbrev pub units_of : List ℕ → List ℕ → ℕ
 units_of whole decimals = number whole * UNITS_PER_METRE + number decimals * 10 ^ (MAX_DECIMALS - length decimals)
 
--- the size that a text in metres without a sign writes: another form is no number, and more than nine digits before the dot are too large
+-- The size that a text in metres without a sign writes. Another form is no number; only then more than nine digits before the
+-- dot, zeros among them counted, are too large.
 abbrev pub size_value : List ℕ → Result ℕ LenFault
 size_value text =
     if not (is_in_metres text) then Err NotDigits
     else (if nat_lt MAX_WHOLE_DIGITS (length (whole text)) then Err TooLarge
     else Ok (units_of (whole text) (unwrap_or (decimals text) [])))
 
--- the number of a text in metres, in units of 10 nm: the size that stands after an optional sign
+-- the number of a text in metres, in units of 10 nm: the size that stands after at most one sign; minus zero is zero
 abbrev pub value : List ℕ → Result ℤ LenFault
 value text = result_map_both (signed (has_minus text)) (λ fault. fault) (size_value (without_sign text))

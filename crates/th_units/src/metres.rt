@@ -50,7 +50,8 @@ impl MetreText {
 
     /// The text, at most 24 bytes.
     pub fn as_bytes(&self) -> &[u8]
-        ensures { result.now ≡ self.now }
+        ensures bytes { result.now ≡ self.now }
+        ensures short { length result.now ≤ 24 }
     {
         &self.bytes[self.start..]
     }

@@ -7,10 +7,15 @@ ghost use Rattle.th_units.specs.Units.{step, unit_of};
 /// international feet of 0.3048 m; codes of other units have no meaning here.
 #[derive(Clone, Copy, Debug, PartialEq, Eq)]
 pub enum Unit {
+    /// A millimetre.
     Mm,
+    /// A thousandth of a foot.
     MilliFoot,
+    /// A tenth of a millimetre.
     TenthMm,
+    /// A ten-thousandth of a foot.
     TenMilliFoot,
+    /// A hundredth of a millimetre.
     HundredthMm,
 }
 

@@ -3,16 +3,15 @@ use Rattle.std.proofs.lemmas.Bool.Decides.{nat_tests}
 use Rattle.std.proofs.lemmas.List.{map-append}
 use Rattle.gsi_word.specs.Bytes.{is_space}
 use Rattle.gsi_word.specs.Words.{parts_of}
-use Rattle.gsi_block.specs.Blocks.{is_blank}
-use Rattle.gsi_block.specs.declared.blocks.TheConstants.{MAX_WORDS}
+use Rattle.gsi_block.specs.Blocks.{most_words, is_blank}
 use Rattle.gsi_block.proofs.Rows.{behind, Goes, row-too_many, row-bad_word, row-bad_separator, row-last, row-more}
 use Rattle.gsi_block.proofs.readings.read_words.Goals as goal
 
 pub returns-in-Err : goal.returns-in-Err
 returns-in-Err c =
     let front = map parts_of c.loop-before.words.items in
-    let left = MAX_WORDS - (c.loop-before.before + 1) in
-    let room : MAX_WORDS - c.loop-before.before ≡ suc left = omega arith in
+    let left = most_words - (c.loop-before.before + 1) in
+    let room : most_words - c.loop-before.before ≡ suc left = omega arith in
     let so_far : Goes c.args.width c.args.bytes.now front (suc left) (c.loop-before.before + 1) c.loop-before.rest.now =
     rw (← room) c.loop-before.invariant.so_far in
     row-bad_word c.args.width c.args.bytes.now front c.loop-before.rest.now _ _ c.in-Err.fault so_far (sym c.in-Err.ensures)
@@ -20,8 +19,8 @@ returns-in-Err c =
 pub returns-then-is_blank : goal.returns-then-is_blank
 returns-then-is_blank c =
     let front = map parts_of c.loop-before.words.items in
-    let left = MAX_WORDS - (c.loop-before.before + 1) in
-    let room : MAX_WORDS - c.loop-before.before ≡ suc left = omega arith in
+    let left = most_words - (c.loop-before.before + 1) in
+    let room : most_words - c.loop-before.before ≡ suc left = omega arith in
     let so_far : Goes c.args.width c.args.bytes.now front (suc left) (c.loop-before.before + 1) c.loop-before.rest.now =
     rw (← room) c.loop-before.invariant.so_far in
     let after : c.split_at.result.1.now ≡ behind c.args.width c.loop-before.rest.now =
@@ -35,8 +34,8 @@ returns-then-is_blank c =
 pub returns-then-after-ne32 : goal.returns-then-after-ne32
 returns-then-after-ne32 c =
     let front = map parts_of c.loop-before.words.items in
-    let left = MAX_WORDS - (c.loop-before.before + 1) in
-    let room : MAX_WORDS - c.loop-before.before ≡ suc left = omega arith in
+    let left = most_words - (c.loop-before.before + 1) in
+    let room : most_words - c.loop-before.before ≡ suc left = omega arith in
     let so_far : Goes c.args.width c.args.bytes.now front (suc left) (c.loop-before.before + 1) c.loop-before.rest.now =
     rw (← room) c.loop-before.invariant.so_far in
     let after : c.split_at.result.1.now ≡ behind c.args.width c.loop-before.rest.now =
@@ -50,8 +49,8 @@ returns-then-after-ne32 c =
 pub loop-before-preserved : goal.loop-before-preserved
 loop-before-preserved c =
     let front = map parts_of c.loop-before.words.items in
-    let left = MAX_WORDS - (c.loop-before.before + 1) in
-    let room : MAX_WORDS - c.loop-before.before ≡ suc left = omega arith in
+    let left = most_words - (c.loop-before.before + 1) in
+    let room : most_words - c.loop-before.before ≡ suc left = omega arith in
     let so_far : Goes c.args.width c.args.bytes.now front (suc left) (c.loop-before.before + 1) c.loop-before.rest.now =
     rw (← room) c.loop-before.invariant.so_far in
     let after : c.split_at.result.1.now ≡ behind c.args.width c.loop-before.rest.now =
@@ -71,7 +70,7 @@ loop-before-preserved c =
 pub returns : goal.returns
 returns c =
     let front = map parts_of c.loop-before.words.items in
-    let room : MAX_WORDS - c.loop-before.before ≡ 0 = omega arith in
+    let room : most_words - c.loop-before.before ≡ 0 = omega arith in
     let so_far : Goes c.args.width c.args.bytes.now front 0 (c.loop-before.before + 1) c.loop-before.rest.now =
     rw (← room) c.loop-before.invariant.so_far in
     row-too_many c.args.width c.args.bytes.now front c.loop-before.rest.now _ so_far

@@ -1,11 +1,10 @@
 use Rattle.std.proofs.Common.{◌≡◌, ◌+◌, ◌-◌, ◌++◌, length, map}
 use Rattle.gsi_word.specs.Words.{parts_of, result_map}
-use Rattle.gsi_block.specs.Blocks.{words_from}
-use Rattle.gsi_block.specs.declared.blocks.TheConstants.{MAX_WORDS}
+use Rattle.gsi_block.specs.Blocks.{most_words, words_from}
 use Rattle.gsi_block.proofs.readings.read_words.Given as goal
 
 abbrev pub invariant-loop-before : goal.invariant-loop-before
 invariant-loop-before l = record {
-  so_far : words_from MAX_WORDS l.width 1 l.bytes ≡ result_map (λ further. map parts_of l.words.items ++ further) (words_from (MAX_WORDS - l.before) l.width (l.before + 1) l.rest);
+  so_far : words_from most_words l.width 1 l.bytes ≡ result_map (λ further. map parts_of l.words.items ++ further) (words_from (most_words - l.before) l.width (l.before + 1) l.rest);
   counted : length l.words.items ≡ l.before;
 }

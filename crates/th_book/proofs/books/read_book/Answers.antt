@@ -20,7 +20,7 @@ within book bytes short = cond-false (nat_lt MAX_BOOK (length bytes)) _ _ (le-lt
 pub line-requires : goal.line-requires
 line-requires c =
     let taken = lines_left c.args.book (lines_of c.args.bytes.now) c.lines.reader (lines_of c.lines.cursor) c.in-Some.line.now (lines_of c.next.new.self) c.lines.invariant c.in-Some.ensures.gives in
-    omega (arith, taken, length-lines_of c.args.bytes.now, c.if-bytes-gt-MAX_BOOK.false)
+    omega (arith, taken, length-lines_of c.args.bytes.now, c.if-size-gt-MAX_BOOK.false)
 
 pub lines-preserved : goal.lines-preserved
 lines-preserved c =
@@ -29,7 +29,7 @@ lines-preserved c =
 pub returns-in_err-line-clause-fault : goal.returns-in_err-line-clause-fault
 returns-in_err-line-clause-fault c =
     let p = err_from_is_err_and c.from_residual.result c.from_residual.ensures.1 in
-    let whole = within c.args.book c.args.bytes.now c.if-bytes-gt-MAX_BOOK.false in
+    let whole = within c.args.book c.args.bytes.now c.if-size-gt-MAX_BOOK.false in
     rw (p.1, p.2) (λ kept. whole ∙ refused_answer c.args.book (lines_of c.args.bytes.now) c.lines.reader c.line.new.self (lines_of c.lines.cursor) c.in-Some.line.now (lines_of c.next.new.self) c.in_err-line.field-0.0 c.lines.invariant c.in-Some.ensures.gives (c.in_err-line.ensures.refused kept))
 
 pub returns-in_err-line-clause-wanting : goal.returns-in_err-line-clause-wanting
@@ -48,10 +48,10 @@ finished_err items (Err fault) answer e = λ kept. sym e
 
 pub returns-clause-ok : goal.returns-clause-ok
 returns-clause-ok c =
-    let whole = within c.args.book c.args.bytes.now c.if-bytes-gt-MAX_BOOK.false in
+    let whole = within c.args.book c.args.bytes.now c.if-size-gt-MAX_BOOK.false in
     finished_ok _ c.finish.result (book_answer c.args.book c.args.bytes.now) (c.finish.ensures.answer ∙ end_answer c.args.book (lines_of c.args.bytes.now) c.lines.reader (lines_of c.lines.cursor) c.lines.invariant c.in_default.ensures.gives.0 ∙ sym whole)
 
 pub returns-clause-fault : goal.returns-clause-fault
 returns-clause-fault c =
-    let whole = within c.args.book c.args.bytes.now c.if-bytes-gt-MAX_BOOK.false in
+    let whole = within c.args.book c.args.bytes.now c.if-size-gt-MAX_BOOK.false in
     finished_err _ c.finish.result (book_answer c.args.book c.args.bytes.now) (c.finish.ensures.answer ∙ end_answer c.args.book (lines_of c.args.bytes.now) c.lines.reader (lines_of c.lines.cursor) c.lines.invariant c.in_default.ensures.gives.0 ∙ sym whole)

@@ -1,7 +1,7 @@
 -- Each height is the benchmarks' part and the relative part.
 use Rattle.std.proofs.Common.{◌≡◌, ℕ, ℤ, pos, ◌+ℤ◌, List, Option, Some, None, MatchOption, unwrap_or, refl, arith}
 use Rattle.std.proofs.lemmas.Int.{ints}
-use Rattle.th_network.specs.Tables.{BenchmarkRows, height_of}
+use Rattle.th_tables.specs.Rows.{BenchmarkRows, height_of}
 use Rattle.th_network.specs.Heights.{IsHeights}
 use Rattle.th_network.specs.Links.{base, IsRelative}
 use Rattle.th_network.proofs.laws.link_keeps_residual.Goals as goal

@@ -1,6 +1,6 @@
 use Rattle.std.proofs.Common.{Bool, true, Some, Result, Ok, Err, IfOk, MatchResult, OnOk, ◌≡◌, inl, subst, sym}
 use Rattle.std.specs.Result.{IsErrAnd}
-use Rattle.csv.specs.Reading.{ReadRecord, Ready, reader_trim, took_first}
+use Rattle.csv.specs.Reading.{ReadRecord, Ready, is_flexible, reader_trim, took_first}
 use Rattle.csv.specs.declared.error.Error.{Error}
 use Rattle.csv.specs.declared.reader.Trim.TheVariants as trim
 use Rattle.th_tables.specs.Reading.{BytesReader, IsReading, ReadsOne}
@@ -19,13 +19,14 @@ with_error P Q (Err e) (Err f) holds cases = tt
 each_read : (result : Result Bool Error) (old new : BytesReader) (fields : Record) → IsReading old
     → IfOk result (λ found. (reader_trim old ≡ trim.None) → Ready old → ReadRecord (λ s. Some s.now) old new found fields)
     → ((reader_trim old ≡ trim.None) → OnOk result (took_first new ≡ true))
+    → OnOk result (is_flexible new ≡ is_flexible old)
     → IfOk result (λ found. ReadsOne old new found fields)
-each_read (Ok found) old new fields reading reads ready =
-    reads_one old new found fields reading (reads reading.untrimmed reading.ready) (inl (ready reading.untrimmed))
-each_read (Err e) old new fields reading reads ready = tt
+each_read (Ok found) old new fields reading reads ready flexible =
+    reads_one old new found fields reading (reads reading.untrimmed reading.ready) (inl (ready reading.untrimmed)) flexible
+each_read (Err e) old new fields reading reads ready flexible = tt
 
 pub returns : goal.returns
 returns c =
     with_error _ _ c.read_byte_record.result c.map_err.result
-    (each_read c.read_byte_record.result c.args.reader.now c.read_byte_record.new.self _ c.requires c.read_byte_record.ensures.reads c.read_byte_record.ensures.ready)
+    (each_read c.read_byte_record.result c.args.reader.now c.read_byte_record.new.self _ c.requires c.read_byte_record.ensures.reads c.read_byte_record.ensures.ready c.read_byte_record.ensures.flexible)
     c.map_err.ensures.cases

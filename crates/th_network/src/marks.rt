@@ -1,0 +1,47 @@
+ghost use Rattle.std.specs.Prelude.{◌≡◌, ◌⊎◌, ◌<◌, ℕ, IfOk, OnOk, length};
+ghost use Rattle.th_network.specs.Marks.{IsMarked, IsSeeded, Spreads};
+
+use std::alloc::{AllocError, Global};
+
+/// Which points are known to be tied, and which of these wait for their neighbours to be marked.
+#[derive(Drop)]
+pub(crate) struct Marks {
+    /// For each point whether it is known to be tied.
+    pub marked: Vec<bool>,
+    /// The places of the marked points whose neighbours may not all be marked.
+    pub waiting: Vec<usize>,
+}
+
+impl Marks {
+    /// Marks the points that have a height, and lets them wait.
+    pub fn of(alloc: Global, heights: &[Option<i64>]) -> Result<Marks, AllocError>
+        ensures { IfOk result (λ marks. IsSeeded heights.now marks.marked.items marks.waiting.items) }
+    {
+        let mut marked = Vec::with_capacity(alloc, heights.len())?;
+        let mut waiting = Vec::with_capacity(alloc, heights.len())?;
+        for (place, height) in heights.iter().enumerate() {
+            let fixed = height.is_some();
+            marked.push(fixed)?;
+            if fixed {
+                waiting.push(place)?;
+            }
+        }
+        Ok(Marks { marked, waiting })
+    }
+
+    /// Marks a point, and lets it wait if it was not marked yet.
+    pub fn mark(&mut self, place: usize) -> Result<(), AllocError>
+        requires { place < length self.old.marked.items }
+        ensures marks { OnOk result (IsMarked self.new.marked.items place) }
+        ensures no_other { OnOk result ((other : ℕ) → IsMarked self.new.marked.items other
+            → IsMarked self.old.marked.items other ⊎ (other ≡ place)) }
+        ensures spreads { OnOk result (Spreads self.old.marked.items self.old.waiting.items
+            self.new.marked.items self.new.waiting.items) }
+    {
+        if !self.marked[place] {
+            self.waiting.push(place)?;
+            self.marked[place] = true;
+        }
+        Ok(())
+    }
+}

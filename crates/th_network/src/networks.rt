@@ -1,0 +1,174 @@
+ghost use Rattle.std.specs.Prelude.{◌≡◌, ◌≢◌, ◌+◌, ◌<◌, ◌≤◌, All, IfErr, IfOk, IfSome, OnOk, Some, bytes_eq, length, map, slice_get, unsigned_abs};
+ghost use Rattle.std.specs.List.{IsDistinct};
+ghost use Rattle.th_book.specs.Observed.{IsBetweenPoints};
+ghost use Rattle.th_network.specs.Faults.{HasFault, IsNetwork};
+ghost use Rattle.th_network.specs.Links.{link_of};
+ghost use Rattle.th_network.specs.Networks.{IsBuilt};
+ghost use Rattle.th_network.specs.Points.{points as points_of};
+ghost use Rattle.th_network.specs.Vertices.{vertex_count};
+ghost use Rattle.th_network.specs.declared.faults.NetFault.TheVariants.{NoMemory};
+ghost use Rattle.th_tables.specs.Rows.{height_of, weight_of};
+ghost use Rattle.th_tables.specs.declared.fields.TheConstants.{MAX_WEIGHT};
+ghost use Rattle.th_units.specs.declared.lens.TheConstants.{MAX_LEN};
+
+use crate::anchors::first_untied;
+use crate::faults::NetFault;
+use crate::limits::{MAX_OBSERVATIONS, MAX_POINTS};
+use crate::links::{Link, MAX_LINK_DIFFERENCE, links_of};
+use crate::points::Points;
+use crate::vertices::Vertices;
+use gsi_word::Name;
+use indexmap::IndexSet;
+use std::alloc::Global;
+use std::marker::Model;
+use th_book::Observation;
+use th_tables::{Benchmarks, Weights};
+
+/// The height network of some observations, over the tables of its benchmarks and weights.
+#[derive(Drop)]
+pub struct Network<'a> {
+    observations: Vec<Observation>,
+    benchmarks: &'a Benchmarks,
+    weights: &'a Weights,
+    points: IndexSet<Name>,
+    vertices: u32,
+    arcs: Vec<Link>,
+}
+
+impl<'a> Model for Network<'a> {
+    ghost use Rattle.th_network.specs.Networks.{IsBuilt, Survey};
+
+    ghost Value = { Survey };
+
+    ghost view = { λ network. record { observations = network.observations.items; benchmarks = network.benchmarks.now; weights = network.weights.now } };
+
+    ghost invariant = { λ network. IsBuilt network.observations.items network.benchmarks.now network.points.keys network.vertices network.arcs.items };
+}
+
+impl<'a> Network<'a> {
+    /// Makes the network of some observations, or answers the first fault that they have.
+    pub fn build(
+        alloc: Global,
+        observations: Vec<Observation>,
+        benchmarks: &'a Benchmarks,
+        weights: &'a Weights,
+    ) -> Result<Network<'a>, NetFault>
+        ensures survey { IfOk result (λ network. network ≡ record {
+          observations = observations.items;
+          benchmarks = benchmarks.now;
+          weights = weights.now;
+        }) }
+        ensures network { OnOk result (IsNetwork observations.items benchmarks.now) }
+        ensures fault { IfErr result (λ fault.
+            fault ≢ NoMemory → HasFault observations.items benchmarks.now fault) }
+    {
+        let Graph {
+            points,
+            vertices,
+            arcs,
+        } = graph_of(alloc, &observations, benchmarks)?;
+        Ok(Network {
+            observations,
+            benchmarks,
+            weights,
+            points,
+            vertices,
+            arcs,
+        })
+    }
+
+    /// The points in order of first sight, the station before the target, and then the benchmarks
+    /// that no observation sees, in table order.
+    pub fn points(&self) -> &[Name]
+        ensures points { result.now ≡ points_of self.now.observations self.now.benchmarks }
+        ensures distinct { IsDistinct bytes_eq result.now }
+        ensures network { IsNetwork self.now.observations self.now.benchmarks }
+    {
+        self.points.as_slice()
+    }
+
+    /// The height of point `k`, counted from 0, where it is a benchmark, in units of 10 nm.
+    pub fn fixed(&self, k: usize) -> Option<i64>
+        requires { k < length (points_of self.now.observations self.now.benchmarks) }
+        ensures height { slice_get (map (height_of self.now.benchmarks) (points_of self.now.observations self.now.benchmarks)) k
+            ≡ Some result }
+        ensures in_range { IfSome result (λ height. unsigned_abs height ≤ MAX_LEN) }
+    {
+        self.benchmarks.height_of(&self.points[k])
+    }
+
+    /// The observations in their order.
+    pub fn observations(&self) -> &[Observation]
+        ensures observations { result.now ≡ self.now.observations }
+        ensures between { All IsBetweenPoints self.now.observations }
+    {
+        &self.observations
+    }
+
+    /// The weight of observation `i`, counted from 0.
+    pub fn weight(&self, i: usize) -> u32
+        requires { i < length self.now.observations }
+        ensures weight { slice_get (map (λ o. weight_of self.now.weights o.station o.target) self.now.observations) i
+            ≡ Some result }
+        ensures positive { 1 ≤ result }
+        ensures in_range { result ≤ MAX_WEIGHT }
+    {
+        let o = &self.observations[i];
+        self.weights.of(&o.station, &o.target)
+    }
+
+    /// How many vertices there are: 0 for all benchmarks, and one for each other point.
+    pub fn vertices(&self) -> u32
+        ensures vertices { result ≡ vertex_count self.now.observations self.now.benchmarks }
+        ensures few { result ≤ MAX_POINTS + 1 }
+    {
+        self.vertices
+    }
+
+    /// The observations as arcs between vertices, in their order.
+    pub fn arcs(&self) -> &[Link]
+        ensures arcs { result.now ≡ map (link_of self.now.observations self.now.benchmarks) self.now.observations }
+        ensures ends { All (λ arc. (arc.tail < vertex_count self.now.observations self.now.benchmarks)
+            × (arc.head < vertex_count self.now.observations self.now.benchmarks)) result.now }
+        ensures in_range { All (λ arc. unsigned_abs arc.diff ≤ MAX_LINK_DIFFERENCE) result.now }
+    {
+        &self.arcs
+    }
+}
+
+/// The points of a network, how many vertices it has, and its arcs.
+#[derive(Drop)]
+struct Graph {
+    points: IndexSet<Name>,
+    vertices: u32,
+    arcs: Vec<Link>,
+}
+
+/// The graph that observations and benchmarks make, or the first fault that they have.
+fn graph_of(
+    alloc: Global,
+    observations: &[Observation],
+    benchmarks: &Benchmarks,
+) -> Result<Graph, NetFault>
+    ensures graph { IfOk result (λ graph.
+        IsBuilt observations.now benchmarks.now graph.points.keys graph.vertices graph.arcs.items) }
+    ensures fault { IfErr result (λ fault. fault ≢ NoMemory → HasFault observations.now benchmarks.now fault) }
+{
+    if observations.len() > MAX_OBSERVATIONS {
+        return Err(NetFault::TooManyObservations);
+    }
+    let points = Points::of(alloc, observations, benchmarks)?;
+    if points.names.len() > MAX_POINTS {
+        return Err(NetFault::TooManyPoints);
+    }
+    if let Some(name) = first_untied(alloc, &points, benchmarks)? {
+        return Err(NetFault::NoBenchmark(name));
+    }
+    let vertices = Vertices::of(alloc, points.names.as_slice(), benchmarks)?;
+    let arcs = links_of(alloc, observations, benchmarks, &points, &vertices)?;
+    Ok(Graph {
+        points: points.names,
+        vertices: vertices.count,
+        arcs,
+    })
+}

@@ -1,0 +1,10 @@
+use Rattle.std.proofs.Common.{bytes_eq}
+use Rattle.th_tables.specs.Fields.{benchmark_in}
+use Rattle.th_tables.proofs.FaultLaws.{AreRowsOf-rows_after, IsFirstFault-rows_after}
+use Rattle.th_tables.proofs.laws.benchmarks_have_no_fault_or_the_first.Goals as goal
+
+pub returns-clause-rows : goal.returns-clause-rows
+returns-clause-rows c = AreRowsOf-rows_after bytes_eq benchmark_in
+
+pub returns-clause-fault : goal.returns-clause-fault
+returns-clause-fault c = IsFirstFault-rows_after bytes_eq benchmark_in
