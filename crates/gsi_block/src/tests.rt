@@ -302,13 +302,22 @@ fn long_lines(rt: HostRuntime) -> Result<(), Fail> {
 /// Faults, and what is printed of them.
 const PRINTED: [(BlockFault, &str); 8] = [
     (BlockFault::BadWord(1, WordFault::Short), "word 1: short"),
-    (BlockFault::BadWord(2, WordFault::BadIndex), "word 2: bad index"),
+    (
+        BlockFault::BadWord(2, WordFault::BadIndex),
+        "word 2: bad index",
+    ),
     (
         BlockFault::BadWord(3, WordFault::BadInfo),
         "word 3: bad information",
     ),
-    (BlockFault::BadWord(10, WordFault::BadSign), "word 10: bad sign"),
-    (BlockFault::BadWord(64, WordFault::BadData), "word 64: bad data"),
+    (
+        BlockFault::BadWord(10, WordFault::BadSign),
+        "word 10: bad sign",
+    ),
+    (
+        BlockFault::BadWord(64, WordFault::BadData),
+        "word 64: bad data",
+    ),
     (BlockFault::TooManyWords, "too many words"),
     (BlockFault::LineTooLong, "line too long"),
     (BlockFault::BadSeparator(64), "no space after word 64"),

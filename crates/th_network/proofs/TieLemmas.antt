@@ -4,6 +4,7 @@ use Rattle.std.specs.List.{IsDistinct}
 use Rattle.std.proofs.lemmas.Cmp.{nat_list_eq_equiv}
 use Rattle.std.proofs.lemmas.Bool.{false≢true}
 use Rattle.std.proofs.lemmas.Slice.Eq.{bytes_eq-Decides}
+use Rattle.std.proofs.lemmas.Map.Views.{Contains-from_any}
 use Rattle.std.proofs.lemmas.Map.Keys.{IsDistinct-push, apart_from_distinct}
 use Rattle.std.proofs.lemmas.List.Folds.{list_any-append}
 use Rattle.std.proofs.lemmas.List.Sums.{position_or_len_is}
@@ -16,6 +17,7 @@ use Rattle.th_network.specs.Points.{ends, points}
 use Rattle.th_network.specs.Places.{place_of}
 use Rattle.th_network.specs.Marks.{IsReached, by_height, from_target, from_station}
 use Rattle.th_network.specs.Walks.{Leads, IsTied}
+use Rattle.th_network.proofs.Balance.{weaker}
 use Rattle.th_network.proofs.PointLemmas.{is_among, bytes_eq_same, among_distinct, EndsAmong, ends_are_points}
 use Rattle.th_network.proofs.PointOrder.{distinct_more, bytes_eq_turned}
 use Rattle.th_network.proofs.WalkLemmas.{tied_itself, tied_station, tied_target}
@@ -182,3 +184,15 @@ reached_along observations benchmarks (o ∷ chain) start goal among leads liste
 pub reached_from_tied : (observations : List Observed) (benchmarks : BenchmarkRows) (place : ℕ) (name : List ℕ) → slice_get (points observations benchmarks) place ≡ Some name → IsTied observations benchmarks name → IsReached (heights_at observations benchmarks) (stations_at observations benchmarks) (targets_at observations benchmarks) place
 reached_from_tied observations benchmarks place name here tied =
     subst (IsReached (heights_at observations benchmarks) (stations_at observations benchmarks) (targets_at observations benchmarks)) (place_of_at (points observations benchmarks) place name (points_distinct observations benchmarks) here) (reached_along observations benchmarks tied.2.0 name tied.0 tied.2.1 tied.2.2 tied.1)
+
+-- both ends of each observation, and each benchmark, are points
+among_contained : (names : List (List ℕ)) (name : List ℕ) → is_among names name ≡ true → Contains names name
+among_contained names name there = Contains-from_any (λ a b. (bytes_eq-Decides a b).0) name names there
+
+pub ends_contained : (observations : List Observed) (benchmarks : BenchmarkRows) → All (λ o. Contains (points observations benchmarks) o.station × Contains (points observations benchmarks) o.target) observations
+ends_contained observations benchmarks =
+    let names = points observations benchmarks in
+    All-from_recursion (λ o. Contains names o.station × Contains names o.target) observations (weaker (EndsAmong names) (λ o. Contains names o.station × Contains names o.target) (λ o h. (among_contained names o.station h.0, among_contained names o.target h.1)) observations (ends_are_points observations benchmarks))
+
+pub benchmarks_contained : (observations : List Observed) (benchmarks : BenchmarkRows) (name : List ℕ) → IsSome (height_of benchmarks name) → Contains (points observations benchmarks) name
+benchmarks_contained observations benchmarks name listed = among_contained (points observations benchmarks) name (benchmark_is_point observations benchmarks name listed)

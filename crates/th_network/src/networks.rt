@@ -1,4 +1,4 @@
-ghost use Rattle.std.specs.Prelude.{◌≡◌, ◌≢◌, ◌+◌, ◌<◌, ◌≤◌, All, IfErr, IfOk, IfSome, OnOk, Some, bytes_eq, length, map, slice_get, unsigned_abs};
+ghost use Rattle.std.specs.Prelude.{◌≡◌, ◌≢◌, ◌+◌, ◌<◌, ◌≤◌, All, Contains, IfErr, IfOk, IfSome, IsSome, List, OnOk, Some, ℕ, bytes_eq, length, map, slice_get, unsigned_abs};
 ghost use Rattle.std.specs.List.{IsDistinct};
 ghost use Rattle.th_book.specs.Observed.{IsBetweenPoints};
 ghost use Rattle.th_network.specs.Faults.{HasFault, IsNetwork};
@@ -82,6 +82,8 @@ impl<'a> Network<'a> {
     pub fn points(&self) -> &[Name]
         ensures points { result.now ≡ points_of self.now.observations self.now.benchmarks }
         ensures distinct { IsDistinct bytes_eq result.now }
+        ensures ends { All (λ o. Contains result.now o.station × Contains result.now o.target) self.now.observations }
+        ensures benchmarks { (name : List ℕ) → IsSome (height_of self.now.benchmarks name) → Contains result.now name }
         ensures network { IsNetwork self.now.observations self.now.benchmarks }
     {
         self.points.as_slice()
