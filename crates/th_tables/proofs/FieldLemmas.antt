@@ -2,15 +2,14 @@
 use Rattle.std.proofs.Common.{◌≡◌, ◌<◌, ◌≤◌, ℕ, ℤ, ◌&&◌, Bool, true, false, if◌then◌else◌, List, [], ◌∷◌, length, Option, Some, None, Result, Ok, Err, nat_le, unsigned_abs, suc, zero, refl, ap, subst, arith}
 use Rattle.std.proofs.lemmas.Bool.Decides.{nat_tests}
 use Rattle.csv.specs.Records.{field_at}
-use Rattle.th_units.specs.Lens.{short_number}
+use Rattle.th_units.specs.Lens.{longest, short_number}
 use Rattle.th_units.specs.Metres.{value}
 use Rattle.th_units.specs.declared.lens.LenFault.{LenFault}
-use Rattle.th_units.specs.declared.lens.TheConstants.{MAX_LEN}
 use Rattle.th_tables.specs.Fields.{allowed_weight, benchmark_in, both, height_in, name_in, weight_in, weighted_in, within_limit}
 use Rattle.th_tables.specs.Records.{Record}
 use Rattle.th_tables.specs.declared.faults.TableKind.{TableKind}
 use Rattle.th_tables.specs.declared.faults.TableKind.TheVariants.{BadHeight, BadWeight}
-use Rattle.th_tables.specs.declared.fields.TheConstants.{MAX_WEIGHT, MAX_WEIGHT_DIGITS}
+use Rattle.th_tables.specs.Rows.{heaviest}
 
 -- a field that is there stands at a place below their count
 pub field_there : (fields : List (List ℕ)) (place : ℕ) (field : List ℕ) → Some field ≡ field_at fields place → place < length fields
@@ -35,48 +34,48 @@ both_second (Ok first) (Ok second) row h =
     ap (λ r. Ok r.1) same
 
 -- a length that is allowed is within the limit
-limit_of_height : (read : Result ℤ LenFault) (height : ℤ) → within_limit read ≡ Ok height → unsigned_abs height ≤ MAX_LEN
+limit_of_height : (read : Result ℤ LenFault) (height : ℤ) → within_limit read ≡ Ok height → unsigned_abs height ≤ longest
 limit_of_height (Err fault) height h = cc h
-limit_of_height (Ok length) height h = by (nat_le (unsigned_abs length) MAX_LEN) refl h
+limit_of_height (Ok length) height h = by (nat_le (unsigned_abs length) longest) refl h
   where
-    by : (within : Bool) → nat_le (unsigned_abs length) MAX_LEN ≡ within → (if within then Ok length else Err BadHeight) ≡ Ok height → unsigned_abs height ≤ MAX_LEN
+    by : (within : Bool) → nat_le (unsigned_abs length) longest ≡ within → (if within then Ok length else Err BadHeight) ≡ Ok height → unsigned_abs height ≤ longest
     by true is h =
         let same : length ≡ height = cc in
-        let limit : unsigned_abs length ≤ MAX_LEN = grind (arith, nat_tests) in
-        subst (λ z. unsigned_abs z ≤ MAX_LEN) same limit
+        let limit : unsigned_abs length ≤ longest = grind (arith, nat_tests) in
+        subst (λ z. unsigned_abs z ≤ longest) same limit
     by false is h = cc h
 
 -- the height of a benchmark is within the limit
-pub benchmark_limit : (fields : Record) (row : List ℕ × ℤ) → benchmark_in fields ≡ Ok row → unsigned_abs row.1 ≤ MAX_LEN
+pub benchmark_limit : (fields : Record) (row : List ℕ × ℤ) → benchmark_in fields ≡ Ok row → unsigned_abs row.1 ≤ longest
 benchmark_limit [] row h = cc h
 benchmark_limit (name ∷ []) row h = cc h
 benchmark_limit (name ∷ height ∷ []) row h = limit_of_height (value height) row.1 (both_second (name_in name) (height_in height) row h)
 benchmark_limit (name ∷ height ∷ more ∷ rest) row h = cc h
 
 -- a weight that is allowed is within the limits
-limits_of_weight : (number : Option ℕ) (weight : ℕ) → allowed_weight number ≡ Ok weight → (1 ≤ weight) × (weight ≤ MAX_WEIGHT)
+limits_of_weight : (number : Option ℕ) (weight : ℕ) → allowed_weight number ≡ Ok weight → (1 ≤ weight) × (weight ≤ heaviest)
 limits_of_weight None weight h = cc h
-limits_of_weight (Some n) weight h = by (nat_le 1 n) (nat_le n MAX_WEIGHT) refl refl h
+limits_of_weight (Some n) weight h = by (nat_le 1 n) (nat_le n heaviest) refl refl h
   where
-    by : (positive within : Bool) → nat_le 1 n ≡ positive → nat_le n MAX_WEIGHT ≡ within → (if positive && within then Ok n else Err BadWeight) ≡ Ok weight → (1 ≤ weight) × (weight ≤ MAX_WEIGHT)
+    by : (positive within : Bool) → nat_le 1 n ≡ positive → nat_le n heaviest ≡ within → (if positive && within then Ok n else Err BadWeight) ≡ Ok weight → (1 ≤ weight) × (weight ≤ heaviest)
     by false within is is' h = cc h
     by true false is is' h = cc h
     by true true is is' h =
         let same : n ≡ weight = cc in
         let low : 1 ≤ n = grind (arith, nat_tests) in
-        let high : n ≤ MAX_WEIGHT = grind (arith, nat_tests) in
-        subst (λ w. (1 ≤ w) × (w ≤ MAX_WEIGHT)) same (low, high)
+        let high : n ≤ heaviest = grind (arith, nat_tests) in
+        subst (λ w. (1 ≤ w) × (w ≤ heaviest)) same (low, high)
 
 -- the weight of a field is within the limits
-weight_limits : (field : List ℕ) (weight : ℕ) → weight_in field ≡ Ok weight → (1 ≤ weight) × (weight ≤ MAX_WEIGHT)
-weight_limits field weight h = by (nat_le (length field) MAX_WEIGHT_DIGITS) h
+weight_limits : (field : List ℕ) (weight : ℕ) → weight_in field ≡ Ok weight → (1 ≤ weight) × (weight ≤ heaviest)
+weight_limits field weight h = by (nat_le (length field) 4) h
   where
-    by : (short : Bool) → (if short then allowed_weight (short_number field) else Err BadWeight) ≡ Ok weight → (1 ≤ weight) × (weight ≤ MAX_WEIGHT)
+    by : (short : Bool) → (if short then allowed_weight (short_number field) else Err BadWeight) ≡ Ok weight → (1 ≤ weight) × (weight ≤ heaviest)
     by true h = limits_of_weight (short_number field) weight h
     by false h = cc h
 
 -- the weight of a row is within the limits
-pub weighted_limits : (fields : Record) (row : (List ℕ × List ℕ) × ℕ) → weighted_in fields ≡ Ok row → (1 ≤ row.1) × (row.1 ≤ MAX_WEIGHT)
+pub weighted_limits : (fields : Record) (row : (List ℕ × List ℕ) × ℕ) → weighted_in fields ≡ Ok row → (1 ≤ row.1) × (row.1 ≤ heaviest)
 weighted_limits [] row h = cc h
 weighted_limits (station ∷ []) row h = cc h
 weighted_limits (station ∷ target ∷ []) row h = cc h

@@ -1,14 +1,13 @@
 use Rattle.std.specs.Prelude.{ℕ, ℤ, ◌&&◌, Bool, false, List, [], ◌∷◌, length, Option, Some, None, Result, Ok, Err, if◌then◌else◌, bytes_eq, codes, nat_le, unsigned_abs}
 use Rattle.std.specs.Option.{ok_or}
 use Rattle.gsi_word.specs.Names.{name_of}
-use Rattle.th_units.specs.Lens.{short_number}
+use Rattle.th_units.specs.Lens.{longest, short_number}
 use Rattle.th_units.specs.Metres.{value}
 use Rattle.th_units.specs.declared.lens.LenFault.{LenFault}
-use Rattle.th_units.specs.declared.lens.TheConstants.{MAX_LEN}
 use Rattle.th_tables.specs.Records.{Record}
 use Rattle.th_tables.specs.declared.faults.TableKind.{TableKind}
 use Rattle.th_tables.specs.declared.faults.TableKind.TheVariants.{FieldCount, BadName, BadHeight, BadWeight}
-use Rattle.th_tables.specs.declared.fields.TheConstants.{MAX_WEIGHT, MAX_WEIGHT_DIGITS}
+use Rattle.th_tables.specs.Rows.{heaviest}
 
 -- the name of a field
 abbrev pub name_in : List ℕ → Result (List ℕ) TableKind
@@ -16,7 +15,7 @@ name_in field = ok_or (name_of field) BadName
 
 -- a length that is read, if it is at most 10 km in size
 abbrev pub within_limit : Result ℤ LenFault → Result ℤ TableKind
-within_limit (Ok height) = if nat_le (unsigned_abs height) MAX_LEN then Ok height else Err BadHeight
+within_limit (Ok height) = if nat_le (unsigned_abs height) longest then Ok height else Err BadHeight
 within_limit (Err fault) = Err BadHeight
 
 -- the height of a field in metres
@@ -25,12 +24,12 @@ height_in field = within_limit (value field)
 
 -- a number that is read, if it is 1 to 1,000
 abbrev pub allowed_weight : Option ℕ → Result ℕ TableKind
-allowed_weight (Some weight) = if nat_le 1 weight && nat_le weight MAX_WEIGHT then Ok weight else Err BadWeight
+allowed_weight (Some weight) = if nat_le 1 weight && nat_le weight heaviest then Ok weight else Err BadWeight
 allowed_weight None = Err BadWeight
 
--- the weight of a field of one to four digits
+-- the weight of a field of one to four digits, zeros in front counted among the four
 abbrev pub weight_in : List ℕ → Result ℕ TableKind
-weight_in field = if nat_le (length field) MAX_WEIGHT_DIGITS then allowed_weight (short_number field) else Err BadWeight
+weight_in field = if nat_le (length field) 4 then allowed_weight (short_number field) else Err BadWeight
 
 -- two parts of a row: the fault of the first comes before that of the second
 abbrev pub both : {A B : Type 0} → Result A TableKind → Result B TableKind → Result (A × B) TableKind

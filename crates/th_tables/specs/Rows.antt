@@ -1,8 +1,7 @@
 use Rattle.std.specs.Prelude.{◌≤◌, ℕ, ℤ, ◌&&◌, Bool, All, List, Option, unwrap_or, bytes_eq, unsigned_abs}
 use Rattle.std.specs.List.{IsDistinct}
 use Rattle.std.specs.Map.{keys_of, lookup}
-use Rattle.th_tables.specs.declared.fields.TheConstants.{MAX_WEIGHT}
-use Rattle.th_units.specs.declared.lens.TheConstants.{MAX_LEN}
+use Rattle.th_units.specs.Lens.{longest}
 
 -- the rows of the benchmarks: each name and its height in units of 10 nm
 abbrev pub BenchmarkRows : Type 0
@@ -11,6 +10,10 @@ BenchmarkRows = List (List ℕ × ℤ)
 -- the rows of the weights: each station and target, and the weight of their observations
 abbrev pub WeightRows : Type 0
 WeightRows = List ((List ℕ × List ℕ) × ℕ)
+
+-- the largest weight
+abbrev pub heaviest : ℕ
+heaviest = 1000
 
 -- whether two pairs of a station and a target are the same
 abbrev pub same_ends : List ℕ × List ℕ → List ℕ × List ℕ → Bool
@@ -27,9 +30,9 @@ weight_of weights station target = unwrap_or (lookup (same_ends (station, target
 -- the rows of a table of benchmarks: a name has one row, and a height is at most 10 km in size
 pub record AreBenchmarks (rows : BenchmarkRows) : Type 0 where
   pub distinct : IsDistinct bytes_eq (keys_of rows)
-  pub heights : All (λ row. unsigned_abs row.1 ≤ MAX_LEN) rows
+  pub heights : All (λ row. unsigned_abs row.1 ≤ longest) rows
 
 -- the rows of a table of weights: a station and a target have one row, and a weight is 1 to 1,000
 pub record AreWeights (rows : WeightRows) : Type 0 where
   pub distinct : IsDistinct same_ends (keys_of rows)
-  pub weights : All (λ row. (1 ≤ row.1) × (row.1 ≤ MAX_WEIGHT)) rows
+  pub weights : All (λ row. (1 ≤ row.1) × (row.1 ≤ heaviest)) rows

@@ -7,7 +7,6 @@ use Rattle.th_tables.specs.Rows.{BenchmarkRows, WeightRows, same_ends}
 use Rattle.th_tables.specs.declared.faults.TableFault.{TableFault}
 use Rattle.th_tables.specs.declared.faults.TableKind.{TableKind}
 use Rattle.th_tables.specs.declared.faults.TableKind.TheVariants.{BadHeader, NoMemory, Repeated, TableTooLong}
-use Rattle.th_tables.specs.declared.tables.TheConstants.{MAX_TABLE_LEN}
 
 -- want of memory, a table that is too long, and a table whose first record is not its header
 abbrev pub no_memory : TableFault
@@ -68,9 +67,13 @@ module _ {K V : Type 0} (same : K → K → Bool) (row_in : Record → Result (K
     pub kind : kind_at records place ≡ Some fault.kind
     pub earlier : (before : ℕ) → before < place → kind_at records before ≡ None
 
+-- how many bytes a table has at most
+abbrev pub longest_table : ℕ
+longest_table = 1048576
+
 -- a table that is not too long
 abbrev pub if_short : {X : Type 0} → List ℕ → Result X TableFault → Result X TableFault
-if_short bytes table = if nat_lt MAX_TABLE_LEN (length bytes) then Err too_long else table
+if_short bytes table = if nat_lt longest_table (length bytes) then Err too_long else table
 
 -- the benchmarks that a table's bytes stand for, or its first fault
 abbrev pub benchmarks_of : List ℕ → Result BenchmarkRows TableFault

@@ -5,7 +5,6 @@ use Rattle.th_units.specs.Units.{step}
 use Rattle.th_units.specs.declared.units.Unit.{Unit}
 use Rattle.th_units.specs.declared.lens.LenFault.{LenFault}
 use Rattle.th_units.specs.declared.lens.LenFault.TheVariants.{NotDigits, TooLarge}
-use Rattle.th_units.specs.declared.short_numbers.TheConstants.{MAX_SHORT}
 
 -- one of the characters '0' to '9'
 abbrev pub is_digit : ℕ → Bool
@@ -21,7 +20,7 @@ number digits = digits_value 10 digits
 
 -- the number that one to nine digits write, zeros in front counted among the nine
 abbrev pub short_number : List ℕ → Option ℕ
-short_number bytes = if are_digits bytes && nat_le (length bytes) MAX_SHORT then Some (number bytes) else None
+short_number bytes = if are_digits bytes && nat_le (length bytes) 9 then Some (number bytes) else None
 
 -- a size with its sign: minus zero is zero
 abbrev pub signed : Bool → ℕ → ℤ

@@ -6,16 +6,19 @@ use Rattle.std.specs.Result.{result_map_both}
 use Rattle.th_units.specs.Lens.{are_digits, number, signed}
 use Rattle.th_units.specs.declared.lens.LenFault.{LenFault}
 use Rattle.th_units.specs.declared.lens.LenFault.TheVariants.{NotDigits, TooLarge}
-use Rattle.th_units.specs.declared.metres.TheConstants.{UNITS_PER_METRE, MAX_DECIMALS, MAX_WHOLE_DIGITS}
 
 -- the last digits of a number, so many of them, with zeros before a shorter number
 unfoldable pub last_digits : ℕ → ℕ → List ℕ
 last_digits zero n = []
 last_digits (suc count) n = last_digits count (n / 10) ++ (48 + n % 10) ∷ []
 
+-- a metre, in units of 10 nm
+abbrev pub metre : ℕ
+metre = 100000000
+
 -- a size in metres: the whole metres without zeros in front, `0` below a metre, then a dot and eight decimals
 abbrev pub size_in_metres : ℕ → List ℕ
-size_in_metres size = decimal (size / UNITS_PER_METRE) ++ 46 ∷ last_digits 8 (size % UNITS_PER_METRE)
+size_in_metres size = decimal (size / metre) ++ 46 ∷ last_digits 8 (size % metre)
 
 -- a length in metres, with a minus sign below zero and no sign otherwise
 abbrev pub metres : ℤ → List ℕ
@@ -46,7 +49,7 @@ decimals text = if is_some (position is_dot text) then Some (after_first is_dot 
 
 -- one to eight digits
 abbrev pub are_decimals : List ℕ → Bool
-are_decimals bytes = are_digits bytes && nat_le (length bytes) MAX_DECIMALS
+are_decimals bytes = are_digits bytes && nat_le (length bytes) 8
 
 -- one or more digits, and, where there is a dot, one to eight digits after it
 abbrev pub is_in_metres : List ℕ → Bool
@@ -54,14 +57,14 @@ is_in_metres text = are_digits (whole text) && option_map_or are_decimals (decim
 
 -- the size that whole metres and decimals write, in units of 10 nm: the one decimal `5` is half a metre
 abbrev pub units_of : List ℕ → List ℕ → ℕ
-units_of whole decimals = number whole * UNITS_PER_METRE + number decimals * 10 ^ (MAX_DECIMALS - length decimals)
+units_of whole decimals = number whole * metre + number decimals * 10 ^ (8 - length decimals)
 
 -- The size that a text in metres without a sign writes. Another form is no number; only then more than nine digits before the
 -- dot, zeros among them counted, are too large.
 abbrev pub size_value : List ℕ → Result ℕ LenFault
 size_value text =
     if not (is_in_metres text) then Err NotDigits
-    else (if nat_lt MAX_WHOLE_DIGITS (length (whole text)) then Err TooLarge
+    else (if nat_lt 9 (length (whole text)) then Err TooLarge
     else Ok (units_of (whole text) (unwrap_or (decimals text) [])))
 
 -- the number of a text in metres, in units of 10 nm: the size that stands after at most one sign; minus zero is zero
