@@ -6,6 +6,6 @@ abbrev pub failures_in : {X : Type 0} → Result X Failed → ℕ
 failures_in (Ok x) = 0
 failures_in (Err fault) = 1
 
--- a sink that tells its bytes now holds none
+-- a sink that told its bytes before now holds none
 abbrev pub IsCleared : Option (List ℕ) → Option (List ℕ) → Type 0
 IsCleared old new = IfSome old (λ _. new ≡ Some [])

@@ -28,12 +28,12 @@ book_in = option_and_then (λ found. if bytes_eq found.0 (codes "list") then fir
 abbrev pub book_named : List Text → Option Text
 book_named words = book_in (subcommand_of command_line words)
 
--- the plan is what the words ask for: with no word after the program's name it is to list standard input
+-- the plan is what the words ask for: with no word after the program's name, or not even that one, it is to list standard input; `-` is a file's name like any other
 abbrev pub IsPlanOf : List Text → Plan → Type 0
 IsPlanOf words Standard = length words ≤ 1
 IsPlanOf words (ListBook name) = (1 < length words) × (book_named words ≡ Some name.now)
 
--- a fault of the words: one that `clap` states for them, or they name no book
+-- a fault of the words, of which there are more than the program's name: one that `clap` states for them, or they name no book. Want of memory may come for any
 abbrev pub IsFaultOf : List Text → PlanFault → Type 0
 IsFaultOf words (Line error) = (1 < length words) × (kind_of error ≢ OutOfMemory) × (IsAmong (kind_of error) (fault_of command_line words) ⊎ (book_named words ≡ None))
 IsFaultOf words NoMemory = 1 < length words

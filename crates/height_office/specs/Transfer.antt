@@ -9,10 +9,10 @@ failures_in_reading (Ok x) = 0
 failures_in_reading (Err Failed) = 1
 failures_in_reading (Err NoMemory) = 0
 
--- the source that tells its bytes stands further on in them, or where it stood
+-- a source that told its bytes before stands further on in them, or where it stood
 abbrev pub Advances : Option (List ℕ) → Option (List ℕ) → Type 0
 Advances old new = (bytes : List ℕ) × Consumes old new bytes
 
--- a sink that tells its bytes now holds a beginning of the text
+-- a sink that told its bytes before now holds a beginning of the text, perhaps none of it or all of it
 abbrev pub HoldsBeginning : Option (List ℕ) → Option (List ℕ) → List ℕ → Type 0
 HoldsBeginning old new text = IfSome old (λ _. (n : ℕ) × (new ≡ Some (take n text)))

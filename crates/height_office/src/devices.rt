@@ -2,8 +2,8 @@
 //!
 //! A source and a sink tell contracts the bytes that are left in them or held by them, as `Some`,
 //! or nothing, as `None`: real files tell nothing. Both count their calls, and how many of these
-//! failed.
-ghost use Rattle.std.specs.Prelude.{◌≡◌, ◌+◌, ◌<◌, ◌≤◌, ℕ, List, Option, IfOk, OnOk, OnErr, length, take, drop};
+//! failed. A sink also tells whether it was finished.
+ghost use Rattle.std.specs.Prelude.{◌≡◌, ◌+◌, ◌<◌, ◌≤◌, ℕ, Bool, false, is_ok, List, Option, IfOk, OnOk, OnErr, length, take, drop};
 ghost use Rattle.std.specs.Io.KnownBytes.{Appends, Consumes, IsAtEnd, Keeps};
 ghost use Rattle.height_office.specs.Devices.{failures_in, IsCleared};
 
@@ -84,21 +84,25 @@ pub trait Sink {
     // The bytes that it holds, where it tells them.
     ghost held: { Self → Option (List ℕ) };
 
+    // Whether it was finished, and neither begun nor written since.
+    ghost is_finished: { Self → Bool };
+
     // How often it was called, and how many of these calls failed.
     ghost calls: { Self → ℕ };
 
     ghost failures: { Self → ℕ };
 
     /// Makes the output empty, so that it holds no byte. Where it fails, nothing is known of the
-    /// bytes.
+    /// bytes. In either case the output is not finished then.
     fn begin(&mut self) -> Result<(), Failed>
         requires { calls self.old < CALL_LIMIT }
         ensures calls { calls self.new ≡ calls self.old + 1 }
         ensures failures { failures self.new ≡ failures self.old + failures_in result }
-        ensures cleared { OnOk result (IsCleared (held self.old) (held self.new)) };
+        ensures cleared { OnOk result (IsCleared (held self.old) (held self.new)) }
+        ensures unfinished { is_finished self.new ≡ false };
 
     /// Takes bytes of the front of `bytes`, at least one unless it is empty, and says how many. A
-    /// write that fails takes none.
+    /// write that fails takes none. The output is not finished then.
     fn write(&mut self, bytes: &[u8]) -> Result<usize, Failed>
         requires { calls self.old < CALL_LIMIT }
         ensures calls { calls self.new ≡ calls self.old + 1 }
@@ -108,14 +112,17 @@ pub trait Sink {
         ensures some { IfOk result (λ count. 0 < length bytes.now → 0 < count) }
         ensures taken { IfOk result (λ count.
             Appends (held self.old) (held self.new) (take count bytes.now)) }
-        ensures failed { OnErr result (Keeps (held self.old) (held self.new)) };
+        ensures failed { OnErr result (Keeps (held self.old) (held self.new)) }
+        ensures unfinished { is_finished self.new ≡ false };
 
-    /// Brings what is held to where it is to stay. The bytes stay as they are, also where it fails.
+    /// Brings what is held to where it is to stay, so that the output is finished unless it fails.
+    /// The bytes stay as they are, also where it fails.
     fn finish(&mut self) -> Result<(), Failed>
         requires { calls self.old < CALL_LIMIT }
         ensures calls { calls self.new ≡ calls self.old + 1 }
         ensures failures { failures self.new ≡ failures self.old + failures_in result }
-        ensures kept { Keeps (held self.old) (held self.new) };
+        ensures kept { Keeps (held self.old) (held self.new) }
+        ensures finished { is_finished self.new ≡ is_ok result };
 
     // No more calls fail than there are.
     ghost failures_are_calls: { (sink : Self) → failures sink ≤ calls sink };

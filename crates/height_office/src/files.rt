@@ -1,8 +1,10 @@
-//! Real files and the standard streams as sources and sinks. They tell nothing of their bytes.
-ghost use Rattle.std.specs.Prelude.{◌≡◌, ◌<◌, ◌≤◌, ◌↔◌, ◌⊎◌, None, Ok, IfOk, IsErr, length, drop};
-ghost use Rattle.std.specs.Io.KnownBytes.{ReadConsumes};
+//! Real files as a source and a sink. A source tells the bytes that are left in its file where the
+//! open file tells them, which those of the system do not; a sink tells nothing of its bytes.
+ghost use Rattle.std.specs.Prelude.{◌≡◌, ◌+◌, ◌<◌, ◌≤◌, ◌↔◌, ◌⊎◌, true, false, is_ok, is_some, None, Ok, IfOk, OnOk, OnErr, IsErr, length, take, drop, option_and_then};
+ghost use Rattle.std.specs.Io.KnownBytes.{Appends, Consumes, IsAtEnd, Keeps, ReadConsumes, WriteAppends};
+ghost use Rattle.height_office.specs.Devices.{failures_in, IsCleared};
 
-use crate::devices::{Counts, Failed, Sink, Source};
+use crate::devices::{CALL_LIMIT, Counts, Failed, Sink, Source};
 use crate::transfer::copy_front;
 use std::io::{Read, Write};
 use std::marker::Model;
@@ -22,17 +24,24 @@ pub struct FileSource<'a, R: Files> {
 }
 
 impl<'a, R: Files> Model for FileSource<'a, R> {
-    ghost use Rattle.height_office.specs.Files.{FileState};
+    ghost use Rattle.std.specs.Prelude.{is_some, option_and_then};
+    ghost use Rattle.height_office.specs.Files.{FileSourceState};
 
-    ghost Value = { FileState };
+    ghost Value = { FileSourceState };
 
-    ghost view = { λ source. record { name = source.name.now; counts = source.counts } };
+    ghost view = { λ source. record {
+      name = source.name.now;
+      opened = is_some source.file;
+      left = option_and_then R.File.remaining source.file;
+      counts = source.counts;
+    } };
 }
 
 impl<'a, R: Files> FileSource<'a, R> {
     /// The file of this name, not opened yet.
     pub fn new(files: &'a R, name: &'a str) -> FileSource<'a, R>
         ensures name { result.name ≡ name.entry.now }
+        ensures unopened { result.opened ≡ false }
         ensures calls { result.counts.calls ≡ 0 }
         ensures failures { result.counts.failures ≡ 0 }
     {
@@ -66,6 +75,9 @@ fn read_opened<R: Files>(
 ) -> Result<usize, Failed>
     ensures within { IfOk result (λ count. count ≤ length into.old) }
     ensures beyond { IfOk result (λ count. drop count into.new ≡ drop count into.old) }
+    ensures opened { OnOk result (is_some file.new ≡ true) }
+    ensures bytes { ReadConsumes (option_and_then R.File.remaining file.old)
+        (option_and_then R.File.remaining file.new) result into.new }
 {
     if let Some(open) = file {
         return read_some(open, into);
@@ -77,13 +89,27 @@ fn read_opened<R: Files>(
 }
 
 impl<'a, R: Files> Source for FileSource<'a, R> {
-    ghost left = { λ _. None };
+    ghost left = { λ source. source.left };
 
     ghost calls = { λ source. source.counts.calls };
 
     ghost failures = { λ source. source.counts.failures };
 
-    fn read(&mut self, into: &mut [u8]) -> Result<usize, Failed> {
+    fn read(&mut self, into: &mut [u8]) -> Result<usize, Failed>
+        requires { self.old.counts.calls < CALL_LIMIT }
+        ensures calls { self.new.counts.calls ≡ self.old.counts.calls + 1 }
+        ensures failures { self.new.counts.failures ≡ self.old.counts.failures + failures_in result }
+
+        ensures within { IfOk result (λ count. count ≤ length into.old) }
+        ensures taken { IfOk result (λ count.
+            Consumes self.old.left self.new.left (take count into.new)) }
+        ensures beyond { IfOk result (λ count. drop count into.new ≡ drop count into.old) }
+        ensures end { IfOk result (λ count.
+            count ≡ 0 → 0 < length into.old → IsAtEnd self.old.left) }
+        ensures failed { OnErr result (Keeps self.old.left self.new.left) }
+
+        ensures opened { OnOk result (self.new.opened ≡ true) }
+    {
         let answer = read_opened(self.files, self.name, &mut self.file, into);
         self.counts.count(&answer);
         answer
@@ -98,21 +124,31 @@ pub struct FileSink<'a, R: Files> {
     files: &'a R,
     name: &'a str,
     file: Option<R::File>,
+    finished: bool,
     counts: Counts,
 }
 
 impl<'a, R: Files> Model for FileSink<'a, R> {
-    ghost use Rattle.height_office.specs.Files.{FileState};
+    ghost use Rattle.std.specs.Prelude.{is_some, option_and_then};
+    ghost use Rattle.height_office.specs.Files.{FileSinkState};
 
-    ghost Value = { FileState };
+    ghost Value = { FileSinkState };
 
-    ghost view = { λ sink. record { name = sink.name.now; counts = sink.counts } };
+    ghost view = { λ sink. record {
+      name = sink.name.now;
+      opened = is_some sink.file;
+      contents = option_and_then R.File.contents sink.file;
+      finished = sink.finished;
+      counts = sink.counts;
+    } };
 }
 
 impl<'a, R: Files> FileSink<'a, R> {
     /// The file of this name, not touched yet.
     pub fn new(files: &'a R, name: &'a str) -> FileSink<'a, R>
         ensures name { result.name ≡ name.entry.now }
+        ensures unopened { result.opened ≡ false }
+        ensures unfinished { result.finished ≡ false }
         ensures calls { result.counts.calls ≡ 0 }
         ensures failures { result.counts.failures ≡ 0 }
     {
@@ -120,6 +156,7 @@ impl<'a, R: Files> FileSink<'a, R> {
             files,
             name,
             file: None,
+            finished: false,
             counts: Counts::new(),
         }
     }
@@ -145,6 +182,9 @@ fn write_opened<F: Write>(file: &mut Option<F>, bytes: &[u8]) -> Result<usize, F
     ensures within { IfOk result (λ count. count ≤ length bytes.now) }
     ensures some { IfOk result (λ count. 0 < length bytes.now → 0 < count) }
     ensures unopened { file.old ≡ None → IsErr result }
+    ensures opened { is_some file.new ≡ is_some file.old }
+    ensures bytes { WriteAppends (option_and_then F.contents file.old)
+        (option_and_then F.contents file.new) result bytes.now }
 {
     match file {
         Some(open) => taken_of(open.write(bytes), bytes),
@@ -155,6 +195,8 @@ fn write_opened<F: Write>(file: &mut Option<F>, bytes: &[u8]) -> Result<usize, F
 /// Brings what was written to the file.
 fn flush_opened<F: Write>(file: &mut Option<F>) -> Result<(), Failed>
     ensures unopened { file.old ≡ None → IsErr result }
+    ensures opened { is_some file.new ≡ is_some file.old }
+    ensures bytes { Keeps (option_and_then F.contents file.old) (option_and_then F.contents file.new) }
 {
     match file {
         Some(open) => open.flush().map_err(|_| Failed),
@@ -165,11 +207,21 @@ fn flush_opened<F: Write>(file: &mut Option<F>) -> Result<(), Failed>
 impl<'a, R: Files> Sink for FileSink<'a, R> {
     ghost held = { λ _. None };
 
+    ghost is_finished = { λ sink. sink.finished };
+
     ghost calls = { λ sink. sink.counts.calls };
 
     ghost failures = { λ sink. sink.counts.failures };
 
-    fn begin(&mut self) -> Result<(), Failed> {
+    fn begin(&mut self) -> Result<(), Failed>
+        requires { self.old.counts.calls < CALL_LIMIT }
+        ensures calls { self.new.counts.calls ≡ self.old.counts.calls + 1 }
+        ensures failures { self.new.counts.failures ≡ self.old.counts.failures + failures_in result }
+        ensures cleared { OnOk result (IsCleared None None) }
+        ensures unfinished { self.new.finished ≡ false }
+
+        ensures opened { OnOk result (self.new.opened ≡ true) }
+    {
         let answer = match fs::create(self.files, self.name) {
             Ok(file) => {
                 self.file = Some(file);
@@ -177,18 +229,45 @@ impl<'a, R: Files> Sink for FileSink<'a, R> {
             }
             Err(_) => Err(Failed),
         };
+        self.finished = false;
         self.counts.count(&answer);
         answer
     }
 
-    fn write(&mut self, bytes: &[u8]) -> Result<usize, Failed> {
+    fn write(&mut self, bytes: &[u8]) -> Result<usize, Failed>
+        requires { self.old.counts.calls < CALL_LIMIT }
+        ensures calls { self.new.counts.calls ≡ self.old.counts.calls + 1 }
+        ensures failures { self.new.counts.failures ≡ self.old.counts.failures + failures_in result }
+
+        ensures within { IfOk result (λ count. count ≤ length bytes.now) }
+        ensures some { IfOk result (λ count. 0 < length bytes.now → 0 < count) }
+        ensures taken { IfOk result (λ count. Appends None None (take count bytes.now)) }
+        ensures failed { OnErr result (Keeps None None) }
+        ensures unfinished { self.new.finished ≡ false }
+
+        ensures unopened { self.old.opened ≡ false → IsErr result }
+        ensures opened { self.new.opened ≡ self.old.opened }
+        ensures bytes { WriteAppends self.old.contents self.new.contents result bytes.now }
+    {
         let answer = write_opened(&mut self.file, bytes);
+        self.finished = false;
         self.counts.count(&answer);
         answer
     }
 
-    fn finish(&mut self) -> Result<(), Failed> {
+    fn finish(&mut self) -> Result<(), Failed>
+        requires { self.old.counts.calls < CALL_LIMIT }
+        ensures calls { self.new.counts.calls ≡ self.old.counts.calls + 1 }
+        ensures failures { self.new.counts.failures ≡ self.old.counts.failures + failures_in result }
+        ensures kept { Keeps None None }
+        ensures finished { self.new.finished ≡ is_ok result }
+
+        ensures unopened { self.old.opened ≡ false → IsErr result }
+        ensures opened { self.new.opened ≡ self.old.opened }
+        ensures bytes { Keeps self.old.contents self.new.contents }
+    {
         let answer = flush_opened(&mut self.file);
+        self.finished = answer.is_ok();
         self.counts.count(&answer);
         answer
     }

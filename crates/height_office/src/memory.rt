@@ -1,6 +1,6 @@
 //! Devices over memory, for tests: they give or take a few bytes a call, and fail where they are
 //! told to.
-ghost use Rattle.std.specs.Prelude.{◌≡◌, ◌+◌, ◌<◌, ◌≤◌, ◌↔◌, ◌++◌, ℕ, List, Option, Some, IsErr, IsTrue, IfOk, OnOk, OnErr, length, min, take, drop, ◌-◌, ◌⊎◌, []};
+ghost use Rattle.std.specs.Prelude.{◌≡◌, ◌+◌, ◌<◌, ◌≤◌, ◌↔◌, ◌++◌, ℕ, false, is_ok, List, Option, Some, IsErr, IsTrue, IfOk, OnOk, OnErr, length, min, take, drop, ◌-◌, ◌⊎◌, []};
 ghost use Rattle.std.specs.Io.KnownBytes.{Appends, Consumes, IsAtEnd, Keeps};
 ghost use Rattle.height_office.specs.Devices.{failures_in, IsCleared};
 ghost use Rattle.height_office.specs.Memory.{FindsNoRoom, IsSetAs};
@@ -110,6 +110,7 @@ pub struct TextSink {
     room: usize,
     piece: usize,
     fail_at: Option<u128>,
+    finished: bool,
     counts: Counts,
 }
 
@@ -124,6 +125,7 @@ impl Model for TextSink {
       room = sink.room;
       piece = sink.piece;
       fail_at = sink.fail_at;
+      finished = sink.finished;
       counts = sink.counts;
     } };
 
@@ -145,6 +147,7 @@ impl TextSink {
         ensures room { IfOk result (λ sink. sink.room ≡ room) }
         ensures piece { IfOk result (λ sink. sink.piece ≡ piece) }
         ensures fail_at { IfOk result (λ sink. sink.fail_at ≡ fail_at) }
+        ensures unfinished { IfOk result (λ sink. sink.finished ≡ false) }
         ensures calls { IfOk result (λ sink. sink.counts.calls ≡ 0) }
         ensures failures { IfOk result (λ sink. sink.counts.failures ≡ 0) }
     {
@@ -153,6 +156,7 @@ impl TextSink {
             room,
             piece,
             fail_at,
+            finished: false,
             counts: Counts::new(),
         })
     }
@@ -168,6 +172,8 @@ impl TextSink {
 impl Sink for TextSink {
     ghost held = { λ sink. Some sink.held };
 
+    ghost is_finished = { λ sink. sink.finished };
+
     ghost calls = { λ sink. sink.counts.calls };
 
     ghost failures = { λ sink. sink.counts.failures };
@@ -177,6 +183,7 @@ impl Sink for TextSink {
         ensures calls { self.new.counts.calls ≡ self.old.counts.calls + 1 }
         ensures failures { self.new.counts.failures ≡ self.old.counts.failures + failures_in result }
         ensures cleared { OnOk result (IsCleared (Some self.old.held) (Some self.new.held)) }
+        ensures unfinished { self.new.finished ≡ false }
 
         ensures failed { OnErr result (self.new.held ≡ self.old.held) }
         ensures fails_there { IsErr result ↔ (self.old.fail_at ≡ Some self.new.counts.calls) }
@@ -188,6 +195,7 @@ impl Sink for TextSink {
             self.held.clear();
             Ok(())
         };
+        self.finished = false;
         self.counts.count(&answer);
         answer
     }
@@ -202,6 +210,7 @@ impl Sink for TextSink {
         ensures taken { IfOk result (λ count.
             Appends (Some self.old.held) (Some self.new.held) (take count bytes.now)) }
         ensures failed { OnErr result (Keeps (Some self.old.held) (Some self.new.held)) }
+        ensures unfinished { self.new.finished ≡ false }
 
         ensures fails_there { IsErr result ↔ ((self.old.fail_at ≡ Some self.new.counts.calls)
             ⊎ FindsNoRoom self.old bytes.now) }
@@ -218,6 +227,7 @@ impl Sink for TextSink {
             self.held.extend_from_slice(&bytes[..count]).unwrap();
             Ok(count)
         };
+        self.finished = false;
         self.counts.count(&answer);
         answer
     }
@@ -227,6 +237,7 @@ impl Sink for TextSink {
         ensures calls { self.new.counts.calls ≡ self.old.counts.calls + 1 }
         ensures failures { self.new.counts.failures ≡ self.old.counts.failures + failures_in result }
         ensures kept { Keeps (Some self.old.held) (Some self.new.held) }
+        ensures finished { self.new.finished ≡ is_ok result }
 
         ensures fails_there { IsErr result ↔ (self.old.fail_at ≡ Some self.new.counts.calls) }
         ensures settings { IsSetAs self.old self.new }
@@ -236,6 +247,7 @@ impl Sink for TextSink {
         } else {
             Ok(())
         };
+        self.finished = answer.is_ok();
         self.counts.count(&answer);
         answer
     }

@@ -1,5 +1,5 @@
 //! The runs: each reads its inputs, makes all its outputs in memory, and only then writes them.
-ghost use Rattle.std.specs.Prelude.{◌≡◌, ◌≢◌, ◌+◌, ◌<◌, ◌≤◌, IfSome, IfOk, IfErr, OnOk, OnErr, Some, Err, take};
+ghost use Rattle.std.specs.Prelude.{◌≡◌, ◌≢◌, ◌+◌, ◌<◌, ◌≤◌, IfSome, IfOk, IfErr, OnOk, OnErr, Some, Err, true, take};
 ghost use Rattle.height_office.specs.Lists.{list_text};
 ghost use Rattle.height_office.specs.Runs.{AreOfBook, HoldsList, HoldsListBeginning, IsRefusalOf, failed_reads, failed_writes};
 ghost use Rattle.height_office.specs.Transfer.{Advances};
@@ -21,6 +21,7 @@ pub fn run_list<S: Source, K: Sink>(alloc: Global, book: &mut S, out: &mut K) ->
 
     // What the answer means.
     ensures listed { OnOk result (HoldsList 1 (S.left book.old) (K.held out.old) (K.held out.new)) }
+    ensures finished { OnOk result (K.is_finished out.new ≡ true) }
     ensures refused { IfErr result (IsRefusalOf 1 (S.left book.old)) }
     ensures read_fails { S.failures book.new ≡ S.failures book.old + failed_reads result }
     ensures write_fails { K.failures out.new ≡ K.failures out.old + failed_writes result }

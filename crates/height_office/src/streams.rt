@@ -1,5 +1,6 @@
-//! The standard streams as a source and a sink. They tell nothing of their bytes.
-ghost use Rattle.std.specs.Prelude.{◌≡◌, ◌<◌, ◌≤◌, None, IfOk, length};
+//! The standard streams as a source and a sink. The source tells the bytes that are left where its
+//! reader tells them, which that of the system does not; the sink tells nothing of its bytes.
+ghost use Rattle.std.specs.Prelude.{◌≡◌, ◌<◌, ◌≤◌, false, None, IfOk, length};
 
 use crate::devices::{Counts, Failed, Sink, Source};
 use crate::files::{read_some, taken_of};
@@ -13,18 +14,21 @@ pub struct StandardInput<R: Input> {
 }
 
 impl<R: Input> Model for StandardInput<R> {
-    ghost use Rattle.height_office.specs.declared.devices.Counts.{Counts};
+    ghost use Rattle.height_office.specs.Files.{InputState};
 
-    ghost Value = { Counts };
+    ghost Value = { InputState };
 
-    ghost view = { λ source. source.counts };
+    ghost view = { λ source. record {
+      left = R.Reader.remaining source.reader;
+      counts = source.counts;
+    } };
 }
 
 impl<R: Input> StandardInput<R> {
     /// Standard input, from where it stands.
     pub fn new(input: &R) -> StandardInput<R>
-        ensures calls { result.calls ≡ 0 }
-        ensures failures { result.failures ≡ 0 }
+        ensures calls { result.counts.calls ≡ 0 }
+        ensures failures { result.counts.failures ≡ 0 }
     {
         StandardInput {
             reader: input.reader(),
@@ -34,11 +38,11 @@ impl<R: Input> StandardInput<R> {
 }
 
 impl<R: Input> Source for StandardInput<R> {
-    ghost left = { λ _. None };
+    ghost left = { λ source. source.left };
 
-    ghost calls = { λ source. source.calls };
+    ghost calls = { λ source. source.counts.calls };
 
-    ghost failures = { λ source. source.failures };
+    ghost failures = { λ source. source.counts.failures };
 
     fn read(&mut self, into: &mut [u8]) -> Result<usize, Failed> {
         let answer = read_some(&mut self.reader, into);
@@ -46,32 +50,35 @@ impl<R: Input> Source for StandardInput<R> {
         answer
     }
 
-    ghost failures_are_calls = { λ source. source.failures_are_calls };
+    ghost failures_are_calls = { λ source. source.counts.failures_are_calls };
 }
 
 /// Standard output. It is empty as it is, so `begin` has nothing to do.
 #[derive(Drop)]
 pub struct StandardOutput<'a, R: Print> {
     output: &'a R,
+    finished: bool,
     counts: Counts,
 }
 
 impl<'a, R: Print> Model for StandardOutput<'a, R> {
-    ghost use Rattle.height_office.specs.declared.devices.Counts.{Counts};
+    ghost use Rattle.height_office.specs.Files.{OutputState};
 
-    ghost Value = { Counts };
+    ghost Value = { OutputState };
 
-    ghost view = { λ sink. sink.counts };
+    ghost view = { λ sink. record { finished = sink.finished; counts = sink.counts } };
 }
 
 impl<'a, R: Print> StandardOutput<'a, R> {
     /// Standard output.
     pub fn new(output: &'a R) -> StandardOutput<'a, R>
-        ensures calls { result.calls ≡ 0 }
-        ensures failures { result.failures ≡ 0 }
+        ensures unfinished { result.finished ≡ false }
+        ensures calls { result.counts.calls ≡ 0 }
+        ensures failures { result.counts.failures ≡ 0 }
     {
         StandardOutput {
             output,
+            finished: false,
             counts: Counts::new(),
         }
     }
@@ -80,27 +87,32 @@ impl<'a, R: Print> StandardOutput<'a, R> {
 impl<'a, R: Print> Sink for StandardOutput<'a, R> {
     ghost held = { λ _. None };
 
-    ghost calls = { λ sink. sink.calls };
+    ghost is_finished = { λ sink. sink.finished };
 
-    ghost failures = { λ sink. sink.failures };
+    ghost calls = { λ sink. sink.counts.calls };
+
+    ghost failures = { λ sink. sink.counts.failures };
 
     fn begin(&mut self) -> Result<(), Failed> {
         let answer = Ok(());
+        self.finished = false;
         self.counts.count(&answer);
         answer
     }
 
     fn write(&mut self, bytes: &[u8]) -> Result<usize, Failed> {
         let answer = taken_of(self.output.write_some(bytes), bytes);
+        self.finished = false;
         self.counts.count(&answer);
         answer
     }
 
     fn finish(&mut self) -> Result<(), Failed> {
         let answer = Ok(());
+        self.finished = true;
         self.counts.count(&answer);
         answer
     }
 
-    ghost failures_are_calls = { λ sink. sink.failures_are_calls };
+    ghost failures_are_calls = { λ sink. sink.counts.failures_are_calls };
 }

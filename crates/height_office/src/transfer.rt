@@ -1,5 +1,5 @@
 //! Whole texts read from a source and written to a sink.
-ghost use Rattle.std.specs.Prelude.{◌≡◌, ◌+◌, ◌≤◌, ◌<◌, Some, IfSome, IfOk, OnOk, OnErr, length, take, drop, min, ◌++◌, vec_len};
+ghost use Rattle.std.specs.Prelude.{◌≡◌, ◌+◌, ◌≤◌, ◌<◌, true, Some, IfSome, IfOk, OnOk, OnErr, length, take, drop, min, ◌++◌, vec_len};
 ghost use Rattle.std.specs.Io.KnownBytes.{Consumes};
 ghost use Rattle.height_office.specs.Transfer.{Advances, HoldsBeginning, failures_in_reading};
 ghost use Rattle.height_office.specs.Devices.{failures_in};
@@ -48,7 +48,7 @@ pub fn read_all<S: Source>(alloc: Global, source: &mut S, limit: u32) -> Result<
 
     ensures failures { S.failures source.new
         ≡ S.failures source.old + failures_in_reading result }
-    ensures reads { S.calls source.new ≤ S.calls source.old + limit + 2 }
+    ensures reads { S.calls source.new ≤ S.calls source.old + limit + 1 }
 {
     let most = limit as usize + 1;
     let mut bytes = Vec::new(alloc);
@@ -77,6 +77,7 @@ pub fn write_all<K: Sink>(sink: &mut K, text: &[u8]) -> Result<(), Failed>
     requires { K.calls sink.old ≤ CALLS_BEFORE }
     ensures written { OnOk result (IfSome (K.held sink.old) (λ _.
         K.held sink.new ≡ Some text.now)) }
+    ensures finished { OnOk result (K.is_finished sink.new ≡ true) }
     ensures beginning { OnErr result (K.calls sink.old + 1 < K.calls sink.new
         → HoldsBeginning (K.held sink.old) (K.held sink.new) text.now) }
     ensures failures { K.failures sink.new ≡ K.failures sink.old + failures_in result }
