@@ -4,7 +4,7 @@ PROGRAM := crates/height_office/out/height_office
 PREFIX ?= /usr/local
 BOOK ?= examples/building_site.gsi
 
-.PHONY: help run build test gate examples compare bench install clean
+.PHONY: help run build test gate examples compare memory bench install clean
 
 help:
 	@echo 'make run       prove and build the program, and list a book (BOOK=$(BOOK))'
@@ -13,6 +13,7 @@ help:
 	@echo 'make gate      rt ci alone'
 	@echo 'make examples  compare what the built program gives for the books of examples/ with what stands beside them'
 	@echo 'make compare   compare the built program with the second reader on mutated books (BOOKS=$(BOOKS) SEED=$(SEED))'
+	@echo 'make memory    list a book with each allocation refused in turn (some minutes)'
 	@echo 'make bench     throughput and peak memory, beside a plain C++ lister, wc and awk'
 	@echo 'make install   copy the built program to $(PREFIX)/bin'
 	@echo 'make clean     remove what was built'
@@ -36,6 +37,9 @@ BOOKS ?= 10000
 SEED ?= 20240607
 compare: build
 	@python3 tests/second_reader/compare.py --program $(PROGRAM) --books $(BOOKS) --seed $(SEED)
+
+memory:
+	@tests/refused_memory
 
 bench: build
 	@bench/list/run --program $(PROGRAM)
