@@ -1,13 +1,13 @@
 -- The far ends of the items at one place, marked from the last item to the first; and all that is reached.
-use Rattle.std.proofs.Common.{◌≡◌, ◌↔◌, ℕ, ◌+◌, ◌<◌, ◌≤◌, ◌⊎◌, inl, inr, Bool, true, ℤ, List, [], ◌∷◌, ◌++◌, length, get_or, slice_get, map, Option, Some, None, MatchOption, Contains, is_some, refl, sym, ap, ◌∙◌, subst, arith, length-append}
+use Rattle.std.proofs.Common.{◌≡◌, ◌↔◌, ℕ, ◌+◌, ◌<◌, ◌≤◌, ◌⊎◌, inl, inr, Bool, true, ℤ, List, [], ◌∷◌, ◌++◌, length, get_or, slice_get, map, Option, Some, None, MatchOption, Contains, is_some, refl, sym, ap, ◌∙◌, subst, arith}
 use Rattle.std.proofs.lemmas.Bool.{cases_eq, cases_lt, false≢true}
 use Rattle.std.proofs.lemmas.List.{length-map, get_or-map}
 use Rattle.std.proofs.lemmas.List.Elements.{Contains-append_left, Contains-push, Contains-push_cases}
 use Rattle.std.proofs.lemmas.Option.{slice_get_within, slice_get_read, get_or_from_slice_get, slice_get-get_or}
 use Rattle.std.specs.Option.{option_map_or}
 use Rattle.th_network.specs.Groups.{IsLastBelow}
-use Rattle.th_network.specs.Marks.{IsMarked, unmarked_count, IsSeeded, Spreads, AreFarEndsMarked, OnlyFarEnds, IsReached, by_height, from_target, from_station}
-use Rattle.th_network.proofs.MarkLemmas.{spreads_on, spreads_none}
+use Rattle.th_network.specs.Marks.{IsMarked, IsSeeded, Spreads, AreFarEndsMarked, OnlyFarEnds, IsReached, by_height, from_target, from_station}
+use Rattle.th_network.proofs.MarkLemmas.{spreads_on}
 
 -- the far ends are marked of the items that have been walked, all but those up to this one
 abbrev pub AreFarEndsMarkedAbove : List ℕ → List ℕ → ℕ → Option ℕ → List Bool → Type 0

@@ -1,6 +1,6 @@
-use Rattle.std.specs.Prelude.{◌≡◌, ◌≤◌, ℕ, List, All, map, unsigned_abs}
+use Rattle.std.specs.Prelude.{◌≡◌, ◌≤◌, ℕ, ℤ, List, Option, All, map, unsigned_abs}
 use Rattle.th_book.specs.Observed.{Observed, IsBetweenPoints}
-use Rattle.th_tables.specs.Rows.{BenchmarkRows, WeightRows}
+use Rattle.th_tables.specs.Rows.{BenchmarkRows, WeightRows, height_of, weight_of}
 use Rattle.th_network.specs.Points.{points}
 use Rattle.th_network.specs.Faults.{IsNetwork}
 use Rattle.th_network.specs.Vertices.{vertex_count}
@@ -13,6 +13,26 @@ pub record Survey : Type 0 where
   pub observations : List Observed
   pub benchmarks : BenchmarkRows
   pub weights : WeightRows
+
+-- the points of a survey, in order of first sight
+abbrev pub points_of : Survey → List (List ℕ)
+points_of survey = points survey.observations survey.benchmarks
+
+-- for each point its height, where it is a benchmark
+abbrev pub heights_of : Survey → List (Option ℤ)
+heights_of survey = map (height_of survey.benchmarks) (points_of survey)
+
+-- for each observation its weight
+abbrev pub weights_of : Survey → List ℕ
+weights_of survey = map (λ o. weight_of survey.weights o.station o.target) survey.observations
+
+-- how many vertices a survey has
+abbrev pub vertices_of : Survey → ℕ
+vertices_of survey = vertex_count survey.observations survey.benchmarks
+
+-- for each observation its link
+abbrev pub arcs_of : Survey → List Link
+arcs_of survey = map (link_of survey.observations survey.benchmarks) survey.observations
 
 -- observations and benchmarks make a network, with these points, so many vertices, and these arcs
 pub record IsBuilt (observations : List Observed) (benchmarks : BenchmarkRows) (names : List (List ℕ)) (count : ℕ) (arcs : List Link) : Type 0 where

@@ -16,8 +16,10 @@ pub(crate) fn first_untied(
     benchmarks: &Benchmarks,
 ) -> Result<Option<Name>, AllocError>
     requires each { length points.now.stations.items ≡ length points.now.targets.items }
-    requires stations_within { All (λ place. place < length points.now.names.keys) points.now.stations.items }
-    requires targets_within { All (λ place. place < length points.now.names.keys) points.now.targets.items }
+    requires stations_within { All (λ place. place < length points.now.names.keys)
+        points.now.stations.items }
+    requires targets_within { All (λ place. place < length points.now.names.keys)
+        points.now.targets.items }
     ensures { IfOk result (IsFirstUnreached (map (height_of benchmarks.now) points.now.names.keys)
         points.now.stations.items points.now.targets.items points.now.names.keys) }
 {
@@ -44,9 +46,11 @@ fn heights_of(
         .collect(alloc)
 }
 
-/// Which places are reached from those that have a height, by the items that join a station's place to a target's.
+/// Which places are reached from those that have a height, by the items that join a station's place
+/// to a target's.
 ///
-/// Each place waits once for its items to be walked, so the time is near the number of items and places.
+/// Each place waits once for its items to be walked, so the time is near the number of items and
+/// places.
 fn reached_places(
     alloc: Global,
     heights: &[Option<i64>],

@@ -4,7 +4,8 @@ ghost use Rattle.th_network.specs.Groups.{IsLastBelow};
 use std::alloc::{AllocError, Global};
 use std::marker::Model;
 
-/// Items 0, 1, 2 and so on that have a key each, to be walked key by key from the last item to the first.
+/// Items 0, 1, 2 and so on that have a key each, to be walked key by key from the last item to the
+/// first.
 #[derive(Drop)]
 pub(crate) struct Groups<'a> {
     keys: &'a [usize],
@@ -52,7 +53,8 @@ impl<'a> Groups<'a> {
     /// The last item before this one that has its key.
     pub fn earlier(&self, item: usize) -> Option<usize>
         requires { item < length self.now }
-        ensures { (key : ℕ) → slice_get self.now item ≡ Some key → IsLastBelow self.now key item result }
+        ensures { (key : ℕ) → slice_get self.now item ≡ Some key
+            → IsLastBelow self.now key item result }
     {
         self.earlier[item]
     }

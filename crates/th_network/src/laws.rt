@@ -63,7 +63,8 @@ pub fn vertices_number_points()
         (place : ℕ) (name : List ℕ)
         → slice_get (points observations benchmarks) place ≡ Some name
         → vertex_of observations benchmarks name
-        ≡ (if is_free benchmarks name then free_before benchmarks (points observations benchmarks) place + 1 else 0) }
+        ≡ (if is_free benchmarks name
+        then free_before benchmarks (points observations benchmarks) place + 1 else 0) }
     ensures apart { (observations : List Observed) (benchmarks : BenchmarkRows)
         (j k : ℕ) (first second : List ℕ)
         → slice_get (points observations benchmarks) j ≡ Some first

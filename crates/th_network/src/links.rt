@@ -43,7 +43,8 @@ pub(crate) fn links_of(
         vertices.now.of_places.items }
     ensures links { IfOk result (λ links. links.items
         ≡ map (link_of observations.now benchmarks.now) observations.now) }
-    ensures in_range { IfOk result (λ links. All (λ link. unsigned_abs link.diff ≤ MAX_LINK_DIFFERENCE) links.items) }
+    ensures in_range { IfOk result (λ links.
+        All (λ link. unsigned_abs link.diff ≤ MAX_LINK_DIFFERENCE) links.items) }
     ensures between { OnOk result (All IsBetweenPoints observations.now) }
 {
     let mut links = Vec::with_capacity(alloc, observations.len())?;

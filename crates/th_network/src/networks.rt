@@ -1,13 +1,10 @@
-ghost use Rattle.std.specs.Prelude.{◌≡◌, ◌≢◌, ◌+◌, ◌<◌, ◌≤◌, All, Contains, IfErr, IfOk, IfSome, IsSome, List, OnOk, Some, ℕ, bytes_eq, length, map, slice_get, unsigned_abs};
+ghost use Rattle.std.specs.Prelude.{◌≡◌, ◌≢◌, ◌+◌, ◌<◌, ◌≤◌, All, Contains, IfErr, IfOk, IfSome, IsSome, List, OnOk, Some, ℕ, bytes_eq, length, slice_get, unsigned_abs};
 ghost use Rattle.std.specs.List.{IsDistinct};
 ghost use Rattle.th_book.specs.Observed.{IsBetweenPoints};
 ghost use Rattle.th_network.specs.Faults.{HasFault, IsNetwork};
-ghost use Rattle.th_network.specs.Links.{link_of};
-ghost use Rattle.th_network.specs.Networks.{IsBuilt};
-ghost use Rattle.th_network.specs.Points.{points as points_of};
-ghost use Rattle.th_network.specs.Vertices.{vertex_count};
+ghost use Rattle.th_network.specs.Networks.{IsBuilt, arcs_of, heights_of, points_of, vertices_of, weights_of};
 ghost use Rattle.th_network.specs.declared.faults.NetFault.TheVariants.{NoMemory};
-ghost use Rattle.th_tables.specs.Rows.{height_of, weight_of};
+ghost use Rattle.th_tables.specs.Rows.{height_of};
 ghost use Rattle.th_tables.specs.declared.fields.TheConstants.{MAX_WEIGHT};
 ghost use Rattle.th_units.specs.declared.lens.TheConstants.{MAX_LEN};
 
@@ -24,7 +21,8 @@ use std::marker::Model;
 use th_book::Observation;
 use th_tables::{Benchmarks, Weights};
 
-/// The height network of some observations, over the tables of its benchmarks and weights.
+/// The height network of some observations, over the tables of its benchmarks and weights, which it
+/// borrows: a height or a weight is looked up where it is asked for.
 #[derive(Drop)]
 pub struct Network<'a> {
     observations: Vec<Observation>,
@@ -40,13 +38,19 @@ impl<'a> Model for Network<'a> {
 
     ghost Value = { Survey };
 
-    ghost view = { λ network. record { observations = network.observations.items; benchmarks = network.benchmarks.now; weights = network.weights.now } };
+    ghost view = { λ network. record {
+      observations = network.observations.items;
+      benchmarks = network.benchmarks.now;
+      weights = network.weights.now;
+    } };
 
-    ghost invariant = { λ network. IsBuilt network.observations.items network.benchmarks.now network.points.keys network.vertices network.arcs.items };
+    ghost invariant = { λ network. IsBuilt network.observations.items network.benchmarks.now
+        network.points.keys network.vertices network.arcs.items };
 }
 
 impl<'a> Network<'a> {
-    /// Makes the network of some observations, or answers the first fault that they have.
+    /// Makes the network of some observations, or answers the first fault of `NetFault` that they
+    /// have. The time is near the number of observations, points and benchmarks.
     pub fn build(
         alloc: Global,
         observations: Vec<Observation>,
@@ -80,10 +84,12 @@ impl<'a> Network<'a> {
     /// The points in order of first sight, the station before the target, and then the benchmarks
     /// that no observation sees, in table order.
     pub fn points(&self) -> &[Name]
-        ensures points { result.now ≡ points_of self.now.observations self.now.benchmarks }
+        ensures points { result.now ≡ points_of self.now }
         ensures distinct { IsDistinct bytes_eq result.now }
-        ensures ends { All (λ o. Contains result.now o.station × Contains result.now o.target) self.now.observations }
-        ensures benchmarks { (name : List ℕ) → IsSome (height_of self.now.benchmarks name) → Contains result.now name }
+        ensures ends { All (λ o. Contains result.now o.station × Contains result.now o.target)
+            self.now.observations }
+        ensures benchmarks { (name : List ℕ)
+            → IsSome (height_of self.now.benchmarks name) → Contains result.now name }
         ensures network { IsNetwork self.now.observations self.now.benchmarks }
     {
         self.points.as_slice()
@@ -91,9 +97,8 @@ impl<'a> Network<'a> {
 
     /// The height of point `k`, counted from 0, where it is a benchmark, in units of 10 nm.
     pub fn fixed(&self, k: usize) -> Option<i64>
-        requires { k < length (points_of self.now.observations self.now.benchmarks) }
-        ensures height { slice_get (map (height_of self.now.benchmarks) (points_of self.now.observations self.now.benchmarks)) k
-            ≡ Some result }
+        requires { k < length (points_of self.now) }
+        ensures height { slice_get (heights_of self.now) k ≡ Some result }
         ensures in_range { IfSome result (λ height. unsigned_abs height ≤ MAX_LEN) }
     {
         self.benchmarks.height_of(&self.points[k])
@@ -110,8 +115,7 @@ impl<'a> Network<'a> {
     /// The weight of observation `i`, counted from 0.
     pub fn weight(&self, i: usize) -> u32
         requires { i < length self.now.observations }
-        ensures weight { slice_get (map (λ o. weight_of self.now.weights o.station o.target) self.now.observations) i
-            ≡ Some result }
+        ensures weight { slice_get (weights_of self.now) i ≡ Some result }
         ensures positive { 1 ≤ result }
         ensures in_range { result ≤ MAX_WEIGHT }
     {
@@ -121,7 +125,7 @@ impl<'a> Network<'a> {
 
     /// How many vertices there are: 0 for all benchmarks, and one for each other point.
     pub fn vertices(&self) -> u32
-        ensures vertices { result ≡ vertex_count self.now.observations self.now.benchmarks }
+        ensures vertices { result ≡ vertices_of self.now }
         ensures few { result ≤ MAX_POINTS + 1 }
     {
         self.vertices
@@ -129,9 +133,9 @@ impl<'a> Network<'a> {
 
     /// The observations as arcs between vertices, in their order.
     pub fn arcs(&self) -> &[Link]
-        ensures arcs { result.now ≡ map (link_of self.now.observations self.now.benchmarks) self.now.observations }
-        ensures ends { All (λ arc. (arc.tail < vertex_count self.now.observations self.now.benchmarks)
-            × (arc.head < vertex_count self.now.observations self.now.benchmarks)) result.now }
+        ensures arcs { result.now ≡ arcs_of self.now }
+        ensures ends { All (λ arc. (arc.tail < vertices_of self.now) × (arc.head < vertices_of self.now))
+            result.now }
         ensures in_range { All (λ arc. unsigned_abs arc.diff ≤ MAX_LINK_DIFFERENCE) result.now }
     {
         &self.arcs
@@ -154,7 +158,8 @@ fn graph_of(
 ) -> Result<Graph, NetFault>
     ensures graph { IfOk result (λ graph.
         IsBuilt observations.now benchmarks.now graph.points.keys graph.vertices graph.arcs.items) }
-    ensures fault { IfErr result (λ fault. fault ≢ NoMemory → HasFault observations.now benchmarks.now fault) }
+    ensures fault { IfErr result (λ fault.
+        fault ≢ NoMemory → HasFault observations.now benchmarks.now fault) }
 {
     if observations.len() > MAX_OBSERVATIONS {
         return Err(NetFault::TooManyObservations);

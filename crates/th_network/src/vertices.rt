@@ -23,8 +23,10 @@ impl Vertices {
         benchmarks: &Benchmarks,
     ) -> Result<Vertices, AllocError>
         requires { length names.now ≤ MAX_POINTS }
-        ensures of_places { IfOk result (λ vertices. AreVertices benchmarks.now names.now vertices.of_places.items) }
-        ensures count { IfOk result (λ vertices. vertices.count ≡ count_by (is_free benchmarks.now) names.now + 1) }
+        ensures of_places { IfOk result (λ vertices.
+            AreVertices benchmarks.now names.now vertices.of_places.items) }
+        ensures count { IfOk result (λ vertices.
+            vertices.count ≡ count_by (is_free benchmarks.now) names.now + 1) }
     {
         let mut of_places = Vec::with_capacity(alloc, names.len())?;
         let mut count = 1;
