@@ -10,7 +10,8 @@ use Rattle.th_network.specs.declared.faults.NetFault.TheVariants.{NoBenchmark}
 use Rattle.th_network.specs.Faults.{HasFault}
 use Rattle.th_network.specs.Heights.{IsHeights, residual, cost, fine_cost, LeastFine}
 use Rattle.th_network.specs.Circulation.{arriving, leaving, Circulation, Shows}
-use Rattle.th_network.specs.Links.{link_difference}
+use Rattle.th_network.specs.Links.{link_difference, link_of}
+use Rattle.th_network.specs.Vertices.{vertex_of, vertex_count}
 use Rattle.th_network.proofs.WalkLemmas.{untied_inside}
 use Rattle.th_network.proofs.Slackness.{slackness}
 
@@ -131,3 +132,23 @@ loop_arrives = refl
 
 loop_leaves : leaving loop (pos 0 ∷ pos 0 ∷ pos 0 ∷ pos 1 ∷ []) c ≡ pos 0
 loop_leaves = refl
+
+-- the benchmark is vertex 0, and the other points are numbered in their order
+loop_vertices : (vertex_of loop at_hundred a ≡ 0) × (vertex_of loop at_hundred b ≡ 1) × (vertex_of loop at_hundred c ≡ 2) × (vertex_count loop at_hundred ≡ 3)
+unfolding points
+loop_vertices = (refl, refl, refl, refl)
+
+-- a benchmark between other points takes no number from them
+loop_vertices_of_two : (vertex_of loop ((b, pos 0) ∷ (z, pos 0) ∷ []) a ≡ 1) × (vertex_of loop ((b, pos 0) ∷ (z, pos 0) ∷ []) b ≡ 0) × (vertex_of loop ((b, pos 0) ∷ (z, pos 0) ∷ []) c ≡ 2) × (vertex_of loop ((b, pos 0) ∷ (z, pos 0) ∷ []) z ≡ 0) × (vertex_count loop ((b, pos 0) ∷ (z, pos 0) ∷ []) ≡ 3)
+unfolding points
+loop_vertices_of_two = (refl, refl, refl, refl, refl)
+
+-- with no points at all there is the vertex of the benchmarks alone
+no_vertices : vertex_count [] [] ≡ 1
+unfolding points
+no_vertices = refl
+
+-- the second observation runs between points that are no benchmark, the third back to the benchmark
+loop_links : (link_of loop at_hundred (seen b c (pos 100000000) 4) ≡ record { tail = 1; head = 2; diff = pos 100000000 }) × (link_of loop at_hundred (seen c a (neg_ℤ (pos 200000000)) 6) ≡ record { tail = 2; head = 0; diff = neg_ℤ (pos 10200000000) })
+unfolding points
+loop_links = (refl, refl)
