@@ -29,28 +29,29 @@ front_or_refused most refused answer text =
 pub book_answer-take : (number : ℕ) (text : List ℕ) → book_answer number (take (MAX_BOOK + 1) text) ≡ book_answer number text
 book_answer-take number text = front_or_refused MAX_BOOK _ (λ bytes. lines_answer number (lines_of bytes)) text
 
--- what is known of the front that was read is known of the text, where that is told
-pub answer_told : (number : ℕ) (told : Option (List ℕ)) (bytes : List ℕ) (answer : Result (List Observed) BookFault)
-    → IfSome told (λ text. bytes ≡ take (MAX_BOOK + 1) text) → book_answer number bytes ≡ answer
+-- what is known of the front that was read, up to one byte more than a limit, is known of the text, where that is told
+pub answer_told : (number limit : ℕ) (told : Option (List ℕ)) (bytes : List ℕ) (answer : Result (List Observed) BookFault)
+    → limit ≡ MAX_BOOK → IfSome told (λ text. bytes ≡ take (limit + 1) text) → book_answer number bytes ≡ answer
     → IfSome told (λ text. book_answer number text ≡ answer)
-answer_told number None bytes answer front given = tt
-answer_told number (Some text) bytes answer front given =
-    sym (book_answer-take number text) ∙ ap (book_answer number) (sym front) ∙ given
+answer_told number limit None bytes answer is_most front given = tt
+answer_told number limit (Some text) bytes answer is_most front given =
+    sym (book_answer-take number text) ∙ ap (λ (most : ℕ). book_answer number (take (most + 1) text)) (sym is_most)
+    ∙ ap (book_answer number) (sym front) ∙ given
 
 is_memory : (kind : BookKind) → (kind ≡ book_kind.NoMemory) ⊎ (kind ≢ book_kind.NoMemory)
 is_memory book_kind.NoMemory = inl refl
 is_memory other = inr (λ e. cc)
 
 -- a fault of the front that was read is a refusal for the text, or want of memory
-pub refused_as_told : (number : ℕ) (told : Option (List ℕ)) (bytes : List ℕ) (fault : BookFault) (refusal : Refusal)
-    → IfSome told (λ text. bytes ≡ take (MAX_BOOK + 1) text)
+pub refused_as_told : (number limit : ℕ) (told : Option (List ℕ)) (bytes : List ℕ) (fault : BookFault) (refusal : Refusal)
+    → limit ≡ MAX_BOOK → IfSome told (λ text. bytes ≡ take (limit + 1) text)
     → (fault.kind ≢ book_kind.NoMemory → book_answer number bytes ≡ Err fault)
     → (fault.kind ≡ book_kind.NoMemory → refusal ≡ NoMemory)
     → (fault.kind ≢ book_kind.NoMemory → refusal ≡ Book number fault)
     → IsRefusalOf number told refusal
-refused_as_told number told bytes fault refusal front given memory book =
+refused_as_told number limit told bytes fault refusal is_most front given memory book =
     elim (is_memory fault.kind) [
       | inl none ↦ subst (IsRefusalOf number told) (sym (memory none)) tt
       | inr other ↦
-          subst (IsRefusalOf number told) (sym (book other)) (refl, other, answer_told number told bytes (Err fault) front (given other))
+          subst (IsRefusalOf number told) (sym (book other)) (refl, other, answer_told number limit told bytes (Err fault) is_most front (given other))
     ]

@@ -2,12 +2,18 @@ use Rattle.std.specs.Prelude.{◌≡◌, ◌≢◌, ℕ, List, Option, Some, IfS
 use Rattle.th_book.specs.Books.{book_answer}
 use Rattle.th_book.specs.Observed.{Observed}
 use Rattle.th_book.specs.declared.faults.BookKind.TheVariants as book_kind
+use Rattle.th_book.specs.declared.faults.TheConstants.{MAX_BOOK}
 use Rattle.height_office.specs.Lists.{list_text}
 use Rattle.height_office.specs.Transfer.{HoldsBeginning}
+use Rattle.height_office.specs.declared.refusals.Input.{Input}
 use Rattle.height_office.specs.declared.refusals.Input.TheVariants as input
 use Rattle.height_office.specs.declared.refusals.Output.TheVariants as output
 use Rattle.height_office.specs.declared.refusals.Refusal.{Refusal}
 use Rattle.height_office.specs.declared.refusals.Refusal.TheVariants.{Book, Read, Write, NoMemory}
+
+-- the most bytes that an input has
+abbrev pub limit_of : Input → ℕ
+limit_of (input.Book number) = MAX_BOOK
 
 -- the observations are those of the book with this number, where its text is told
 abbrev pub AreOfBook : ℕ → Option (List ℕ) → List Observed → Type 0

@@ -1,7 +1,7 @@
 //! The runs: each reads its inputs, makes all its outputs in memory, and only then writes them.
 ghost use Rattle.std.specs.Prelude.{◌≡◌, ◌≢◌, ◌+◌, ◌<◌, ◌≤◌, IfSome, IfOk, IfErr, OnOk, OnErr, Some, Err, true, take};
 ghost use Rattle.height_office.specs.Lists.{list_text};
-ghost use Rattle.height_office.specs.Runs.{AreOfBook, HoldsList, HoldsListBeginning, IsRefusalOf, failed_reads, failed_writes};
+ghost use Rattle.height_office.specs.Runs.{AreOfBook, HoldsList, HoldsListBeginning, IsRefusalOf, failed_reads, failed_writes, limit_of};
 ghost use Rattle.height_office.specs.Transfer.{Advances};
 
 use crate::devices::{Failed, Sink, Source};
@@ -60,14 +60,24 @@ fn observations_of<S: Source>(
     ensures stands { Advances (S.left book.old) (S.left book.new) }
     ensures reads { S.calls book.new ≤ S.calls book.old + MAX_BOOK + 2 }
 {
-    let bytes = match read_all(alloc, book, MAX_BOOK as u32) {
+    let input = Input::Book(number);
+    let bytes = match read_all(alloc, book, limit_of(input)) {
         Ok(bytes) => bytes,
-        Err(ReadFault::Failed) => return Err(Refusal::Read(Input::Book(number))),
+        Err(ReadFault::Failed) => return Err(Refusal::Read(input)),
         Err(ReadFault::NoMemory) => return Err(Refusal::NoMemory),
     };
     match read_book(alloc, number, bytes.as_slice()) {
         Ok(observations) => Ok(observations),
         Err(fault) => Err(refusal_of(number, fault)),
+    }
+}
+
+/// The most bytes that an input has.
+fn limit_of(input: Input) -> u32
+    ensures { result ≡ limit_of input }
+{
+    match input {
+        Input::Book(_) => MAX_BOOK as u32,
     }
 }
 
