@@ -17,6 +17,7 @@ pub struct Inputs {
 }
 
 impl Inputs {
+    /// The texts of a book, of its benchmarks and of its weights, as large as a network takes.
     pub fn new(alloc: Global) -> Result<Inputs, AllocError> {
         let mut book = Vec::new(alloc);
         let mut benchmarks = b"point,height\n".to_vec(alloc)?;
