@@ -2,7 +2,7 @@ use Rattle.std.specs.Prelude.{◌≡◌, ℕ, ◌+◌, ◌==◌, ◌≤◌, Bool
 use Rattle.std.specs.Fmt.{decimal}
 use Rattle.std.specs.List.{list_all}
 use Rattle.gsi_word.specs.Bytes.{is_space}
-use Rattle.gsi_word.specs.Words.{Parts, Spells, parts_of, result_map, spelling_len, word_at}
+use Rattle.gsi_word.specs.Words.{Parts, Spells, fault_text as word_fault_text, parts_of, result_map, spelling_len, word_at}
 use Rattle.gsi_word.specs.declared.words.Width.{Width}
 use Rattle.gsi_word.specs.declared.words.Width.TheVariants.{Eight, Sixteen}
 use Rattle.gsi_word.specs.declared.words.WordFault.TheVariants.{Short}
@@ -88,9 +88,9 @@ pub record IsBlock (line : List ℕ) (block : BlockParts) : Type 0 where
   pub few : length block.words ≤ most_words
   pub row : (bytes : List ℕ) × (line ≡ mark block.width ++ bytes) × SpellsRow block.width block.words bytes
 
--- what is printed of a fault of a line; no clause tells the words of a word's own fault
-abbrev pub fault_text : BlockFault → Option (List ℕ)
-fault_text (BadWord k fault) = None
-fault_text TooManyWords = Some (codes "too many words")
-fault_text LineTooLong = Some (codes "line too long")
-fault_text (BadSeparator k) = Some (codes "no space after word " ++ decimal k)
+-- how a fault is said
+abbrev pub fault_text : BlockFault → List ℕ
+fault_text (BadWord k fault) = codes "word " ++ decimal k ++ codes ": " ++ word_fault_text fault
+fault_text TooManyWords = codes "too many words"
+fault_text LineTooLong = codes "line too long"
+fault_text (BadSeparator k) = codes "no space after word " ++ decimal k

@@ -2,13 +2,12 @@ use Rattle.std.proofs.Common.{◌≡◌, ◌≢◌, ◌⊎◌, refl, subst, Err,
 use Rattle.std.proofs.lemmas.Bool.{cases_lt, lt-ltb}
 use Rattle.std.proofs.lemmas.List.{length-take, take_all}
 use Rattle.std.specs.Prelude.{Option, Result, nat_lt}
-use Rattle.th_book.specs.Books.{book_answer, lines_answer}
+use Rattle.th_book.specs.Books.{book_answer, lines_answer, longest_book}
 use Rattle.gsi_block.specs.Lines.{lines_of}
 use Rattle.th_book.specs.Observed.{Observed}
 use Rattle.th_book.specs.declared.faults.BookFault.{BookFault}
 use Rattle.th_book.specs.declared.faults.BookKind.{BookKind}
 use Rattle.th_book.specs.declared.faults.BookKind.TheVariants as book_kind
-use Rattle.th_book.specs.declared.faults.TheConstants.{MAX_BOOK}
 use Rattle.height_office.specs.Runs.{IsRefusalOf}
 use Rattle.height_office.specs.declared.refusals.Refusal.{Refusal}
 use Rattle.height_office.specs.declared.refusals.Refusal.TheVariants.{Book, NoMemory}
@@ -26,12 +25,12 @@ front_or_refused most refused answer text =
     ]
 
 -- the front of a book, up to one byte more than a book may have, gives what the book gives
-pub book_answer-take : (number : ℕ) (text : List ℕ) → book_answer number (take (MAX_BOOK + 1) text) ≡ book_answer number text
-book_answer-take number text = front_or_refused MAX_BOOK _ (λ bytes. lines_answer number (lines_of bytes)) text
+pub book_answer-take : (number : ℕ) (text : List ℕ) → book_answer number (take (longest_book + 1) text) ≡ book_answer number text
+book_answer-take number text = front_or_refused longest_book _ (λ bytes. lines_answer number (lines_of bytes)) text
 
 -- what is known of the front that was read, up to one byte more than a limit, is known of the text, where that is told
 pub answer_told : (number limit : ℕ) (told : Option (List ℕ)) (bytes : List ℕ) (answer : Result (List Observed) BookFault)
-    → limit ≡ MAX_BOOK → IfSome told (λ text. bytes ≡ take (limit + 1) text) → book_answer number bytes ≡ answer
+    → limit ≡ longest_book → IfSome told (λ text. bytes ≡ take (limit + 1) text) → book_answer number bytes ≡ answer
     → IfSome told (λ text. book_answer number text ≡ answer)
 answer_told number limit None bytes answer is_most front given = tt
 answer_told number limit (Some text) bytes answer is_most front given =
@@ -44,7 +43,7 @@ is_memory other = inr (λ e. cc)
 
 -- a fault of the front that was read is a refusal for the text, or want of memory
 pub refused_as_told : (number limit : ℕ) (told : Option (List ℕ)) (bytes : List ℕ) (fault : BookFault) (refusal : Refusal)
-    → limit ≡ MAX_BOOK → IfSome told (λ text. bytes ≡ take (limit + 1) text)
+    → limit ≡ longest_book → IfSome told (λ text. bytes ≡ take (limit + 1) text)
     → (fault.kind ≢ book_kind.NoMemory → book_answer number bytes ≡ Err fault)
     → (fault.kind ≡ book_kind.NoMemory → refusal ≡ NoMemory)
     → (fault.kind ≢ book_kind.NoMemory → refusal ≡ Book number fault)

@@ -1,8 +1,7 @@
 use Rattle.std.specs.Prelude.{◌≡◌, ◌≢◌, ℕ, List, Option, Some, IfSome, Result, Ok, Err}
-use Rattle.th_book.specs.Books.{book_answer}
+use Rattle.th_book.specs.Books.{book_answer, longest_book}
 use Rattle.th_book.specs.Observed.{Observed}
 use Rattle.th_book.specs.declared.faults.BookKind.TheVariants as book_kind
-use Rattle.th_book.specs.declared.faults.TheConstants.{MAX_BOOK}
 use Rattle.height_office.specs.Lists.{list_text}
 use Rattle.height_office.specs.Transfer.{HoldsBeginning}
 use Rattle.height_office.specs.declared.refusals.Input.{Input}
@@ -13,7 +12,7 @@ use Rattle.height_office.specs.declared.refusals.Refusal.TheVariants.{Book, Read
 
 -- the most bytes that an input has
 abbrev pub limit_of : Input → ℕ
-limit_of (input.Book number) = MAX_BOOK
+limit_of (input.Book number) = longest_book
 
 -- the observations are those of the book with this number, where its text is told
 abbrev pub AreOfBook : ℕ → Option (List ℕ) → List Observed → Type 0

@@ -1,5 +1,6 @@
 //! The runs: each reads its inputs, makes all its outputs in memory, and only then writes them.
 ghost use Rattle.std.specs.Prelude.{◌≡◌, ◌≢◌, ◌+◌, ◌<◌, ◌≤◌, IfSome, IfOk, IfErr, OnOk, OnErr, Some, Err, true, take};
+ghost use Rattle.th_book.specs.Books.{longest_book};
 ghost use Rattle.height_office.specs.Lists.{list_text};
 ghost use Rattle.height_office.specs.Runs.{AreOfBook, HoldsList, HoldsListBeginning, IsRefusalOf, failed_reads, failed_writes, limit_of};
 ghost use Rattle.height_office.specs.Transfer.{Advances};
@@ -35,7 +36,7 @@ pub fn run_list<S: Source, K: Sink>(alloc: Global, book: &mut S, out: &mut K) ->
 
     // How far the book is read.
     ensures stands { Advances (S.left book.old) (S.left book.new) }
-    ensures reads { S.calls book.new ≤ S.calls book.old + MAX_BOOK + 2 }
+    ensures reads { S.calls book.new ≤ S.calls book.old + longest_book + 2 }
 {
     let observations = observations_of(alloc, 1, book)?;
     let text = list_text(alloc, observations.as_slice())?;
@@ -58,7 +59,7 @@ fn observations_of<S: Source>(
     ensures read_fails { S.failures book.new ≡ S.failures book.old + failed_reads result }
     ensures no_write { failed_writes result ≡ 0 }
     ensures stands { Advances (S.left book.old) (S.left book.new) }
-    ensures reads { S.calls book.new ≤ S.calls book.old + MAX_BOOK + 2 }
+    ensures reads { S.calls book.new ≤ S.calls book.old + longest_book + 2 }
 {
     let input = Input::Book(number);
     let bytes = match read_all(alloc, book, limit_of(input)) {

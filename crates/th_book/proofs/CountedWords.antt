@@ -11,7 +11,7 @@ use Rattle.gsi_word.specs.Data.{length_of}
 use Rattle.th_book.specs.Lines.{counts_for, holds}
 use Rattle.th_book.specs.Faults.{repeats_word, single_indexes}
 use Rattle.th_book.specs.Steps.{counted_in, counted_with, first_kept, first_length, repeats}
-use Rattle.th_book.specs.declared.indexes.TheConstants.{HEIGHT_DIFFERENCE, STATION_EASTING, STATION_NORTHING, STATION_HEIGHT, REFLECTOR_HEIGHT, INSTRUMENT_HEIGHT}
+use Rattle.th_book.specs.Indexes.{height_difference, station_easting, station_northing, station_height, reflector_height, instrument_height}
 
 or_false : (b : Bool) → (b || false) ≡ b
 or_false true = refl
@@ -91,20 +91,20 @@ repeats_word-more words word =
   where
     again : list_any (λ index. counts_for index word && holds index words) single_indexes ≡ repeats word (counted_in words)
     again =
-        let difference = sym (first_length-there HEIGHT_DIFFERENCE words) in
-        let reflector = sym (first_length-there REFLECTOR_HEIGHT words) in
-        let instrument = sym (first_length-there INSTRUMENT_HEIGHT words) in
-        let last = or_false (counts_for INSTRUMENT_HEIGHT word && holds INSTRUMENT_HEIGHT words) in
+        let difference = sym (first_length-there height_difference words) in
+        let reflector = sym (first_length-there reflector_height words) in
+        let instrument = sym (first_length-there instrument_height words) in
+        let last = or_false (counts_for instrument_height word && holds instrument_height words) in
         cc
 
 -- what some words say, and one more word
 pub counted_in-more : (words : List Parts) (word : Parts) → counted_in (words ++ word ∷ []) ≡ counted_with word (counted_in words)
 counted_in-more words word =
-    let difference = first_length-more HEIGHT_DIFFERENCE words word in
-    let easting = holds-more STATION_EASTING words word in
-    let northing = holds-more STATION_NORTHING words word in
-    let height = holds-more STATION_HEIGHT words word in
-    let reflector = first_length-more REFLECTOR_HEIGHT words word in
-    let instrument = first_length-more INSTRUMENT_HEIGHT words word in
+    let difference = first_length-more height_difference words word in
+    let easting = holds-more station_easting words word in
+    let northing = holds-more station_northing words word in
+    let height = holds-more station_height words word in
+    let reflector = first_length-more reflector_height words word in
+    let instrument = first_length-more instrument_height words word in
     let repeated = repeats_word-more words word in
     cc

@@ -15,7 +15,7 @@ use Rattle.th_book.specs.Due.{Held, begun, after_said, after_unless, after_words
 use Rattle.th_book.specs.declared.setups.Setup.{Setup}
 use Rattle.th_book.specs.declared.faults.BookKind.{BookKind}
 use Rattle.th_book.specs.declared.faults.BookFault.{BookFault}
-use Rattle.th_book.specs.declared.indexes.TheConstants.{HEIGHT_DIFFERENCE, REFLECTOR_HEIGHT, INSTRUMENT_HEIGHT}
+use Rattle.th_book.specs.Indexes.{height_difference, reflector_height, instrument_height}
 use Rattle.th_book.proofs.Faultless.{IsFaultless, faultless, held_is_read}
 use Rattle.th_book.proofs.Running.{AreRead, IsHeight, IsRunning, IsRunning-more, StandsAt-more, last_below-holds}
 
@@ -34,16 +34,16 @@ standing_same said n setup was = go (setup_of said n) setup was
 
     go : (found : Option ℕ) (held : Option Setup) → IsRunning said n found held → standing_in held (words_at said n) ≡ record {
       setup = is_some found;
-      instrument = is_some (option_and_then (λ from. last_below (holds_from said INSTRUMENT_HEIGHT from) (suc n)) found);
-      reflector = is_some (option_and_then (λ from. last_below (holds_from said REFLECTOR_HEIGHT from) (suc n)) found);
+      instrument = is_some (option_and_then (λ from. last_below (holds_from said instrument_height from) (suc n)) found);
+      reflector = is_some (option_and_then (λ from. last_below (holds_from said reflector_height from) (suc n)) found);
       station = option_and_then (λ from. point_name (words_at said from)) found;
     }
     go None None r = refl
     go None (Some own) r = absurd r
     go (Some from) None r = absurd r
     go (Some from) (Some own) r =
-        let instrument = there INSTRUMENT_HEIGHT from own.instrument r.before r.instrument in
-        let reflector = there REFLECTOR_HEIGHT from own.reflector r.before r.reflector in
+        let instrument = there instrument_height from own.instrument r.before r.instrument in
+        let reflector = there reflector_height from own.reflector r.before r.reflector in
         let station = sym r.name in
         cc
 
@@ -57,9 +57,9 @@ observed_same book said n setup was read none =
       station = known_name (option_and_then (λ from. point_name (words_at said from)) found);
       target = known_name (point_name (words_at said n));
       difference = difference
-          (length_in HEIGHT_DIFFERENCE (words_at said n))
-          (option_and_then (λ k. length_in INSTRUMENT_HEIGHT (words_at said k)) (option_and_then (λ from. last_below (holds_from said INSTRUMENT_HEIGHT from) (suc n)) found))
-          (option_and_then (λ k. length_in REFLECTOR_HEIGHT (words_at said k)) (option_and_then (λ from. last_below (holds_from said REFLECTOR_HEIGHT from) (suc n)) found));
+          (length_in height_difference (words_at said n))
+          (option_and_then (λ k. length_in instrument_height (words_at said k)) (option_and_then (λ from. last_below (holds_from said instrument_height from) (suc n)) found))
+          (option_and_then (λ k. length_in reflector_height (words_at said k)) (option_and_then (λ from. last_below (holds_from said reflector_height from) (suc n)) found));
       book = book;
       line = n + 1;
     }
@@ -95,8 +95,8 @@ after_is book said n held kind keeps e =
 -- the heights of a line without a fault can be read
 are_read : (standing : Standing) (words : List Parts) → IsFaultless standing words → AreRead words
 are_read standing words fine = record {
-  instrument = held_is_read INSTRUMENT_HEIGHT (λ word counts. or_right _ _ (or_right _ _ counts)) words fine.numbers fine.units fine.sizes;
-  reflector = held_is_read REFLECTOR_HEIGHT (λ word counts. or_right _ _ (or_left _ _ counts)) words fine.numbers fine.units fine.sizes;
+  instrument = held_is_read instrument_height (λ word counts. or_right _ _ (or_right _ _ counts)) words fine.numbers fine.units fine.sizes;
+  reflector = held_is_read reflector_height (λ word counts. or_right _ _ (or_left _ _ counts)) words fine.numbers fine.units fine.sizes;
 }
 
 -- a setup without a fault has a name

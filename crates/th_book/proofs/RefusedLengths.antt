@@ -20,7 +20,7 @@ use Rattle.gsi_word.specs.declared.data.LengthFault.TheVariants as length_fault
 use Rattle.th_book.specs.Lines.{counts_for, holds}
 use Rattle.th_book.specs.Faults.{has_bad_number, has_bad_unit, is_length, is_refused, is_too_large, repeats_word, some_length}
 use Rattle.th_book.specs.Steps.{counted_in, first_length, is_refused_in, some_refused}
-use Rattle.th_book.specs.declared.indexes.TheConstants.{HEIGHT_DIFFERENCE, STATION_EASTING, STATION_NORTHING, STATION_HEIGHT, REFLECTOR_HEIGHT, INSTRUMENT_HEIGHT}
+use Rattle.th_book.specs.Indexes.{height_difference, station_easting, station_northing, station_height, reflector_height, instrument_height}
 use Rattle.th_book.proofs.CountedWords.{any_or, any_same, counted_once}
 
 -- a length of digits is not refused for its number, nor for its unit where it has one
@@ -100,11 +100,11 @@ first_alone defect index (word ∷ words) once =
     go false e later = let rest : nat_lt 1 (count_by (counts_for index) words) ≡ false = grind (arith, nat_tests) in later rest
 
 -- some length has a defect where the first word of an index has it
-some_length-first : (defect : Parts → Bool) (words : List Parts) → repeats_word words ≡ false → some_length defect words ≡ (found_defect defect HEIGHT_DIFFERENCE words || (found_defect defect REFLECTOR_HEIGHT words || found_defect defect INSTRUMENT_HEIGHT words))
+some_length-first : (defect : Parts → Bool) (words : List Parts) → repeats_word words ≡ false → some_length defect words ≡ (found_defect defect height_difference words || (found_defect defect reflector_height words || found_defect defect instrument_height words))
 some_length-first defect words once =
-    any_same (λ word. is_length word && defect word) (λ word. (counts_for HEIGHT_DIFFERENCE word && defect word) || ((counts_for REFLECTOR_HEIGHT word && defect word) || (counts_for INSTRUMENT_HEIGHT word && defect word))) (λ word. spread (counts_for HEIGHT_DIFFERENCE word) (counts_for REFLECTOR_HEIGHT word) (counts_for INSTRUMENT_HEIGHT word) (defect word)) words
-    ∙ any_or (λ word. counts_for HEIGHT_DIFFERENCE word && defect word) (λ word. (counts_for REFLECTOR_HEIGHT word && defect word) || (counts_for INSTRUMENT_HEIGHT word && defect word)) words
-    ∙ ap (λ rest. list_any (λ word. counts_for HEIGHT_DIFFERENCE word && defect word) words || rest) (any_or (λ word. counts_for REFLECTOR_HEIGHT word && defect word) (λ word. counts_for INSTRUMENT_HEIGHT word && defect word) words)
+    any_same (λ word. is_length word && defect word) (λ word. (counts_for height_difference word && defect word) || ((counts_for reflector_height word && defect word) || (counts_for instrument_height word && defect word))) (λ word. spread (counts_for height_difference word) (counts_for reflector_height word) (counts_for instrument_height word) (defect word)) words
+    ∙ any_or (λ word. counts_for height_difference word && defect word) (λ word. (counts_for reflector_height word && defect word) || (counts_for instrument_height word && defect word)) words
+    ∙ ap (λ rest. list_any (λ word. counts_for height_difference word && defect word) words || rest) (any_or (λ word. counts_for reflector_height word && defect word) (λ word. counts_for instrument_height word && defect word) words)
     ∙ joined
   where
     spread : (a b c d : Bool) → ((a || (b || c)) && d) ≡ ((a && d) || ((b && d) || (c && d)))
@@ -118,12 +118,12 @@ some_length-first defect words once =
     spread false true false false = refl
     spread false false c d = refl
 
-    joined : (list_any (λ word. counts_for HEIGHT_DIFFERENCE word && defect word) words || (list_any (λ word. counts_for REFLECTOR_HEIGHT word && defect word) words || list_any (λ word. counts_for INSTRUMENT_HEIGHT word && defect word) words)) ≡ (found_defect defect HEIGHT_DIFFERENCE words || (found_defect defect REFLECTOR_HEIGHT words || found_defect defect INSTRUMENT_HEIGHT words))
+    joined : (list_any (λ word. counts_for height_difference word && defect word) words || (list_any (λ word. counts_for reflector_height word && defect word) words || list_any (λ word. counts_for instrument_height word && defect word) words)) ≡ (found_defect defect height_difference words || (found_defect defect reflector_height words || found_defect defect instrument_height words))
     joined =
-        let alone = of_six (twice HEIGHT_DIFFERENCE words) (twice STATION_EASTING words) (twice STATION_NORTHING words) (twice STATION_HEIGHT words) (twice REFLECTOR_HEIGHT words) (twice INSTRUMENT_HEIGHT words) once in
-        let difference = first_alone defect HEIGHT_DIFFERENCE words alone.0 in
-        let reflector = first_alone defect REFLECTOR_HEIGHT words alone.1 in
-        let instrument = first_alone defect INSTRUMENT_HEIGHT words alone.2 in
+        let alone = of_six (twice height_difference words) (twice station_easting words) (twice station_northing words) (twice station_height words) (twice reflector_height words) (twice instrument_height words) once in
+        let difference = first_alone defect height_difference words alone.0 in
+        let reflector = first_alone defect reflector_height words alone.1 in
+        let instrument = first_alone defect instrument_height words alone.2 in
         cc
 
 -- the first word of an index is refused for a defect where the defect is that fault
@@ -135,18 +135,18 @@ found_refused defect fault (Some word) same = same word refl
 pub number_row : (words : List Parts) → repeats_word words ≡ false → some_length has_bad_number words ≡ some_refused length_fault.BadNumber (counted_in words)
 number_row words once =
     let refused : (index : ℕ) → found_defect has_bad_number index words ≡ is_refused_in length_fault.BadNumber (first_length index words) = λ index. found_refused has_bad_number length_fault.BadNumber (find (counts_for index) words) (λ word e. number_refused word) in
-    let difference = refused HEIGHT_DIFFERENCE in
-    let reflector = refused REFLECTOR_HEIGHT in
-    let instrument = refused INSTRUMENT_HEIGHT in
+    let difference = refused height_difference in
+    let reflector = refused reflector_height in
+    let instrument = refused instrument_height in
     let first = some_length-first has_bad_number words once in
     cc
 
 pub size_row : (words : List Parts) → repeats_word words ≡ false → some_length is_too_large words ≡ some_refused length_fault.TooLarge (counted_in words)
 size_row words once =
     let refused : (index : ℕ) → found_defect is_too_large index words ≡ is_refused_in length_fault.TooLarge (first_length index words) = λ index. found_refused is_too_large length_fault.TooLarge (find (counts_for index) words) (λ word e. refl) in
-    let difference = refused HEIGHT_DIFFERENCE in
-    let reflector = refused REFLECTOR_HEIGHT in
-    let instrument = refused INSTRUMENT_HEIGHT in
+    let difference = refused height_difference in
+    let reflector = refused reflector_height in
+    let instrument = refused instrument_height in
     let first = some_length-first is_too_large words once in
     cc
 
@@ -154,8 +154,8 @@ pub unit_row : (words : List Parts) → repeats_word words ≡ false → some_le
 unit_row words once numbered =
     let found = or_parts _ _ (sym (some_length-first has_bad_number words once) ∙ numbered) in
     let refused : (index : ℕ) → found_defect has_bad_number index words ≡ false → found_defect has_bad_unit index words ≡ is_refused_in length_fault.BadUnit (first_length index words) = λ index good. found_refused has_bad_unit length_fault.BadUnit (find (counts_for index) words) (λ word e. unit_refused word (ap (λ (own : Option Parts). option_map_or has_bad_number own false) (sym e) ∙ good)) in
-    let difference = refused HEIGHT_DIFFERENCE found.0 in
-    let reflector = refused REFLECTOR_HEIGHT (or_parts _ _ found.1).0 in
-    let instrument = refused INSTRUMENT_HEIGHT (or_parts _ _ found.1).1 in
+    let difference = refused height_difference found.0 in
+    let reflector = refused reflector_height (or_parts _ _ found.1).0 in
+    let instrument = refused instrument_height (or_parts _ _ found.1).1 in
     let first = some_length-first has_bad_unit words once in
     cc

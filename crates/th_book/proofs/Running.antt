@@ -8,7 +8,7 @@ use Rattle.th_book.specs.Places.{holds_from, last_below, setup_of, words_at}
 use Rattle.th_book.specs.Books.{known_name}
 use Rattle.th_book.specs.Due.{begun, latest, setup_after, with_heights}
 use Rattle.th_book.specs.declared.setups.Setup.{Setup}
-use Rattle.th_book.specs.declared.indexes.TheConstants.{REFLECTOR_HEIGHT, INSTRUMENT_HEIGHT}
+use Rattle.th_book.specs.Indexes.{reflector_height, instrument_height}
 
 -- the last place below a bound lies below it
 pub last_below-lt : (test : ℕ → Bool) (bound place : ℕ) → last_below test bound ≡ Some place → place < bound
@@ -65,8 +65,8 @@ IsHeight-new index said n =
 pub record StandsAt (said : List Said) (from bound : ℕ) (setup : Setup) : Type 0 where
   pub before : from < bound
   pub name : point_name (words_at said from) ≡ Some setup.station
-  pub instrument : IsHeight INSTRUMENT_HEIGHT said from bound setup.instrument
-  pub reflector : IsHeight REFLECTOR_HEIGHT said from bound setup.reflector
+  pub instrument : IsHeight instrument_height said from bound setup.instrument
+  pub reflector : IsHeight reflector_height said from bound setup.reflector
 
 -- what is kept is the last setup below a bound, if there is one
 abbrev pub IsRunning : List Said → ℕ → Option ℕ → Option Setup → Type 0
@@ -77,16 +77,16 @@ IsRunning said bound (Some from) (Some setup) = StandsAt said from bound setup
 
 -- the heights of a line can be read where it holds them
 pub record AreRead (words : List Parts) : Type 0 where
-  pub instrument : holds INSTRUMENT_HEIGHT words ≡ true → is_some (length_in INSTRUMENT_HEIGHT words) ≡ true
-  pub reflector : holds REFLECTOR_HEIGHT words ≡ true → is_some (length_in REFLECTOR_HEIGHT words) ≡ true
+  pub instrument : holds instrument_height words ≡ true → is_some (length_in instrument_height words) ≡ true
+  pub reflector : holds reflector_height words ≡ true → is_some (length_in reflector_height words) ≡ true
 
 -- a setup that stood before a line stands after it, with the line's heights
 pub StandsAt-more : (said : List Said) (from n : ℕ) (setup : Setup) → StandsAt said from n setup → AreRead (words_at said n) → StandsAt said from (suc n) (with_heights (words_at said n) setup)
 StandsAt-more said from n setup stands read = record {
   before = omega (arith, stands.before);
   name = stands.name;
-  instrument = IsHeight-more INSTRUMENT_HEIGHT said from n setup.instrument (omega (arith, stands.before)) stands.instrument read.instrument;
-  reflector = IsHeight-more REFLECTOR_HEIGHT said from n setup.reflector (omega (arith, stands.before)) stands.reflector read.reflector;
+  instrument = IsHeight-more instrument_height said from n setup.instrument (omega (arith, stands.before)) stands.instrument read.instrument;
+  reflector = IsHeight-more reflector_height said from n setup.reflector (omega (arith, stands.before)) stands.reflector read.reflector;
 }
 
 -- a setup stands from its own line on
@@ -94,8 +94,8 @@ pub StandsAt-new : (said : List Said) (n : ℕ) → is_some (point_name (words_a
 StandsAt-new said n named read = record {
   before = omega arith;
   name = known (point_name (words_at said n)) named;
-  instrument = IsHeight-more INSTRUMENT_HEIGHT said n n None (omega arith) (IsHeight-new INSTRUMENT_HEIGHT said n) read.instrument;
-  reflector = IsHeight-more REFLECTOR_HEIGHT said n n None (omega arith) (IsHeight-new REFLECTOR_HEIGHT said n) read.reflector;
+  instrument = IsHeight-more instrument_height said n n None (omega arith) (IsHeight-new instrument_height said n) read.instrument;
+  reflector = IsHeight-more reflector_height said n n None (omega arith) (IsHeight-new reflector_height said n) read.reflector;
 }
   where
     known : (name : Option (List ℕ)) → is_some name ≡ true → name ≡ Some (known_name name)

@@ -20,7 +20,7 @@ use Rattle.th_book.specs.declared.countings.Lengths.{Lengths}
 use Rattle.th_book.specs.declared.steps.Step.{Step}
 use Rattle.th_book.specs.declared.faults.BookKind.{BookKind}
 use Rattle.th_book.specs.declared.faults.BookKind.TheVariants.{RepeatedWord, NoPointNumber, BadName, BadNumber, BadUnit, TooLarge, SightBeforeSetup, NoInstrumentHeight, NoReflectorHeight, SightToItself}
-use Rattle.th_book.specs.declared.indexes.TheConstants.{HEIGHT_DIFFERENCE, STATION_EASTING, STATION_NORTHING, STATION_HEIGHT, REFLECTOR_HEIGHT, INSTRUMENT_HEIGHT}
+use Rattle.th_book.specs.Indexes.{height_difference, station_easting, station_northing, station_height, reflector_height, instrument_height}
 use Rattle.th_book.proofs.CountedWords.{first_length-there}
 use Rattle.th_book.proofs.Faultless.{held_is_read}
 use Rattle.th_book.proofs.RefusedLengths.{number_row, size_row, unit_row}
@@ -149,9 +149,9 @@ latest_same index words before read = go (holds index words) refl
 -- what the lengths of a block are, where none is refused
 abbrev lengths_of : List Parts → Lengths
 lengths_of words = record {
-  difference = length_in HEIGHT_DIFFERENCE words;
-  reflector = length_in REFLECTOR_HEIGHT words;
-  instrument = length_in INSTRUMENT_HEIGHT words;
+  difference = length_in height_difference words;
+  reflector = length_in reflector_height words;
+  instrument = length_in instrument_height words;
 }
 
 -- the lengths that were counted, where none is refused
@@ -165,8 +165,8 @@ read_lengths counted = record {
 -- a setup with them has the latest heights
 with_same : (words : List Parts) (setup : Setup) → AreRead words → with_lengths (lengths_of words) setup ≡ with_heights words setup
 with_same words setup read =
-    let instrument = latest_same INSTRUMENT_HEIGHT words setup.instrument read.instrument in
-    let reflector = latest_same REFLECTOR_HEIGHT words setup.reflector read.reflector in
+    let instrument = latest_same instrument_height words setup.instrument read.instrument in
+    let reflector = latest_same reflector_height words setup.reflector read.reflector in
     cc
 
 -- the setup that a block begins at its point, which is there, or else the running one
@@ -204,60 +204,60 @@ standing_after words setup read none =
     go : (own : Option Setup) → standing_in own words ≡ standing_of (option_map (with_heights words) own)
     go None = refl
     go (Some own) =
-        let instrument = there INSTRUMENT_HEIGHT own.instrument read.instrument in
-        let reflector = there REFLECTOR_HEIGHT own.reflector read.reflector in
+        let instrument = there instrument_height own.instrument read.instrument in
+        let reflector = there reflector_height own.reflector read.reflector in
         cc
 
 -- the rows of a sight, after those of its own words
-meets_standing : (setup : Option Setup) (words : List Parts) (point : Option (List ℕ)) (book line : ℕ) → AreRead words → (is_sight words ≡ true → is_some (length_in HEIGHT_DIFFERENCE words) ≡ true) → point ≡ cond (is_sight words || is_setup words) (point_name words) None → ((is_sight words || is_setup words) ≡ true → is_some (point_name words) ≡ true) → Meets (step_with (setup_after setup words) point (length_in HEIGHT_DIFFERENCE words) book line) (sight_rows (is_sight words) (standing_in setup words) (point_name words)) (step_after setup words book line)
+meets_standing : (setup : Option Setup) (words : List Parts) (point : Option (List ℕ)) (book line : ℕ) → AreRead words → (is_sight words ≡ true → is_some (length_in height_difference words) ≡ true) → point ≡ cond (is_sight words || is_setup words) (point_name words) None → ((is_sight words || is_setup words) ≡ true → is_some (point_name words) ≡ true) → Meets (step_with (setup_after setup words) point (length_in height_difference words) book line) (sight_rows (is_sight words) (standing_in setup words) (point_name words)) (step_after setup words book line)
 meets_standing setup words point book line read sighted e there = go (is_sight words) refl
   where
-    go : (sight : Bool) → is_sight words ≡ sight → Meets (step_with (setup_after setup words) point (length_in HEIGHT_DIFFERENCE words) book line) (sight_rows sight (standing_in setup words) (point_name words)) (leaves (setup_after setup words) (cond sight (Some (observed_in book line (setup_after setup words) words)) None))
+    go : (sight : Bool) → is_sight words ≡ sight → Meets (step_with (setup_after setup words) point (length_in height_difference words) book line) (sight_rows sight (standing_in setup words) (point_name words)) (leaves (setup_after setup words) (cond sight (Some (observed_in book line (setup_after setup words) words)) None))
     go true is =
         let named = or_left (is_sight words) (is_setup words) is in
-        let begins : is_setup words ≡ false = ap (λ sight. not sight && (holds STATION_EASTING words || (holds STATION_NORTHING words || holds STATION_HEIGHT words))) is in
+        let begins : is_setup words ≡ false = ap (λ sight. not sight && (holds station_easting words || (holds station_northing words || holds station_height words))) is in
         let target : point ≡ point_name words = e ∙ ap (λ own. cond own (point_name words) None) named in
         subst
-        (λ (own : Option (List ℕ)). Meets (step_with (setup_after setup words) own (length_in HEIGHT_DIFFERENCE words) book line) (sight_rows true (standing_in setup words) (point_name words)) (leaves (setup_after setup words) (Some (observed_in book line (setup_after setup words) words))))
+        (λ (own : Option (List ℕ)). Meets (step_with (setup_after setup words) own (length_in height_difference words) book line) (sight_rows true (standing_in setup words) (point_name words)) (leaves (setup_after setup words) (Some (observed_in book line (setup_after setup words) words))))
         (sym target)
         (subst
-        (λ (standing : Standing). Meets (step_with (setup_after setup words) (point_name words) (length_in HEIGHT_DIFFERENCE words) book line) (sight_rows true standing (point_name words)) (leaves (setup_after setup words) (Some (observed_in book line (setup_after setup words) words))))
+        (λ (standing : Standing). Meets (step_with (setup_after setup words) (point_name words) (length_in height_difference words) book line) (sight_rows true standing (point_name words)) (leaves (setup_after setup words) (Some (observed_in book line (setup_after setup words) words))))
         (sym (standing_after words setup read begins))
-        (meets_sight (setup_after setup words) (point_name words) (length_in HEIGHT_DIFFERENCE words) book line (there named) (sighted is)))
+        (meets_sight (setup_after setup words) (point_name words) (length_in height_difference words) book line (there named) (sighted is)))
     go false is =
         subst
         (λ (length : Option ℤ). Meets (step_with (setup_after setup words) point length book line) (sight_rows false (standing_in setup words) (point_name words)) (leaves (setup_after setup words) None))
-        (sym (none_read HEIGHT_DIFFERENCE words is))
+        (sym (none_read height_difference words is))
         (meets_other (setup_after setup words) (point_name words) point (standing_in setup words) book line)
 
 -- a sight or a setup is counted where it is one
 named_same : (words : List Parts) → (counts_sight (counted_in words) || counts_setup (counted_in words)) ≡ (is_sight words || is_setup words)
-named_same words = ap (λ sight. sight || (not sight && (holds STATION_EASTING words || (holds STATION_NORTHING words || holds STATION_HEIGHT words)))) (first_length-there HEIGHT_DIFFERENCE words)
+named_same words = ap (λ sight. sight || (not sight && (holds station_easting words || (holds station_northing words || holds station_height words)))) (first_length-there height_difference words)
 
 begins_same : (words : List Parts) → counts_setup (counted_in words) ≡ is_setup words
-begins_same words = ap (λ sight. not sight && (holds STATION_EASTING words || (holds STATION_NORTHING words || holds STATION_HEIGHT words))) (first_length-there HEIGHT_DIFFERENCE words)
+begins_same words = ap (λ sight. not sight && (holds station_easting words || (holds station_northing words || holds station_height words))) (first_length-there height_difference words)
 
 -- the lengths that were counted are those of the words
 lengths_same : (words : List Parts) → read_lengths (counted_in words) ≡ lengths_of words
 lengths_same words =
-    let difference = read_same HEIGHT_DIFFERENCE words in
-    let reflector = read_same REFLECTOR_HEIGHT words in
-    let instrument = read_same INSTRUMENT_HEIGHT words in
+    let difference = read_same height_difference words in
+    let reflector = read_same reflector_height words in
+    let instrument = read_same instrument_height words in
     cc
 
 -- the part after the lengths
-meets_read : (setup : Option Setup) (words : List Parts) (point : Option (List ℕ)) (book line : ℕ) → AreRead words → (is_sight words ≡ true → is_some (length_in HEIGHT_DIFFERENCE words) ≡ true) → point ≡ cond (is_sight words || is_setup words) (point_name words) None → ((is_sight words || is_setup words) ≡ true → is_some (point_name words) ≡ true) → Meets (step_read setup (counted_in words) book line point (read_lengths (counted_in words))) (sight_rows (is_sight words) (standing_in setup words) (point_name words)) (step_after setup words book line)
+meets_read : (setup : Option Setup) (words : List Parts) (point : Option (List ℕ)) (book line : ℕ) → AreRead words → (is_sight words ≡ true → is_some (length_in height_difference words) ≡ true) → point ≡ cond (is_sight words || is_setup words) (point_name words) None → ((is_sight words || is_setup words) ≡ true → is_some (point_name words) ≡ true) → Meets (step_read setup (counted_in words) book line point (read_lengths (counted_in words))) (sight_rows (is_sight words) (standing_in setup words) (point_name words)) (step_after setup words book line)
 meets_read setup words point book line read sighted e there =
     subst
     (λ (step : Result Step BookKind). Meets step (sight_rows (is_sight words) (standing_in setup words) (point_name words)) (step_after setup words book line))
     (sym same)
     (meets_standing setup words point book line read sighted e there)
   where
-    same : step_read setup (counted_in words) book line point (read_lengths (counted_in words)) ≡ step_with (setup_after setup words) point (length_in HEIGHT_DIFFERENCE words) book line
+    same : step_read setup (counted_in words) book line point (read_lengths (counted_in words)) ≡ step_with (setup_after setup words) point (length_in height_difference words) book line
     same =
         ap (step_read setup (counted_in words) book line point) (lengths_same words)
-        ∙ ap (λ begins. step_with (option_map (with_lengths (lengths_of words)) (begun_if begins point setup)) point (length_in HEIGHT_DIFFERENCE words) book line) (begins_same words)
-        ∙ ap (λ own. step_with own point (length_in HEIGHT_DIFFERENCE words) book line) (setup_same words point setup read e there)
+        ∙ ap (λ begins. step_with (option_map (with_lengths (lengths_of words)) (begun_if begins point setup)) point (length_in height_difference words) book line) (begins_same words)
+        ∙ ap (λ own. step_with own point (length_in height_difference words) book line) (setup_same words point setup read e there)
 
 -- what the words of a block leave is their first fault, or what the book then holds
 pub meets_words : (setup : Option Setup) (words : List Parts) (book line : ℕ) → Meets (step_by setup words book line) (first_applying (block_faults (standing_in setup words) words)) (step_after setup words book line)
@@ -272,8 +272,8 @@ meets_words setup words book line =
     (λ numbers units sizes.
     meets_read setup words point book line
     (record {
-      instrument = held_is_read INSTRUMENT_HEIGHT (λ word counts. or_right _ _ (or_right _ _ counts)) words numbers units sizes;
-      reflector = held_is_read REFLECTOR_HEIGHT (λ word counts. or_right _ _ (or_left _ _ counts)) words numbers units sizes;
+      instrument = held_is_read instrument_height (λ word counts. or_right _ _ (or_right _ _ counts)) words numbers units sizes;
+      reflector = held_is_read reflector_height (λ word counts. or_right _ _ (or_left _ _ counts)) words numbers units sizes;
     })
-    (held_is_read HEIGHT_DIFFERENCE (λ word counts. or_left _ _ counts) words numbers units sizes)
+    (held_is_read height_difference (λ word counts. or_left _ _ counts) words numbers units sizes)
     e there))))

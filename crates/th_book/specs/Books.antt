@@ -8,8 +8,7 @@ use Rattle.th_book.specs.Places.{height_at, station_at, words_at}
 use Rattle.th_book.specs.Faults.{first_fault}
 use Rattle.th_book.specs.declared.faults.BookFault.{BookFault}
 use Rattle.th_book.specs.declared.faults.BookKind.TheVariants.{BookTooLong}
-use Rattle.th_book.specs.declared.faults.TheConstants.{MAX_BOOK}
-use Rattle.th_book.specs.declared.indexes.TheConstants.{HEIGHT_DIFFERENCE, REFLECTOR_HEIGHT, INSTRUMENT_HEIGHT}
+use Rattle.th_book.specs.Indexes.{height_difference, reflector_height, instrument_height}
 
 -- a length, or a name, that is there in a book without a fault
 abbrev pub known : Option ℤ → ℤ
@@ -27,7 +26,7 @@ abbrev pub observed_at : ℕ → List Said → ℕ → Observed
 observed_at book said place = record {
   station = known_name (station_at said place);
   target = known_name (point_name (words_at said place));
-  difference = difference (length_in HEIGHT_DIFFERENCE (words_at said place)) (height_at INSTRUMENT_HEIGHT said place) (height_at REFLECTOR_HEIGHT said place);
+  difference = difference (length_in height_difference (words_at said place)) (height_at instrument_height said place) (height_at reflector_height said place);
   book = book;
   line = place + 1;
 }
@@ -49,7 +48,11 @@ answer_of book said = answer (first_fault said) (observations_of book said)
 abbrev pub lines_answer : ℕ → List (List ℕ) → Result (List Observed) BookFault
 lines_answer book lines = answer_of book (map block_at lines)
 
+-- the most bytes that a book has: 64 MiB
+abbrev pub longest_book : ℕ
+longest_book = 67108864
+
 -- what the bytes of a book give; a book that is too long is that before all else
 abbrev pub book_answer : ℕ → List ℕ → Result (List Observed) BookFault
 book_answer book bytes =
-    if nat_lt MAX_BOOK (length bytes) then Err (record { line = 0; kind = BookTooLong }) else lines_answer book (lines_of bytes)
+    if nat_lt longest_book (length bytes) then Err (record { line = 0; kind = BookTooLong }) else lines_answer book (lines_of bytes)

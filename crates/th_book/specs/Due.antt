@@ -9,7 +9,7 @@ use Rattle.th_book.specs.declared.setups.Setup.{Setup}
 use Rattle.th_book.specs.declared.faults.BookKind.{BookKind}
 use Rattle.th_book.specs.declared.faults.BookKind.TheVariants.{NoMemory}
 use Rattle.th_book.specs.declared.faults.BookFault.{BookFault}
-use Rattle.th_book.specs.declared.indexes.TheConstants.{HEIGHT_DIFFERENCE, REFLECTOR_HEIGHT, INSTRUMENT_HEIGHT}
+use Rattle.th_book.specs.Indexes.{height_difference, reflector_height, instrument_height}
 
 -- what a `Book` holds: its number, how many lines were taken, the running setup, the observations so far, and the fault if one was found
 pub record Held : Type 0 where
@@ -28,8 +28,8 @@ abbrev pub standing_in : Option Setup → List Parts → Standing
 standing_in None words = record { setup = false; instrument = false; reflector = false; station = None }
 standing_in (Some setup) words = record {
   setup = true;
-  instrument = holds INSTRUMENT_HEIGHT words || is_some setup.instrument;
-  reflector = holds REFLECTOR_HEIGHT words || is_some setup.reflector;
+  instrument = holds instrument_height words || is_some setup.instrument;
+  reflector = holds reflector_height words || is_some setup.reflector;
   station = Some setup.station;
 }
 
@@ -41,8 +41,8 @@ latest index words before = if holds index words then length_in index words else
 abbrev pub with_heights : List Parts → Setup → Setup
 with_heights words setup = record {
   station = setup.station;
-  instrument = latest INSTRUMENT_HEIGHT words setup.instrument;
-  reflector = latest REFLECTOR_HEIGHT words setup.reflector;
+  instrument = latest instrument_height words setup.instrument;
+  reflector = latest reflector_height words setup.reflector;
 }
 
 -- the setup that some words begin
@@ -58,7 +58,7 @@ abbrev pub observed_in : ℕ → ℕ → Option Setup → List Parts → Observe
 observed_in book line setup words = record {
   station = known_name (option_map (λ own. own.station) setup);
   target = known_name (point_name words);
-  difference = difference (length_in HEIGHT_DIFFERENCE words) (option_and_then (λ own. own.instrument) setup) (option_and_then (λ own. own.reflector) setup);
+  difference = difference (length_in height_difference words) (option_and_then (λ own. own.instrument) setup) (option_and_then (λ own. own.reflector) setup);
   book = book;
   line = line;
 }

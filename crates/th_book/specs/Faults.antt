@@ -12,11 +12,11 @@ use Rattle.th_book.specs.Places.{last_with, said_at, setup_of, station_at}
 use Rattle.th_book.specs.declared.faults.BookKind.{BookKind}
 use Rattle.th_book.specs.declared.faults.BookKind.TheVariants.{Block, RepeatedWord, NoPointNumber, BadName, BadNumber, BadUnit, TooLarge, SightBeforeSetup, NoInstrumentHeight, NoReflectorHeight, SightToItself}
 use Rattle.th_book.specs.declared.faults.BookFault.{BookFault}
-use Rattle.th_book.specs.declared.indexes.TheConstants.{POINT_NUMBER, HEIGHT_DIFFERENCE, STATION_EASTING, STATION_NORTHING, STATION_HEIGHT, REFLECTOR_HEIGHT, INSTRUMENT_HEIGHT}
+use Rattle.th_book.specs.Indexes.{point_number, height_difference, station_easting, station_northing, station_height, reflector_height, instrument_height}
 
 -- the indexes of which a block may have one counting word each
 abbrev pub single_indexes : List ℕ
-single_indexes = HEIGHT_DIFFERENCE ∷ STATION_EASTING ∷ STATION_NORTHING ∷ STATION_HEIGHT ∷ REFLECTOR_HEIGHT ∷ INSTRUMENT_HEIGHT ∷ []
+single_indexes = height_difference ∷ station_easting ∷ station_northing ∷ station_height ∷ reflector_height ∷ instrument_height ∷ []
 
 -- two words count for one of these indexes
 abbrev pub repeats_word : List Parts → Bool
@@ -24,7 +24,7 @@ repeats_word words = list_any (λ index. nat_lt 1 (count_by (counts_for index) w
 
 -- a word that counts for a length: a height difference, a reflector height or an instrument height
 abbrev pub is_length : Parts → Bool
-is_length word = counts_for HEIGHT_DIFFERENCE word || (counts_for REFLECTOR_HEIGHT word || counts_for INSTRUMENT_HEIGHT word)
+is_length word = counts_for height_difference word || (counts_for reflector_height word || counts_for instrument_height word)
 
 -- some length of a block has this defect
 abbrev pub some_length : (Parts → Bool) → List Parts → Bool
@@ -55,7 +55,7 @@ is_too_large word = is_refused length_fault.TooLarge (length_of word)
 -- the first word of a block is a point number
 abbrev pub begins_with_point : List Parts → Bool
 begins_with_point [] = false
-begins_with_point (word ∷ words) = word.index == POINT_NUMBER
+begins_with_point (word ∷ words) = word.index == point_number
 
 -- two names are there, and are one
 abbrev pub are_one : Option (List ℕ) → Option (List ℕ) → Bool
@@ -74,8 +74,8 @@ pub record Standing : Type 0 where
 abbrev pub standing_at : List Said → ℕ → Standing
 standing_at said place = record {
   setup = is_some (setup_of said place);
-  instrument = is_some (last_with INSTRUMENT_HEIGHT said place);
-  reflector = is_some (last_with REFLECTOR_HEIGHT said place);
+  instrument = is_some (last_with instrument_height said place);
+  reflector = is_some (last_with reflector_height said place);
   station = station_at said place;
 }
 

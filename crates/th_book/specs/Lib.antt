@@ -1,7 +1,9 @@
 pub mod Observed
+pub mod Indexes
 pub mod Lines
 pub mod Places
 pub mod Faults
+pub mod Texts
 pub mod Books
 pub mod Due
 pub mod Steps

@@ -7,7 +7,7 @@ use Rattle.gsi_word.specs.Names.{name_of}
 use Rattle.gsi_word.specs.Data.{length_of, two_digit}
 use Rattle.gsi_block.specs.Blocks.{BlockParts}
 use Rattle.gsi_block.specs.declared.blocks.BlockFault.{BlockFault}
-use Rattle.th_book.specs.declared.indexes.TheConstants.{HEIGHT_DIFFERENCE, STATION_EASTING, STATION_NORTHING, STATION_HEIGHT}
+use Rattle.th_book.specs.Indexes.{height_difference, station_easting, station_northing, station_height}
 
 -- what a line says: nothing, a block, or why it is neither
 abbrev pub Said : Type 0
@@ -29,11 +29,11 @@ holds index words = list_any (counts_for index) words
 
 -- a sight is a block with a height difference
 abbrev pub is_sight : List Parts → Bool
-is_sight words = holds HEIGHT_DIFFERENCE words
+is_sight words = holds height_difference words
 
 -- a setup is a block with a coordinate of the station, and no sight
 abbrev pub is_setup : List Parts → Bool
-is_setup words = not (is_sight words) && (holds STATION_EASTING words || (holds STATION_NORTHING words || holds STATION_HEIGHT words))
+is_setup words = not (is_sight words) && (holds station_easting words || (holds station_northing words || holds station_height words))
 
 -- the name of the point that a sight or a setup begins with
 abbrev pub point_name : List Parts → Option (List ℕ)

@@ -17,7 +17,7 @@ use Rattle.th_book.specs.declared.countings.Counted.{Counted}
 use Rattle.th_book.specs.declared.steps.Step.{Step}
 use Rattle.th_book.specs.declared.faults.BookKind.{BookKind}
 use Rattle.th_book.specs.declared.faults.BookKind.TheVariants.{RepeatedWord, NoPointNumber, BadName, BadNumber, BadUnit, TooLarge, SightBeforeSetup, NoInstrumentHeight, NoReflectorHeight, SightToItself}
-use Rattle.th_book.specs.declared.indexes.TheConstants.{HEIGHT_DIFFERENCE, STATION_EASTING, STATION_NORTHING, STATION_HEIGHT, REFLECTOR_HEIGHT, INSTRUMENT_HEIGHT}
+use Rattle.th_book.specs.Indexes.{height_difference, station_easting, station_northing, station_height, reflector_height, instrument_height}
 
 -- a further part, where the parts before it have no fault
 abbrev pub onwards : {A B : Type 0} → (A → Result B BookKind) → Result A BookKind → Result B BookKind
@@ -31,12 +31,12 @@ first_length index words = option_map length_of (find (counts_for index) words)
 -- what the counting words of a block say
 abbrev pub counted_in : List Parts → Counted
 counted_in words = record {
-  difference = first_length HEIGHT_DIFFERENCE words;
-  easting = holds STATION_EASTING words;
-  northing = holds STATION_NORTHING words;
-  height = holds STATION_HEIGHT words;
-  reflector = first_length REFLECTOR_HEIGHT words;
-  instrument = first_length INSTRUMENT_HEIGHT words;
+  difference = first_length height_difference words;
+  easting = holds station_easting words;
+  northing = holds station_northing words;
+  height = holds station_height words;
+  reflector = first_length reflector_height words;
+  instrument = first_length instrument_height words;
   repeated = repeats_word words;
 }
 
@@ -47,22 +47,22 @@ first_kept counts kept word = if counts then option_or kept (Some (length_of wor
 -- a word counts for an index that was held before
 abbrev pub repeats : Parts → Counted → Bool
 repeats word counted =
-    (counts_for HEIGHT_DIFFERENCE word && is_some counted.difference)
-    || ((counts_for STATION_EASTING word && counted.easting)
-    || ((counts_for STATION_NORTHING word && counted.northing)
-    || ((counts_for STATION_HEIGHT word && counted.height)
-    || ((counts_for REFLECTOR_HEIGHT word && is_some counted.reflector)
-    || (counts_for INSTRUMENT_HEIGHT word && is_some counted.instrument)))))
+    (counts_for height_difference word && is_some counted.difference)
+    || ((counts_for station_easting word && counted.easting)
+    || ((counts_for station_northing word && counted.northing)
+    || ((counts_for station_height word && counted.height)
+    || ((counts_for reflector_height word && is_some counted.reflector)
+    || (counts_for instrument_height word && is_some counted.instrument)))))
 
 -- what is counted after one more word
 abbrev pub counted_with : Parts → Counted → Counted
 counted_with word counted = record {
-  difference = first_kept (counts_for HEIGHT_DIFFERENCE word) counted.difference word;
-  easting = counted.easting || counts_for STATION_EASTING word;
-  northing = counted.northing || counts_for STATION_NORTHING word;
-  height = counted.height || counts_for STATION_HEIGHT word;
-  reflector = first_kept (counts_for REFLECTOR_HEIGHT word) counted.reflector word;
-  instrument = first_kept (counts_for INSTRUMENT_HEIGHT word) counted.instrument word;
+  difference = first_kept (counts_for height_difference word) counted.difference word;
+  easting = counted.easting || counts_for station_easting word;
+  northing = counted.northing || counts_for station_northing word;
+  height = counted.height || counts_for station_height word;
+  reflector = first_kept (counts_for reflector_height word) counted.reflector word;
+  instrument = first_kept (counts_for instrument_height word) counted.instrument word;
   repeated = counted.repeated || repeats word counted;
 }
 

@@ -1,7 +1,7 @@
 ghost use Rattle.std.specs.Prelude.{◌≡◌, ◌≢◌, ◌<◌, ◌≤◌, [], List, ℕ, None, length, take, IfErr, IfOk, IsSome, OnErr, OnOk};
 ghost use Rattle.gsi_block.specs.Lines.{lines_of};
 ghost use Rattle.gsi_word.specs.Words.{result_map};
-ghost use Rattle.th_book.specs.Books.{lines_answer, book_answer};
+ghost use Rattle.th_book.specs.Books.{lines_answer, book_answer, longest_book};
 ghost use Rattle.th_book.specs.Faults.{fault_in};
 ghost use Rattle.th_book.specs.Due.{due, empty, EndsWithSight, IsTaken, IsRefused, IsWanting};
 ghost use Rattle.th_book.specs.Steps.{held_with, held_refusing};
@@ -62,7 +62,7 @@ impl Book {
     /// answered where the room for one more observation was refused, and is not kept: the book is as
     /// before the line, which may be given again.
     pub fn line(&mut self, line: &[u8]) -> Result<(), BookFault>
-        requires { self.old.lines < MAX_BOOK }
+        requires { self.old.lines < longest_book }
         ensures taken { OnOk result (IsTaken self.old self.new line.now) }
         ensures refused { IfErr result
             (λ fault. fault.kind ≢ BookKind.NoMemory → IsRefused self.old self.new line.now fault) }
@@ -103,7 +103,7 @@ impl Book {
 
     /// Takes what a line without a fault leaves.
     fn take(&mut self, step: Step) -> Result<(), BookFault>
-        requires { self.old.lines < MAX_BOOK }
+        requires { self.old.lines < longest_book }
         ensures taken { OnOk result (self.new ≡ held_with self.old step) }
         ensures wanting { IfErr result
             (λ fault. (self.new ≡ self.old) × (fault ≡ fault_in self.old.lines BookKind.NoMemory)) }
@@ -124,7 +124,7 @@ impl Book {
 
     /// Keeps a fault of the next line.
     fn refuse(&mut self, kind: BookKind) -> BookFault
-        requires room { self.old.lines < MAX_BOOK }
+        requires room { self.old.lines < longest_book }
         requires lasting { kind ≢ BookKind.NoMemory }
         ensures fault { result ≡ fault_in self.old.lines kind }
         ensures kept { self.new ≡ held_refusing self.old kind }

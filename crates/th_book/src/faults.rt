@@ -44,6 +44,11 @@ pub struct BookFault {
 }
 
 impl fmt::Display for BookKind {
+    ghost use Rattle.std.specs.Prelude.{Some};
+    ghost use Rattle.th_book.specs.Texts.{kind_text};
+
+    ghost output = { λ kind. Some (kind_text kind) };
+
     fn fmt<W: fmt::Write>(&self, f: &mut fmt::Formatter<W>) -> fmt::Result {
         match self {
             BookKind::Block(fault) => write!(f, "B1 {fault}"),
@@ -66,6 +71,11 @@ impl fmt::Display for BookKind {
 impl Error for BookKind {}
 
 impl fmt::Display for BookFault {
+    ghost use Rattle.std.specs.Prelude.{Some};
+    ghost use Rattle.th_book.specs.Texts.{fault_text};
+
+    ghost output = { λ fault. Some (fault_text fault) };
+
     fn fmt<W: fmt::Write>(&self, f: &mut fmt::Formatter<W>) -> fmt::Result {
         let line = self.line;
         let kind = self.kind;

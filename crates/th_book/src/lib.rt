@@ -17,8 +17,4 @@ mod tests;
 
 pub use books::{Book, read_book};
 pub use faults::{BookFault, BookKind, MAX_BOOK};
-pub use indexes::{
-    HEIGHT_DIFFERENCE, INSTRUMENT_HEIGHT, POINT_NUMBER, REFLECTOR_HEIGHT, STATION_EASTING,
-    STATION_HEIGHT, STATION_NORTHING,
-};
-pub use observations::{MAX_DIFFERENCE, Observation};
+pub use observations::Observation;

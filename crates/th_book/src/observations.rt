@@ -1,15 +1,13 @@
 ghost use Rattle.std.specs.Prelude.{◌≡◌, ◌≢◌, ◌≤◌, unsigned_abs};
+ghost use Rattle.th_book.specs.Observed.{largest_difference};
 
 use gsi_word::Name;
 use std::marker::Model;
 
-/// The size that no observed difference exceeds: three lengths, 30 km, in units of 10 nm.
-pub const MAX_DIFFERENCE: u64 = 3_000_000_000_000;
-
 /// A height difference observed from a station to a target.
 ///
 /// The two ends have different names. The difference is in units of 10 nm and at most
-/// `MAX_DIFFERENCE` in size. The number of the book and the line in it count from 1.
+/// 30 km in size: three lengths. The number of the book and the line in it count from 1.
 #[derive(Clone, Copy, Debug, PartialEq, Eq)]
 pub struct Observation {
     pub station: Name,
@@ -62,7 +60,7 @@ impl Observation {
     /// The height of the target above the station, in units of 10 nm.
     pub fn difference(&self) -> i64
         ensures value { result ≡ self.now.difference }
-        ensures in_range { unsigned_abs result ≤ MAX_DIFFERENCE }
+        ensures in_range { unsigned_abs result ≤ largest_difference }
     {
         self.diff
     }

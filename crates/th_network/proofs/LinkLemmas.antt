@@ -8,9 +8,8 @@ use Rattle.th_tables.specs.Rows.{BenchmarkRows}
 use Rattle.th_network.specs.Points.{points}
 use Rattle.th_network.specs.Places.{place_of, ArePoints}
 use Rattle.th_network.specs.Vertices.{vertex_of, AreVertices}
-use Rattle.th_network.specs.Links.{link_difference, link_of}
+use Rattle.th_network.specs.Links.{largest_link_difference, link_difference, link_of}
 use Rattle.th_network.specs.declared.links.Link.{Link}
-use Rattle.th_network.specs.declared.links.TheConstants.{MAX_LINK_DIFFERENCE}
 use Rattle.th_network.proofs.TieLemmas.{ends_at_places}
 
 -- the place is within the vertices, and what is read there is this
@@ -43,15 +42,15 @@ made t u d = record { tail = t; head = u; diff = d }
 -- the first i observations are linked
 pub record AreLinked (observations : List Observed) (benchmarks : BenchmarkRows) (i : ℕ) (links : List Link) : Type 0 where
   pub all : links ≡ map (link_of observations benchmarks) (take i observations)
-  pub in_range : All (λ link. unsigned_abs link.diff ≤ MAX_LINK_DIFFERENCE) links
+  pub in_range : All (λ link. unsigned_abs link.diff ≤ largest_link_difference) links
   pub between : All IsBetweenPoints (take i observations)
 
-pub linked_more : (observations : List Observed) (benchmarks : BenchmarkRows) (i : ℕ) (o : Observed) (link : Link) (links links' : List Link) → i < length observations → o ≡ get_or observations i o → link.tail ≡ vertex_of observations benchmarks o.station → link.head ≡ vertex_of observations benchmarks o.target → link.diff ≡ link_difference benchmarks o → unsigned_abs link.diff ≤ MAX_LINK_DIFFERENCE → IsBetweenPoints o → links' ≡ links ++ link ∷ [] → AreLinked observations benchmarks i links → AreLinked observations benchmarks (i + 1) links'
+pub linked_more : (observations : List Observed) (benchmarks : BenchmarkRows) (i : ℕ) (o : Observed) (link : Link) (links links' : List Link) → i < length observations → o ≡ get_or observations i o → link.tail ≡ vertex_of observations benchmarks o.station → link.head ≡ vertex_of observations benchmarks o.target → link.diff ≡ link_difference benchmarks o → unsigned_abs link.diff ≤ largest_link_difference → IsBetweenPoints o → links' ≡ links ++ link ∷ [] → AreLinked observations benchmarks i links → AreLinked observations benchmarks (i + 1) links'
 linked_more observations benchmarks i o link links links' within here tail head diff small between pushed h =
     let is : link ≡ link_of observations benchmarks o = ap (λ (t : ℕ). made t link.head link.diff) tail ∙ ap (λ (u : ℕ). made (vertex_of observations benchmarks o.station) u link.diff) head ∙ ap (made (vertex_of observations benchmarks o.station) (vertex_of observations benchmarks o.target)) diff in
     let taken : take (i + 1) observations ≡ take i observations ++ o ∷ [] = take_more observations i o within ∙ ap (λ (x : Observed). take i observations ++ x ∷ []) (sym here) in
     subst (λ (ls : List Link). AreLinked observations benchmarks (i + 1) ls) (sym pushed) (record {
       all = ap (λ (ls : List Link). ls ++ link ∷ []) h.all ∙ ap (λ (l : Link). map (link_of observations benchmarks) (take i observations) ++ l ∷ []) is ∙ sym (ap (map (link_of observations benchmarks)) taken ∙ map-append (link_of observations benchmarks) (take i observations) (o ∷ []));
-      in_range = All-push (λ link. unsigned_abs link.diff ≤ MAX_LINK_DIFFERENCE) links link h.in_range small;
+      in_range = All-push (λ link. unsigned_abs link.diff ≤ largest_link_difference) links link h.in_range small;
       between = subst (All IsBetweenPoints) (sym taken) (All-push IsBetweenPoints (take i observations) o h.between between);
     })

@@ -12,6 +12,10 @@ base benchmarks name = unwrap_or (height_of benchmarks name) (pos 0)
 abbrev pub link_difference : BenchmarkRows → Observed → ℤ
 link_difference benchmarks o = o.difference +ℤ base benchmarks o.station -ℤ base benchmarks o.target
 
+-- the size that no difference of a link exceeds: an observed difference and the heights of two benchmarks, 50 km, in units of 10 nm
+abbrev pub largest_link_difference : ℕ
+largest_link_difference = 5000000000000
+
 -- relative heights: zero at each benchmark, the height at each other name
 abbrev pub IsRelative : BenchmarkRows → (List ℕ → ℤ) → (List ℕ → ℤ) → Type 0
 IsRelative benchmarks heights relative = (name : List ℕ) → MatchOption (height_of benchmarks name) (relative name ≡ heights name) (λ _. relative name ≡ pos 0)

@@ -4,9 +4,8 @@ use Rattle.th_tables.specs.Rows.{BenchmarkRows, WeightRows, height_of, weight_of
 use Rattle.th_network.specs.Points.{points}
 use Rattle.th_network.specs.Faults.{IsNetwork}
 use Rattle.th_network.specs.Vertices.{vertex_count}
-use Rattle.th_network.specs.Links.{link_of}
+use Rattle.th_network.specs.Links.{largest_link_difference, link_of}
 use Rattle.th_network.specs.declared.links.Link.{Link}
-use Rattle.th_network.specs.declared.links.TheConstants.{MAX_LINK_DIFFERENCE}
 
 -- what a network is made of: observations, and the rows of the tables of benchmarks and of weights
 pub record Survey : Type 0 where
@@ -41,4 +40,4 @@ pub record IsBuilt (observations : List Observed) (benchmarks : BenchmarkRows) (
   pub all_points : names ≡ points observations benchmarks
   pub vertices : count ≡ vertex_count observations benchmarks
   pub links : arcs ≡ map (link_of observations benchmarks) observations
-  pub in_range : All (λ arc. unsigned_abs arc.diff ≤ MAX_LINK_DIFFERENCE) arcs
+  pub in_range : All (λ arc. unsigned_abs arc.diff ≤ largest_link_difference) arcs

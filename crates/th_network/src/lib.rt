@@ -26,5 +26,5 @@ mod vertices;
 
 pub use faults::NetFault;
 pub use limits::{MAX_OBSERVATIONS, MAX_POINTS};
-pub use links::{Link, MAX_LINK_DIFFERENCE};
+pub use links::Link;
 pub use networks::Network;

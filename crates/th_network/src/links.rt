@@ -1,6 +1,6 @@
 ghost use Rattle.std.specs.Prelude.{◌≡◌, ◌≤◌, All, IfOk, OnOk, map, unsigned_abs};
 ghost use Rattle.th_book.specs.Observed.{IsBetweenPoints};
-ghost use Rattle.th_network.specs.Links.{base as base_of, link_difference, link_of};
+ghost use Rattle.th_network.specs.Links.{base as base_of, largest_link_difference, link_difference, link_of};
 ghost use Rattle.th_network.specs.Places.{ArePoints};
 ghost use Rattle.th_network.specs.Points.{points as points_of};
 ghost use Rattle.th_network.specs.Vertices.{AreVertices};
@@ -13,10 +13,6 @@ use std::alloc::{AllocError, Global};
 use th_book::Observation;
 use th_tables::Benchmarks;
 
-/// The size that no difference of a link exceeds: an observed difference and two benchmarks'
-/// heights, 50 km, in units of 10 nm.
-pub const MAX_LINK_DIFFERENCE: u64 = 5_000_000_000_000;
-
 /// An observation between two vertices of its network.
 #[derive(Clone, Copy, Debug, PartialEq, Eq)]
 pub struct Link {
@@ -25,7 +21,7 @@ pub struct Link {
     /// The target's vertex.
     pub head: u32,
     /// The observed difference, with the station's height as a benchmark added and the target's
-    /// taken off, in units of 10 nm.
+    /// taken off, in units of 10 nm: at most 50 km in size.
     pub diff: i64,
 }
 
@@ -44,7 +40,7 @@ pub(crate) fn links_of(
     ensures links { IfOk result (λ links. links.items
         ≡ map (link_of observations.now benchmarks.now) observations.now) }
     ensures in_range { IfOk result (λ links.
-        All (λ link. unsigned_abs link.diff ≤ MAX_LINK_DIFFERENCE) links.items) }
+        All (λ link. unsigned_abs link.diff ≤ largest_link_difference) links.items) }
     ensures between { OnOk result (All IsBetweenPoints observations.now) }
 {
     let mut links = Vec::with_capacity(alloc, observations.len())?;
@@ -63,7 +59,7 @@ fn link_between(o: &Observation, benchmarks: &Benchmarks, tail: u32, head: u32) 
     ensures tail { result.tail ≡ tail }
     ensures head { result.head ≡ head }
     ensures diff { result.diff ≡ link_difference benchmarks.now o.now }
-    ensures in_range { unsigned_abs result.diff ≤ MAX_LINK_DIFFERENCE }
+    ensures in_range { unsigned_abs result.diff ≤ largest_link_difference }
     ensures between { IsBetweenPoints o.now }
 {
     let (station, target) = o.ends();

@@ -2,6 +2,7 @@ ghost use Rattle.std.specs.Prelude.{◌≡◌, ◌≢◌, ◌+◌, ◌<◌, ◌�
 ghost use Rattle.std.specs.List.{IsDistinct};
 ghost use Rattle.th_book.specs.Observed.{IsBetweenPoints};
 ghost use Rattle.th_network.specs.Faults.{HasFault, IsNetwork};
+ghost use Rattle.th_network.specs.Links.{largest_link_difference};
 ghost use Rattle.th_network.specs.Networks.{IsBuilt, arcs_of, heights_of, points_of, vertices_of, weights_of};
 ghost use Rattle.th_network.specs.declared.faults.NetFault.TheVariants.{NoMemory};
 ghost use Rattle.th_tables.specs.Rows.{height_of};
@@ -11,7 +12,7 @@ ghost use Rattle.th_units.specs.declared.lens.TheConstants.{MAX_LEN};
 use crate::anchors::first_untied;
 use crate::faults::NetFault;
 use crate::limits::{MAX_OBSERVATIONS, MAX_POINTS};
-use crate::links::{Link, MAX_LINK_DIFFERENCE, links_of};
+use crate::links::{Link, links_of};
 use crate::points::Points;
 use crate::vertices::Vertices;
 use gsi_word::Name;
@@ -34,6 +35,7 @@ pub struct Network<'a> {
 }
 
 impl<'a> Model for Network<'a> {
+    ghost use Rattle.th_network.specs.Links.{largest_link_difference};
     ghost use Rattle.th_network.specs.Networks.{IsBuilt, Survey};
 
     ghost Value = { Survey };
@@ -136,7 +138,7 @@ impl<'a> Network<'a> {
         ensures arcs { result.now ≡ arcs_of self.now }
         ensures ends { All (λ arc. (arc.tail < vertices_of self.now) × (arc.head < vertices_of self.now))
             result.now }
-        ensures in_range { All (λ arc. unsigned_abs arc.diff ≤ MAX_LINK_DIFFERENCE) result.now }
+        ensures in_range { All (λ arc. unsigned_abs arc.diff ≤ largest_link_difference) result.now }
     {
         &self.arcs
     }

@@ -6,16 +6,15 @@ use Rattle.std.proofs.lemmas.Result.{err_from_is_err_and}
 use Rattle.gsi_word.specs.Words.{result_map}
 use Rattle.gsi_block.specs.Lines.{lines_of}
 use Rattle.th_book.specs.Observed.{Observed}
-use Rattle.th_book.specs.Books.{book_answer, lines_answer}
-use Rattle.th_book.specs.declared.faults.TheConstants.{MAX_BOOK}
+use Rattle.th_book.specs.Books.{book_answer, lines_answer, longest_book}
 use Rattle.th_book.specs.declared.faults.BookFault.{BookFault}
 use Rattle.th_book.specs.declared.faults.BookKind.TheVariants.{NoMemory}
 use Rattle.th_book.proofs.Reading.{IsReading-more, end_answer, length-lines_of, lines_left, refused_answer, wanting_answer}
 use Rattle.th_book.proofs.books.read_book.Goals as goal
 
 -- a book that is not too long gives what its lines give
-within : (book : ℕ) (bytes : List ℕ) → length bytes ≤ MAX_BOOK → book_answer book bytes ≡ lines_answer book (lines_of bytes)
-within book bytes short = cond-false (nat_lt MAX_BOOK (length bytes)) _ _ (le-ltb MAX_BOOK (length bytes) short)
+within : (book : ℕ) (bytes : List ℕ) → length bytes ≤ longest_book → book_answer book bytes ≡ lines_answer book (lines_of bytes)
+within book bytes short = cond-false (nat_lt longest_book (length bytes)) _ _ (le-ltb longest_book (length bytes) short)
 
 pub line-requires : goal.line-requires
 line-requires c =
