@@ -12,6 +12,10 @@ const SETUP: &[u8] =
 
 const SIGHT: &[u8] = b"110002+0000000B 33..00+00002345 87..10+00001300 \n";
 
+/// That setup and that sight.
+const SETUP_AND_SIGHT: &[u8] =
+    b"110001+0000000A 84..10+00000000 85..10+00000000 86..10+00100000 88..10+00001500 \n110002+0000000B 33..00+00002345 87..10+00001300 \n";
+
 /// A further setup at B, and a sight from it back to A.
 const BACK: &[u8] =
     b"110003+0000000B 84..10+00000000 88..10+00001450 \n110004+0000000A 33..00-00002705 87..10+00001300 \n";
@@ -208,6 +212,33 @@ fn makes_networks(rt: HostRuntime) -> Result<(), Fail> {
         makes(rt.alloc(), &rt, row)?;
     }
     Ok(())
+}
+
+/// One network from one book and both tables, which `tests/refused_memory` runs with each allocation
+/// refused in turn: the call that it was refused to then says so, by its name here.
+#[test]
+fn makes_one_network(rt: HostRuntime) {
+    let alloc = rt.alloc();
+    let observations = read_book(alloc, 1, SETUP_AND_SIGHT).expect(&rt, "read_book");
+    let benchmarks = read_benchmarks(alloc, b"point,height\nA,100\n").expect(
+        &rt,
+        "read_benchmarks",
+    );
+    let weights = read_weights(alloc, b"from,to,weight\nA,B,3\n").expect(&rt, "read_weights");
+    let network = Network::build(alloc, observations, &benchmarks, &weights).expect(&rt, "build");
+    assert_eq!(rt; network.vertices(), 2);
+    assert_eq!(rt; network.arcs().len(), 1);
+    assert_eq!(rt;
+        network.arcs()[0],
+        Link {
+            tail: 0,
+            head: 1,
+            diff: 10_254_500_000
+        }
+    );
+    assert_eq!(rt; network.weight(0), 3);
+    assert_eq!(rt; network.fixed(0), Some(10_000_000_000));
+    assert_eq!(rt; network.fixed(1), None);
 }
 
 #[test]
