@@ -52,7 +52,11 @@ lines_answer book lines = answer_of book (map block_at lines)
 abbrev pub longest_book : ℕ
 longest_book = 67108864
 
+-- the fault of a book that is too long
+abbrev pub too_long : BookFault
+too_long = record { line = 0; kind = BookTooLong }
+
 -- what the bytes of a book give; a book that is too long is that before all else
 abbrev pub book_answer : ℕ → List ℕ → Result (List Observed) BookFault
 book_answer book bytes =
-    if nat_lt longest_book (length bytes) then Err (record { line = 0; kind = BookTooLong }) else lines_answer book (lines_of bytes)
+    if nat_lt longest_book (length bytes) then Err too_long else lines_answer book (lines_of bytes)

@@ -1,7 +1,7 @@
 ghost use Rattle.std.specs.Prelude.{◌≡◌, ◌≢◌, ◌<◌, ◌≤◌, [], List, ℕ, None, length, take, IfErr, IfOk, IsSome, OnErr, OnOk};
 ghost use Rattle.gsi_block.specs.Lines.{lines_of};
 ghost use Rattle.gsi_word.specs.Words.{result_map};
-ghost use Rattle.th_book.specs.Books.{lines_answer, book_answer, longest_book};
+ghost use Rattle.th_book.specs.Books.{lines_answer, book_answer, longest_book, too_long};
 ghost use Rattle.th_book.specs.Faults.{fault_in};
 ghost use Rattle.th_book.specs.Due.{due, empty, EndsWithSight, IsTaken, IsRefused, IsWanting};
 ghost use Rattle.th_book.specs.Steps.{held_with, held_refusing};
@@ -148,6 +148,7 @@ pub fn read_book(alloc: Global, book: u32, bytes: &[u8]) -> Result<Vec<Observati
         (λ observations. book_answer book bytes.now ≡ Ok observations.items) }
     ensures fault { IfErr result
         (λ fault. fault.kind ≢ BookKind.NoMemory → book_answer book bytes.now ≡ Err fault) }
+    ensures too_long { longest_book < length bytes.now → result ≡ Err too_long }
     ensures wanting { IfErr result
         (λ fault. fault.kind ≡ BookKind.NoMemory
         → EndsWithSight (lines_answer book (take fault.line (lines_of bytes.now))) fault.line) }

@@ -434,6 +434,20 @@ fn longest_book(rt: HostRuntime) -> Result<(), Fail> {
 }
 
 #[test]
+fn many_sights(rt: HostRuntime) -> Result<(), Fail> {
+    let mut bytes = Vec::from_slice(rt.alloc(), S)?;
+    for _ in 0..100_000 {
+        bytes.push(b'\n')?;
+        bytes.extend_from_slice(P)?;
+    }
+    match read_book(rt.alloc(), 7, &bytes) {
+        Ok(observations) => assert_eq!(rt; observations.len(), 100_000),
+        Err(fault) => panic!(rt; "{fault:?}"),
+    }
+    Ok(())
+}
+
+#[test]
 fn fault_is_kept(rt: HostRuntime) {
     let mut book = Book::new(rt.alloc(), 7);
     let fault = fault_at(
