@@ -1,10 +1,10 @@
-ghost use Rattle.std.specs.Prelude.{◌≡◌, ◌≢◌, ◌+◌, ◌<◌, ◌≤◌, All, Contains, IfErr, IfOk, IfSome, IsSome, List, OnOk, Some, ℕ, bytes_eq, length, slice_get, unsigned_abs};
+ghost use Rattle.std.specs.Prelude.{◌≡◌, ◌≢◌, ◌+◌, ◌<◌, ◌≤◌, All, Contains, Err, IfErr, IfOk, IfSome, IsSome, List, OnOk, Some, ℕ, bytes_eq, length, slice_get, unsigned_abs};
 ghost use Rattle.std.specs.List.{IsDistinct};
 ghost use Rattle.th_book.specs.Observed.{IsBetweenPoints};
 ghost use Rattle.th_network.specs.Faults.{HasFault, IsNetwork};
 ghost use Rattle.th_network.specs.Links.{largest_link_difference};
 ghost use Rattle.th_network.specs.Networks.{IsBuilt, arcs_of, heights_of, points_of, vertices_of, weights_of};
-ghost use Rattle.th_network.specs.declared.faults.NetFault.TheVariants.{NoMemory};
+ghost use Rattle.th_network.specs.declared.faults.NetFault.TheVariants.{NoMemory, TooManyObservations};
 ghost use Rattle.th_tables.specs.Rows.{height_of};
 ghost use Rattle.th_tables.specs.declared.fields.TheConstants.{MAX_WEIGHT};
 ghost use Rattle.th_units.specs.declared.lens.TheConstants.{MAX_LEN};
@@ -67,6 +67,8 @@ impl<'a> Network<'a> {
         ensures network { OnOk result (IsNetwork observations.items benchmarks.now) }
         ensures fault { IfErr result (λ fault.
             fault ≢ NoMemory → HasFault observations.items benchmarks.now fault) }
+        ensures many { MAX_OBSERVATIONS < length observations.items
+            → result ≡ Err TooManyObservations }
     {
         let Graph {
             points,
@@ -162,6 +164,8 @@ fn graph_of(
         IsBuilt observations.now benchmarks.now graph.points.keys graph.vertices graph.arcs.items) }
     ensures fault { IfErr result (λ fault.
         fault ≢ NoMemory → HasFault observations.now benchmarks.now fault) }
+    ensures many { MAX_OBSERVATIONS < length observations.now
+        → result ≡ Err TooManyObservations }
 {
     if observations.len() > MAX_OBSERVATIONS {
         return Err(NetFault::TooManyObservations);

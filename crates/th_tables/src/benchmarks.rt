@@ -3,7 +3,7 @@ ghost use Rattle.th_tables.specs.Fields.{benchmark_in};
 ghost use Rattle.th_tables.specs.Reading.{IsReading, records_left};
 ghost use Rattle.th_tables.specs.Rows.{AreBenchmarks, height_of};
 ghost use Rattle.th_units.specs.declared.lens.TheConstants.{MAX_LEN};
-ghost use Rattle.th_tables.specs.Tables.{benchmarks_of, no_memory, rows_after};
+ghost use Rattle.th_tables.specs.Tables.{benchmarks_of, longest_table, no_memory, rows_after, too_long};
 
 use crate::faults::{TableFault, TableKind};
 use crate::fields::{benchmark_in, is_benchmarks_header};
@@ -60,6 +60,7 @@ impl Benchmarks {
 pub fn read_benchmarks(alloc: Global, bytes: &[u8]) -> Result<Benchmarks, TableFault>
     ensures table { IfOk result (λ table. benchmarks_of bytes.now ≡ Ok table) }
     ensures fault { IfErr result (λ fault. (fault ≡ no_memory) ⊎ (benchmarks_of bytes.now ≡ Err fault)) }
+    ensures too_long { longest_table < length bytes.now → result ≡ Err too_long }
 {
     if bytes.len() > MAX_TABLE_LEN {
         return Err(TableFault::TOO_LONG);

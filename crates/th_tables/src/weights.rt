@@ -2,7 +2,7 @@ ghost use Rattle.std.specs.Prelude.{◌≡◌, ◌⊎◌, ◌<◌, ◌≤◌, �
 ghost use Rattle.th_tables.specs.Fields.{weighted_in};
 ghost use Rattle.th_tables.specs.Reading.{IsReading, records_left};
 ghost use Rattle.th_tables.specs.Rows.{same_ends, weight_of};
-ghost use Rattle.th_tables.specs.Tables.{no_memory, rows_after, weights_of};
+ghost use Rattle.th_tables.specs.Tables.{longest_table, no_memory, rows_after, too_long, weights_of};
 
 use crate::faults::{TableFault, TableKind};
 use crate::fields::{MAX_WEIGHT, is_weights_header, weighted_in};
@@ -57,6 +57,8 @@ impl Weights {
 pub fn read_weights(alloc: Global, bytes: &[u8]) -> Result<Weights, TableFault>
     ensures table { IfOk result (λ table. weights_of bytes.now ≡ Ok table) }
     ensures fault { IfErr result (λ fault. (fault ≡ no_memory) ⊎ (weights_of bytes.now ≡ Err fault)) }
+    ensures empty { length bytes.now ≡ 0 → result ≡ Ok [] }
+    ensures too_long { longest_table < length bytes.now → result ≡ Err too_long }
 {
     if bytes.is_empty() {
         return Ok(Weights::empty(alloc));
