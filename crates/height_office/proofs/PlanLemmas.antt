@@ -1,4 +1,4 @@
-use Rattle.std.proofs.Common.{◌≡◌, ◌≢◌, ◌<◌, ◌⊎◌, Ok, Err, Result, IsErrAnd, IfErr, List, length, Some, None, ap, ap₂, sym, subst, refl, inl, inr, ◌∙◌, true, if◌then◌else◌}
+use Rattle.std.proofs.Common.{◌≡◌, ◌≢◌, ◌<◌, ◌⊎◌, [], Ok, Err, Result, IsErrAnd, IfErr, List, length, Some, None, ap, ap₂, sym, subst, refl, inl, inr, ◌∙◌, true, if◌then◌else◌}
 use Rattle.std.specs.Prelude.{Option, Box, option_map, codes}
 use Rattle.std.specs.Box.{box_value}
 use Rattle.std.specs.Str.{bytes_eq}
@@ -10,7 +10,7 @@ use Rattle.clap.specs.declared.parser.matches.ArgMatches.{ArgMatches}
 use Rattle.clap.specs.declared.parser.matches.ArgMatches.TheViews.{out-ArgMatches, out-SubCommand}
 use Rattle.clap.specs.declared.parser.matches.SubCommand.{SubCommand}
 use Rattle.clap.proofs.OnLiterals.{clap_on_literals}
-use Rattle.height_office.specs.Plans.{IsFaultOf, book_in, command_line}
+use Rattle.height_office.specs.Plans.{AreTaken, IsFaultOf, book_in, command_line}
 use Rattle.height_office.specs.declared.plans.PlanFault.{PlanFault}
 use Rattle.height_office.specs.declared.plans.PlanFault.TheVariants.{Line, NoMemory}
 
@@ -64,3 +64,8 @@ refused words app error fault more is kinds gives =
 pub at_err : {T E : Type 0} (r : Result T E) (Q P : E → Type 0) → IsErrAnd r Q → ((e : E) → Q e → P e) → IfErr r P
 at_err (Ok x) Q P h k = tt
 at_err (Err e) Q P h k = k e h
+
+-- words that `clap` parsed have no fault
+pub are_taken : (words : List Text) (app : App) → app ≡ command_line → (is_simple_and_free app ≡ true → fault_of app words ≡ [])
+    → AreTaken words
+are_taken words app is none = subst (λ (a : App). fault_of a words ≡ []) is (none (ap is_simple_and_free is ∙ command_line_is_simple))

@@ -1,8 +1,10 @@
-use Rattle.std.proofs.Common.{◌≡◌, ◌≤◌, ◌+◌, ℕ, List, ◌++◌, Some, None, IfSome, length, take, drop, ap, sym, subst, ◌∙◌, append-nil}
-use Rattle.std.proofs.lemmas.List.{take_all, take_at}
+use Rattle.std.proofs.Common.{◌≡◌, ◌≤◌, ◌+◌, ℕ, List, ◌++◌, Some, None, IfSome, length, take, drop, ap, sym, subst, ◌∙◌, append-nil, length-append, arith}
+use Rattle.std.proofs.KnownBytes.{Consumes-trans}
+use Rattle.std.proofs.lemmas.List.{length-take, take_all, take_at}
 use Rattle.std.proofs.Math.Seq.{take-add}
 use Rattle.std.specs.Prelude.{Option}
 use Rattle.std.specs.Io.KnownBytes.{Appends, Consumes, IsAtEnd}
+use Rattle.height_office.specs.Transfer.{Advances}
 
 -- a source that is at its end gave the whole text, and so all that a limit lets through
 pub whole_at_end : (old left : Option (List ℕ)) (bytes : List ℕ) (most : ℕ) → Consumes old left bytes → IsAtEnd left → length bytes ≤ most
@@ -31,3 +33,9 @@ written_more (Some x) before after text done count held taken =
     grown : (known : Option (List ℕ)) → Appends (Some (take done text)) known (take count (drop done text)) → known ≡ Some (take (done + count) text)
     grown None taken = absurd taken
     grown (Some bytes) taken = ap Some (taken ∙ sym (take-add done count text))
+
+-- a source that gave some bytes, and then a few more, stands behind all of them
+pub advances-more : (old before after : Option (List ℕ)) (bytes chunk : List ℕ) (count most : ℕ) → Consumes old before bytes
+    → Consumes before after (take count chunk) → length bytes + count ≤ most → Advances most old after
+advances-more old before after bytes chunk count most taken more within =
+    (_, omega (arith, length-append bytes (take count chunk), length-take count chunk, within), Consumes-trans _ _ _ _ _ taken more)

@@ -1,4 +1,4 @@
-use Rattle.std.specs.Prelude.{◌≡◌, ◌≢◌, ◌<◌, ◌≤◌, ◌⊎◌, true, List, Option, Some, None, codes, option_and_then, if◌then◌else◌, length}
+use Rattle.std.specs.Prelude.{◌≡◌, ◌≢◌, ◌<◌, ◌≤◌, ◌⊎◌, true, List, Option, Some, None, codes, option_and_then, if◌then◌else◌, length, []}
 use Rattle.std.specs.Str.{bytes_eq}
 use Rattle.clap.specs.Words.{App, IsAmong, Row, Text, fault_of, first_of, kind_of, new_app, new_rule, subcommand_of, with_rule, with_subcommand}
 use Rattle.clap.specs.declared.error.kind.ErrorKind.TheVariants.{OutOfMemory}
@@ -28,12 +28,22 @@ book_in = option_and_then (λ found. if bytes_eq found.0 (codes "list") then fir
 abbrev pub book_named : List Text → Option Text
 book_named words = book_in (subcommand_of command_line words)
 
--- the plan is what the words ask for: with no word after the program's name, or not even that one, it is to list standard input; `-` is a file's name like any other
+-- `clap` takes the words: it has no fault to state for them
+abbrev pub AreTaken : List Text → Type 0
+AreTaken words = fault_of command_line words ≡ []
+
+-- the plan is what the words ask for: with no word after the program's name, or not even that one, it is to list standard input; `-` is a file's name like any
+-- other, and so is the empty name, which no file has
 abbrev pub IsPlanOf : List Text → Plan → Type 0
 IsPlanOf words Standard = length words ≤ 1
-IsPlanOf words (ListBook name) = (1 < length words) × (book_named words ≡ Some name.now)
+IsPlanOf words (ListBook name) = (1 < length words) × AreTaken words × (book_named words ≡ Some name.now)
 
--- a fault of the words, of which there are more than the program's name: one that `clap` states for them, or they name no book. Want of memory may come for any
+-- a fault of the words, of which there are more than the program's name: one that `clap` states for them, or `clap` takes them and they name no book. Want of
+-- memory may come for any
 abbrev pub IsFaultOf : List Text → PlanFault → Type 0
-IsFaultOf words (Line error) = (1 < length words) × (kind_of error ≢ OutOfMemory) × (IsAmong (kind_of error) (fault_of command_line words) ⊎ (book_named words ≡ None))
+IsFaultOf words (Line error) = (1 < length words) × (kind_of error ≢ OutOfMemory) × (IsAmong (kind_of error) (fault_of command_line words) ⊎ (AreTaken words × (book_named words ≡ None)))
 IsFaultOf words NoMemory = 1 < length words
+
+-- the words are wrong, or ask for help: there are more than the program's name, and `clap` does not take them, or they name no book
+abbrev pub AreWrong : List Text → Type 0
+AreWrong words = (1 < length words) × ((fault_of command_line words ≢ []) ⊎ (book_named words ≡ None))

@@ -1,4 +1,4 @@
-use Rattle.std.specs.Prelude.{ℕ}
+use Rattle.std.specs.Prelude.{◌≡◌, ◌⊎◌, ℕ}
 use Rattle.height_office.specs.declared.refusals.Refusal.{Refusal}
 use Rattle.height_office.specs.declared.refusals.Refusal.TheVariants.{Book, Read, Write, NoMemory}
 
@@ -8,3 +8,11 @@ status_of (Book number fault) = 2
 status_of (Read input) = 5
 status_of (Write output) = 5
 status_of NoMemory = 4
+
+-- a status that a run may end with: 0 where it is done, or one of those after a refusal
+abbrev pub IsStatusOfRun : ℕ → Type 0
+IsStatusOfRun status = (status ≡ 0) ⊎ (status ≡ 2) ⊎ (status ≡ 4) ⊎ (status ≡ 5)
+
+-- a status that the program may end with: 3 for words that are wrong, or that of a run
+abbrev pub IsStatus : ℕ → Type 0
+IsStatus status = (status ≡ 3) ⊎ IsStatusOfRun status

@@ -1,6 +1,7 @@
 use Rattle.std.specs.Prelude.{◌≡◌, ◌≢◌, ℕ, List, Option, Some, IfSome, Result, Ok, Err}
 use Rattle.th_book.specs.Books.{book_answer, longest_book}
 use Rattle.th_book.specs.Observed.{Observed}
+use Rattle.th_book.specs.declared.faults.BookFault.{BookFault}
 use Rattle.th_book.specs.declared.faults.BookKind.TheVariants as book_kind
 use Rattle.height_office.specs.Lists.{list_text}
 use Rattle.height_office.specs.Transfer.{HoldsBeginning}
@@ -27,6 +28,10 @@ HoldsList number told before after =
 abbrev pub HoldsListBeginning : ℕ → Option (List ℕ) → Type 0 → Option (List ℕ) → Option (List ℕ) → Type 0
 HoldsListBeginning number told WasBegun before after =
     (observations : List Observed) × AreOfBook number told observations × (WasBegun → HoldsBeginning before after (list_text observations))
+
+-- the book with this number has a fault, where its text is told
+abbrev pub HasFault : ℕ → Option (List ℕ) → Type 0
+HasFault number told = IfSome told (λ text. (fault : BookFault) × (book_answer number text ≡ Err fault))
 
 -- the refusal is one of listing the book with this number: its fault is the one that its text has, where that is told
 abbrev pub IsRefusalOf : ℕ → Option (List ℕ) → Refusal → Type 0

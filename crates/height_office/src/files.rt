@@ -109,6 +109,7 @@ impl<'a, R: Files> Source for FileSource<'a, R> {
         ensures failed { OnErr result (Keeps self.old.left self.new.left) }
 
         ensures opened { OnOk result (self.new.opened ≡ true) }
+        ensures name { self.new.name ≡ self.old.name }
     {
         let answer = read_opened(self.files, self.name, &mut self.file, into);
         self.counts.count(&answer);
@@ -221,6 +222,7 @@ impl<'a, R: Files> Sink for FileSink<'a, R> {
         ensures unfinished { self.new.finished ≡ false }
 
         ensures opened { OnOk result (self.new.opened ≡ true) }
+        ensures name { self.new.name ≡ self.old.name }
     {
         let answer = match fs::create(self.files, self.name) {
             Ok(file) => {
@@ -247,6 +249,7 @@ impl<'a, R: Files> Sink for FileSink<'a, R> {
 
         ensures unopened { self.old.opened ≡ false → IsErr result }
         ensures opened { self.new.opened ≡ self.old.opened }
+        ensures name { self.new.name ≡ self.old.name }
         ensures bytes { WriteAppends self.old.contents self.new.contents result bytes.now }
     {
         let answer = write_opened(&mut self.file, bytes);
@@ -264,6 +267,7 @@ impl<'a, R: Files> Sink for FileSink<'a, R> {
 
         ensures unopened { self.old.opened ≡ false → IsErr result }
         ensures opened { self.new.opened ≡ self.old.opened }
+        ensures name { self.new.name ≡ self.old.name }
         ensures bytes { Keeps self.old.contents self.new.contents }
     {
         let answer = flush_opened(&mut self.file);

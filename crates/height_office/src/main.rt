@@ -4,8 +4,10 @@
 //! run a status, with one line on standard error where it is a refusal.
 #![tactic(auto)]
 
-ghost use Rattle.std.specs.Prelude.{◌≡◌, ◌<◌, ◌≤◌};
-ghost use Rattle.height_office.specs.Refusals.{status_of};
+ghost use Rattle.std.specs.Prelude.{◌≡◌, ◌<◌, ◌≤◌, ◌↔◌, ◌⊎◌, true, map, string_bytes};
+ghost use Rattle.height_office.specs.Plans.{AreWrong};
+ghost use Rattle.height_office.specs.Refusals.{IsStatus, IsStatusOfRun, status_of};
+ghost use Rattle.height_office.specs.Runs.{HasFault, HoldsList};
 
 mod command_lines;
 mod devices;
@@ -19,10 +21,10 @@ mod streams;
 mod transfer;
 
 use command_lines::plan;
-use devices::Source;
+use devices::{Sink, Source};
 use files::FileSource;
 use plans::{Plan, PlanFault};
-use refusals::{DEVICE_FAILED, DONE, NO_MEMORY, Refusal, USAGE, status_of};
+use refusals::{DEVICE_FAILED, DONE, INPUT_REFUSED, NO_MEMORY, Refusal, USAGE, status_of};
 use runs::run_list;
 use std::io::ErrorKind;
 use std::process::ExitCode;
@@ -36,7 +38,9 @@ fn main(rt: HostRuntime) -> ExitCode {
 }
 
 /// Does what the words of the command line ask for, and says the status to end with.
-fn run_words<R: Env + AllocGlobal + Files + Input + Print + Eprint>(rt: &R) -> u8 {
+fn run_words<R: Env + AllocGlobal + Files + Input + Print + Eprint>(rt: &R) -> u8
+    ensures { IsStatus result }
+{
     match words_of(rt) {
         Ok(words) => run(rt, words.as_slice()),
         Err(error) if error.kind() == ErrorKind::InvalidData => {
@@ -54,10 +58,16 @@ fn words_of<R: Env + AllocGlobal>(rt: &R) -> io::Result<Vec<String>> {
 }
 
 /// Does what these words ask for, the program's own name first, and says the status to end with.
-fn run<R: AllocGlobal + Files + Input + Print + Eprint>(rt: &R, words: &[String]) -> u8 {
+fn run<R: AllocGlobal + Files + Input + Print + Eprint>(rt: &R, words: &[String]) -> u8
+    ensures usage { result ≡ USAGE → AreWrong (map string_bytes words.now) }
+    ensures wrong { AreWrong (map string_bytes words.now)
+        → (result ≡ USAGE) ⊎ (result ≡ NO_MEMORY) }
+    ensures status { IsStatus result }
+{
+    let mut out = StandardOutput::new(rt);
     match plan(rt.alloc(), words) {
-        Ok(Plan::Standard) => list(rt, &mut StandardInput::new(rt)),
-        Ok(Plan::List(name)) => list(rt, &mut FileSource::new(rt, name)),
+        Ok(Plan::Standard) => list(rt, &mut StandardInput::new(rt), &mut out),
+        Ok(Plan::List(name)) => list(rt, &mut FileSource::new(rt, name), &mut out),
         Err(PlanFault::Line(error)) => {
             let _ = rt.eprint(&error);
             USAGE
@@ -66,12 +76,19 @@ fn run<R: AllocGlobal + Files + Input + Print + Eprint>(rt: &R, words: &[String]
     }
 }
 
-/// Lists a book on standard output, and says the status to end with.
-fn list<R: AllocGlobal + Print + Eprint, S: Source>(rt: &R, book: &mut S) -> u8
-    requires { S.calls book.old ≤ CALLS_BEFORE }
-    ensures { S.failures book.old < S.failures book.new → result ≡ DEVICE_FAILED }
+/// Lists a book, and says the status to end with.
+fn list<R: AllocGlobal + Eprint, S: Source, K: Sink>(rt: &R, book: &mut S, out: &mut K) -> u8
+    requires book_calls { S.calls book.old ≤ CALLS_BEFORE }
+    requires out_calls { K.calls out.old ≤ CALLS_BEFORE }
+    ensures listed { result ≡ DONE
+        → HoldsList 1 (S.left book.old) (K.held out.old) (K.held out.new) }
+    ensures finished { result ≡ DONE → K.is_finished out.new ≡ true }
+    ensures refused { result ≡ INPUT_REFUSED → HasFault 1 (S.left book.old) }
+    ensures fails { (result ≡ DEVICE_FAILED) ↔ ((S.failures book.old < S.failures book.new)
+        ⊎ (K.failures out.old < K.failures out.new)) }
+    ensures status { IsStatusOfRun result }
 {
-    match run_list(rt.alloc(), book, &mut StandardOutput::new(rt)) {
+    match run_list(rt.alloc(), book, out) {
         Ok(()) => DONE,
         Err(refusal) => refuse(rt, &refusal),
     }

@@ -35,8 +35,8 @@ pub fn run_list<S: Source, K: Sink>(alloc: Global, book: &mut S, out: &mut K) ->
         (K.held out.old) (K.held out.new) }
 
     // How far the book is read.
-    ensures stands { Advances (S.left book.old) (S.left book.new) }
-    ensures reads { S.calls book.new ≤ S.calls book.old + longest_book + 2 }
+    ensures stands { Advances (longest_book + 1) (S.left book.old) (S.left book.new) }
+    ensures reads { S.calls book.new ≤ S.calls book.old + longest_book + 1 }
 {
     let observations = observations_of(alloc, 1, book)?;
     let text = list_text(alloc, observations.as_slice())?;
@@ -58,8 +58,8 @@ fn observations_of<S: Source>(
     ensures refused { IfErr result (IsRefusalOf number (S.left book.old)) }
     ensures read_fails { S.failures book.new ≡ S.failures book.old + failed_reads result }
     ensures no_write { failed_writes result ≡ 0 }
-    ensures stands { Advances (S.left book.old) (S.left book.new) }
-    ensures reads { S.calls book.new ≤ S.calls book.old + longest_book + 2 }
+    ensures stands { Advances (longest_book + 1) (S.left book.old) (S.left book.new) }
+    ensures reads { S.calls book.new ≤ S.calls book.old + longest_book + 1 }
 {
     let input = Input::Book(number);
     let bytes = match read_all(alloc, book, limit_of(input)) {

@@ -6,10 +6,13 @@ use crate::devices::Failed;
 use crate::files::{FileSink, FileSource};
 use crate::memory::{TextSink, TextSource};
 use crate::plans::{Plan, PlanFault};
+use crate::streams::StandardOutput;
 use crate::transfer::{ReadFault, read_all, write_all};
 use clap::error::ErrorKind;
-use std::fs;
+use std::cell::Cell;
+use std::fmt::Display;
 use std::test::Fail;
+use std::{fs, io};
 
 /// A text of 70 bytes.
 const TEXT: &[u8] = b"kind,key,value\nV,1,1\nH,A,100.00000000\nH,B,102.54500000\nF,1,0\nZ,cost,0\n";
@@ -94,6 +97,51 @@ fn a_file_that_cannot_be_opened_fails_its_call(rt: HostRuntime) {
     assert_eq!(rt; write_all(&mut sink, TEXT), Err(Failed));
 }
 
+/// A standard output that takes a byte a call, and fails once it is full.
+#[derive(Drop)]
+struct FullOutput {
+    taken: Cell<usize>,
+    room: usize,
+}
+
+impl Print for FullOutput {
+    fn print<D: Display + Drop>(&self, _value: D) -> io::Result<()> {
+        Err(io::Error::from(io::ErrorKind::BrokenPipe))
+    }
+
+    fn println<D: Display + Drop>(&self, _value: D) -> io::Result<()> {
+        Err(io::Error::from(io::ErrorKind::BrokenPipe))
+    }
+
+    fn write_all(&self, _bytes: &[u8]) -> io::Result<()> {
+        Err(io::Error::from(io::ErrorKind::BrokenPipe))
+    }
+
+    fn write_some(&self, bytes: &[u8]) -> io::Result<usize> {
+        let taken = self.taken.get();
+        if taken == self.room {
+            return Err(io::Error::from(io::ErrorKind::BrokenPipe));
+        }
+        let count = bytes.len().min(1);
+        self.taken.set(taken.saturating_add(count));
+        Ok(count)
+    }
+}
+
+#[test]
+fn standard_output_takes_all_or_fails(rt: HostRuntime) {
+    // How many bytes it takes, and the answer.
+    for (room, answer) in [(70, Ok(())), (69, Err(Failed)), (0, Err(Failed))] {
+        let output = FullOutput {
+            taken: Cell::new(0),
+            room,
+        };
+        let mut sink = StandardOutput::new(&output);
+        assert_eq!(rt; write_all(&mut sink, TEXT), answer, "room {room}");
+        assert_eq!(rt; output.taken.get(), room, "room {room}");
+    }
+}
+
 #[test]
 fn words_are_a_plan(rt: HostRuntime) {
     let answer = plan(rt.alloc(), &["height_office"]);
@@ -101,6 +149,7 @@ fn words_are_a_plan(rt: HostRuntime) {
     for words in [
         ["height_office", "list", "k.gsi"],
         ["height_office", "list", "-"],
+        ["height_office", "list", ""],
     ] {
         match plan(rt.alloc(), &words) {
             Ok(Plan::List(book)) => assert!(rt; book == words[2]),

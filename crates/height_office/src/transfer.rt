@@ -44,7 +44,7 @@ pub fn read_all<S: Source>(alloc: Global, source: &mut S, limit: u32) -> Result<
     ensures within { IfOk result (λ bytes. vec_len bytes ≤ limit + 1) }
     ensures taken { IfOk result (λ bytes.
         Consumes (S.left source.old) (S.left source.new) bytes.items) }
-    ensures stands { OnErr result (Advances (S.left source.old) (S.left source.new)) }
+    ensures stands { Advances (limit + 1) (S.left source.old) (S.left source.new) }
 
     ensures failures { S.failures source.new
         ≡ S.failures source.old + failures_in_reading result }

@@ -1,6 +1,6 @@
-use Rattle.std.proofs.Common.{rules, arith}
-use Rattle.std.proofs.KnownBytes.{Consumes-trans}
-use Rattle.height_office.proofs.TransferLemmas.{whole_at_end}
+use Rattle.std.proofs.Common.{◌≤◌, rules, arith}
+use Rattle.std.proofs.lemmas.Grind.{common_steps}
+use Rattle.height_office.proofs.TransferLemmas.{advances-more, whole_at_end}
 use Rattle.height_office.proofs.transfer.read_all.Goals as goal
 
 pub returns-then-count-eq0-clause-whole : goal.returns-then-count-eq0-clause-whole
@@ -9,4 +9,5 @@ returns-then-count-eq0-clause-whole g c =
 
 pub returns-then-is_err-clause-stands : goal.returns-then-is_err-clause-stands
 returns-then-is_err-clause-stands g c =
-    (_, Consumes-trans _ _ _ _ _ c.loop-chunk.invariant.0 c.in-Ok.ensures.taken)
+    let within : c.in-Ok.count ≤ c.min-asked.result = grind (arith, common_steps, c.in-Ok.ensures.within) in
+    advances-more _ _ _ _ _ _ _ c.loop-chunk.invariant.0 c.in-Ok.ensures.taken (omega (arith, within))
