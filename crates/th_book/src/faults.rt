@@ -5,7 +5,8 @@ use std::fmt;
 /// The most bytes that a book has: 64 MiB.
 pub const MAX_BOOK: usize = 67_108_864;
 
-/// What a line of a book breaks; of several, the first of this order.
+/// What is wrong with a book. A line has the first kind that applies, in this order; a book that is
+/// too long is that before all else.
 #[derive(Clone, Copy, Debug, PartialEq, Eq)]
 pub enum BookKind {
     /// B1: the line is neither blank nor a block.
@@ -30,13 +31,13 @@ pub enum BookKind {
     NoReflectorHeight,
     /// B11: the sight's station and target have one name.
     SightToItself,
-    /// B12: the book has more than 64 MiB. It stands at line 0 and comes before all others.
+    /// B12: the book has more than 64 MiB.
     BookTooLong,
-    /// Memory for an observation was refused.
+    /// Memory for an observation was refused, which is no fault of the book.
     NoMemory,
 }
 
-/// The first fault of a book, and its line from 1.
+/// The first fault of a book, and its line from 1; a book that is too long has it at line 0.
 #[derive(Clone, Copy, Debug, PartialEq, Eq)]
 pub struct BookFault {
     pub line: u32,

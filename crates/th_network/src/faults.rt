@@ -13,7 +13,7 @@ pub enum NetFault {
     TooManyPoints,
     /// N3: from this point, the first of its kind, no chain of observations leads to a benchmark.
     NoBenchmark(Name),
-    /// Memory was refused.
+    /// Memory was refused, which is no fault of the observations.
     NoMemory,
 }
 

@@ -56,7 +56,7 @@ impl Benchmarks {
 /// The benchmarks of a table with the header `point,height`, or its first fault.
 ///
 /// A record under the header has a name and metres of at most 10 km in size, and no name that an
-/// earlier record has.
+/// earlier record has. Want of memory may be answered for a table that is not too long.
 pub fn read_benchmarks(alloc: Global, bytes: &[u8]) -> Result<Benchmarks, TableFault>
     ensures table { IfOk result (λ table. benchmarks_of bytes.now ≡ Ok table) }
     ensures fault { IfErr result (λ fault. (fault ≡ no_memory) ⊎ (benchmarks_of bytes.now ≡ Err fault)) }

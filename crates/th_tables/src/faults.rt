@@ -3,7 +3,8 @@ ghost use Rattle.th_tables.specs.declared.faults.TableKind.TheVariants.{NoMemory
 
 use std::alloc::{AllocError, AllocFailed};
 
-/// What is wrong with a table. A record has the first kind that applies, in this order.
+/// What is wrong with a table. A record has the first kind that applies, in this order; a table that
+/// is too long is that before all else.
 #[derive(Clone, Copy, Debug, PartialEq, Eq)]
 pub enum TableKind {
     /// Record 1 is not the table's header, or there is no record.
@@ -18,9 +19,9 @@ pub enum TableKind {
     BadWeight,
     /// An earlier record has the same name, or the same station and target.
     Repeated,
-    /// The table has more than `MAX_TABLE_LEN` bytes. This comes before all other kinds.
+    /// The table has more than `MAX_TABLE_LEN` bytes.
     TableTooLong,
-    /// Memory was refused.
+    /// Memory was refused, which is no fault of the table.
     NoMemory,
 }
 

@@ -53,7 +53,8 @@ impl Weights {
 /// The weights of a table with the header `from,to,weight`, none for no bytes, or its first fault.
 ///
 /// A record under the header has a station's and a target's name and a weight of 1 to `MAX_WEIGHT`,
-/// and no station and target that an earlier record has in this order.
+/// and no station and target that an earlier record has in this order. Want of memory may be
+/// answered for a table that has bytes and is not too long.
 pub fn read_weights(alloc: Global, bytes: &[u8]) -> Result<Weights, TableFault>
     ensures table { IfOk result (λ table. weights_of bytes.now ≡ Ok table) }
     ensures fault { IfErr result (λ fault. (fault ≡ no_memory) ⊎ (weights_of bytes.now ≡ Err fault)) }

@@ -239,6 +239,15 @@ fn a_line_has_at_most_1600_bytes_and_64_words(rt: HostRuntime) -> Result<(), Fai
 }
 
 #[test]
+fn a_fault_of_a_late_line_is_shown(rt: HostRuntime) -> Result<(), Fail> {
+    let mut book = vec![in rt.alloc(); b'\n'; 100_000]?;
+    book.push(b'*')?;
+    let line = shown(&rt, book.as_slice(), 65_536)?;
+    assert!(rt; line.as_slice() == b"book 1 line 100001: B1 word 1: short".as_slice());
+    Ok(())
+}
+
+#[test]
 fn a_book_has_at_most_64_mib(rt: HostRuntime) -> Result<(), Fail> {
     let mut book = vec![in rt.alloc(); b'\n'; MAX_BOOK]?;
     assert!(rt; shown(&rt, book.as_slice(), 1_000_000)?.as_slice() == HEADER);
