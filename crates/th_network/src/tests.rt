@@ -237,6 +237,7 @@ fn makes_one_network(rt: HostRuntime) {
         }
     );
     assert_eq!(rt; network.weight(0), 3);
+    assert_eq!(rt; network.points().len(), 2);
     assert_eq!(rt; network.fixed(0), Some(10_000_000_000));
     assert_eq!(rt; network.fixed(1), None);
 }
