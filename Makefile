@@ -13,7 +13,7 @@ help:
 	@echo 'make gate      rt ci alone'
 	@echo 'make examples  compare what the built program gives for the books of examples/ with what stands beside them'
 	@echo 'make compare   compare the built program with the second reader on mutated books (BOOKS=$(BOOKS) SEED=$(SEED))'
-	@echo 'make memory    list a book, and read tables and build a network, with each allocation refused in turn (a quarter of an hour)'
+	@echo 'make memory    list a book, and read tables and build a network, with each allocation refused in turn (some twenty minutes)'
 	@echo 'make bench     throughput and peak memory, beside a plain C++ lister, wc and awk'
 	@echo 'make install   copy the built program to $(PREFIX)/bin'
 	@echo 'make clean     remove what was built'
