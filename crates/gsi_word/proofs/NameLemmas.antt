@@ -1,8 +1,10 @@
 -- A name's bytes are in reduced form: reducing them again leaves them as they are.
 use Rattle.std.proofs.Common.{zero, suc, ◌≡◌, ℕ, ◌-◌, ◌<◌, ◌≤◌, Bool, true, false, not, nat_lt, ◌&&◌, ◌==◌, if◌then◌else◌, List, [], ◌∷◌, ◌++◌, length, get_or, take, drop, reverse, replicate, Some, None, refl, sym, ap, subst, ◌∙◌, arith}
 use Rattle.std.specs.List.{list_all, list_any, prefix_len, suffix_len}
+use Rattle.std.specs.Str.{IsAscii, IsUtf8}
 use Rattle.std.proofs.lemmas.Bool.Decides.{nat_tests}
 use Rattle.std.proofs.lemmas.List.{take_all, take-append-drop, drop-replicate, length-reverse, get_or-reverse}
+use Rattle.std.proofs.lemmas.Str.{IsUtf8-from_ascii}
 use Rattle.std.proofs.Math.Seq.{take-append_seam}
 use Rattle.std.proofs.lemmas.List.Folds.{list_all-append, prefix_len-append}
 use Rattle.std.proofs.lemmas.List.Sums.{prefix_len_stops, prefix_len-drop_no, prefix_len-drop_all, suffix_len-take_no}
@@ -118,3 +120,17 @@ IsPaddedName-of name is_name =
       padded = rw front (ap (λ zeros. name ++ zeros) (drop-replicate (length name) MAX_NAME 0));
       reduced = rw front is_name;
     }
+
+-- printable bytes are ASCII
+IsAscii-printable : (bytes : List ℕ) → list_all is_data bytes ≡ true → IsAscii bytes
+IsAscii-printable [] printable i = omega arith
+IsAscii-printable (b ∷ bytes) printable zero = grind (arith, nat_tests)
+IsAscii-printable (b ∷ bytes) printable (suc i) = IsAscii-printable bytes (grind arith) i
+
+-- bytes that have a name are printable, and so a text
+pub IsUtf8-name : (bytes name : List ℕ) → name_of bytes ≡ Some name → IsUtf8 bytes
+IsUtf8-name bytes name is_name = IsUtf8-from_ascii bytes (IsAscii-printable bytes (by_test (list_all is_data bytes) refl))
+  where
+    by_test : (printable : Bool) → list_all is_data bytes ≡ printable → list_all is_data bytes ≡ true
+    by_test true e = e
+    by_test false e = absurd (cc)

@@ -107,6 +107,10 @@ impl Hash for Name {
 }
 
 impl fmt::Debug for Name {
+    ghost use Rattle.std.specs.Fmt.{debug_str};
+
+    ghost debug_output = { debug_str };
+
     fn fmt<W: fmt::Write>(&self, f: &mut fmt::Formatter<W>) -> fmt::Result {
         match str::from_utf8(self.as_bytes()) {
             Ok(text) => fmt::Debug::fmt(text, f),
