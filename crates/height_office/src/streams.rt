@@ -1,8 +1,10 @@
 //! The standard streams as a source and a sink. The source tells the bytes that are left where its
 //! reader tells them, which that of the system does not; the sink tells nothing of its bytes.
-ghost use Rattle.std.specs.Prelude.{◌≡◌, ◌<◌, ◌≤◌, false, None, IfOk, length};
+ghost use Rattle.std.specs.Prelude.{◌≡◌, ◌+◌, ◌<◌, ◌≤◌, true, false, is_ok, None, IfOk, OnOk, length};
+ghost use Rattle.std.specs.Io.KnownBytes.{Keeps};
+ghost use Rattle.height_office.specs.Devices.{failures_in, IsCleared};
 
-use crate::devices::{Counts, Failed, Sink, Source};
+use crate::devices::{CALL_LIMIT, Counts, Failed, Sink, Source};
 use crate::files::{read_some, taken_of};
 use std::marker::Model;
 
@@ -53,7 +55,8 @@ impl<R: Input> Source for StandardInput<R> {
     ghost failures_are_calls = { λ source. source.counts.failures_are_calls };
 }
 
-/// Standard output. It is empty as it is, so `begin` has nothing to do.
+/// Standard output. It is empty as it is, and keeps no byte back, so `begin` and `finish` have
+/// nothing to do and never fail.
 #[derive(Drop)]
 pub struct StandardOutput<'a, R: Print> {
     output: &'a R,
@@ -93,7 +96,15 @@ impl<'a, R: Print> Sink for StandardOutput<'a, R> {
 
     ghost failures = { λ sink. sink.counts.failures };
 
-    fn begin(&mut self) -> Result<(), Failed> {
+    fn begin(&mut self) -> Result<(), Failed>
+        requires { self.old.counts.calls < CALL_LIMIT }
+        ensures calls { self.new.counts.calls ≡ self.old.counts.calls + 1 }
+        ensures failures { self.new.counts.failures ≡ self.old.counts.failures + failures_in result }
+        ensures cleared { OnOk result (IsCleared None None) }
+        ensures unfinished { self.new.finished ≡ false }
+
+        ensures done { is_ok result ≡ true }
+    {
         let answer = Ok(());
         self.finished = false;
         self.counts.count(&answer);
@@ -107,7 +118,15 @@ impl<'a, R: Print> Sink for StandardOutput<'a, R> {
         answer
     }
 
-    fn finish(&mut self) -> Result<(), Failed> {
+    fn finish(&mut self) -> Result<(), Failed>
+        requires { self.old.counts.calls < CALL_LIMIT }
+        ensures calls { self.new.counts.calls ≡ self.old.counts.calls + 1 }
+        ensures failures { self.new.counts.failures ≡ self.old.counts.failures + failures_in result }
+        ensures kept { Keeps None None }
+        ensures finished { self.new.finished ≡ is_ok result }
+
+        ensures done { is_ok result ≡ true }
+    {
         let answer = Ok(());
         self.finished = true;
         self.counts.count(&answer);
