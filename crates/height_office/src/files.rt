@@ -194,7 +194,7 @@ fn write_opened<F: Write>(file: &mut Option<F>, bytes: &[u8]) -> Result<usize, F
 }
 
 /// Brings what was written to the file.
-fn flush_opened<F: Write>(file: &mut Option<F>) -> Result<(), Failed>
+pub fn flush_opened<F: Write>(file: &mut Option<F>) -> Result<(), Failed>
     ensures unopened { file.old ≡ None → IsErr result }
     ensures opened { is_some file.new ≡ is_some file.old }
     ensures bytes { Keeps (option_and_then F.contents file.old) (option_and_then F.contents file.new) }

@@ -2,8 +2,8 @@
 mod listing;
 
 use crate::command_lines::plan;
-use crate::devices::Failed;
-use crate::files::{FileSink, FileSource};
+use crate::devices::{Failed, Sink, Source};
+use crate::files::{FileSink, FileSource, flush_opened, read_some};
 use crate::memory::{TextSink, TextSource};
 use crate::plans::{Plan, PlanFault};
 use crate::streams::StandardOutput;
@@ -11,6 +11,7 @@ use crate::transfer::{ReadFault, read_all, write_all};
 use clap::error::ErrorKind;
 use std::cell::Cell;
 use std::fmt::Display;
+use std::io::{Read, Write};
 use std::test::Fail;
 use std::{fs, io};
 
@@ -95,6 +96,68 @@ fn a_file_that_cannot_be_opened_fails_its_call(rt: HostRuntime) {
     assert!(rt; matches!(answer, Err(ReadFault::Failed)));
     let mut sink = FileSink::new(&rt, "no-such-folder/heights.csv");
     assert_eq!(rt; write_all(&mut sink, TEXT), Err(Failed));
+}
+
+#[test]
+fn a_finished_file_is_written_on(rt: HostRuntime) {
+    let name = "written_on.csv";
+    let mut sink = FileSink::new(&rt, name);
+    assert_eq!(rt; write_all(&mut sink, TEXT), Ok(()));
+    assert_eq!(rt; sink.write(b""), Ok(0));
+    assert_eq!(rt; sink.write(b"Z"), Ok(1));
+    assert_eq!(rt; sink.finish(), Ok(()));
+    let mut source = FileSource::new(&rt, name);
+    assert_eq!(rt; source.read(&mut []), Ok(0));
+    let bytes = read_all(rt.alloc(), &mut source, 100);
+    let bytes = bytes.ok().expect(&rt, "the file");
+    assert_eq!(rt; bytes.len(), 71);
+    assert!(rt; bytes.starts_with(TEXT));
+    assert!(rt; fs::remove_file(&rt, name).is_ok());
+}
+
+/// An open file whose first call fails.
+#[derive(Drop)]
+struct FailsAtFirst {
+    calls: u32,
+}
+
+impl FailsAtFirst {
+    fn call(&mut self) -> io::Result<()> {
+        self.calls = self.calls.saturating_add(1);
+        if self.calls == 1 {
+            return Err(io::Error::from(io::ErrorKind::BrokenPipe));
+        }
+        Ok(())
+    }
+}
+
+impl Read for FailsAtFirst {
+    fn read(&mut self, _buf: &mut [u8]) -> io::Result<usize> {
+        self.call()?;
+        Ok(0)
+    }
+}
+
+impl Write for FailsAtFirst {
+    fn write(&mut self, _buf: &[u8]) -> io::Result<usize> {
+        self.call()?;
+        Ok(0)
+    }
+
+    fn flush(&mut self) -> io::Result<()> {
+        self.call()
+    }
+}
+
+#[test]
+fn what_the_system_fails_is_not_tried_again(rt: HostRuntime) {
+    let mut file = FailsAtFirst { calls: 0 };
+    let mut into = [0u8; 4];
+    assert_eq!(rt; read_some(&mut file, &mut into), Err(Failed));
+    assert_eq!(rt; read_some(&mut file, &mut into), Ok(0));
+    let mut file = Some(FailsAtFirst { calls: 0 });
+    assert_eq!(rt; flush_opened(&mut file), Err(Failed));
+    assert_eq!(rt; flush_opened(&mut file), Ok(()));
 }
 
 /// A standard output that takes a byte a call, and fails once it is full.
