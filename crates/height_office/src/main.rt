@@ -4,7 +4,9 @@
 //! run a status, with one line on standard error where it is a refusal.
 #![tactic(auto)]
 
-ghost use Rattle.std.specs.Prelude.{◌≡◌, ◌<◌, ◌≤◌, ◌↔◌, ◌⊎◌, true, map, string_bytes};
+ghost use Rattle.std.specs.Prelude.{◌≡◌, ◌≢◌, ◌<◌, ◌≤◌, ◌↔◌, ◌⊎◌, IfOk, IfErr, true, map, string_bytes};
+ghost use Rattle.std.specs.IoError.{error_kind};
+ghost use Rattle.std.specs.declared.io.ErrorKind.TheVariants.{InvalidData};
 ghost use Rattle.height_office.specs.Plans.{AreWrong};
 ghost use Rattle.height_office.specs.Refusals.{IsStatus, IsStatusOfRun, status_of};
 ghost use Rattle.height_office.specs.Runs.{HasFault, HoldsList};
@@ -41,7 +43,22 @@ fn main(rt: HostRuntime) -> ExitCode {
 fn run_words<R: Env + AllocGlobal + Files + Input + Print + Eprint>(rt: &R) -> u8
     ensures { IsStatus result }
 {
-    match words_of(rt) {
+    run_read(rt, words_of(rt))
+}
+
+/// Does what the words ask for, where they were read, and says the status to end with.
+fn run_read<R: AllocGlobal + Files + Input + Print + Eprint>(
+    rt: &R,
+    words: io::Result<Vec<String>>,
+) -> u8
+    ensures usage { result ≡ USAGE → IfOk words (λ own. AreWrong (map string_bytes own.items)) }
+    ensures wrong { IfOk words (λ own. AreWrong (map string_bytes own.items)
+        → (result ≡ USAGE) ⊎ (result ≡ NO_MEMORY)) }
+    ensures no_text { IfErr words (λ error. error_kind error ≡ InvalidData → result ≡ USAGE) }
+    ensures no_memory { IfErr words (λ error. error_kind error ≢ InvalidData → result ≡ NO_MEMORY) }
+    ensures status { IsStatus result }
+{
+    match words {
         Ok(words) => run(rt, words.as_slice()),
         Err(error) if error.kind() == ErrorKind::InvalidData => {
             let _ = rt.eprintln("error: a word of the command line is no text");
