@@ -1,6 +1,5 @@
 use Rattle.std.specs.Prelude.{◌≡◌, ◌⊎◌, ◌++◌, ℕ, List, codes}
 use Rattle.std.specs.Fmt.{decimal}
-use Rattle.th_book.specs.Texts.{fault_text}
 use Rattle.height_office.specs.declared.refusals.Input.{Input}
 use Rattle.height_office.specs.declared.refusals.Input.TheVariants as input
 use Rattle.height_office.specs.declared.refusals.Output.{Output}
@@ -15,13 +14,6 @@ input_text (input.Book number) = codes "book " ++ decimal number
 -- how an output is said
 abbrev pub output_text : Output → List ℕ
 output_text output.List = codes "list"
-
--- how a refusal is said, in the line for standard error
-abbrev pub refusal_text : Refusal → List ℕ
-refusal_text (Book number fault) = codes "book " ++ decimal number ++ codes " " ++ fault_text fault
-refusal_text (Read which) = codes "read failed: " ++ input_text which
-refusal_text (Write which) = codes "write failed: " ++ output_text which
-refusal_text NoMemory = codes "out of memory"
 
 -- the status after a refusal: 2 for an input that was refused, 4 for want of memory, 5 for a device that failed
 abbrev pub status_of : Refusal → ℕ

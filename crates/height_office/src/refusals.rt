@@ -66,29 +66,17 @@ impl fmt::Display for Output {
 #[derive(Clone, Copy, Debug, PartialEq, Eq, Error)]
 pub enum Refusal {
     /// The book with this number, from 1, has a fault, which is not want of memory.
+    #[error("book {0} {1}")]
     Book(u32, BookFault),
     /// This input was not read to its end.
+    #[error("read failed: {0}")]
     Read(Input),
     /// This output was not written whole.
+    #[error("write failed: {0}")]
     Write(Output),
     /// There was no memory.
+    #[error("out of memory")]
     NoMemory,
-}
-
-impl fmt::Display for Refusal {
-    ghost use Rattle.std.specs.Prelude.{Some};
-    ghost use Rattle.height_office.specs.Refusals.{refusal_text};
-
-    ghost output = { λ refusal. Some (refusal_text refusal) };
-
-    fn fmt<W: fmt::Write>(&self, f: &mut fmt::Formatter<W>) -> fmt::Result {
-        match self {
-            Refusal::Book(number, fault) => write!(f, "book {number} {fault}"),
-            Refusal::Read(input) => write!(f, "read failed: {input}"),
-            Refusal::Write(output) => write!(f, "write failed: {output}"),
-            Refusal::NoMemory => f.write_str("out of memory"),
-        }
-    }
 }
 
 impl From<AllocError> for Refusal {
