@@ -1,4 +1,4 @@
-ghost use Rattle.std.specs.Prelude.{◌≡◌, ◌⊎◌, ◌<◌, ℕ, IfOk, OnOk, length};
+ghost use Rattle.std.specs.Prelude.{◌≡◌, ◌⊎◌, ◌<◌, ℕ, IfOk, OnErr, OnOk, length};
 ghost use Rattle.th_network.specs.Marks.{IsMarked, IsSeeded, Spreads};
 
 use std::alloc::{AllocError, Global};
@@ -29,7 +29,8 @@ impl Marks {
         Ok(Marks { marked, waiting })
     }
 
-    /// Marks a point, and lets it wait if it was not marked yet.
+    /// Marks a point, and lets it wait if it was not marked yet. Where room to wait is refused, nothing
+    /// is marked.
     pub fn mark(&mut self, place: usize) -> Result<(), AllocError>
         requires { place < length self.old.marked.items }
         ensures marks { OnOk result (IsMarked self.new.marked.items place) }
@@ -37,6 +38,8 @@ impl Marks {
             → IsMarked self.old.marked.items other ⊎ (other ≡ place)) }
         ensures spreads { OnOk result (Spreads self.old.marked.items self.old.waiting.items
             self.new.marked.items self.new.waiting.items) }
+        ensures kept { OnErr result ((self.new.marked.items ≡ self.old.marked.items)
+            × (self.new.waiting.items ≡ self.old.waiting.items)) }
     {
         if !self.marked[place] {
             self.waiting.push(place)?;
