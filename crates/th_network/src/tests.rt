@@ -253,6 +253,25 @@ fn names_the_first_untied_point(rt: HostRuntime) -> Result<(), Fail> {
     Ok(())
 }
 
+/// A fault, and how it is said.
+type Said = (NetFault, &'static str);
+
+#[test]
+fn says_faults(rt: HostRuntime) -> Result<(), Fail> {
+    let point = name_of(b"00A 1 ").expect(&rt, "a name");
+    let said: [Said; 4] = [
+        (NetFault::TooManyObservations, "N1 too many observations"),
+        (NetFault::TooManyPoints, "N2 too many points"),
+        (NetFault::NoBenchmark(point), "N3 no benchmark for A 1"),
+        (NetFault::NoMemory, "out of memory"),
+    ];
+    for (fault, text) in &said {
+        let line = format!(in rt.alloc(); "{fault}")?;
+        assert_eq!(rt; line.as_str(), *text);
+    }
+    Ok(())
+}
+
 /// 40,000 observations of one pair are taken, and 40,001 are too many.
 #[test]
 fn takes_so_many_observations(rt: HostRuntime) -> Result<(), Fail> {

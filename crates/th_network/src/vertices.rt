@@ -1,6 +1,7 @@
 ghost use Rattle.std.specs.Prelude.{◌≡◌, ◌+◌, ◌≤◌, IfOk, count_by, length};
+ghost use Rattle.th_network.specs.Inside.Numbered.{AreVertices};
 ghost use Rattle.th_network.specs.Limits.{max_points};
-ghost use Rattle.th_network.specs.Vertices.{AreVertices, is_free};
+ghost use Rattle.th_network.specs.Vertices.{is_free};
 
 use gsi_word::Name;
 use std::alloc::{AllocError, Global};
