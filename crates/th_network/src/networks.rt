@@ -6,8 +6,8 @@ ghost use Rattle.th_network.specs.Limits.{max_observations, max_points};
 ghost use Rattle.th_network.specs.Links.{largest_link_difference};
 ghost use Rattle.th_network.specs.Networks.{IsBuilt, arcs_of, heights_of, points_of, vertices_of, weights_of};
 ghost use Rattle.th_network.specs.declared.faults.NetFault.TheVariants.{NoMemory, TooManyObservations};
+ghost use Rattle.th_tables.specs.Limits.{max_weight};
 ghost use Rattle.th_tables.specs.Rows.{height_of};
-ghost use Rattle.th_tables.specs.declared.fields.TheConstants.{MAX_WEIGHT};
 ghost use Rattle.th_units.specs.declared.lens.TheConstants.{MAX_LEN};
 
 use crate::anchors::first_untied;
@@ -123,7 +123,7 @@ impl<'a> Network<'a> {
         requires { i < length self.now.observations }
         ensures weight { slice_get (weights_of self.now) i ≡ Some result }
         ensures positive { 1 ≤ result }
-        ensures in_range { result ≤ MAX_WEIGHT }
+        ensures in_range { result ≤ max_weight }
     {
         let o = &self.observations[i];
         self.weights.of(&o.station, &o.target)
