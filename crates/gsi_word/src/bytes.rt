@@ -30,5 +30,9 @@ pub(crate) fn is_sign(byte: u8) -> bool
 pub(crate) fn are_data(bytes: &[u8]) -> bool
     ensures { result ≡ list_all is_data bytes.now }
 {
-    bytes.iter().all(|byte| b' ' <= *byte && *byte <= b'~')
+    let mut all = true;
+    for byte in bytes {
+        all &= b' ' <= *byte && *byte <= b'~';
+    }
+    all
 }
