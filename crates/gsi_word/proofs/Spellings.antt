@@ -5,13 +5,13 @@ use Rattle.std.proofs.lemmas.Bool.Decides.{nat_tests}
 use Rattle.std.specs.Char.{digit_value}
 use Rattle.std.proofs.lemmas.Str.{digit_value_digit}
 use Rattle.th_units.proofs.Digits.{digit_bounds}
-use Rattle.th_units.specs.Lens.{is_digit, number}
+use Rattle.th_units.specs.Lengths.{is_digit, number}
 use Rattle.gsi_word.specs.Bytes.{is_info, is_sign, is_data}
 use Rattle.gsi_word.specs.Words.{Parts, spelling_len, word_at}
 use Rattle.gsi_word.specs.declared.words.Width.{Width}
 use Rattle.gsi_word.specs.declared.words.Width.TheVariants.{Eight, Sixteen}
-use Rattle.gsi_word.specs.declared.words.WordFault.{WordFault}
-use Rattle.gsi_word.specs.declared.words.WordFault.TheVariants.{BadIndex, BadInfo, BadSign, BadData}
+use Rattle.gsi_word.specs.declared.faults.WordFault.{WordFault}
+use Rattle.gsi_word.specs.declared.faults.WordFault.TheVariants.{BadIndex, BadInfo, BadSign, BadData}
 
 -- the word of seven bytes and some data, or the first part that holds a byte not allowed there
 abbrev pub word_of : List ℕ → List ℕ → ℕ → List ℕ → Result Parts WordFault

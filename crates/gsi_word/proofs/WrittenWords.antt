@@ -4,7 +4,7 @@ use Rattle.std.specs.List.{list_all}
 use Rattle.std.proofs.lemmas.List.{take_at}
 use Rattle.std.proofs.lemmas.Bool.Decides.{nat_tests}
 use Rattle.th_units.proofs.Digits.{digit_bounds}
-use Rattle.th_units.specs.Lens.{is_digit, number}
+use Rattle.th_units.specs.Lengths.{is_digit, number}
 use Rattle.gsi_word.specs.Bytes.{is_info, is_sign, is_data}
 use Rattle.gsi_word.specs.Words.{HasSpelling, Parts, Spells, data_len, spelling_len, spelling_of, word_at}
 use Rattle.gsi_word.specs.declared.words.Width.{Width}

@@ -1,13 +1,13 @@
 use Rattle.std.specs.Prelude.{◌≡◌, ℕ, ◌+◌, ◌/◌, ◌%◌, ◌==◌, not, Bool, true, false, List, [], ◌∷◌, ◌++◌, length, Result, Ok, Err, if◌then◌else◌, nat_lt, slice_index, slice_range, take, drop, replicate, codes}
 use Rattle.std.specs.List.{list_all}
 use Rattle.std.specs.Result.{result_map_both}
-use Rattle.th_units.specs.Lens.{is_digit, number}
+use Rattle.th_units.specs.Lengths.{is_digit, number}
 use Rattle.gsi_word.specs.Bytes.{is_info, is_sign, is_data}
 use Rattle.gsi_word.specs.declared.words.Width.{Width}
 use Rattle.gsi_word.specs.declared.words.Width.TheVariants.{Eight, Sixteen}
 use Rattle.gsi_word.specs.declared.words.Word.{Word}
-use Rattle.gsi_word.specs.declared.words.WordFault.{WordFault}
-use Rattle.gsi_word.specs.declared.words.WordFault.TheVariants.{Short, BadIndex, BadInfo, BadSign, BadData}
+use Rattle.gsi_word.specs.declared.faults.WordFault.{WordFault}
+use Rattle.gsi_word.specs.declared.faults.WordFault.TheVariants.{Short, BadIndex, BadInfo, BadSign, BadData}
 
 -- a word's parts: the index, the information of positions 3 to 6, whether the sign is a minus, and the data
 pub record Parts : Type 0 where

@@ -4,8 +4,6 @@ ghost use Rattle.gsi_word.specs.Bytes.{is_info, is_sign, is_data};
 
 use crate::bytes::{are_data, are_info};
 use std::default::Default;
-use std::error::Error;
-use std::fmt;
 
 /// How many bytes of data a word has: 8 in GSI-8, 16 in GSI-16 (Leica GSI Online manual, word format).
 #[derive(Clone, Copy, Debug, PartialEq, Eq)]
@@ -27,40 +25,6 @@ impl Width {
         }
     }
 }
-
-/// Why the front of some bytes spells no word: the first part that holds a byte not allowed there.
-#[derive(Clone, Copy, Debug, PartialEq, Eq)]
-pub enum WordFault {
-    /// There are fewer bytes than a spelling has.
-    Short,
-    /// Positions 1 and 2 are not two digits.
-    BadIndex,
-    /// Positions 3 to 6 hold another byte than a digit or a dot.
-    BadInfo,
-    /// Position 7 is neither `+` nor `-`.
-    BadSign,
-    /// The data hold a byte that is not printable ASCII.
-    BadData,
-}
-
-impl fmt::Display for WordFault {
-    ghost use Rattle.std.specs.Prelude.{Some};
-    ghost use Rattle.gsi_word.specs.Words.{fault_text};
-
-    ghost output = { λ fault. Some (fault_text fault) };
-
-    fn fmt<W: fmt::Write>(&self, f: &mut fmt::Formatter<W>) -> fmt::Result {
-        f.write_str(match self {
-            WordFault::Short => "short",
-            WordFault::BadIndex => "bad index",
-            WordFault::BadInfo => "bad information",
-            WordFault::BadSign => "bad sign",
-            WordFault::BadData => "bad data",
-        })
-    }
-}
-
-impl Error for WordFault {}
 
 /// A word of a block, with its data lent from the line that it was read from.
 #[derive(Clone, Copy, Debug)]

@@ -3,11 +3,9 @@ ghost use Rattle.std.specs.Bool.{OnTrue, OnFalse};
 ghost use Rattle.arrayvec.specs.ArrayVec.{array_vec_len};
 ghost use Rattle.gsi_word.specs.Words.{closed, parts_of};
 
+use crate::limits::MAX_WORD;
 use crate::words::Word;
 use arrayvec::ArrayVec;
-
-/// How many bytes the longest word has with the space that closes it.
-const MAX_WORD: usize = 24;
 
 /// Appends a word's one spelling and the space that closes it, as they stand in a block.
 ///

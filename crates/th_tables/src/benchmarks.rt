@@ -2,7 +2,7 @@ ghost use Rattle.std.specs.Prelude.{◌≡◌, ◌⊎◌, ◌<◌, ◌≤◌, �
 ghost use Rattle.th_tables.specs.Fields.{benchmark_in};
 ghost use Rattle.th_tables.specs.Reading.{IsReading, records_left};
 ghost use Rattle.th_tables.specs.Rows.{AreBenchmarks, height_of};
-ghost use Rattle.th_units.specs.declared.lens.TheConstants.{MAX_LEN};
+ghost use Rattle.th_units.specs.declared.limits.TheConstants.{MAX_LEN};
 ghost use Rattle.th_tables.specs.Tables.{benchmarks_of, longest_table, no_memory, rows_after, too_long};
 
 use crate::faults::{TableFault, TableKind};

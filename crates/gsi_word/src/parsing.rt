@@ -2,7 +2,8 @@ ghost use Rattle.std.specs.Prelude.{◌≡◌};
 ghost use Rattle.gsi_word.specs.Words.{parts_of, result_map, word_at};
 
 use crate::bytes::{are_data, are_info, is_sign};
-use crate::words::{Width, Word, WordFault};
+use crate::faults::WordFault;
+use crate::words::{Width, Word};
 use th_units::is_digit;
 
 /// The word that the front of some bytes spells; bytes after the spelling are not looked at.
