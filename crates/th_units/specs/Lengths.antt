@@ -3,8 +3,8 @@ use Rattle.std.specs.List.{list_all}
 use Rattle.std.specs.Str.Parse.{digits_value}
 use Rattle.th_units.specs.Units.{step}
 use Rattle.th_units.specs.declared.units.Unit.{Unit}
-use Rattle.th_units.specs.declared.lens.LenFault.{LenFault}
-use Rattle.th_units.specs.declared.lens.LenFault.TheVariants.{NotDigits, TooLarge}
+use Rattle.th_units.specs.declared.faults.LenFault.{LenFault}
+use Rattle.th_units.specs.declared.faults.LenFault.TheVariants.{NotDigits, TooLarge}
 
 -- one of the characters '0' to '9'
 abbrev pub is_digit : ℕ → Bool
@@ -27,13 +27,13 @@ abbrev pub signed : Bool → ℕ → ℤ
 signed negative size = if negative then neg_ℤ (pos size) else pos size
 
 -- the size that no length of a book exceeds: 10 km, in units of 10 nm
-abbrev pub longest : ℕ
-longest = 1000000000000
+abbrev pub max_len : ℕ
+max_len = 1000000000000
 
 -- Sign times number times step. First the bytes have to be digits, then the size, not the count of digits, has to be at most
--- the longest.
+-- `max_len`.
 abbrev pub length_of : Bool → List ℕ → Unit → Result ℤ LenFault
 length_of negative digits unit =
     if are_digits digits
-    then (if nat_le (number digits * step unit) longest then Ok (signed negative (number digits * step unit)) else Err TooLarge)
+    then (if nat_le (number digits * step unit) max_len then Ok (signed negative (number digits * step unit)) else Err TooLarge)
     else Err NotDigits

@@ -1,6 +1,6 @@
 use Rattle.std.specs.Prelude.{◌≡◌, ℕ, ◌-◌, ◌≤◌, List, ◌++◌, length, Some, take, replicate}
 use Rattle.gsi_word.specs.Names.{name_of}
-use Rattle.gsi_word.specs.declared.names.TheConstants.{MAX_NAME}
+use Rattle.gsi_word.specs.declared.limits.TheConstants.{MAX_NAME}
 
 -- a name's bytes with zero bytes after them, sixteen in all
 abbrev pub padded : List ℕ → List ℕ

@@ -3,8 +3,8 @@ use Rattle.std.proofs.lemmas.Bool.Decides.{nat_tests}
 use Rattle.std.proofs.lemmas.Iterator.{YieldsList-from_slice}
 use Rattle.std.proofs.lemmas.Iterator.Search.{all_from_yields_List}
 use Rattle.std.specs.List.{list_all}
-use Rattle.th_units.specs.Lens.{is_digit}
-use Rattle.th_units.proofs.lens.are_digits.Goals as goal
+use Rattle.th_units.specs.Lengths.{is_digit}
+use Rattle.th_units.proofs.lengths.are_digits.Goals as goal
 
 pub returns-then-not-is_empty : goal.returns-then-not-is_empty
 returns-then-not-is_empty c =

@@ -1,20 +1,10 @@
 ghost use Rattle.std.specs.Prelude.{◌≡◌};
-ghost use Rattle.gsi_word.specs.Data.{two_digit, length_of};
+ghost use Rattle.gsi_word.specs.Values.{two_digit, length_of};
 ghost use Rattle.gsi_word.specs.Words.{parts_of};
 
+use crate::faults::LengthFault;
 use crate::words::Word;
 use th_units::{Len, LenFault, are_digits, to_len, unit_of};
-
-/// Why a word's data give no length.
-#[derive(Clone, Copy, Debug, PartialEq, Eq)]
-pub enum LengthFault {
-    /// The data are not all digits.
-    BadNumber,
-    /// Position 6 holds no unit that a book's lengths have.
-    BadUnit,
-    /// The length is more than 10 km in size.
-    TooLarge,
-}
 
 /// The index of a word whose position 3 is a dot; other words have an index of three digits.
 pub fn two_digit(word: &Word) -> Option<u8>
@@ -34,15 +24,13 @@ pub fn two_digit(word: &Word) -> Option<u8>
 pub fn length_of(word: &Word) -> Result<Len, LengthFault>
     ensures { result ≡ length_of (parts_of word.now) }
 {
-    if !are_digits(word.body()) {
-        return Err(LengthFault::BadNumber);
-    }
     let [_, _, _, code] = word.info();
-    let Some(unit) = unit_of(code) else {
-        return Err(LengthFault::BadUnit);
-    };
-    to_len(word.negative(), word.body(), unit).map_err(|fault| match fault {
-        LenFault::NotDigits => LengthFault::BadNumber,
-        LenFault::TooLarge => LengthFault::TooLarge,
-    })
+    match unit_of(code) {
+        Some(unit) => to_len(word.negative(), word.body(), unit).map_err(|fault| match fault {
+            LenFault::NotDigits => LengthFault::BadNumber,
+            LenFault::TooLarge => LengthFault::TooLarge,
+        }),
+        None if are_digits(word.body()) => Err(LengthFault::BadUnit),
+        None => Err(LengthFault::BadNumber),
+    }
 }

@@ -1,12 +1,11 @@
 ghost use Rattle.std.specs.Prelude.{◌≡◌, ◌≤◌, true, unsigned_abs};
 ghost use Rattle.std.specs.Option.{SomeIff};
-ghost use Rattle.th_units.specs.Lens.{length_of, is_digit, are_digits, number};
+ghost use Rattle.th_units.specs.Lengths.{length_of, is_digit, are_digits, number};
 
+use crate::faults::LenFault;
+use crate::limits::MAX_LEN;
 use crate::units::{Unit, step};
 use std::marker::Model;
-
-/// The size that no length of a book exceeds: 10 km, in units of 10 nm.
-pub const MAX_LEN: u64 = 1_000_000_000_000;
 
 /// A length of a book in units of 10 nm, at most `MAX_LEN` in size.
 #[derive(Clone, Copy, Debug, PartialEq, Eq)]
@@ -16,7 +15,7 @@ pub struct Len {
 
 impl Model for Len {
     ghost use Rattle.std.specs.Prelude.{ℤ, ◌≤◌, unsigned_abs};
-    ghost use Rattle.th_units.specs.declared.lens.TheConstants.{MAX_LEN};
+    ghost use Rattle.th_units.specs.declared.limits.TheConstants.{MAX_LEN};
 
     ghost Value = { ℤ };
 
@@ -35,13 +34,6 @@ impl Len {
     {
         self.units
     }
-}
-
-/// Why digits and a unit give no length.
-#[derive(Clone, Copy, Debug, PartialEq, Eq)]
-pub enum LenFault {
-    NotDigits,
-    TooLarge,
 }
 
 /// The length that a sign, digits and a unit write.

@@ -1,14 +1,14 @@
 use Rattle.std.specs.Prelude.{ℕ, ℤ, ◌==◌, not, Option, Some, None, Result, Err, if◌then◌else◌, slice_index}
 use Rattle.std.specs.Result.{result_map_both}
-use Rattle.th_units.specs.Lens.{are_digits}
-use Rattle.th_units.specs.Lens as lens
+use Rattle.th_units.specs.Lengths.{are_digits}
+use Rattle.th_units.specs.Lengths as lens
 use Rattle.th_units.specs.Units.{unit_of}
 use Rattle.th_units.specs.declared.units.Unit.{Unit}
-use Rattle.th_units.specs.declared.lens.LenFault.{LenFault}
-use Rattle.th_units.specs.declared.lens.LenFault.TheVariants as len_fault
+use Rattle.th_units.specs.declared.faults.LenFault.{LenFault}
+use Rattle.th_units.specs.declared.faults.LenFault.TheVariants as len_fault
 use Rattle.gsi_word.specs.Words.{Parts}
-use Rattle.gsi_word.specs.declared.data.LengthFault.{LengthFault}
-use Rattle.gsi_word.specs.declared.data.LengthFault.TheVariants.{BadNumber, BadUnit, TooLarge}
+use Rattle.gsi_word.specs.declared.faults.LengthFault.{LengthFault}
+use Rattle.gsi_word.specs.declared.faults.LengthFault.TheVariants.{BadNumber, BadUnit, TooLarge}
 
 -- the index of a word whose information begins with a dot; what stands at positions 4 to 6 is not asked
 abbrev pub two_digit : Parts → Option ℕ

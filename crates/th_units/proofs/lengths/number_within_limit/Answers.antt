@@ -1,6 +1,6 @@
 use Rattle.std.proofs.Common.{◌+◌, arith}
 use Rattle.th_units.proofs.Digits.{all_digits, number_more, number_front}
-use Rattle.th_units.proofs.lens.number_within_limit.Goals as goal
+use Rattle.th_units.proofs.lengths.number_within_limit.Goals as goal
 
 pub returns-then-number-gt-MAX_LEN : goal.returns-then-number-gt-MAX_LEN
 returns-then-number-gt-MAX_LEN c =

@@ -1,7 +1,7 @@
 use Rattle.std.proofs.Common.{◌≡◌, ◌≤◌, take}
-use Rattle.th_units.specs.Lens.{number}
-use Rattle.th_units.specs.declared.lens.TheConstants.{MAX_LEN}
-use Rattle.th_units.proofs.lens.number_within_limit.Given as goal
+use Rattle.th_units.specs.Lengths.{number}
+use Rattle.th_units.specs.declared.limits.TheConstants.{MAX_LEN}
+use Rattle.th_units.proofs.lengths.number_within_limit.Given as goal
 
 abbrev pub invariant-loop-digit : goal.invariant-loop-digit
 invariant-loop-digit l =

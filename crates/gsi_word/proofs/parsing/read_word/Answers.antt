@@ -1,7 +1,7 @@
 use Rattle.std.proofs.Common.{arith, sym}
 use Rattle.std.proofs.lemmas.Bool.Decides.{nat_tests}
 use Rattle.gsi_word.proofs.Spellings.{word_at_places, bad_data, good}
-use Rattle.gsi_word.proofs.readings.read_word.Goals as goal
+use Rattle.gsi_word.proofs.parsing.read_word.Goals as goal
 
 pub returns-then-not-are_info : goal.returns-then-not-are_info
 returns-then-not-are_info c =
