@@ -6,4 +6,4 @@ pub mod Faults
 pub mod Texts
 pub mod Books
 pub mod Due
-pub mod Steps
+pub mod Inside

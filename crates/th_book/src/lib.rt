@@ -4,17 +4,27 @@
 //! the last instrument height and the last reflector height. `read_book` reads a whole book.
 #![tactic(auto)]
 
-mod books;
-mod countings;
+// Limits and faults.
 mod faults;
+mod limits;
+
+// From words to what a block enters, and from there to what it leaves.
+mod countings;
+mod entries;
 mod indexes;
-pub mod laws;
-mod observations;
 mod setups;
 mod steps;
+
+// Observations, and books.
+mod books;
+mod observations;
+
+// What holds of the definitions alone.
+pub mod laws;
 #[cfg(test)]
 mod tests;
 
 pub use books::{Book, read_book};
-pub use faults::{BookFault, BookKind, MAX_BOOK};
+pub use faults::{BookFault, BookKind};
+pub use limits::MAX_BOOK;
 pub use observations::Observation;

@@ -1,0 +1,3 @@
+pub mod Countings
+pub mod Entries
+pub mod Steps
