@@ -7,3 +7,4 @@ pub mod Keeping
 pub mod StepLemmas
 pub mod Holding
 pub mod Reading
+pub mod FeedLemmas

@@ -1,6 +1,9 @@
 -- A book that is read to its end gives what its lines give.
-use Rattle.std.proofs.Common.{◌≡◌, ℕ, suc, ◌+◌, ◌<◌, ◌≤◌, Bool, true, false, cond, List, [], ◌∷◌, ◌++◌, length, take, drop, get_or, Result, Err, sym, ap, ◌∙◌, subst, arith, append_assoc, length-drop}
+use Rattle.std.proofs.Common.{◌≡◌, ◌≢◌, ℕ, suc, ◌+◌, ◌<◌, ◌≤◌, Bool, true, false, cond, List, [], ◌∷◌, ◌++◌, length, take, drop, get_or, Result, Ok, Err, sym, ap, ◌∙◌, subst, arith, append_assoc, length-drop}
 use Rattle.std.specs.Prelude.{slice_index, ◌&&◌}
+use Rattle.std.specs.Result.{IfErr, IfOk}
+use Rattle.gsi_word.specs.Words.{result_map}
+use Rattle.th_book.specs.declared.faults.BookKind.TheVariants.{NoMemory}
 use Rattle.std.proofs.lemmas.List.{append-nil, drop_more, take-append-drop, take_more}
 use Rattle.gsi_block.specs.Lines.{is_carriage_return, is_end_byte, is_line_feed, lines_of, onto_first}
 use Rattle.th_book.specs.Observed.{Observed}
@@ -82,3 +85,12 @@ end_answer number lines reader left reading none =
     reading.keeps []
     ∙ ap (λ (rest : List (List ℕ)). lines_answer number (take reader.lines lines ++ rest)) (sym none ∙ reading.remaining)
     ∙ ap (lines_answer number) (take-append-drop reader.lines lines)
+
+-- what a finished book gives is the answer
+pub finished_ok : {A : Type 0} (items : A → List Observed) (given : Result A BookFault) (answer : Result (List Observed) BookFault) → result_map items given ≡ answer → IfOk given (λ observations. answer ≡ Ok (items observations))
+finished_ok items (Ok observations) answer e = sym e
+finished_ok items (Err fault) answer e = tt
+
+pub finished_err : {A : Type 0} (items : A → List Observed) (given : Result A BookFault) (answer : Result (List Observed) BookFault) → result_map items given ≡ answer → IfErr given (λ fault. fault.kind ≢ NoMemory → answer ≡ Err fault)
+finished_err items (Ok observations) answer e = tt
+finished_err items (Err fault) answer e = λ kept. sym e

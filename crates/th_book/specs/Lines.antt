@@ -6,7 +6,7 @@ use Rattle.gsi_word.specs.Words.{Parts}
 use Rattle.gsi_word.specs.Names.{name_of}
 use Rattle.gsi_word.specs.Data.{length_of, two_digit}
 use Rattle.gsi_block.specs.Blocks.{BlockParts}
-use Rattle.gsi_block.specs.declared.blocks.BlockFault.{BlockFault}
+use Rattle.gsi_block.specs.declared.faults.BlockFault.{BlockFault}
 use Rattle.th_book.specs.Indexes.{height_difference, station_easting, station_northing, station_height}
 
 -- what a line says: nothing, a block, or why it is neither

@@ -1,6 +1,6 @@
 use Rattle.std.specs.Prelude.{ℕ, List, ◌++◌, codes}
 use Rattle.std.specs.Fmt.{decimal}
-use Rattle.gsi_block.specs.Blocks.{fault_text as block_fault_text}
+use Rattle.gsi_block.specs.Faults.{fault_text as block_fault_text}
 use Rattle.th_book.specs.declared.faults.BookFault.{BookFault}
 use Rattle.th_book.specs.declared.faults.BookKind.{BookKind}
 use Rattle.th_book.specs.declared.faults.BookKind.TheVariants.{Block, RepeatedWord, NoPointNumber, BadName, BadNumber, BadUnit, TooLarge, SightBeforeSetup, NoInstrumentHeight, NoReflectorHeight, SightToItself, BookTooLong, NoMemory}

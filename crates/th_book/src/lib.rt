@@ -1,23 +1,39 @@
 //! The observations of a book: the height differences from its setups to the points sighted.
 //!
 //! A `Book` takes the lines of a book one by one and keeps what a later sight needs: the station,
-//! the last instrument height and the last reflector height. `read_book` reads a whole book.
+//! the last instrument height and the last reflector height. `read_book` reads a whole book, and a
+//! `BookFeed` one that comes in pieces.
 #![tactic(auto)]
 
-// Limits and faults.
-mod faults;
+// The limit of a book.
 mod limits;
 
-// From words to what a block enters, and from there to what it leaves.
-mod countings;
-mod entries;
+// What can be wrong with a book.
+mod faults;
+
+// The word indexes that have a meaning.
 mod indexes;
+
+// What the counting words of a block say.
+mod countings;
+
+// What a block enters, where none of its own words is at fault.
+mod entries;
+
+// The running setup, and the sights from it.
 mod setups;
+
+// What a line leaves.
 mod steps;
 
-// Observations, and books.
-mod books;
+// What a sight gives.
 mod observations;
+
+// Books by their lines.
+mod books;
+
+// Books by pieces of their bytes.
+mod feeds;
 
 // What holds of the definitions alone.
 pub mod laws;
@@ -26,5 +42,6 @@ mod tests;
 
 pub use books::{Book, read_book};
 pub use faults::{BookFault, BookKind};
+pub use feeds::BookFeed;
 pub use limits::MAX_BOOK;
 pub use observations::Observation;

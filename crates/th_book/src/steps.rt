@@ -8,7 +8,8 @@ ghost use Rattle.th_book.specs.Inside.Steps.{AreSeen, IsLeft, block_fault, entry
 use crate::entries::Entry;
 use crate::faults::BookKind;
 use crate::setups::{Setup, Sight};
-use gsi_block::read_block;
+use arrayvec::ArrayVec;
+use gsi_block::read_words;
 use gsi_word::Word;
 
 /// What a line without a fault leaves: the running setup, and what is seen where it is a sight.
@@ -23,8 +24,9 @@ pub fn step_of_line(running: Option<Setup>, line: &[u8]) -> Result<Step, BookKin
     ensures fault { result_err result ≡ line_fault running (block_at line.now) }
     ensures left { IfOk result (IsLeft running (words_in (block_at line.now))) }
 {
-    match read_block(line) {
-        Ok(Some(block)) => step_of_block(running, block.words()),
+    let mut words = ArrayVec::new();
+    match read_words(line, &mut words) {
+        Ok(Some(_)) => step_of_block(running, words.as_slice()),
         Ok(None) => Ok(Step {
             setup: running,
             sight: None,
