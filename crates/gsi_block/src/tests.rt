@@ -1,5 +1,6 @@
 use crate::*;
-use gsi_word::{Width, WordFault};
+use arrayvec::ArrayVec;
+use gsi_word::{Width, Word, WordFault};
 use std::alloc::{AllocError, Global};
 use std::process::Abort;
 use std::test::Fail;
@@ -43,6 +44,136 @@ fn lines_of_texts(rt: HostRuntime) {
     for (text, lines) in &TEXTS {
         has_lines(&rt, text, lines);
     }
+}
+
+/// What `take` answers for a piece, and the line that is complete then.
+type Taking = (&'static [u8], usize, Option<&'static [u8]>);
+
+/// Pieces of a text, and what `finish` answers behind them.
+type Takings = (&'static [Taking], Option<&'static [u8]>);
+
+const TAKINGS: [Takings; 9] = [
+    (&[(b"AB\r\nC", 4, Some(b"AB"))], None),
+    (&[(b"AB\r", 3, Some(b"AB")), (b"\nC", 2, None)], Some(b"C")),
+    (&[(b"AB\r", 3, Some(b"AB")), (b"\n", 1, None)], None),
+    (&[(b"*", 1, None), (b"A\n", 2, Some(b"*A"))], None),
+    (&[], None),
+    (
+        &[(b"", 0, None), (b"A", 1, None), (b"", 0, None)],
+        Some(b"A"),
+    ),
+    (
+        &[(b"\r", 1, Some(b"")), (b"", 0, None), (b"\n", 1, None)],
+        None,
+    ),
+    (
+        &[
+            (b"\r", 1, Some(b"")),
+            (b"\r", 1, Some(b"")),
+            (b"\n\n", 2, Some(b"")),
+        ],
+        None,
+    ),
+    (
+        &[
+            (b"\n", 1, Some(b"")),
+            (b"\rA\n", 1, Some(b"")),
+            (b"A\n", 2, Some(b"A")),
+        ],
+        None,
+    ),
+];
+
+#[test]
+fn lines_of_pieces(rt: HostRuntime) {
+    for (takings, last) in &TAKINGS {
+        let mut lines = Lines::new();
+        for (piece, taken, line) in *takings {
+            let answer = lines.take(piece);
+            assert_eq!(rt; answer.0, *taken, "bytes taken of {piece:?}");
+            let complete = if answer.1 { Some(lines.line()) } else { None };
+            assert!(rt; complete == *line, "{complete:?} of {piece:?}");
+        }
+        assert!(rt; lines.finish() == *last, "the last line behind {takings:?}");
+    }
+}
+
+/// Takes a piece whole, and adds each line that is complete on the way, with a stroke behind it.
+fn take_piece(lines: &mut Lines, piece: &[u8], given: &mut Vec<u8>) -> Result<(), AllocError> {
+    let mut rest = piece;
+    while !rest.is_empty() {
+        let (taken, complete) = lines.take(rest);
+        if complete {
+            given.extend_from_slice(lines.line())?;
+            given.push(b'/')?;
+        }
+        (_, rest) = rest.split_at(taken);
+    }
+    Ok(())
+}
+
+/// The lines of a text that is cut behind each byte whose bit is set, with a stroke behind each.
+fn given_lines(alloc: Global, text: &[u8], cuts: u32) -> Result<Vec<u8>, AllocError> {
+    let mut given = Vec::new(alloc);
+    let mut lines = Lines::new();
+    let mut begun = 0;
+    let mut later_cuts = cuts;
+    for place in 0..text.len() {
+        if later_cuts % 2 == 1 {
+            take_piece(&mut lines, &text[begun..place + 1], &mut given)?;
+            begun = place + 1;
+        }
+        later_cuts /= 2;
+    }
+    take_piece(&mut lines, &text[begun..], &mut given)?;
+    if let Some(line) = lines.finish() {
+        given.extend_from_slice(line)?;
+        given.push(b'/')?;
+    }
+    Ok(given)
+}
+
+/// Lines, with a stroke behind each.
+fn joined(alloc: Global, lines: &[&[u8]]) -> Result<Vec<u8>, AllocError> {
+    let mut text = Vec::new(alloc);
+    for line in lines {
+        text.extend_from_slice(line)?;
+        text.push(b'/')?;
+    }
+    Ok(text)
+}
+
+#[test]
+fn texts_cut_in_every_way(rt: HostRuntime) -> Result<(), Fail> {
+    for (text, lines) in &TEXTS {
+        let wanted = joined(rt.alloc(), lines)?;
+        for cuts in 0..256 {
+            let given = given_lines(rt.alloc(), text, cuts)?;
+            assert!(rt;
+                given.as_slice() == wanted.as_slice(),
+                "{text:?} cut as {cuts}"
+            );
+        }
+    }
+    Ok(())
+}
+
+#[test]
+fn a_line_too_long_to_be_kept(rt: HostRuntime) -> Result<(), Fail> {
+    let spaces = [b' '; 1_600];
+    let mut lines = Lines::new();
+    assert!(rt; lines.take(&spaces) == (1_600, false));
+    assert!(rt; lines.take(b" ") == (1, false));
+    assert!(rt; lines.take(b"\n") == (1, true));
+    assert_eq!(rt; lines.line().len(), 1_601);
+    assert!(rt; words_read(lines.line()) == Err(BlockFault::LineTooLong));
+    assert!(rt; lines.take(&spaces) == (1_600, false));
+    assert!(rt; lines.take(b"\r") == (1, true));
+    assert!(rt; words_read(lines.line()) == Ok(None));
+    let text = vec![in rt.alloc(); b'1'; 100_000]?;
+    assert!(rt; lines.take(text.as_slice()) == (100_000, false));
+    assert_eq!(rt; lines.finish().map(|line| line.len()), Some(1_601));
+    Ok(())
 }
 
 /// How many bytes the lines of a text have together.
@@ -134,6 +265,96 @@ fn blocks_of_lines(rt: HostRuntime) {
     for row in &READINGS {
         reads(&rt, row);
     }
+}
+
+/// What a line's block is written as, behind a byte.
+const WRITTEN: [(&[u8], &[u8]); 4] = [
+    (b"110001+0000000A", b"#110001+0000000A \r\n"),
+    (b"110001+0000000A    ", b"#110001+0000000A \r\n"),
+    (
+        b"110002-0000000B 33..18-00001234 070.10+        ",
+        b"#110002-0000000B 33..18-00001234 070.10+         \r\n",
+    ),
+    (
+        b"*990001+00000000000000P1 88..18-0000000000150000",
+        b"#*990001+00000000000000P1 88..18-0000000000150000 \r\n",
+    ),
+];
+
+#[test]
+fn written_blocks(rt: HostRuntime) -> Result<(), Fail> {
+    for (line, wanted) in &WRITTEN {
+        let mut text = Vec::from_slice(rt.alloc(), b"#")?;
+        let Ok(Some(block)) = &read_block(line) else {
+            panic!(&rt; "{line:?} is a block");
+        };
+        write_block(block, &mut text)?;
+        assert!(rt;
+            text.as_slice() == *wanted,
+            "{line:?} is written as {text:?}"
+        );
+    }
+    Ok(())
+}
+
+#[test]
+fn many_written_blocks(rt: HostRuntime) -> Result<(), Fail> {
+    let words = [wide_word(&rt); 64];
+    let block = Block::of(&words).expect(&rt, "64 words are a block");
+    let mut text = Vec::new(rt.alloc());
+    for _ in 0..1_000 {
+        write_block(&block, &mut text)?;
+    }
+    assert_eq!(rt; text.len(), 1_539_000);
+    Ok(())
+}
+
+fn narrow_word(rt: &impl Abort) -> Word<'static> {
+    Word::new(11, *b"0001", false, b"0000000A").expect(rt, "a word of GSI-8")
+}
+
+fn wide_word(rt: &impl Abort) -> Word<'static> {
+    Word::new(33, *b"..08", true, b"0000000000001234").expect(rt, "a word of GSI-16")
+}
+
+#[test]
+fn blocks_of_words(rt: HostRuntime) {
+    let narrow = narrow_word(&rt);
+    let wide = wide_word(&rt);
+    assert!(rt; Block::of(&[]).is_none(), "no words");
+    assert!(rt; Block::of(&[narrow, wide]).is_none(), "two widths");
+    assert!(rt;
+        Block::of(&[wide, wide, narrow]).is_none(),
+        "two widths, the last apart"
+    );
+    assert!(rt; Block::of(&[narrow; 65]).is_none(), "one word too many");
+    assert!(rt;
+        Block::of(&[wide; 65]).is_none(),
+        "one word of GSI-16 too many"
+    );
+    let most = Block::of(&[narrow; 64]).expect(&rt, "the most words");
+    assert_eq!(rt; most.words().len(), 64);
+    assert!(rt; most.width() == Width::Eight);
+    let pair = Block::of(&[wide, wide]).expect(&rt, "two words");
+    assert!(rt; pair.width() == Width::Sixteen);
+    for word in pair.words() {
+        assert_eq!(rt; word.index(), 33);
+        assert!(rt; word.body() == b"0000000000001234".as_slice());
+    }
+}
+
+#[test]
+fn words_of_lines_one_after_another(rt: HostRuntime) {
+    let mut words = ArrayVec::new();
+    let read = read_words(b"110001+0000000A 110002+0000000B", &mut words);
+    assert!(rt; read == Ok(Some(Width::Eight)));
+    assert_eq!(rt; words.len(), 2);
+    let read = read_words(b"*110001+00000000000000P1", &mut words);
+    assert!(rt; read == Ok(Some(Width::Sixteen)));
+    assert_eq!(rt; words.len(), 1);
+    assert!(rt; read_words(b"  ", &mut words) == Ok(None));
+    let read = read_words(b"110001+0000000A\t", &mut words);
+    assert!(rt; read == Err(BlockFault::BadSeparator(1)));
 }
 
 /// Lines that are neither blank nor a block, with the reason.
