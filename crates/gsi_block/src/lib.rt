@@ -21,8 +21,12 @@ mod writing;
 
 // what holds of the definitions alone
 pub mod laws;
+
+// rows
 #[cfg(test)]
-mod tests;
+mod block_tests;
+#[cfg(test)]
+mod line_tests;
 
 pub use blocks::Block;
 pub use cursor::LineCursor;
