@@ -132,6 +132,6 @@ module _ (law : WordsAreSpelled) where
       rw made (rw (long, not_blank bytes digit, read) refl)
 
   -- a line is read as a block just where it is one
-  pub block_line : (line : List ℕ) (block : BlockParts) → (block_at line ≡ Ok (Some block)) ↔ IsBlock line block
-  block_line line block =
+  pub block_line-IsBlock : (line : List ℕ) (block : BlockParts) → (block_at line ≡ Ok (Some block)) ↔ IsBlock line block
+  block_line-IsBlock line block =
       (block_read line block, λ is. spelled_row block.width block.words line is.row.0 is.short is.few is.row.1 is.row.2)

@@ -1,3 +1,4 @@
+pub mod Successes
 pub mod FirstLine
 pub mod LineEnds
 pub mod Rows
@@ -6,3 +7,4 @@ pub mod PiecesLaw
 pub mod CutLines
 pub mod BlocksLaw
 pub mod RowsLaw
+pub mod WrittenBlocks

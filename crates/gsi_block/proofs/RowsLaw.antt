@@ -1,5 +1,5 @@
 -- A row of words is read just where the bytes spell it.
-use Rattle.std.proofs.Common.{◌≡◌, ◌↔◌, ℕ, ◌+◌, ◌≤◌, Bool, true, false, cond, ◌⊎◌, inl, inr, List, [], ◌∷◌, ◌++◌, Result, Ok, Err, length, slice_index, take, drop, refl, sym, ap, ◌∙◌, arith, suc, zero}
+use Rattle.std.proofs.Common.{◌≡◌, ◌↔◌, ℕ, ◌+◌, ◌<◌, ◌≤◌, Bool, true, false, cond, ◌⊎◌, inl, inr, List, [], ◌∷◌, ◌++◌, Result, Ok, Err, length, slice_index, take, drop, refl, sym, ap, ◌∙◌, arith, suc, zero}
 use Rattle.std.proofs.lemmas.Bool.Decides.{nat_tests}
 use Rattle.std.proofs.lemmas.List.{take-append-drop}
 use Rattle.std.proofs.Math.Seq.{take-append_seam, drop-append_seam}
@@ -112,3 +112,8 @@ module _ (law : WordsAreSpelled) where
       let more : is_blank rest ≡ false = not_blank rest (row_begins width (next ∷ words) rest row) in
       let others : words_from room width (k + 1) rest ≡ Ok (next ∷ words) = row-spelled (next ∷ words) room (k + 1) width rest (omega arith) row in
       rw (read, after, more, others) refl
+
+-- a row has a word
+pub row_some : (width : Width) (words : List Parts) (bytes : List ℕ) → SpellsRow width words bytes → 0 < length words
+row_some width [] bytes row = absurd row
+row_some width (word ∷ words) bytes row = omega arith

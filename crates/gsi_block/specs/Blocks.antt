@@ -84,3 +84,7 @@ pub record IsBlock (line : List ℕ) (block : BlockParts) : Type 0 where
   pub short : length line ≤ max_line
   pub few : length block.words ≤ max_words
   pub row : (bytes : List ℕ) × (line ≡ mark block.width ++ bytes) × SpellsRow block.width block.words bytes
+
+-- some line is a block of these words
+abbrev pub IsBlockOf : List Parts → BlockParts → Type 0
+IsBlockOf words block = (block.words ≡ words) × ((line : List ℕ) × IsBlock line block)

@@ -1,8 +1,10 @@
-ghost use Rattle.std.specs.Prelude.{◌≡◌, map};
+ghost use Rattle.std.specs.Prelude.{◌≡◌, ◌↔◌, ◌<◌, ◌≤◌, IsTrue, IsNone, IfSome, length, map};
 ghost use Rattle.gsi_word.specs.Words.{parts_of};
+ghost use Rattle.gsi_block.specs.Spelled.{AreSpelled, AreSpelled-prop};
 
 use crate::limits::MAX_WORDS;
 use arrayvec::ArrayVec;
+use gsi_word::laws::spelling_of_is_the_spelling;
 use gsi_word::{Width, Word};
 
 /// The words of a line, all of one width, with their data lent from the line.
@@ -10,10 +12,32 @@ use gsi_word::{Width, Word};
 pub struct Block<'a> {
     pub(crate) width: Width,
     pub(crate) words: ArrayVec<Word<'a>, MAX_WORDS>,
+    ghost some: { 0 < length words.items },
+    ghost few: { length words.items ≤ 64 },
+    ghost spelled: { AreSpelled width (map parts_of words.items) } by { AreSpelled-prop width (map parts_of words.items) },
 }
 
 impl<'a> Block<'a> {
-    ghost use Rattle.gsi_block.specs.Blocks.{block_parts};
+    ghost use Rattle.gsi_block.specs.Blocks.{BlockParts, IsBlockOf, block_parts};
+
+    /// The block of these words, or None where no line has it: for no words, for more than
+    /// `MAX_WORDS`, and for words of two widths.
+    pub fn of(words: &[Word<'a>]) -> Option<Block<'a>>
+        ensures some { IfSome result (λ block. IsBlockOf (map parts_of words.now) (block_parts block)) }
+        ensures none { IsNone result → (block : BlockParts) → ¬ IsBlockOf (map parts_of words.now) block }
+    {
+        spelling_of_is_the_spelling();
+        let width = words.first()?.width();
+        if words.len() > MAX_WORDS {
+            return None;
+        }
+        if !are_spelled(words, width) {
+            return None;
+        }
+        let mut kept = ArrayVec::new();
+        let _ = kept.try_extend_from_slice(words);
+        Some(Block { width, words: kept })
+    }
 
     /// The width of the block's words.
     pub fn width(&self) -> Width
@@ -22,10 +46,25 @@ impl<'a> Block<'a> {
         self.width
     }
 
-    /// The words from left to right, 1 to 64 of them.
+    /// The words from left to right, 1 to `MAX_WORDS` of them, each spelled in the block's width.
     pub fn words(&self) -> &[Word<'a>]
-        ensures { map parts_of result.now ≡ (block_parts self.now).words }
+        ensures words { map parts_of result.now ≡ (block_parts self.now).words }
+        ensures some { 0 < length result.now }
+        ensures few { length result.now ≤ 64 }
+        ensures spelled { AreSpelled (block_parts self.now).width (block_parts self.now).words }
     {
         self.words.as_slice()
     }
+}
+
+/// Whether each word has a spelling in the width.
+fn are_spelled(words: &[Word], width: Width) -> bool
+    ensures { IsTrue result ↔ AreSpelled width (map parts_of words.now) }
+{
+    for word in words {
+        if word.width() != width {
+            return false;
+        }
+    }
+    true
 }

@@ -5,8 +5,9 @@ ghost use Rattle.std.specs.Prelude.{◌≡◌, ◌↔◌, ℕ, List, Some, None,
 ghost use Rattle.gsi_block.specs.Blocks.{BlockParts, block_at, IsBlock, IsBlankLine};
 ghost use Rattle.gsi_block.specs.Lines.{lines_of, AreLines};
 ghost use Rattle.gsi_block.specs.Pieces.{cut_line};
+ghost use Rattle.gsi_block.specs.Writing.{block_line};
 
-use gsi_word::laws::word_at_reads_spellings;
+use gsi_word::laws::{spelling_of_is_the_spelling, word_at_reads_spellings};
 
 /// The lines of a text are the one list of pieces of which it is made, each with its end.
 pub fn lines_of_is_the_list_of_lines()
@@ -29,3 +30,18 @@ pub fn block_at_passes_spaces()
 pub fn cut_line_is_read_as_its_line()
     ensures { (line : List ℕ) → block_at (cut_line line) ≡ block_at line }
 {}
+
+/// A line is a block of one list of words at most, in one width.
+pub fn a_line_is_one_block()
+    ensures { (line : List ℕ) (one other : BlockParts) → IsBlock line one → IsBlock line other → one ≡ other }
+{
+    word_at_reads_spellings();
+}
+
+/// The line that a block is written as is read as that block.
+pub fn block_line_is_read()
+    ensures { (line : List ℕ) (block : BlockParts) → IsBlock line block → block_at (block_line block) ≡ Ok (Some block) }
+{
+    word_at_reads_spellings();
+    spelling_of_is_the_spelling();
+}

@@ -6,3 +6,6 @@ pub const MAX_WORDS: usize = 64;
 
 /// The most bytes that `Lines` keeps of a line: one more than `MAX_LINE`.
 pub const MAX_KEPT: usize = 1_601;
+
+/// The most bytes that a block is written in: `*`, 64 words of 24 bytes, CR and LF.
+pub(crate) const MAX_WRITTEN: usize = 1_539;

@@ -6,6 +6,7 @@ use crate::blocks::Block;
 use crate::faults::BlockFault;
 use crate::limits::{MAX_LINE, MAX_WORDS};
 use arrayvec::ArrayVec;
+use gsi_word::laws::{spelling_of_is_the_spelling, word_at_reads_spellings};
 use gsi_word::{Width, Word, WordFault, read_word};
 
 /// The block of a line without its end, or None for a blank line.
@@ -15,6 +16,8 @@ use gsi_word::{Width, Word, WordFault, read_word};
 pub fn read_block(line: &[u8]) -> Result<Option<Block<'_>>, BlockFault>
     ensures { result_map (option_map block_parts) result ≡ block_at line.now }
 {
+    word_at_reads_spellings();
+    spelling_of_is_the_spelling();
     let mut words = ArrayVec::new();
     match read_words(line, &mut words) {
         Ok(Some(width)) => Ok(Some(Block { width, words })),

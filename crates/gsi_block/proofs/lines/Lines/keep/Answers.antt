@@ -1,4 +1,4 @@
-use Rattle.std.proofs.Common.{◌≡◌, ℕ, List, ◌++◌, ◌≤◌, ◌+◌, length, take, IsTrue, sym, ◌∙◌, ap, arith, Result, Ok, Err, IsOk, OnOk}
+use Rattle.std.proofs.Common.{◌≡◌, ℕ, List, ◌++◌, ◌≤◌, ◌+◌, length, take, IsTrue, sym, ◌∙◌, ap, arith}
 use Rattle.std.proofs.Math.Nat.{min-le_right}
 use Rattle.std.specs.List.{list_all}
 use Rattle.std.proofs.lemmas.List.{length-take}
@@ -6,12 +6,8 @@ use Rattle.gsi_block.specs.Limits.{max_kept}
 use Rattle.gsi_block.specs.Lines.{is_in_line}
 use Rattle.gsi_block.specs.Pieces.{LineState, cut_line}
 use Rattle.gsi_block.proofs.PiecesLaw.{cut_line-append, in_line-append, in_line-take}
+use Rattle.gsi_block.proofs.Successes.{at_ok}
 use Rattle.gsi_block.proofs.lines.Lines.keep.Goals as goal
-
--- what a success says holds where there is one
-at_ok : {T E P : Type 0} (result : Result T E) → IsOk result → OnOk result P → P
-at_ok (Ok value) ok p = p
-at_ok (Err fault) ok p = absurd cc
 
 -- the line is what is kept of it and of the bytes
 kept : (c : goal.After-try_extend_from_slice) → c.try_extend_from_slice.new.self.items ≡ cut_line (c.self.inside.line.items ++ c.args.bytes.now)

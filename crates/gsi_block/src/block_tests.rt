@@ -1,64 +1,9 @@
 use crate::*;
-use gsi_word::{Width, WordFault};
+use arrayvec::ArrayVec;
+use gsi_word::{Width, Word, WordFault};
 use std::alloc::{AllocError, Global};
 use std::process::Abort;
 use std::test::Fail;
-
-/// A text and its lines.
-type Text = (&'static [u8], &'static [&'static [u8]]);
-
-const TEXTS: [Text; 18] = [
-    (b"", &[]),
-    (b"a", &[b"a"]),
-    (b"a\n", &[b"a"]),
-    (b"a\r", &[b"a"]),
-    (b"a\r\n", &[b"a"]),
-    (b"a\nb", &[b"a", b"b"]),
-    (b"a\rb", &[b"a", b"b"]),
-    (b"a\r\nb", &[b"a", b"b"]),
-    (b"a\n\rb", &[b"a", b"", b"b"]),
-    (b"a\r\r\nb", &[b"a", b"", b"b"]),
-    (b"\n", &[b""]),
-    (b"\r", &[b""]),
-    (b"\r\n", &[b""]),
-    (b"\n\r", &[b"", b""]),
-    (b"\r\n\n\r\r", &[b"", b"", b"", b""]),
-    (b" \r\n ", &[b" ", b" "]),
-    (b"a\0b\x1Ac\r\n\x1A", &[b"a\0b\x1Ac", b"\x1A"]),
-    (b"\0", &[b"\0"]),
-];
-
-fn has_lines(rt: &impl Abort, text: &[u8], lines: &[&[u8]]) {
-    let mut cursor = LineCursor::new(text);
-    for wanted in lines {
-        let line = cursor.next().expect(rt, "one more line");
-        assert!(rt; line == *wanted, "in {text:?}");
-    }
-    assert!(rt; cursor.next().is_none(), "behind {text:?}");
-    assert!(rt; cursor.next().is_none(), "behind the last of {text:?}");
-}
-
-#[test]
-fn lines_of_texts(rt: HostRuntime) {
-    for (text, lines) in &TEXTS {
-        has_lines(&rt, text, lines);
-    }
-}
-
-/// How many bytes the lines of a text have together.
-fn bytes_in_lines(text: &[u8]) -> usize {
-    let mut cursor = LineCursor::new(text);
-    let mut bytes = 0usize;
-    while let Some(line) = cursor.next() {
-        bytes = bytes.saturating_add(line.len());
-    }
-    bytes
-}
-
-#[test]
-fn a_loop_over_lines(rt: HostRuntime) {
-    assert_eq!(rt; bytes_in_lines(b"one\r\ntwo\rthree\n\nx"), 12);
-}
 
 /// A word's index, information, whether its sign is a minus, and its data.
 type Parts = (u8, &'static [u8; 4], bool, &'static [u8]);
@@ -134,6 +79,96 @@ fn blocks_of_lines(rt: HostRuntime) {
     for row in &READINGS {
         reads(&rt, row);
     }
+}
+
+/// What a line's block is written as, behind a byte.
+const WRITTEN: [(&[u8], &[u8]); 4] = [
+    (b"110001+0000000A", b"#110001+0000000A \r\n"),
+    (b"110001+0000000A    ", b"#110001+0000000A \r\n"),
+    (
+        b"110002-0000000B 33..18-00001234 070.10+        ",
+        b"#110002-0000000B 33..18-00001234 070.10+         \r\n",
+    ),
+    (
+        b"*990001+00000000000000P1 88..18-0000000000150000",
+        b"#*990001+00000000000000P1 88..18-0000000000150000 \r\n",
+    ),
+];
+
+#[test]
+fn written_blocks(rt: HostRuntime) -> Result<(), Fail> {
+    for (line, wanted) in &WRITTEN {
+        let mut text = Vec::from_slice(rt.alloc(), b"#")?;
+        let Ok(Some(block)) = &read_block(line) else {
+            panic!(&rt; "{line:?} is a block");
+        };
+        write_block(block, &mut text)?;
+        assert!(rt;
+            text.as_slice() == *wanted,
+            "{line:?} is written as {text:?}"
+        );
+    }
+    Ok(())
+}
+
+#[test]
+fn many_written_blocks(rt: HostRuntime) -> Result<(), Fail> {
+    let words = [wide_word(&rt); 64];
+    let block = Block::of(&words).expect(&rt, "64 words are a block");
+    let mut text = Vec::new(rt.alloc());
+    for _ in 0..1_000 {
+        write_block(&block, &mut text)?;
+    }
+    assert_eq!(rt; text.len(), 1_539_000);
+    Ok(())
+}
+
+fn narrow_word(rt: &impl Abort) -> Word<'static> {
+    Word::new(11, *b"0001", false, b"0000000A").expect(rt, "a word of GSI-8")
+}
+
+fn wide_word(rt: &impl Abort) -> Word<'static> {
+    Word::new(33, *b"..08", true, b"0000000000001234").expect(rt, "a word of GSI-16")
+}
+
+#[test]
+fn blocks_of_words(rt: HostRuntime) {
+    let narrow = narrow_word(&rt);
+    let wide = wide_word(&rt);
+    assert!(rt; Block::of(&[]).is_none(), "no words");
+    assert!(rt; Block::of(&[narrow, wide]).is_none(), "two widths");
+    assert!(rt;
+        Block::of(&[wide, wide, narrow]).is_none(),
+        "two widths, the last apart"
+    );
+    assert!(rt; Block::of(&[narrow; 65]).is_none(), "one word too many");
+    assert!(rt;
+        Block::of(&[wide; 65]).is_none(),
+        "one word of GSI-16 too many"
+    );
+    let most = Block::of(&[narrow; 64]).expect(&rt, "the most words");
+    assert_eq!(rt; most.words().len(), 64);
+    assert!(rt; most.width() == Width::Eight);
+    let pair = Block::of(&[wide, wide]).expect(&rt, "two words");
+    assert!(rt; pair.width() == Width::Sixteen);
+    for word in pair.words() {
+        assert_eq!(rt; word.index(), 33);
+        assert!(rt; word.body() == b"0000000000001234".as_slice());
+    }
+}
+
+#[test]
+fn words_of_lines_one_after_another(rt: HostRuntime) {
+    let mut words = ArrayVec::new();
+    let read = read_words(b"110001+0000000A 110002+0000000B", &mut words);
+    assert!(rt; read == Ok(Some(Width::Eight)));
+    assert_eq!(rt; words.len(), 2);
+    let read = read_words(b"*110001+00000000000000P1", &mut words);
+    assert!(rt; read == Ok(Some(Width::Sixteen)));
+    assert_eq!(rt; words.len(), 1);
+    assert!(rt; read_words(b"  ", &mut words) == Ok(None));
+    let read = read_words(b"110001+0000000A\t", &mut words);
+    assert!(rt; read == Err(BlockFault::BadSeparator(1)));
 }
 
 /// Lines that are neither blank nor a block, with the reason.
@@ -296,6 +331,24 @@ fn long_lines(rt: HostRuntime) -> Result<(), Fail> {
         let bytes = bytes_of(rt.alloc(), line)?;
         assert!(rt; words_read(bytes.as_slice()) == line.5, "in row {row}");
     }
+    Ok(())
+}
+
+#[test]
+fn a_line_too_long_to_be_kept(rt: HostRuntime) -> Result<(), Fail> {
+    let spaces = [b' '; 1_600];
+    let mut lines = Lines::new();
+    assert!(rt; lines.take(&spaces) == (1_600, false));
+    assert!(rt; lines.take(b" ") == (1, false));
+    assert!(rt; lines.take(b"\n") == (1, true));
+    assert_eq!(rt; lines.line().len(), 1_601);
+    assert!(rt; words_read(lines.line()) == Err(BlockFault::LineTooLong));
+    assert!(rt; lines.take(&spaces) == (1_600, false));
+    assert!(rt; lines.take(b"\r") == (1, true));
+    assert!(rt; words_read(lines.line()) == Ok(None));
+    let text = vec![in rt.alloc(); b'1'; 100_000]?;
+    assert!(rt; lines.take(text.as_slice()) == (100_000, false));
+    assert_eq!(rt; lines.finish().map(|line| line.len()), Some(1_601));
     Ok(())
 }
 
