@@ -45,3 +45,20 @@ pub enum LengthFault {
     /// The length is more than 10 km in size.
     TooLarge,
 }
+
+impl fmt::Display for LengthFault {
+    ghost use Rattle.std.specs.Prelude.{Some};
+    ghost use Rattle.gsi_word.specs.Values.{length_fault_text};
+
+    ghost output = { λ fault. Some (length_fault_text fault) };
+
+    fn fmt<W: fmt::Write>(&self, f: &mut fmt::Formatter<W>) -> fmt::Result {
+        f.write_str(match self {
+            LengthFault::BadNumber => "bad number",
+            LengthFault::BadUnit => "bad unit",
+            LengthFault::TooLarge => "too large",
+        })
+    }
+}
+
+impl Error for LengthFault {}

@@ -54,6 +54,16 @@ impl Name {
     {
         &self.bytes[..usize::from(self.len)]
     }
+
+    /// The name as text: printable ASCII is text, so that the other arm is never taken.
+    fn text(&self) -> &str
+        ensures { result.now ≡ self.now }
+    {
+        match str::from_utf8(self.as_bytes()) {
+            Ok(text) => text,
+            Err(_) => "",
+        }
+    }
 }
 
 impl PartialEq for Name {
@@ -104,16 +114,25 @@ impl Hash for Name {
     }
 }
 
+/// A name is shown as it is.
+impl fmt::Display for Name {
+    ghost use Rattle.std.specs.Prelude.{Some};
+
+    ghost output = { λ name. Some name };
+
+    fn fmt<W: fmt::Write>(&self, f: &mut fmt::Formatter<W>) -> fmt::Result {
+        f.write_str(self.text())
+    }
+}
+
+/// A name is shown in quotation marks, as text is.
 impl fmt::Debug for Name {
     ghost use Rattle.std.specs.Fmt.{debug_str};
 
     ghost debug_output = { debug_str };
 
     fn fmt<W: fmt::Write>(&self, f: &mut fmt::Formatter<W>) -> fmt::Result {
-        match str::from_utf8(self.as_bytes()) {
-            Ok(text) => fmt::Debug::fmt(text, f),
-            Err(_) => fmt::Debug::fmt(self.as_bytes(), f),
-        }
+        fmt::Debug::fmt(self.text(), f)
     }
 }
 

@@ -73,6 +73,8 @@ fn a_name_printed_for_debugging(rt: HostRuntime) -> Result<(), AllocError> {
     let name = name_of(b"00A B ").expect(&rt, "a name");
     let text = format!(in rt.alloc(); "{name:?}")?;
     assert_eq!(rt; text.as_str(), "\"A B\"");
+    let plain = format!(in rt.alloc(); "{name}")?;
+    assert_eq!(rt; plain.as_str(), "A B");
     Ok(())
 }
 
