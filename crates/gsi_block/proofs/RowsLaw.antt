@@ -10,8 +10,8 @@ use Rattle.gsi_word.specs.declared.words.Width.{Width}
 use Rattle.gsi_word.specs.declared.words.Width.TheVariants.{Eight, Sixteen}
 use Rattle.gsi_word.specs.declared.words.WordFault.{WordFault}
 use Rattle.gsi_block.specs.Blocks.{is_blank, word_and_further, words_from, SpellsRow}
-use Rattle.gsi_block.specs.declared.blocks.BlockFault.{BlockFault}
-use Rattle.gsi_block.specs.declared.blocks.BlockFault.TheVariants.{BadSeparator}
+use Rattle.gsi_block.specs.declared.faults.BlockFault.{BlockFault}
+use Rattle.gsi_block.specs.declared.faults.BlockFault.TheVariants.{BadSeparator}
 use Rattle.gsi_block.proofs.Rows.{behind}
 
 -- what begins with a digit is not blank

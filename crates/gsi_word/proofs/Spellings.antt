@@ -34,7 +34,7 @@ word_at_places Sixteen (a ∷ b ∷ c ∷ d ∷ e ∷ f ∷ g ∷ rest) long =
 word_at_places _ _ long = absurd (omega arith)
 
 -- two digits write ten times the first and the second
-number_two : (tens ones : ℕ) → is_digit tens ≡ true → is_digit ones ≡ true → number (tens ∷ ones ∷ []) ≡ 10 * (tens - 48) + (ones - 48)
+pub number_two : (tens ones : ℕ) → is_digit tens ≡ true → is_digit ones ≡ true → number (tens ∷ ones ∷ []) ≡ 10 * (tens - 48) + (ones - 48)
 number_two tens ones tens_digit ones_digit =
     let tens_value : digit_value tens + 48 ≡ tens = digit_value_digit tens (digit_bounds tens tens_digit) in
     let ones_value : digit_value ones + 48 ≡ ones = digit_value_digit ones (digit_bounds ones ones_digit) in

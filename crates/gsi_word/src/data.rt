@@ -34,15 +34,13 @@ pub fn two_digit(word: &Word) -> Option<u8>
 pub fn length_of(word: &Word) -> Result<Len, LengthFault>
     ensures { result ≡ length_of (parts_of word.now) }
 {
-    if !are_digits(word.body()) {
-        return Err(LengthFault::BadNumber);
-    }
     let [_, _, _, code] = word.info();
-    let Some(unit) = unit_of(code) else {
-        return Err(LengthFault::BadUnit);
-    };
-    to_len(word.negative(), word.body(), unit).map_err(|fault| match fault {
-        LenFault::NotDigits => LengthFault::BadNumber,
-        LenFault::TooLarge => LengthFault::TooLarge,
-    })
+    match unit_of(code) {
+        Some(unit) => to_len(word.negative(), word.body(), unit).map_err(|fault| match fault {
+            LenFault::NotDigits => LengthFault::BadNumber,
+            LenFault::TooLarge => LengthFault::TooLarge,
+        }),
+        None if are_digits(word.body()) => Err(LengthFault::BadUnit),
+        None => Err(LengthFault::BadNumber),
+    }
 }

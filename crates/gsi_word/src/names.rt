@@ -6,7 +6,7 @@ ghost use Rattle.std.specs.Ordering.{nat_cmp};
 ghost use Rattle.gsi_word.specs.Bytes.{is_padding};
 ghost use Rattle.gsi_word.specs.Names.{name_of, without_leading, without_trailing};
 
-use crate::readings::are_data;
+use crate::bytes::are_data;
 use std::cmp::Ordering;
 use std::hash::{Hash, Hasher};
 use std::marker::Model;

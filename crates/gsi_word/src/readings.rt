@@ -1,8 +1,7 @@
 ghost use Rattle.std.specs.Prelude.{◌≡◌};
-ghost use Rattle.std.specs.List.{list_all};
-ghost use Rattle.gsi_word.specs.Bytes.{is_info, is_sign, is_data};
 ghost use Rattle.gsi_word.specs.Words.{parts_of, result_map, word_at};
 
+use crate::bytes::{are_data, are_info, is_sign};
 use crate::words::{Width, Word, WordFault};
 use th_units::is_digit;
 
@@ -39,33 +38,4 @@ pub fn read_word(bytes: &[u8], width: Width) -> Result<Word<'_>, WordFault>
         negative: sign == b'-',
         body,
     })
-}
-
-/// Whether each byte is a digit or a dot.
-fn are_info(bytes: [u8; 4]) -> bool
-    ensures { result ≡ list_all is_info bytes }
-{
-    let [first, second, third, fourth] = bytes;
-    is_info(first) && is_info(second) && is_info(third) && is_info(fourth)
-}
-
-/// Whether a byte is a digit or a dot.
-fn is_info(byte: u8) -> bool
-    ensures { result ≡ is_info byte }
-{
-    byte == b'.' || is_digit(byte)
-}
-
-/// Whether a byte is a plus or a minus.
-fn is_sign(byte: u8) -> bool
-    ensures { result ≡ is_sign byte }
-{
-    byte == b'+' || byte == b'-'
-}
-
-/// Whether each byte is printable ASCII.
-pub(crate) fn are_data(bytes: &[u8]) -> bool
-    ensures { result ≡ list_all is_data bytes.now }
-{
-    bytes.iter().all(|byte| b' ' <= *byte && *byte <= b'~')
 }

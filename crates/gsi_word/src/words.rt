@@ -2,6 +2,7 @@ ghost use Rattle.std.specs.Prelude.{◌≡◌, ◌<◌, ◌==◌, ◌||◌, IsTr
 ghost use Rattle.std.specs.List.{list_all};
 ghost use Rattle.gsi_word.specs.Bytes.{is_info, is_sign, is_data};
 
+use crate::bytes::{are_data, are_info};
 use std::default::Default;
 use std::error::Error;
 use std::fmt;
@@ -75,7 +76,26 @@ pub struct Word<'a> {
 }
 
 impl<'a> Word<'a> {
-    ghost use Rattle.gsi_word.specs.Words.{parts_of, data_len};
+    ghost use Rattle.std.specs.Prelude.{option_map};
+    ghost use Rattle.std.specs.Option.{SomeIff};
+    ghost use Rattle.gsi_word.specs.Words.{HasSpelling, Spells, parts, parts_of, data_len, spelling_of};
+
+    /// The word with this index, information, sign and data; none where no spelling has these parts.
+    ///
+    /// The index is below 100, the information digits and dots, and the data 8 or 16 printable bytes.
+    pub fn new(index: u8, info: [u8; 4], negative: bool, body: &'a [u8]) -> Option<Word<'a>>
+        ensures { let word = parts index info negative body.now in SomeIff (option_map parts_of result) (HasSpelling word) word }
+    {
+        if index >= 100 || !are_info(info) || !has_data_len(body) || !are_data(body) {
+            return None;
+        }
+        Some(Word {
+            index,
+            info,
+            negative,
+            body,
+        })
+    }
 
     /// The word index of positions 1 and 2.
     pub fn index(&self) -> u8
@@ -107,7 +127,8 @@ impl<'a> Word<'a> {
 
     /// The width whose data these are.
     pub fn width(&self) -> Width
-        ensures { data_len result ≡ length (parts_of self.now).body }
+        ensures data { data_len result ≡ length (parts_of self.now).body }
+        ensures spelled { Spells (parts_of self.now) (spelling_of (parts_of self.now)) result }
     {
         if self.body.len() == 8 {
             Width::Eight
@@ -115,6 +136,13 @@ impl<'a> Word<'a> {
             Width::Sixteen
         }
     }
+}
+
+/// Whether there are as many bytes as the data of a word have, in one of the two widths.
+fn has_data_len(body: &[u8]) -> bool
+    ensures { result ≡ ((length body.now == 8) || (length body.now == 16)) }
+{
+    body.len() == 8 || body.len() == 16
 }
 
 /// The word that fills an array before words are read: index 0, four dots, a plus and eight zeros.

@@ -1,6 +1,11 @@
-use Rattle.std.specs.Prelude.{◌≡◌, ℕ, ◌*◌, ◌<◌, ◌≤◌, ℤ, pos, ◌-ℤ◌, ◌*ℤ◌, List, Some, sum_by, unsigned_abs}
+use Rattle.std.specs.Prelude.{◌≡◌, ℕ, ◌*◌, ◌<◌, ◌≤◌, ℤ, pos, ◌-ℤ◌, ◌*ℤ◌, List, Some, slice_index_or, sum_by, unsigned_abs}
 use Rattle.th_book.specs.Observed.{Observed}
+use Rattle.th_network.specs.Places.{place_of}
 use Rattle.th_tables.specs.Rows.{BenchmarkRows, WeightRows, height_of, weight_of}
+
+-- the map of heights that are listed in the order of these names: zero at a name that is not among them
+abbrev pub heights_at : List (List ℕ) → List ℤ → List ℕ → ℤ
+heights_at names heights name = slice_index_or heights (place_of names name) (pos 0)
 
 -- the heights keep each benchmark
 abbrev pub IsHeights : BenchmarkRows → (List ℕ → ℤ) → Type 0
