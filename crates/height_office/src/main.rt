@@ -71,7 +71,7 @@ fn run<R: AllocGlobal + Files + Input + Print + Eprint>(rt: &R, words: &[String]
         Ok(Plan::Standard) => list(rt, &mut StandardInput::new(rt), &mut out),
         Ok(Plan::List(name)) => list(rt, &mut FileSource::new(rt, name), &mut out),
         Err(PlanFault::Line(error)) => {
-            let _ = rt.eprint(&error);
+            let _ = rt.eprint(&PlanFault::Line(error));
             USAGE
         }
         Err(PlanFault::NoMemory) => refuse(rt, &Refusal::NoMemory),

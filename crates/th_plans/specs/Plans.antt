@@ -14,11 +14,11 @@ list_command = with_rule (new_app (codes "list")) (record (new_rule (codes "book
   value_names = 1;
 })
 
--- the command line, as `clap` describes one: `list BOOK` must follow
+-- the command line, as `clap` describes one: `list BOOK` must follow, and it has a version
 abbrev pub command_line : App
 command_line =
     let bare = new_app (codes "height_office") in
-    with_subcommand (record bare { top = record bare.top { subcommand_required = true } }) list_command.top
+    with_subcommand (record bare { top = record bare.top { has_version = true; subcommand_required = true } }) list_command.top
 
 -- the book's name in what `clap` found for a subcommand
 abbrev pub book_in : Option (Text × List Row) → Option Text

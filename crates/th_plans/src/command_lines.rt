@@ -9,6 +9,23 @@ use clap::{Arg, ArgMatches, Command};
 use std::alloc::{AllocError, Global};
 use std::convert::AsStr;
 
+/// The program's version.
+const VERSION: &str = "0.9.0";
+
+/// How the program is called: without words it lists the book on standard input.
+const USAGE: &str = "height_office list <BOOK>
+       height_office < BOOK        (the book on standard input)";
+
+/// What the program ends with.
+const AFTER_HELP: &str = "Statuses:
+  0  the list was printed
+  2  the book was refused: its first fault stands on standard error, with its line
+  3  the words are no command, or ask for help or the version
+  4  memory was refused
+  5  a device failed: 'read failed' stands for a file that is missing, that may not be read or that
+     is a directory, for a standard input that is closed, and for any other error of the system
+     while reading; 'write failed' for a list that was not taken whole";
+
 /// The program's command line: `list` with the file name of a book.
 fn command_line<'a>(alloc: Global) -> Result<Command<'a>, AllocError>
     ensures { IfOk result (λ command. app_of command ≡ command_line) }
@@ -21,9 +38,10 @@ fn command_line<'a>(alloc: Global) -> Result<Command<'a>, AllocError>
         .about("Prints the height differences of a book as CSV")
         .arg(book)?;
     Command::new(alloc, "height_office")
-        .about(
-            "Lists the height differences that a total station's book holds; with no words, those of the book on standard input",
-        )
+        .about("Lists the height differences that a total station's book holds")
+        .version(VERSION)
+        .override_usage(USAGE)
+        .after_help(AFTER_HELP)
         .subcommand_required(true)
         .subcommand(list)
 }

@@ -3,6 +3,7 @@ ghost use Rattle.std.specs.Prelude.{◌≡◌};
 
 use clap::error::ErrorKind;
 use std::alloc::AllocError;
+use std::fmt;
 
 /// What the program is to do.
 #[derive(Debug, Drop)]
@@ -13,13 +14,31 @@ pub enum Plan<'a> {
     List(&'a str),
 }
 
-/// Why the words give no plan.
+/// Why the words give no plan. It shows itself as the text for standard error.
 #[derive(Debug, Drop)]
 pub enum PlanFault {
     /// A mistake in the words, or a request for help, with the text for the user.
     Line(clap::Error),
     /// There was no memory to read them.
     NoMemory,
+}
+
+/// What stands behind the text of `clap` where the first word is no command.
+const TIP: &str = "\n  tip: to list the book in a file, write 'height_office list FILE'\n";
+
+impl fmt::Display for PlanFault {
+    fn fmt<W: fmt::Write>(&self, f: &mut fmt::Formatter<W>) -> fmt::Result {
+        match self {
+            PlanFault::Line(error) => {
+                write!(f, "{error}")?;
+                match error.kind() {
+                    ErrorKind::InvalidSubcommand => f.write_str(TIP),
+                    _ => Ok(()),
+                }
+            }
+            PlanFault::NoMemory => f.write_str("out of memory\n"),
+        }
+    }
 }
 
 impl From<AllocError> for PlanFault {

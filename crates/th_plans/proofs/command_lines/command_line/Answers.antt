@@ -5,14 +5,25 @@ use Rattle.clap.specs.Simple.{app_of_fields}
 use Rattle.th_plans.specs.Plans.{list_command}
 use Rattle.th_plans.proofs.command_lines.command_line.Goals as goal
 
+-- a command that needs a subcommand and has a version
+abbrev with_both : App → App
+with_both app = record app { top = record app.top { has_version = true; subcommand_required = true } }
+
+-- the same, of a command that has a version
 abbrev with_required : App → App
 with_required app = record app { top = record app.top { subcommand_required = true } }
+
+abbrev with_version : App → App
+with_version app = record app { top = record app.top { has_version = true } }
 
 pub returns : goal.returns
 returns c =
     let book_is : rule_of c.help-book.result ≡ record (new_rule (codes "book")) { required = true; value_names = 1 } = search rules in
     let bare_is : app_of c.about.result ≡ new_app (codes "list") = ap app_of_fields c.about.ensures ∙ c.new-2.ensures.app in
     let list_is : app_of c.in_ok-list.list ≡ list_command = c.in_ok-list.ensures.shape (search rules) ∙ ap₂ with_rule bare_is book_is in
-    let top_is : app_of c.subcommand_required.result ≡ with_required (new_app (codes "height_office")) =
-    ap app_of_fields c.subcommand_required.ensures ∙ ap with_required (ap app_of_fields c.about-2.ensures ∙ c.new-3.ensures.app) in
+    let named_is : app_of c.about-2.result ≡ new_app (codes "height_office") = ap app_of_fields c.about-2.ensures ∙ c.new-3.ensures.app in
+    let version_is : app_of c.after_help.result ≡ with_version (new_app (codes "height_office")) =
+    ap app_of_fields c.after_help.ensures ∙ ap app_of_fields c.override_usage.ensures ∙ ap app_of_fields c.version.ensures ∙ ap with_version named_is in
+    let top_is : app_of c.subcommand_required.result ≡ with_both (new_app (codes "height_office")) =
+    ap app_of_fields c.subcommand_required.ensures ∙ ap with_required version_is in
     IfOk-weaker c.subcommand.result _ _ (λ command added. added.shape (search rules) ∙ ap₂ with_subcommand top_is (ap (λ (a : App). a.top) list_is)) c.subcommand.ensures
