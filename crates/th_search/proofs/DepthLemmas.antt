@@ -1,16 +1,18 @@
 -- How far the entries lead back: no further than there are vertices.
-use Rattle.std.proofs.Common.{◌≡◌, ℕ, zero, suc, ◌*◌, ◌<◌, ◌≤◌, Bool, true, false, ◌||◌, ℤ, pos, ◌+ℤ◌, ◌≤ℤ◌, List, [], ◌∷◌, Option, Some, All, length, eqb, unsigned_abs, refl, sym, ap, ◌∙◌, subst, arith}
+use Rattle.std.proofs.Common.{◌≡◌, ◌≢◌, ℕ, zero, suc, ◌*◌, ◌<◌, ◌≤◌, Bool, true, false, ◌||◌, ℤ, pos, ◌+ℤ◌, ◌≤ℤ◌, List, [], ◌∷◌, inl, inr, Option, None, Some, All, length, eqb, unsigned_abs, refl, sym, ap, ◌∙◌, subst, arith}
 use Rattle.std.specs.List.{AllByRecursion, IsDistinct, list_any}
 use Rattle.std.specs.Option.{option_map_or}
-use Rattle.std.proofs.lemmas.Bool.{eqb-true, ne_eqb}
+use Rattle.std.proofs.lemmas.Bool.{cases_eq, eqb-true, ne_eqb}
 use Rattle.std.proofs.lemmas.Int.{ints}
+use Rattle.std.proofs.lemmas.List.{get_or-set_other, get_or-set_same}
 use Rattle.std.proofs.lemmas.List.Elements.{All-get_or}
 use Rattle.std.proofs.lemmas.Map.Keys.{IsDistinct-cons}
 use Rattle.std.proofs.lemmas.Map.Steps.{length-le_from_distinct_below}
 use Rattle.std.proofs.lemmas.Option.{none-some, same_Some}
 use Rattle.th_search.specs.Walks.{IsArc, arc_at}
 use Rattle.th_search.specs.Potentials.{value_at}
-use Rattle.th_search.specs.Inside.Trees.{entry_at, HasDepth, IsTree, depth_within}
+use Rattle.th_search.specs.Inside.Entries.{AreEntries, HasDepth, IsRooted, MeetsAfter, Meets, cut_at, depth_within, entry_at}
+use Rattle.th_search.specs.Inside.Labels.{AreLabels}
 use Rattle.th_search.specs.declared.arcs.Arc.{Arc}
 
 -- a vertex has one depth
@@ -83,31 +85,66 @@ depth_within_is arcs entries (suc fuel) (suc d) vertex h few =
 pub arc_is : (n : ℕ) (arcs : List Arc) (number : ℕ) → All (IsArc n) arcs → number < length arcs → IsArc n (arc_at arcs number)
 arc_is n arcs number all within = All-get_or (IsArc n) arcs number (record { tail = 0; head = 0; cost = pos 0 }) within all
 
-pub tails_of : (arcs : List Arc) (values : List ℤ) (entries : List (Option ℕ)) → All (IsArc (length values)) arcs → IsTree arcs values entries → (vertex number : ℕ) → entry_at entries vertex ≡ Some number → (arc_at arcs number).tail < length values
-tails_of arcs values entries all tree vertex number at = (arc_is (length values) arcs number all (tree.entered vertex number at).within).tail
+-- the tails of entries are vertices
+abbrev pub HaveTails : ℕ → List Arc → List (Option ℕ) → Type 0
+HaveTails n arcs entries = (vertex number : ℕ) → entry_at entries vertex ≡ Some number → (arc_at arcs number).tail < n
 
-pub shallow : (arcs : List Arc) (values : List ℤ) (entries : List (Option ℕ)) → All (IsArc (length values)) arcs → IsTree arcs values entries → (d vertex : ℕ) → vertex < length values → HasDepth arcs entries d vertex → d < length values
-shallow arcs values entries all tree = depth_below (length values) arcs entries (tails_of arcs values entries all tree)
+pub tails_of : (n : ℕ) (arcs : List Arc) (entries : List (Option ℕ)) → All (IsArc n) arcs → AreEntries n arcs entries → HaveTails n arcs entries
+tails_of n arcs entries all are vertex number at = (arc_is n arcs number all (are.each vertex number at).within).tail
 
 -- what is counted falls at each step back
-pub falls_back : (arcs : List Arc) (values : List ℤ) (entries : List (Option ℕ)) (vertex number : ℕ) → All (IsArc (length values)) arcs → IsTree arcs values entries → vertex < length values → entry_at entries vertex ≡ Some number → depth_within arcs entries (length values) (arc_at arcs number).tail < depth_within arcs entries (length values) vertex
-falls_back arcs values entries vertex number all tree within at =
-    let deep = tree.depth vertex in
+pub falls_back : (n : ℕ) (arcs : List Arc) (entries : List (Option ℕ)) (vertex number : ℕ) → HaveTails n arcs entries → IsRooted arcs entries vertex → vertex < n → entry_at entries vertex ≡ Some number → depth_within arcs entries n (arc_at arcs number).tail < depth_within arcs entries n vertex
+falls_back n arcs entries vertex number tails deep within at =
     let step = depth_step arcs entries deep.0 vertex number deep.1 at in
-    let most = shallow arcs values entries all tree deep.0 vertex within deep.1 in
+    let most = depth_below n arcs entries tails deep.0 vertex within deep.1 in
     let one = step.1 in
-    let here = depth_within_is arcs entries (length values) deep.0 vertex deep.1 (omega arith) in
-    let there = depth_within_is arcs entries (length values) step.0 (arc_at arcs number).tail step.2 (omega arith) in
+    let here = depth_within_is arcs entries n deep.0 vertex deep.1 (omega arith) in
+    let there = depth_within_is arcs entries n step.0 (arc_at arcs number).tail step.2 (omega arith) in
     omega arith
 
+-- without the entry of the goal, the entries lead back from where they met it to the goal and no further
+pub cut_other : (entries : List (Option ℕ)) (goal v : ℕ) → v ≢ goal → entry_at (cut_at entries goal) v ≡ entry_at entries v
+cut_other entries goal v other = get_or-set_other entries goal v None None other
+
+pub cut_same : (entries : List (Option ℕ)) (goal v : ℕ) → goal < length entries → v ≡ goal → entry_at (cut_at entries goal) v ≡ None
+cut_same entries goal v within same = ap (entry_at (cut_at entries goal)) same ∙ get_or-set_same entries goal None None within
+
+cut_each : (entries : List (Option ℕ)) (goal v number : ℕ) → goal < length entries → entry_at (cut_at entries goal) v ≡ Some number → entry_at entries v ≡ Some number
+cut_each entries goal v number within at =
+    elim (cases_eq v goal) [
+      | inl same ↦ absurd (none-some number (sym (cut_same entries goal v within same) ∙ at))
+      | inr other ↦ sym (cut_other entries goal v other) ∙ at
+    ]
+
+pub cut_tails : (n : ℕ) (arcs : List Arc) (entries : List (Option ℕ)) (goal : ℕ) → goal < length entries → HaveTails n arcs entries → HaveTails n arcs (cut_at entries goal)
+cut_tails n arcs entries goal within tails v number at = tails v number (cut_each entries goal v number within at)
+
+cut_depth : (arcs : List Arc) (entries : List (Option ℕ)) (goal : ℕ) → goal < length entries → (steps v : ℕ) → MeetsAfter arcs entries steps v goal → IsRooted arcs (cut_at entries goal) v
+cut_depth arcs entries goal within zero v met = (zero, cut_same entries goal v within met)
+cut_depth arcs entries goal within (suc steps) v met =
+    let rest = cut_depth arcs entries goal within steps (arc_at arcs met.0).tail met.2 in
+    elim (cases_eq v goal) [
+      | inl same ↦ (zero, cut_same entries goal v within same)
+      | inr other ↦ (suc rest.0, (met.0, cut_other entries goal v other ∙ met.1, rest.1))
+    ]
+
+pub cut_rooted : (arcs : List Arc) (entries : List (Option ℕ)) (goal v : ℕ) → goal < length entries → Meets arcs entries v goal → IsRooted arcs (cut_at entries goal) v
+cut_rooted arcs entries goal v within meets = cut_depth arcs entries goal within meets.0 v meets.1
+
+-- what is counted without the entry of the goal falls at each step back to it
+pub cut_falls : (n : ℕ) (arcs : List Arc) (entries : List (Option ℕ)) (goal vertex number : ℕ) → All (IsArc n) arcs → AreEntries n arcs entries → goal < length entries → vertex < n → vertex ≢ goal → entry_at entries vertex ≡ Some number → Meets arcs entries vertex goal → depth_within arcs (cut_at entries goal) n (arc_at arcs number).tail < depth_within arcs (cut_at entries goal) n vertex
+cut_falls n arcs entries goal vertex number all are inside within other at meets =
+    falls_back n arcs (cut_at entries goal) vertex number (cut_tails n arcs entries goal inside (tails_of n arcs entries all are)) (cut_rooted arcs entries goal vertex inside meets) within (cut_other entries goal vertex other ∙ at)
+
 -- a value is below zero by no more than the depth times what bounds the costs
-pub low : (arcs : List Arc) (values : List ℤ) (entries : List (Option ℕ)) (most : ℕ) → ((number : ℕ) → number < length arcs → unsigned_abs (arc_at arcs number).cost ≤ most) → IsTree arcs values entries → (d vertex : ℕ) → HasDepth arcs entries d vertex → pos 0 ≤ℤ (value_at values vertex +ℤ pos (d * most))
-low arcs values entries most costs tree zero vertex h =
-    let none = tree.start vertex h in
+pub low : (arcs : List Arc) (values : List ℤ) (entries : List (Option ℕ)) (most : ℕ) → ((number : ℕ) → number < length arcs → unsigned_abs (arc_at arcs number).cost ≤ most) → AreLabels arcs values entries → (d vertex : ℕ) → HasDepth arcs entries d vertex → pos 0 ≤ℤ (value_at values vertex +ℤ pos (d * most))
+low arcs values entries most costs labels zero vertex h =
+    let none = labels.start vertex h in
     omega (arith, ints)
-low arcs values entries most costs tree (suc d) vertex h =
-    let entry = tree.entered vertex h.0 h.1 in
-    let above = entry.above in
+low arcs values entries most costs labels (suc d) vertex h =
+    let entry = labels.entered.each vertex h.0 h.1 in
+    let here = ap (value_at values) entry.head in
+    let above = (labels.falls.1 vertex h.0 h.1).above in
     let cost = costs h.0 entry.within in
-    let before = low arcs values entries most costs tree d (arc_at arcs h.0).tail h.2 in
+    let before = low arcs values entries most costs labels d (arc_at arcs h.0).tail h.2 in
     omega (arith, ints)

@@ -1,3 +1,5 @@
 -- what private functions say to one another
-pub mod Trees
+pub mod Entries
+pub mod Labels
+pub mod Marks
 pub mod Passes

@@ -6,7 +6,7 @@ ghost use Rattle.th_search.specs.Answers.{IsAnswer};
 use crate::arcs::Arc;
 use crate::fronts::cycle_in_front;
 use crate::labels::Labels;
-use crate::passes::{Pass, go_over};
+use crate::passes::{Pass, pass_over};
 use crate::searches::{Found, Search};
 use std::alloc::{AllocError, Global};
 
@@ -60,12 +60,15 @@ fn found_in(alloc: Global, n: u32, arcs: &[Arc]) -> Result<Found, AllocError>
         return Ok(Found::Cycle(cycle));
     }
     let mut labels = Labels::new(alloc, n)?;
+    let mut marks = vec![in alloc; 0u32; n as usize]?;
     let mut backwards = false;
     'passes: loop {
-        match go_over(alloc, arcs, backwards, &mut labels)? {
+        match pass_over(arcs, backwards, &mut labels, &mut marks) {
             Pass::Lowered => backwards = !backwards,
             Pass::Done => return Ok(Found::Potentials(labels.values)),
-            Pass::Cycle(cycle) => return Ok(Found::Cycle(cycle)),
+            Pass::Closed(vertex) => {
+                return Ok(Found::Cycle(labels.cycle_through(alloc, arcs, vertex)?));
+            }
         }
     }
 }

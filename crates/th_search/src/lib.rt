@@ -1,14 +1,22 @@
 //! Potentials of a network whose arcs have costs, or a cycle of arcs whose costs sum to less than
 //! zero.
+//!
+//! `Search` is what both searches promise, for whoever is generic over them: one of the two answers
+//! of `Found`, each with its definition, and counts of calls and refusals. `LabelSearch` lowers labels
+//! in place, over one row of them and one of the arcs by which they fell.
 #![tactic(auto)]
 
+// What a search is given and what it promises.
 mod arcs;
+mod limits;
+mod searches;
+
+// The search that lowers labels.
+mod entries;
 mod fronts;
 mod label_search;
 mod labels;
-mod limits;
 mod passes;
-mod searches;
 #[cfg(test)]
 mod tests;
 

@@ -1,16 +1,16 @@
-use Rattle.std.specs.Prelude.{◌≡◌, ℕ, ◌-◌, ◌<◌, Bool, ℤ, if◌then◌else◌, List, Option, length}
-use Rattle.th_search.specs.Walks.{IsNegativeCycle}
+use Rattle.std.specs.Prelude.{ℕ, ◌-◌, ◌<◌, Bool, ℤ, if◌then◌else◌, List, Option, length}
 use Rattle.th_search.specs.Potentials.{IsFeasible}
-use Rattle.th_search.specs.Inside.Trees.{IsTree, room}
+use Rattle.th_search.specs.Inside.Entries.{IsOnCycle}
+use Rattle.th_search.specs.Inside.Labels.{IsForest, room}
 use Rattle.th_search.specs.declared.arcs.Arc.{Arc}
 use Rattle.th_search.specs.declared.passes.Pass.{Pass}
-use Rattle.th_search.specs.declared.passes.Pass.TheVariants.{Lowered, Done, Cycle}
+use Rattle.th_search.specs.declared.passes.Pass.TheVariants.{Lowered, Done, Closed}
 
--- values fell, or no arc improves one, or the arcs are a negative cycle
+-- labels fell, or no arc improves one, or the entries lead from a vertex back to itself
 abbrev pub IsPass : List Arc → List ℤ → List ℤ → List (Option ℕ) → Pass → Type 0
-IsPass arcs old new entries Lowered = (length new ≡ length old) × IsTree arcs new entries × (room new < room old)
-IsPass arcs old new entries Done = (length new ≡ length old) × IsTree arcs new entries × IsFeasible arcs new
-IsPass arcs old new entries (Cycle cycle) = IsNegativeCycle arcs cycle.items
+IsPass arcs old new entries Lowered = room new < room old
+IsPass arcs old new entries Done = IsFeasible arcs new × IsForest arcs entries
+IsPass arcs old new entries (Closed vertex) = (vertex < length new) × IsOnCycle arcs entries vertex
 
 -- the place that a step comes to, of so many, from the front or from the back
 abbrev pub place_at : Bool → ℕ → ℕ → ℕ

@@ -1,12 +1,17 @@
-use Rattle.std.proofs.Common.{subst, ◌∙◌}
-use Rattle.th_search.specs.Inside.Passes.{IsPass}
+use Rattle.std.proofs.Common.{All, sym, subst, ◌∙◌, rules}
+use Rattle.th_search.specs.Walks.{IsArc}
 use Rattle.th_search.proofs.AnswerLemmas.{potentials}
 use Rattle.th_search.proofs.label_search.found_in.Goals as goal
 
 pub passes-init : goal.passes-init
-passes-init c = (c.in_ok-labels.ensures.size, c.in_ok-labels.ensures.tree c.args.arcs.now)
+passes-init c = record {
+  size = c.in_ok-labels.ensures.size;
+  labels = c.in_ok-labels.ensures.labels c.args.arcs.now;
+  marks = search rules;
+  forest = c.in_ok-labels.ensures.forest c.args.arcs.now;
+}
 
 pub returns-in-Done : goal.returns-in-Done
 returns-in-Done c =
-    let done = subst (λ did. IsPass c.args.arcs.now c.passes.labels.values.items c.go_over.new.labels.values.items c.go_over.new.labels.entries.items did) c.in-Done.is c.in_ok-go_over.ensures in
-    potentials _ _ _ _ (done.0 ∙ c.passes.invariant.0) c.requires.arcs done.1 done.2
+    let size = c.in-Done.ensures.size ∙ c.passes.invariant.size in
+    potentials _ _ _ _ size (subst (λ n. All (IsArc n) c.args.arcs.now) (sym size) c.requires.arcs) c.in-Done.ensures.labels c.in-Done.ensures.pass.1 c.in-Done.ensures.pass.0
