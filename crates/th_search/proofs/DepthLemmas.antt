@@ -35,7 +35,7 @@ pub weaker : {X : Type 0} (P Q : X → Type 0) → ((x : X) → P x → Q x) →
 weaker P Q h [] all = tt
 weaker P Q h (x ∷ xs) all = (h x all.0, weaker P Q h xs all.1)
 
-each_is : (P : ℕ → Type 0) (xs : List ℕ) → AllByRecursion P xs → (q : ℕ) → list_any (eqb q) xs ≡ true → P q
+pub each_is : (P : ℕ → Type 0) (xs : List ℕ) → AllByRecursion P xs → (q : ℕ) → list_any (eqb q) xs ≡ true → P q
 each_is P [] all q has = absurd (cc)
 each_is P (x ∷ xs) all q has = by (eqb q x) refl has (each_is P xs all.1 q)
   where

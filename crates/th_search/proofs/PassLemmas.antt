@@ -73,7 +73,7 @@ passing_lower arcs old new was entries entries' lowered backwards step number la
 pub less_than : (a b : ℤ) → lt_z a b ≡ true → a <ℤ b
 less_than a b h = grind (arith, ints)
 
-not_less : (a b : ℤ) → lt_z a b ≡ false → b ≤ℤ a
+pub not_less : (a b : ℤ) → lt_z a b ≡ false → b ≤ℤ a
 not_less a b h = grind (arith, ints)
 
 -- the code's sum
