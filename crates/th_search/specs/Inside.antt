@@ -1,0 +1,6 @@
+-- what private functions say to one another
+pub mod Entries
+pub mod Labels
+pub mod Levels
+pub mod Marks
+pub mod Passes

@@ -1,0 +1,17 @@
+use Rattle.std.specs.Prelude.{ℕ, ◌-◌, ◌<◌, Bool, ℤ, if◌then◌else◌, List, Option, length}
+use Rattle.th_search.specs.Potentials.{IsFeasible}
+use Rattle.th_search.specs.Inside.Entries.{IsOnCycle}
+use Rattle.th_search.specs.Inside.Labels.{IsForest, room}
+use Rattle.th_search.specs.declared.arcs.Arc.{Arc}
+use Rattle.th_search.specs.declared.passes.Pass.{Pass}
+use Rattle.th_search.specs.declared.passes.Pass.TheVariants.{Lowered, Done, Closed}
+
+-- labels fell, or no arc improves one, or the entries lead from a vertex back to itself
+abbrev pub IsPass : List Arc → List ℤ → List ℤ → List (Option ℕ) → Pass → Type 0
+IsPass arcs old new entries Lowered = room new < room old
+IsPass arcs old new entries Done = IsFeasible arcs new × IsForest arcs entries
+IsPass arcs old new entries (Closed vertex) = (vertex < length new) × IsOnCycle arcs entries vertex
+
+-- the place that a step comes to, of so many, from the front or from the back
+abbrev pub place_at : Bool → ℕ → ℕ → ℕ
+place_at backwards size step = if backwards then size - 1 - step else step

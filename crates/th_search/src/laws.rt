@@ -1,0 +1,14 @@
+//! Laws over the definitions alone. A law is its contract: it calls nothing and computes nothing.
+
+ghost use Rattle.std.specs.Prelude.{ℕ, ℤ, List};
+ghost use Rattle.th_search.specs.Potentials.{ArePotentials, IsFeasible};
+ghost use Rattle.th_search.specs.Walks.{IsNegativeCycle};
+ghost use Rattle.th_search.specs.declared.arcs.Arc.{Arc as AnArc};
+
+/// Where there are potentials no cycle costs less than nothing: round a cycle no arc may lead to more
+/// than what stands at its tail and its cost together, and the values at the vertices come and go. So
+/// each answer of a search is the only kind of answer that there is.
+pub fn potentials_exclude_negative_cycles()
+    ensures { (arcs : List AnArc) (values : List ℤ) (walk : List ℕ)
+        → IsFeasible arcs values → ¬ IsNegativeCycle arcs walk }
+{}

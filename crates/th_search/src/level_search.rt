@@ -1,0 +1,116 @@
+ghost use Rattle.std.specs.Prelude.{◌≡◌, ◌≢◌, ◌+◌, ◌<◌, ◌≤◌, All, IfOk, None, drop, length, reverse};
+ghost use Rattle.th_search.specs.Limits.{max_vertices, max_arcs};
+ghost use Rattle.th_search.specs.Walks.{IsArc, IsNegativeCycle};
+ghost use Rattle.th_search.specs.Answers.{IsAnswer};
+ghost use Rattle.th_search.specs.Inside.Levels.{AreLevels, last_at, row_at, rows_of};
+
+use crate::arcs::Arc;
+use crate::levels::Level;
+use crate::searches::{Found, Search};
+use std::alloc::{AllocError, Global};
+
+/// A search that makes a table: for each number of arcs, from 0 on, and for each vertex the least cost
+/// of a walk to it over at most so many arcs. Its memory is near `n + 1` times `n` entries, its time
+/// `n` times the number of arcs; it is there for tests and for comparing.
+#[derive(Debug, Drop)]
+pub struct LevelSearch {
+    calls: u128,
+    refusals: u128,
+    ghost refusals_are_calls: { refusals ≤ calls },
+}
+
+impl LevelSearch {
+    /// A search that was not called yet.
+    pub fn new() -> LevelSearch
+        ensures calls { ⟦<LevelSearch as Search>⟧.calls result ≡ 0 }
+        ensures refusals { ⟦<LevelSearch as Search>⟧.refusals result ≡ 0 }
+    {
+        LevelSearch {
+            calls: 0,
+            refusals: 0,
+        }
+    }
+}
+
+impl Search for LevelSearch {
+    ghost calls = { λ search. search.calls };
+
+    ghost refusals = { λ search. search.refusals };
+
+    fn search(&mut self, alloc: Global, n: u32, arcs: &[Arc]) -> Result<Found, AllocError> {
+        let found = found_in(alloc, n, arcs);
+        self.calls += 1;
+        if found.is_err() {
+            self.refusals += 1;
+        }
+        found
+    }
+
+    ghost refusals_are_calls = { λ search. search.refusals_are_calls };
+}
+
+/// Potentials or a negative cycle of a network of `n` vertices: the costs of a level that is as the
+/// one below, or what walks over `n` arcs pass twice where even they cost less than those over fewer.
+fn found_in(alloc: Global, n: u32, arcs: &[Arc]) -> Result<Found, AllocError>
+    requires some { 1 ≤ n }
+    requires vertices { n ≤ max_vertices }
+    requires many { length arcs.now ≤ max_arcs }
+    requires arcs { All (IsArc n) arcs.now }
+    ensures { IfOk result (IsAnswer n arcs.now) }
+{
+    let mut levels = Vec::new(alloc);
+    levels.push(Level::first(alloc, n)?)?;
+    let mut from = 0;
+    for number in 0..n as usize {
+        let level = levels[number].above(alloc, arcs)?;
+        let Some(vertex) = level.lowered_vertex() else {
+            return Ok(Found::Potentials(level.costs));
+        };
+        from = vertex;
+        levels.push(level)?;
+    }
+    Ok(Found::Cycle(cycle_back(alloc, n, arcs, &levels, from)?))
+}
+
+/// The cycle on the walk over as many arcs as there are vertices, back from a vertex of the last level
+/// that was lowered there: the arcs since the first vertex that the walk comes to again.
+fn cycle_back(
+    alloc: Global,
+    n: u32,
+    arcs: &[Arc],
+    levels: &[Level],
+    from: u32,
+) -> Result<Vec<u32>, AllocError>
+    requires arcs { All (IsArc n) arcs.now }
+    requires levels { AreLevels n arcs.now (rows_of levels.now) }
+    requires size { length levels.now ≡ n + 1 }
+    requires from { from < n }
+    requires lowered { last_at (row_at (rows_of levels.now) n) from ≢ None }
+    ensures { IfOk result (λ cycle. IsNegativeCycle arcs.now cycle.items) }
+{
+    let mut places = vec![in alloc; None; n as usize]?;
+    let mut walk = Vec::new(alloc);
+    let mut vertex = from;
+    for place in 0..levels.len() {
+        if let Some(first) = places[vertex as usize] {
+            return turned(alloc, &walk, first);
+        }
+        let Some(number) = levels[levels.len() - 1 - place].last_arc(vertex) else {
+            unreachable!()
+        };
+        places[vertex as usize] = Some(place);
+        walk.push(number)?;
+        vertex = arcs[number as usize].tail;
+    }
+    unreachable!()
+}
+
+/// The numbers from a place on, in the other order.
+fn turned(alloc: Global, walk: &[u32], first: usize) -> Result<Vec<u32>, AllocError>
+    requires { first ≤ length walk.now }
+    ensures { IfOk result (λ part. part.items ≡ reverse (drop first walk.now)) }
+{
+    let mut part = walk[first..].to_vec(alloc)?;
+    part.reverse();
+    Ok(part)
+}

@@ -1,0 +1,91 @@
+ghost use Rattle.std.specs.Prelude.{◌≡◌, ◌<◌, ◌≤◌, All, length};
+ghost use Rattle.th_search.specs.Limits.{max_vertices, max_arcs};
+ghost use Rattle.th_search.specs.Walks.{IsArc};
+ghost use Rattle.th_search.specs.Inside.Labels.{AreLabels, IsForest};
+ghost use Rattle.th_search.specs.Inside.Passes.{IsPass, place_at};
+
+use crate::arcs::Arc;
+use crate::entries::{leads_back, vertex_on_cycle};
+use crate::labels::Labels;
+
+/// What a pass over the arcs did.
+#[derive(Clone, Copy)]
+pub(crate) enum Pass {
+    /// Some label was lowered.
+    Lowered,
+    /// No arc improves a label.
+    Done,
+    /// The entries lead from this vertex back to itself.
+    Closed(u32),
+}
+
+/// Goes over the arcs once, from the front or from the back, and lowers the label of each head that
+/// its arc improves. Stops where an entry closes a cycle, or looks for one at the end.
+pub(crate) fn pass_over(
+    arcs: &[Arc],
+    backwards: bool,
+    labels: &mut Labels,
+    marks: &mut [u32],
+) -> Pass
+    requires arcs { All (IsArc (length labels.old.values.items)) arcs.now }
+    requires many { length arcs.now ≤ max_arcs }
+    requires size { length labels.old.values.items ≤ max_vertices }
+    requires marks { length marks.old ≡ length labels.old.values.items }
+    requires labels { AreLabels arcs.now labels.old.values.items labels.old.entries.items }
+    requires forest { IsForest arcs.now labels.old.entries.items }
+    ensures size { length labels.new.values.items ≡ length labels.old.values.items }
+    ensures labels { AreLabels arcs.now labels.new.values.items labels.new.entries.items }
+    ensures pass { IsPass arcs.now labels.old.values.items labels.new.values.items
+        labels.new.entries.items result }
+    ensures forest { result ≡ Pass.Lowered → IsForest arcs.now labels.new.entries.items }
+{
+    match go_over(arcs, backwards, labels) {
+        Pass::Lowered => match vertex_on_cycle(arcs, &labels.entries, marks) {
+            Some(vertex) => Pass::Closed(vertex),
+            None => Pass::Lowered,
+        },
+        pass => pass,
+    }
+}
+
+/// The pass without a look for cycles at its end. An entry that is new at its head may close a cycle:
+/// the entries are walked back from its tail, as long as all these walks together take no more steps
+/// than there are arcs.
+fn go_over(arcs: &[Arc], backwards: bool, labels: &mut Labels) -> Pass
+    requires arcs { All (IsArc (length labels.old.values.items)) arcs.now }
+    requires many { length arcs.now ≤ max_arcs }
+    requires size { length labels.old.values.items ≤ max_vertices }
+    requires labels { AreLabels arcs.now labels.old.values.items labels.old.entries.items }
+    requires forest { IsForest arcs.now labels.old.entries.items }
+    ensures size { length labels.new.values.items ≡ length labels.old.values.items }
+    ensures labels { AreLabels arcs.now labels.new.values.items labels.new.entries.items }
+    ensures pass { IsPass arcs.now labels.old.values.items labels.new.values.items
+        labels.new.entries.items result }
+{
+    let mut lowered = false;
+    let mut steps = arcs.len();
+    for step in 0..arcs.len() {
+        let number = place(backwards, arcs.len(), step);
+        let arc = arcs[number];
+        let label = labels.values[arc.tail as usize] + arc.cost;
+        if label < labels.values[arc.head as usize] {
+            let closes = labels.entries[arc.head as usize] != Some(number as u32)
+                && leads_back(arcs, &labels.entries, arc.tail, arc.head, &mut steps);
+            labels.lower(arcs, number as u32, label);
+            if closes {
+                return Pass::Closed(arc.head);
+            }
+            lowered = true;
+        }
+    }
+    if lowered { Pass::Lowered } else { Pass::Done }
+}
+
+/// The place that a step comes to, from the front or from the back.
+fn place(backwards: bool, size: usize, step: usize) -> usize
+    requires { step < size }
+    ensures within { result < size }
+    ensures value { result ≡ place_at backwards size step }
+{
+    if backwards { size - 1 - step } else { step }
+}
