@@ -1,0 +1,140 @@
+-- A pass over the arcs, arc by arc.
+use Rattle.std.proofs.Common.{◌≡◌, ℕ, ◌+◌, ◌<◌, ◌≤◌, Bool, true, false, ℤ, pos, ◌+ℤ◌, ◌≤ℤ◌, ◌<ℤ◌, FitsSigned, to_z, of_z, w64, List, Option, All, length, get_or, unsigned_abs, refl, sym, ap, ◌∙◌, subst, arith, below_more}
+use lib.Signed.{lt_z}
+use Rattle.std.proofs.lemmas.Bool.{false≢true}
+use Rattle.std.proofs.lemmas.List.Elements.{All-from_get_or}
+use Rattle.std.proofs.lemmas.Int.{ints, to_z-of_z, fits_signed_from_abs}
+use Rattle.std.proofs.lemmas.List.{get_or_default}
+use Rattle.th_search.specs.Walks.{IsArc, arc_at}
+use Rattle.th_search.specs.Potentials.{IsFeasible, value_at}
+use Rattle.th_search.specs.Inside.Trees.{IsTree, Improves, room}
+use Rattle.th_search.specs.Inside.Passes.{place_at}
+use Rattle.th_search.proofs.DepthLemmas.{arc_is}
+use Rattle.th_search.proofs.LowerLemmas.{value_size, label_size}
+use Rattle.th_search.specs.declared.arcs.Arc.{Arc}
+
+-- the arc of this number improves nothing
+abbrev pub IsFitting : List Arc → List ℤ → ℕ → Type 0
+IsFitting arcs values number = value_at values (arc_at arcs number).head ≤ℤ (value_at values (arc_at arcs number).tail +ℤ (arc_at arcs number).cost)
+
+-- the pass has come to the arc of this number
+pub record IsPassing (arcs : List Arc) (old new : List ℤ) (entries : List (Option ℕ)) (lowered backwards : Bool) (step : ℕ) : Type 0 where
+  pub size : length new ≡ length old
+  pub tree : IsTree arcs new entries
+  pub most : room new ≤ room old
+  pub fell : lowered ≡ true → room new < room old
+  pub feasible : lowered ≡ false → (k : ℕ) → k < step → IsFitting arcs new (place_at backwards (length arcs) k)
+
+pub passing_first : (arcs : List Arc) (values : List ℤ) (entries : List (Option ℕ)) (backwards : Bool) → IsTree arcs values entries → IsPassing arcs values values entries false backwards 0
+passing_first arcs values entries backwards tree = record {
+  size = refl;
+  tree = tree;
+  most = omega arith;
+  fell = λ is. absurd (false≢true is);
+  feasible = λ is k within. absurd (omega arith);
+}
+
+-- an arc that improves nothing
+pub passing_by : (arcs : List Arc) (old new : List ℤ) (entries : List (Option ℕ)) (lowered backwards : Bool) (step number : ℕ) → number ≡ place_at backwards (length arcs) step → IsFitting arcs new number → IsPassing arcs old new entries lowered backwards step → IsPassing arcs old new entries lowered backwards (step + 1)
+passing_by arcs old new entries lowered backwards step number place fits passing = record {
+  size = passing.size;
+  tree = passing.tree;
+  most = passing.most;
+  fell = passing.fell;
+  feasible = λ is. below_more (λ k. IsFitting arcs new (place_at backwards (length arcs) k)) step (passing.feasible is) (subst (IsFitting arcs new) place fits);
+}
+
+-- an arc by which a label was lowered
+pub passing_lower : (arcs : List Arc) (old new new' : List ℤ) (entries entries' : List (Option ℕ)) (lowered backwards : Bool) (step : ℕ) → length new' ≡ length new → IsTree arcs new' entries' → room new' < room new → IsPassing arcs old new entries lowered backwards step → IsPassing arcs old new' entries' true backwards (step + 1)
+passing_lower arcs old new new' entries entries' lowered backwards step same tree less passing =
+    let most = passing.most in
+    record {
+      size = same ∙ passing.size;
+      tree = tree;
+      most = omega arith;
+      fell = λ is. omega arith;
+      feasible = λ is. absurd (false≢true (sym is));
+    }
+
+pub less_than : (a b : ℤ) → lt_z a b ≡ true → a <ℤ b
+less_than a b h = grind (arith, ints)
+
+not_less : (a b : ℤ) → lt_z a b ≡ false → b ≤ℤ a
+not_less a b h = grind (arith, ints)
+
+-- the code's sum
+abbrev pub sum_of : ℤ → ℤ → ℤ
+sum_of r cost = to_z w64 (of_z w64 r) +ℤ to_z w64 (of_z w64 cost)
+
+sums : (r cost : ℤ) → to_z w64 (of_z w64 r) ≡ r → to_z w64 (of_z w64 cost) ≡ cost → sum_of r cost ≡ r +ℤ cost
+sums r cost p q = ap (λ z. z +ℤ to_z w64 (of_z w64 cost)) p ∙ ap (λ z. r +ℤ z) q
+
+-- what was read of a tree at the ends of an arc
+pub record IsRead (arcs : List Arc) (values : List ℤ) (number : ℕ) (r s : ℤ) : Type 0 where
+  pub low : r ≡ value_at values (arc_at arcs number).tail
+  pub high : s ≡ value_at values (arc_at arcs number).head
+  pub sum : sum_of r (arc_at arcs number).cost ≡ r +ℤ (arc_at arcs number).cost
+  pub sum_fits : FitsSigned w64 (r +ℤ (arc_at arcs number).cost)
+  pub high_fits : FitsSigned w64 s
+
+value_read : (values : List ℤ) (v : ℕ) (r : ℤ) → v < length values → r ≡ get_or values v r → r ≡ value_at values v
+value_read values v r within read = read ∙ get_or_default values v r (pos 0) within
+
+pub reads : (arcs : List Arc) (values : List ℤ) (entries : List (Option ℕ)) (number : ℕ) (r s : ℤ) → All (IsArc (length values)) arcs → length values ≤ 4001 → IsTree arcs values entries → number < length arcs → r ≡ get_or values (arc_at arcs number).tail r → s ≡ get_or values (arc_at arcs number).head s → IsRead arcs values number r s
+reads arcs values entries number r s all few tree within low high =
+    let arc = arc_is (length values) arcs number all within in
+    let r_is = value_read values (arc_at arcs number).tail r arc.tail low in
+    let s_is = value_read values (arc_at arcs number).head s arc.head high in
+    let low_size = value_size arcs values entries all few tree (arc_at arcs number).tail arc.tail in
+    let high_size = value_size arcs values entries all few tree (arc_at arcs number).head arc.head in
+    let sum_size = label_size arcs values entries number all few tree within in
+    let cost_size : unsigned_abs (arc_at arcs number).cost ≤ 10000000000000 = arc.cost in
+    let r_size : unsigned_abs r ≤ 40010000000000000 = subst (λ z. unsigned_abs z ≤ 40010000000000000) (sym r_is) low_size in
+    let s_size : unsigned_abs s ≤ 40010000000000000 = subst (λ z. unsigned_abs z ≤ 40010000000000000) (sym s_is) high_size in
+    let all_size : unsigned_abs (r +ℤ (arc_at arcs number).cost) ≤ 40010000000000000 = subst (λ z. unsigned_abs (z +ℤ (arc_at arcs number).cost) ≤ 40010000000000000) (sym r_is) sum_size in
+    record {
+      low = r_is;
+      high = s_is;
+      sum = sums r (arc_at arcs number).cost (to_z-of_z w64 r (fits_signed_from_abs w64 r (omega arith))) (to_z-of_z w64 (arc_at arcs number).cost (fits_signed_from_abs w64 (arc_at arcs number).cost (omega arith)));
+      sum_fits = fits_signed_from_abs w64 (r +ℤ (arc_at arcs number).cost) (omega arith);
+      high_fits = fits_signed_from_abs w64 s (omega arith);
+    }
+
+pub sum_fits : (arcs : List Arc) (values : List ℤ) (number : ℕ) (r s : ℤ) → IsRead arcs values number r s → FitsSigned w64 (sum_of r (arc_at arcs number).cost)
+sum_fits arcs values number r s read = subst (FitsSigned w64) (sym read.sum) read.sum_fits
+
+-- the code's label is what the arc leads to
+label_is : (arcs : List Arc) (values : List ℤ) (number : ℕ) (r s : ℤ) → IsRead arcs values number r s → to_z w64 (of_z w64 (sum_of r (arc_at arcs number).cost)) ≡ value_at values (arc_at arcs number).tail +ℤ (arc_at arcs number).cost
+label_is arcs values number r s read =
+    ap (λ z. to_z w64 (of_z w64 z)) read.sum ∙ to_z-of_z w64 (r +ℤ (arc_at arcs number).cost) read.sum_fits ∙ ap (λ z. z +ℤ (arc_at arcs number).cost) read.low
+
+pub improves : (arcs : List Arc) (values : List ℤ) (number : ℕ) (r s : ℤ) → IsRead arcs values number r s → lt_z (to_z w64 (of_z w64 (sum_of r (arc_at arcs number).cost))) (to_z w64 (of_z w64 s)) ≡ true → Improves arcs values number (to_z w64 (of_z w64 (sum_of r (arc_at arcs number).cost)))
+improves arcs values number r s read less = record {
+  is = label_is arcs values number r s read;
+  below = subst (λ z. to_z w64 (of_z w64 (sum_of r (arc_at arcs number).cost)) <ℤ z) (to_z-of_z w64 s read.high_fits ∙ read.high) (less_than (to_z w64 (of_z w64 (sum_of r (arc_at arcs number).cost))) (to_z w64 (of_z w64 s)) less);
+}
+
+pub fits_as_is : (arcs : List Arc) (values : List ℤ) (number : ℕ) (r s : ℤ) → IsRead arcs values number r s → lt_z (to_z w64 (of_z w64 (sum_of r (arc_at arcs number).cost))) (to_z w64 (of_z w64 s)) ≡ false → value_at values (arc_at arcs number).head ≤ℤ (value_at values (arc_at arcs number).tail +ℤ (arc_at arcs number).cost)
+fits_as_is arcs values number r s read not =
+    let label = label_is arcs values number r s read in
+    let high = to_z-of_z w64 s read.high_fits ∙ read.high in
+    let least = not_less (to_z w64 (of_z w64 (sum_of r (arc_at arcs number).cost))) (to_z w64 (of_z w64 s)) not in
+    subst (λ z. value_at values (arc_at arcs number).head ≤ℤ z) label (subst (λ z. z ≤ℤ to_z w64 (of_z w64 (sum_of r (arc_at arcs number).cost))) high least)
+
+pub read_low : (arcs : List Arc) (values : List ℤ) (entries : List (Option ℕ)) (number : ℕ) (r : ℤ) → All (IsArc (length values)) arcs → length values ≤ 4001 → IsTree arcs values entries → number < length arcs → r ≡ get_or values (arc_at arcs number).tail r → FitsSigned w64 (sum_of r (arc_at arcs number).cost)
+read_low arcs values entries number r all few tree within low =
+    let s = value_at values (arc_at arcs number).head in
+    sum_fits arcs values number r s (reads arcs values entries number r s all few tree within low (get_or_default values (arc_at arcs number).head (pos 0) s (arc_is (length values) arcs number all within).head))
+
+-- each place is come to
+place_again : (backwards : Bool) (size k : ℕ) → k < size → (place_at backwards size k < size) × (place_at backwards size (place_at backwards size k) ≡ k)
+place_again true size k within = (omega arith, omega arith)
+place_again false size k within = (within, refl)
+
+-- a pass that lowered nothing
+pub passing_done : (arcs : List Arc) (old new : List ℤ) (entries : List (Option ℕ)) (lowered backwards : Bool) (step : ℕ) → length arcs ≤ step → lowered ≡ false → IsPassing arcs old new entries lowered backwards step → IsFeasible arcs new
+passing_done arcs old new entries lowered backwards step past is passing =
+    All-from_get_or (λ arc. value_at new arc.head ≤ℤ (value_at new arc.tail +ℤ arc.cost)) arcs (record { tail = 0; head = 0; cost = pos 0 }) (λ k within.
+    let place = place_again backwards (length arcs) k within in
+    let few = place.0 in
+    subst (IsFitting arcs new) place.1 (passing.feasible is (place_at backwards (length arcs) k) (omega arith)))

@@ -1,0 +1,16 @@
+use Rattle.std.specs.Prelude.{ℕ, List, Result, Ok, Err}
+use Rattle.th_search.specs.Walks.{IsNegativeCycle}
+use Rattle.th_search.specs.Potentials.{ArePotentials}
+use Rattle.th_search.specs.declared.arcs.Arc.{Arc}
+use Rattle.th_search.specs.declared.searches.Found.{Found}
+use Rattle.th_search.specs.declared.searches.Found.TheVariants.{Potentials, Cycle}
+
+-- potentials, or a negative cycle
+abbrev pub IsAnswer : ℕ → List Arc → Found → Type 0
+IsAnswer n arcs (Potentials potentials) = ArePotentials n arcs potentials.items
+IsAnswer n arcs (Cycle cycle) = IsNegativeCycle arcs cycle.items
+
+-- one refusal for an error, and none for an answer
+abbrev pub refusals_in : {A E : Type 0} → Result A E → ℕ
+refusals_in (Ok answer) = 0
+refusals_in (Err refused) = 1

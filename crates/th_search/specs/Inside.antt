@@ -1,0 +1,3 @@
+-- what private functions say to one another
+pub mod Trees
+pub mod Passes

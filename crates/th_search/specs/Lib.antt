@@ -1,0 +1,5 @@
+pub mod Limits
+pub mod Walks
+pub mod Potentials
+pub mod Answers
+pub mod Inside

@@ -1,0 +1,20 @@
+ghost use Rattle.std.specs.Prelude.{◌↔◌, All, IsTrue};
+ghost use Rattle.th_search.specs.Walks.{IsArc};
+
+use crate::limits::MAX_COST;
+
+/// An arc of a network, from its tail to its head, at a cost.
+#[derive(Clone, Copy, Debug, PartialEq, Eq)]
+pub struct Arc {
+    pub tail: u32,
+    pub head: u32,
+    pub cost: i64,
+}
+
+/// Whether the arcs have their ends among `n` vertices, numbered from 0, and costs of at most
+/// `MAX_COST` in size: what a search asks of its arcs.
+pub fn are_arcs(n: u32, arcs: &[Arc]) -> bool
+    ensures { IsTrue result ↔ All (IsArc n) arcs.now }
+{
+    arcs.iter().all(|arc| arc.tail < n && arc.head < n && arc.cost.unsigned_abs() <= MAX_COST)
+}

@@ -1,0 +1,45 @@
+ghost use Rattle.std.specs.Prelude.{◌≤◌, All, IfOk, IfSome, length};
+ghost use Rattle.th_search.specs.Limits.{max_arcs};
+ghost use Rattle.th_search.specs.Walks.{IsArc, IsNegativeCycle};
+
+use crate::arcs::Arc;
+use std::alloc::{AllocError, Global};
+
+/// The arcs in front, where each begins where the one before it ends, they enter no vertex twice, the
+/// last ends where the first begins, and their costs sum to less than zero.
+pub(crate) fn cycle_in_front(
+    alloc: Global,
+    n: u32,
+    arcs: &[Arc],
+) -> Result<Option<Vec<u32>>, AllocError>
+    requires many { length arcs.now ≤ max_arcs }
+    requires arcs { All (IsArc n) arcs.now }
+    ensures { IfOk result (λ found. IfSome found (λ cycle. IsNegativeCycle arcs.now cycle.items)) }
+{
+    let Some(first) = arcs.first().copied() else {
+        return Ok(None);
+    };
+    let mut entered = vec![in alloc; false; n as usize]?;
+    let mut walk = Vec::new(alloc);
+    let mut cost = 0i64;
+    let mut vertex = first.tail;
+    for (number, arc) in arcs.iter().enumerate() {
+        if arc.tail != vertex {
+            return Ok(None);
+        }
+        if entered[arc.head as usize] {
+            return Ok(None);
+        }
+        entered[arc.head as usize] = true;
+        walk.push(number as u32)?;
+        cost += arc.cost;
+        vertex = arc.head;
+        if vertex == first.tail {
+            if cost < 0 {
+                return Ok(Some(walk));
+            }
+            return Ok(None);
+        }
+    }
+    Ok(None)
+}

@@ -1,0 +1,45 @@
+ghost use Rattle.std.specs.Prelude.{◌≡◌, ◌+◌, ◌<◌, ◌≤◌, ℕ, All, IfOk, length};
+ghost use Rattle.th_search.specs.Limits.{max_vertices, max_arcs, max_calls};
+ghost use Rattle.th_search.specs.Walks.{IsArc};
+ghost use Rattle.th_search.specs.Answers.{IsAnswer, refusals_in};
+
+use crate::arcs::Arc;
+use std::alloc::{AllocError, Global};
+
+/// What a search finds.
+#[derive(Debug, Drop)]
+pub enum Found {
+    /// For each vertex a potential: no arc leads to a higher one than that of its tail and its cost
+    /// together. They are at most 0, and not below it by more than the greatest size of a cost for
+    /// each vertex but one.
+    Potentials(Vec<i64>),
+    /// The numbers of arcs, counted from 0, that make a cycle whose costs sum to less than 0, each
+    /// arc on from where the one before it ends, and no vertex entered twice.
+    Cycle(Vec<u32>),
+}
+
+/// A search for potentials or a negative cycle.
+pub trait Search {
+    // How often it was called, and how many of these calls were refused memory.
+    ghost calls: { Self → ℕ };
+
+    ghost refusals: { Self → ℕ };
+
+    /// Finds potentials of the vertices 0 to `n - 1`, or a cycle of arcs that costs less than 0.
+    ///
+    /// `n` is 1 to `MAX_VERTICES`, the arcs are at most `MAX_ARCS` with their ends below `n` and
+    /// costs of at most `MAX_COST` in size (`are_arcs` tells). Where memory is refused the call
+    /// counts as a refusal, and the search may be called again.
+    fn search(&mut self, alloc: Global, n: u32, arcs: &[Arc]) -> Result<Found, AllocError>
+        requires some { 1 ≤ n }
+        requires vertices { n ≤ max_vertices }
+        requires many { length arcs.now ≤ max_arcs }
+        requires arcs { All (IsArc n) arcs.now }
+        requires calls { calls self.old < max_calls }
+        ensures answer { IfOk result (IsAnswer n arcs.now) }
+        ensures calls { calls self.new ≡ calls self.old + 1 }
+        ensures refusals { refusals self.new ≡ refusals self.old + refusals_in result };
+
+    // No more calls are refused than there are.
+    ghost refusals_are_calls: { (search : Self) → refusals search ≤ calls search };
+}
