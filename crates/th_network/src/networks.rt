@@ -2,6 +2,7 @@ ghost use Rattle.std.specs.Prelude.{◌≡◌, ◌≢◌, ◌+◌, ◌<◌, ◌�
 ghost use Rattle.std.specs.List.{IsDistinct};
 ghost use Rattle.th_book.specs.Observed.{IsBetweenPoints};
 ghost use Rattle.th_network.specs.Faults.{HasFault, IsNetwork};
+ghost use Rattle.th_network.specs.Limits.{max_observations, max_points};
 ghost use Rattle.th_network.specs.Links.{largest_link_difference};
 ghost use Rattle.th_network.specs.Networks.{IsBuilt, arcs_of, heights_of, points_of, vertices_of, weights_of};
 ghost use Rattle.th_network.specs.declared.faults.NetFault.TheVariants.{NoMemory, TooManyObservations};
@@ -68,7 +69,7 @@ impl<'a> Network<'a> {
         ensures network { OnOk result (IsNetwork observations.items benchmarks.now) }
         ensures fault { IfErr result (λ fault.
             fault ≢ NoMemory → HasFault observations.items benchmarks.now fault) }
-        ensures many { MAX_OBSERVATIONS < length observations.items
+        ensures many { max_observations < length observations.items
             → result ≡ Err TooManyObservations }
     {
         let Graph {
@@ -131,7 +132,7 @@ impl<'a> Network<'a> {
     /// How many vertices there are: 0 for all benchmarks, and one for each other point.
     pub fn vertices(&self) -> u32
         ensures vertices { result ≡ vertices_of self.now }
-        ensures few { result ≤ MAX_POINTS + 1 }
+        ensures few { result ≤ max_points + 1 }
     {
         self.vertices
     }
@@ -165,7 +166,7 @@ fn graph_of(
         IsBuilt observations.now benchmarks.now graph.points.keys graph.vertices graph.arcs.items) }
     ensures fault { IfErr result (λ fault.
         fault ≢ NoMemory → HasFault observations.now benchmarks.now fault) }
-    ensures many { MAX_OBSERVATIONS < length observations.now
+    ensures many { max_observations < length observations.now
         → result ≡ Err TooManyObservations }
 {
     if observations.len() > MAX_OBSERVATIONS {
