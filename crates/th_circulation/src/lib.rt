@@ -7,4 +7,16 @@
 // What is settled.
 mod settled;
 
+// How flows change.
+mod cancels;
+mod differences;
+mod graphs;
+mod heights;
+mod laws;
+mod listings;
+mod slots;
+mod steps;
+mod workspaces;
+
 pub use settled::{Flows, Heights, Settled, Spans};
+pub use steps::Steps;
