@@ -10,3 +10,4 @@ pub mod PotentialLemmas
 pub mod HeightLemmas
 pub mod ArcLemmas
 pub mod AdvanceLemmas
+pub mod PhaseStarts

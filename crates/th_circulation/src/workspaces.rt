@@ -2,13 +2,16 @@ ghost use Rattle.std.specs.Prelude.{◌≡◌, ◌+◌, ◌<◌, ◌≤◌, ◌�
 ghost use Rattle.std.specs.Vec.{vec_capacity};
 ghost use Rattle.th_circulation.specs.Inside.Flows.{IsFlow, ShowsLinks, gain, residuals};
 ghost use Rattle.th_circulation.specs.Inside.Graphs.{AreWithin};
+ghost use Rattle.th_circulation.specs.Inside.Phases.{differences_in};
 ghost use Rattle.th_circulation.specs.Inside.Workspaces.{IsNear, IsReady};
 ghost use Rattle.th_search.specs.Answers.{refusals_in};
 ghost use Rattle.th_search.specs.Potentials.{value_at};
 
 use crate::cancels::cancel;
+use crate::differences::set_differences;
 use crate::graphs::Graph;
-use crate::heights::raise;
+use crate::heights::{double, raise};
+use crate::limits::PHASES;
 use crate::listings::Listing;
 use crate::steps::Steps;
 use std::alloc::{AllocError, Global};
@@ -28,6 +31,70 @@ pub(crate) struct Workspace {
 }
 
 impl Workspace {
+    /// No flow yet, and all heights 0.
+    pub fn new(alloc: Global, graph: &Graph) -> Result<Workspace, AllocError>
+        ensures differences { IfOk result (λ work.
+            length work.differences.items ≡ length graph.now.links.now) }
+        ensures heights { IfOk result (λ work.
+            AreWithin graph.now.vertices 40002500000000000 work.heights.items) }
+        ensures flow { IfOk result (λ work.
+            IsFlow graph.now.links.now graph.now.weights.now work.flows.items) }
+        ensures near { IfOk result (λ work. IsNear graph.now.links.now graph.now.weights.now
+            (differences_in 43 graph.now.links.now) work.flows.items) }
+        ensures arcs { IfOk result (λ work.
+            2 * length graph.now.links.now ≤ vec_capacity work.listing.arcs) }
+        ensures slots { IfOk result (λ work.
+            2 * length graph.now.links.now ≤ vec_capacity work.listing.slots) }
+    {
+        let differences = vec![in alloc; 0i64; graph.links.len()]?;
+        let heights = vec![in alloc; 0i64; graph.vertices as usize]?;
+        let flows = vec![in alloc; 0i64; graph.links.len()]?;
+        let listing = Listing::new(alloc, graph.links.len())?;
+        Ok(Workspace {
+            differences,
+            heights,
+            flows,
+            listing,
+        })
+    }
+
+    /// Settles the phases one after another, each with its differences and on from the flows of the
+    /// one before it, until the flows show heights for the links' own differences.
+    pub fn settle<S: Search>(
+        &mut self,
+        alloc: Global,
+        graph: &Graph,
+        search: &mut S,
+        steps: &mut Steps,
+    ) -> Result<(), AllocError>
+        requires differences { length self.old.differences.items ≡ length graph.now.links.now }
+        requires heights { AreWithin graph.now.vertices 40002500000000000 self.old.heights.items }
+        requires flow { IsFlow graph.now.links.now graph.now.weights.now self.old.flows.items }
+        requires near { IsNear graph.now.links.now graph.now.weights.now
+            (differences_in 43 graph.now.links.now) self.old.flows.items }
+        requires arcs { 2 * length graph.now.links.now ≤ vec_capacity self.old.listing.arcs }
+        requires slots { 2 * length graph.now.links.now ≤ vec_capacity self.old.listing.slots }
+        requires calls { S.calls search.old ≤ 1000000000000000000000000000000 }
+        requires steps { steps.old ≤ 1000000000000000000000000000000 }
+        ensures flow { IsFlow graph.now.links.now graph.now.weights.now self.new.flows.items }
+        ensures heights { OnOk result (AreWithin graph.now.vertices 40002500000000000
+            self.new.heights.items) }
+        ensures shown { OnOk result (ShowsLinks graph.now.weights.now self.new.flows.items
+            (residuals graph.now.links.now (differences_in 0 graph.now.links.now)
+                (value_at self.new.heights.items))) }
+        ensures more { steps.old ≤ steps.new }
+        ensures few { steps.new ≤ steps.old + 88 * sum graph.now.weights.now }
+        ensures calls { OnOk result (S.calls search.new + steps.old ≡ S.calls search.old + steps.new + 44) }
+        ensures refused { OnErr result (S.calls search.new + steps.old ≤ S.calls search.old + steps.new + 44) }
+        ensures refusals { S.refusals search.new ≡ S.refusals search.old + refusals_in result }
+    {
+        'phases: for done in 0..PHASES {
+            self.start_phase(graph, PHASES - 1 - done);
+            self.settle_phase(alloc, graph, search, steps)?;
+        }
+        Ok(())
+    }
+
     /// Asks the search once: cancels the cycle that it names and answers true, or raises the heights
     /// by its potentials to heights that the flows show, and answers false.
     fn advance<S: Search>(
@@ -77,6 +144,21 @@ impl Workspace {
         }
     }
 
+    /// Takes the differences of a phase, and the heights doubled.
+    fn start_phase(&mut self, graph: &Graph, phase: u32)
+        requires phase { phase ≤ 43 }
+        requires differences { length self.old.differences.items ≡ length graph.now.links.now }
+        requires heights { AreWithin graph.now.vertices 40002500000000000 self.old.heights.items }
+        ensures differences { self.new.differences.items ≡ differences_in phase graph.now.links.now }
+        ensures heights { AreWithin graph.now.vertices 2500000000000 self.new.heights.items }
+        ensures flows { self.new.flows.items ≡ self.old.flows.items }
+        ensures arcs { vec_capacity self.new.listing.arcs ≡ vec_capacity self.old.listing.arcs }
+        ensures slots { vec_capacity self.new.listing.slots ≡ vec_capacity self.old.listing.slots }
+    {
+        set_differences(graph.links, phase, &mut self.differences);
+        double(&mut self.heights, graph.vertices);
+    }
+
     /// Cancels cycles until the search answers potentials: then the flows show the heights for these
     /// differences.
     fn settle_phase<S: Search>(
@@ -100,6 +182,7 @@ impl Workspace {
         ensures arcs { vec_capacity self.old.listing.arcs ≤ vec_capacity self.new.listing.arcs }
         ensures slots { vec_capacity self.old.listing.slots ≤ vec_capacity self.new.listing.slots }
         ensures more { steps.old ≤ steps.new }
+        ensures few { steps.new ≤ steps.old + 2 * sum graph.now.weights.now }
         ensures gained { (gain self.old.flows.items self.old.differences.items
             +ℤ pos (steps.new - steps.old)) ≤ℤ gain self.new.flows.items self.old.differences.items }
         ensures calls { S.calls search.new + steps.old ≡ S.calls search.old + steps.new + 1 }
