@@ -11,3 +11,4 @@ pub mod HeightLemmas
 pub mod ArcLemmas
 pub mod AdvanceLemmas
 pub mod PhaseStarts
+pub mod PlacedLemmas
