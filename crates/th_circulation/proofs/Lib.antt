@@ -12,3 +12,4 @@ pub mod ArcLemmas
 pub mod AdvanceLemmas
 pub mod PhaseStarts
 pub mod PlacedLemmas
+pub mod SettledLemmas

@@ -123,7 +123,7 @@ residual_same observations benchmarks heights o =
     let target = placed_parts observations benchmarks heights o.target in
     omega (arith, ints)
 
-shows_same : (all : List Observed) (benchmarks : BenchmarkRows) (weights : WeightRows) (heights : ℕ → ℤ) (observations : List Observed) (flows : List ℤ) → AllZip (λ weight flow. unsigned_abs flow ≤ weight) (map (λ o. weight_of weights o.station o.target) observations) flows → ShowsLinks (map (λ o. weight_of weights o.station o.target) observations) flows (residuals (map (link_of all benchmarks) observations) (map (link_difference benchmarks) observations) heights) → Shows observations weights flows (placed all benchmarks heights)
+pub shows_same : (all : List Observed) (benchmarks : BenchmarkRows) (weights : WeightRows) (heights : ℕ → ℤ) (observations : List Observed) (flows : List ℤ) → AllZip (λ weight flow. unsigned_abs flow ≤ weight) (map (λ o. weight_of weights o.station o.target) observations) flows → ShowsLinks (map (λ o. weight_of weights o.station o.target) observations) flows (residuals (map (link_of all benchmarks) observations) (map (link_difference benchmarks) observations) heights) → Shows observations weights flows (placed all benchmarks heights)
 shows_same all benchmarks weights heights [] [] h s = tt
 shows_same all benchmarks weights heights [] (flow ∷ flows) h s = absurd h
 shows_same all benchmarks weights heights (o ∷ observations) [] h s = absurd h

@@ -1,8 +1,8 @@
-ghost use Rattle.std.specs.Prelude.{◌≡◌, ◌↔◌, ◌<◌, ◌≤◌, ◌≤ℤ◌, ℕ, pos, length, slice_index_or, unsigned_abs};
+ghost use Rattle.std.specs.Prelude.{◌≡◌, ◌↔◌, ◌<◌, ◌≤◌, ◌≤ℤ◌, ℕ, All, pos, length, slice_index_or, unsigned_abs};
 ghost use Rattle.th_circulation.specs.Inside.Graphs.{AreWithin, IsGraph};
 
 use crate::slots::Slot;
-use th_network::Link;
+use th_network::{Link, Network};
 use th_search::Arc;
 
 /// A network by its vertices: links between them, and the weight of each.
@@ -18,8 +18,26 @@ impl<'a> Graph<'a> {
     ghost use Rattle.th_circulation.specs.Inside.Cycles.{HasRoom, link_at};
     ghost use Rattle.th_circulation.specs.Inside.Flows.{AreBounded, residual};
     ghost use Rattle.th_circulation.specs.Inside.Listings.{arc_of};
+    ghost use Rattle.th_network.specs.Faults.{IsNetwork};
+    ghost use Rattle.th_network.specs.Networks.{arcs_of, vertices_of, weights_of};
     ghost use Rattle.th_search.specs.Potentials.{value_at};
     ghost use Rattle.th_search.specs.Walks.{IsArc};
+
+    /// The vertices and links of a network, and these weights, which are its own.
+    pub fn of(network: &'a Network, weights: &'a [u32]) -> Graph<'a>
+        requires network { IsNetwork network.now.observations network.now.benchmarks }
+        requires weights { weights.now ≡ weights_of network.now }
+        requires light { All (λ weight. weight ≤ 1000) weights.now }
+        ensures vertices { result.vertices ≡ vertices_of network.now }
+        ensures links { result.links.now ≡ arcs_of network.now }
+        ensures weights { result.weights.now ≡ weights_of network.now }
+    {
+        Graph {
+            vertices: network.vertices(),
+            links: network.arcs(),
+            weights,
+        }
+    }
 
     /// How much more can flow along a slot.
     pub fn room(&self, flows: &[i64], slot: Slot) -> i64

@@ -7,6 +7,9 @@
 // What is settled.
 mod settled;
 
+// How a network is settled.
+mod settling;
+
 // How flows change.
 mod cancels;
 mod differences;
@@ -21,4 +24,5 @@ mod steps;
 mod workspaces;
 
 pub use settled::{Flows, Heights, Settled, Spans};
+pub use settling::settle;
 pub use steps::Steps;

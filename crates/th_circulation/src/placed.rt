@@ -1,6 +1,7 @@
 ghost use Rattle.std.specs.Prelude.{◌≡◌, ◌<◌, All, length, unsigned_abs};
 ghost use Rattle.th_circulation.specs.Inside.Graphs.{AreWithin};
 ghost use Rattle.th_circulation.specs.Inside.Placed.{ArePlaced};
+ghost use Rattle.th_circulation.specs.Limits.{height_limit};
 ghost use Rattle.th_network.specs.Networks.{points_of, vertices_of};
 ghost use Rattle.th_search.specs.Potentials.{value_at};
 
@@ -13,7 +14,7 @@ pub(crate) fn place(network: &Network, heights: &[i64], listed: &mut [i64])
     requires each { length listed.old ≡ length (points_of network.now) }
     ensures placed { ArePlaced network.now.observations network.now.benchmarks (value_at heights.now)
         listed.new }
-    ensures in_range { All (λ height. unsigned_abs height < 100000000000000000) listed.new }
+    ensures in_range { All (λ height. unsigned_abs height < height_limit) listed.new }
 {
     let level = heights[0];
     let mut vertex = 0usize;

@@ -4,6 +4,7 @@ ghost use Rattle.th_circulation.specs.Inside.Flows.{IsFlow, ShowsLinks, gain, re
 ghost use Rattle.th_circulation.specs.Inside.Graphs.{AreWithin};
 ghost use Rattle.th_circulation.specs.Inside.Phases.{differences_in};
 ghost use Rattle.th_circulation.specs.Inside.Workspaces.{IsNear, IsReady};
+ghost use Rattle.th_circulation.specs.Limits.{max_counted};
 ghost use Rattle.th_search.specs.Answers.{refusals_in};
 ghost use Rattle.th_search.specs.Potentials.{value_at};
 
@@ -74,18 +75,19 @@ impl Workspace {
             (differences_in 43 graph.now.links.now) self.old.flows.items }
         requires arcs { 2 * length graph.now.links.now ≤ vec_capacity self.old.listing.arcs }
         requires slots { 2 * length graph.now.links.now ≤ vec_capacity self.old.listing.slots }
-        requires calls { S.calls search.old ≤ 1000000000000000000000000000000 }
-        requires steps { steps.old ≤ 1000000000000000000000000000000 }
+        requires calls { S.calls search.old ≤ max_counted }
+        requires steps { steps.old ≤ max_counted }
         ensures flow { IsFlow graph.now.links.now graph.now.weights.now self.new.flows.items }
         ensures heights { OnOk result (AreWithin graph.now.vertices 40002500000000000
             self.new.heights.items) }
         ensures shown { OnOk result (ShowsLinks graph.now.weights.now self.new.flows.items
             (residuals graph.now.links.now (differences_in 0 graph.now.links.now)
-                (value_at self.new.heights.items))) }
+            (value_at self.new.heights.items))) }
         ensures more { steps.old ≤ steps.new }
         ensures few { steps.new ≤ steps.old + 88 * sum graph.now.weights.now }
         ensures calls { OnOk result (S.calls search.new + steps.old ≡ S.calls search.old + steps.new + 44) }
         ensures refused { OnErr result (S.calls search.new + steps.old ≤ S.calls search.old + steps.new + 44) }
+        ensures asked { S.calls search.old + steps.new ≤ S.calls search.new + steps.old }
         ensures refusals { S.refusals search.new ≡ S.refusals search.old + refusals_in result }
     {
         'phases: for done in 0..PHASES {

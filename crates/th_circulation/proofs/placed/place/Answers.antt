@@ -30,24 +30,24 @@ loop-place-preserved c =
     let Right : ℕ → ℤ → Type 0 = λ k z. (name : List ℕ) → slice_get (points_of network) k ≡ Some name → z ≡ placed network.observations network.benchmarks (value_at c.args.heights.now) name in
     let Small : ℕ → ℤ → Type 0 = λ k z. unsigned_abs z ≤ 99999999999999999 in
     elim c.match-fixed.branch [
-      in-Some w ↦
-        let found = c.fixed.ensures.height ∙ ap Some w.in-Some.is in
-        let near = w.in-Some.ensures.in_range in
-        let is = w.listed-is in
-        let vertex = w.vertex-is in
-        let kept = free_fixed network.benchmarks (points_of network) i w.in-Some.height found in
-        (omega arith, set_more Small c.loop-place.listed i _ place inv.1 (omega (arith, ints)), set_more Right c.loop-place.listed i _ place inv.2 (λ name at. let right = placed_fixed network.observations network.benchmarks (value_at c.args.heights.now) name w.in-Some.height (found_at network.benchmarks (points_of network) i name (Some w.in-Some.height) found at) in omega (arith, ints)))
-    | in-None w ↦
-        let found = c.fixed.ensures.height ∙ ap Some w.in-None.is in
-        let is = w.listed-is in
-        let vertex = w.vertex-is in
-        let more = free_more network.benchmarks (points_of network) i found in
-        let most = free_most network.observations network.benchmarks (i + 1) in
-        let each = c.requires.heights.each in
-        let high = c.requires.heights.small (c.loop-place.vertex + 1) (pos 0) (omega arith) in
-        let level = c.requires.heights.small 0 (pos 0) (omega arith) in
-        let rank = ap (λ (v : ℕ). value_at c.args.heights.now (v + 1) -ℤ value_at c.args.heights.now 0) inv.0 in
-        (omega arith, set_more Small c.loop-place.listed i _ place inv.1 (omega (arith, ints)), set_more Right c.loop-place.listed i _ place inv.2 (λ name at. let right = placed_free network.observations network.benchmarks (value_at c.args.heights.now) i name at (found_at network.benchmarks (points_of network) i name None found at) in omega (arith, ints)))
+      | in-Some w ↦
+          let found = c.fixed.ensures.height ∙ ap Some w.in-Some.is in
+          let near = w.in-Some.ensures.in_range in
+          let is = w.listed-is in
+          let vertex = w.vertex-is in
+          let kept = free_fixed network.benchmarks (points_of network) i w.in-Some.height found in
+          (omega arith, set_more Small c.loop-place.listed i _ place inv.1 (omega (arith, ints)), set_more Right c.loop-place.listed i _ place inv.2 (λ name at. let right = placed_fixed network.observations network.benchmarks (value_at c.args.heights.now) name w.in-Some.height (found_at network.benchmarks (points_of network) i name (Some w.in-Some.height) found at) in omega (arith, ints)))
+      | in-None w ↦
+          let found = c.fixed.ensures.height ∙ ap Some w.in-None.is in
+          let is = w.listed-is in
+          let vertex = w.vertex-is in
+          let more = free_more network.benchmarks (points_of network) i found in
+          let most = free_most network.observations network.benchmarks (i + 1) in
+          let each = c.requires.heights.each in
+          let high = c.requires.heights.small (c.loop-place.vertex + 1) (pos 0) (omega arith) in
+          let level = c.requires.heights.small 0 (pos 0) (omega arith) in
+          let rank = ap (λ (v : ℕ). value_at c.args.heights.now (v + 1) -ℤ value_at c.args.heights.now 0) inv.0 in
+          (omega arith, set_more Small c.loop-place.listed i _ place inv.1 (omega (arith, ints)), set_more Right c.loop-place.listed i _ place inv.2 (λ name at. let right = placed_free network.observations network.benchmarks (value_at c.args.heights.now) i name at (found_at network.benchmarks (points_of network) i name None found at) in omega (arith, ints)))
     ]
 
 pub returns-clause-placed : goal.returns-clause-placed

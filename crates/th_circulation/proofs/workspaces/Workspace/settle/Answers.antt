@@ -62,7 +62,16 @@ phases-preserved g c =
     let arcs = c.start_phase.ensures.arcs in
     let slots = c.start_phase.ensures.slots in
     let heights = c.settle_phase.new.self.heights.items in
-    let shown : ShowsLinks weights c.settle_phase.new.self.flows.items (residuals links (differences_in (43 - done) links) (value_at heights)) = subst (λ (ds : List ℤ). ShowsLinks weights c.settle_phase.new.self.flows.items (residuals links ds (value_at heights))) c.start_phase.ensures.differences (c.in_ok-settle_phase.ensures.shown).1 in
-    (omega arith, (c.in_ok-settle_phase.ensures.shown).0, c.settle_phase.ensures.flow, omega arith, omega arith, omega arith, omega arith, omega arith, (let none = c.in_ok-settle_phase.ensures.refusals in omega arith),
+    let shown : ShowsLinks weights c.settle_phase.new.self.flows.items (residuals links (differences_in (43 - done) links) (value_at heights)) = subst (λ (ds : List ℤ). ShowsLinks weights c.settle_phase.new.self.flows.items (residuals links ds (value_at heights))) c.start_phase.ensures.differences (c.in_ok-settle_phase.ensures.shown).1 in (
+      omega arith,
+      (c.in_ok-settle_phase.ensures.shown).0,
+      c.settle_phase.ensures.flow,
+      omega arith,
+      omega arith,
+      omega arith,
+      omega arith,
+      omega arith,
+      (let none = c.in_ok-settle_phase.ensures.refusals in omega arith),
       (λ less. let earlier : 43 - done ≡ suc (43 - (done + 1)) = omega arith in next_near links weights c.settle_phase.new.self.flows.items (value_at heights) (43 - (done + 1)) c.settle_phase.ensures.flow (subst (λ (k : ℕ). ShowsLinks weights c.settle_phase.new.self.flows.items (residuals links (differences_in k links) (value_at heights))) earlier shown)),
-      (λ some. let same : 43 - done ≡ 44 - (done + 1) = omega arith in subst (λ (k : ℕ). ShowsLinks weights c.settle_phase.new.self.flows.items (residuals links (differences_in k links) (value_at heights))) same shown))
+      (λ some. let same : 43 - done ≡ 44 - (done + 1) = omega arith in subst (λ (k : ℕ). ShowsLinks weights c.settle_phase.new.self.flows.items (residuals links (differences_in k links) (value_at heights))) same shown),
+    )
