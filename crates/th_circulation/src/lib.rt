@@ -7,4 +7,22 @@
 // What is settled.
 mod settled;
 
+// How a network is settled.
+mod settling;
+
+// How flows change.
+mod cancels;
+mod differences;
+mod graphs;
+mod heights;
+mod laws;
+mod limits;
+mod listings;
+mod placed;
+mod slots;
+mod steps;
+mod workspaces;
+
 pub use settled::{Flows, Heights, Settled, Spans};
+pub use settling::settle;
+pub use steps::Steps;

@@ -1,0 +1,15 @@
+pub mod FlowSums
+pub mod PhaseLemmas
+pub mod CycleLemmas
+pub mod ShortestLemmas
+pub mod NameLemmas
+pub mod GraphLemmas
+pub mod ListingLemmas
+pub mod NegativeCycles
+pub mod PotentialLemmas
+pub mod HeightLemmas
+pub mod ArcLemmas
+pub mod AdvanceLemmas
+pub mod PhaseStarts
+pub mod PlacedLemmas
+pub mod SettledLemmas

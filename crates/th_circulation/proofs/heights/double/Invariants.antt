@@ -1,0 +1,8 @@
+use Rattle.std.proofs.Common.{◌<◌, ◌≤◌, ℕ, unsigned_abs}
+use Rattle.th_search.specs.Potentials.{value_at}
+use Rattle.th_circulation.proofs.heights.double.Given as goal
+
+abbrev pub invariant-loop-height : goal.invariant-loop-height
+invariant-loop-height l =
+    ((v : ℕ) → v < l.height-index → unsigned_abs (value_at l.heights v) ≤ 2500000000000)
+    × ((v : ℕ) → unsigned_abs (value_at l.heights v) ≤ 40002500000000000)

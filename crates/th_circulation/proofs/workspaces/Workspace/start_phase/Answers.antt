@@ -1,0 +1,18 @@
+use Rattle.std.proofs.Common.{◌≡◌, ℤ, List, length, ap, sym, ◌∙◌, subst, arith}
+use Rattle.th_circulation.specs.Inside.Graphs.{AreWithin}
+use Rattle.th_circulation.proofs.HeightLemmas.{written}
+use Rattle.th_circulation.proofs.workspaces.Workspace.start_phase.Goals as goal
+
+pub returns-clause-differences : goal.returns-clause-differences
+returns-clause-differences c =
+    let lent = ap (λ (ds : List ℤ). length ds) c.deref_mut.ensures.value in
+    let kept = c.set_differences.auto.differences in
+    let long = c.deref_mut.ensures.len in
+    written c.args.self.now.differences.len c.set_differences.new.differences c.args.self.now.differences.items (omega arith) (omega arith) ∙ c.set_differences.ensures
+
+pub returns-clause-heights : goal.returns-clause-heights
+returns-clause-heights c =
+    let lent = ap (λ (hs : List ℤ). length hs) c.deref_mut-2.ensures.value in
+    let kept = c.double.auto.heights in
+    let long = c.deref_mut-2.ensures.len in
+    subst (AreWithin c.args.graph.now.vertices 2500000000000) (sym (written c.args.self.now.heights.len c.double.new.heights c.args.self.now.heights.items (omega arith) (omega arith))) c.double.ensures.within

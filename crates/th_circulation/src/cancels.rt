@@ -1,0 +1,61 @@
+ghost use Rattle.std.specs.Prelude.{◌≡◌, ◌<◌, ◌≤◌, ℕ, All, length, map, eqb};
+ghost use Rattle.std.specs.List.{IsDistinct};
+ghost use Rattle.th_circulation.specs.Inside.Cycles.{HasRoom, HasRooms, leads_to, send, sent};
+ghost use Rattle.th_circulation.specs.Inside.Flows.{AreBounded};
+ghost use Rattle.th_circulation.specs.Inside.Listings.{slots_at};
+
+use crate::graphs::Graph;
+use crate::slots::Slot;
+
+/// Sends as much along a cycle of slots as has room.
+pub(crate) fn cancel(graph: &Graph, slots: &[Slot], cycle: &[u32], flows: &mut [i64])
+    requires numbers { All (λ number. number < length slots.now) cycle.now }
+    requires within { All (λ slot. slot.place < length graph.now.links.now) slots.now }
+    requires flows { AreBounded graph.now.weights.now flows.old }
+    requires room { All (HasRoom graph.now.weights.now 1 flows.old) slots.now }
+    requires once { IsDistinct eqb (map (leads_to graph.now.links.now) (slots_at slots.now cycle.now)) }
+    ensures { (amount : ℕ) × (1 ≤ amount)
+        × All (HasRoom graph.now.weights.now amount flows.old) (slots_at slots.now cycle.now)
+        × (flows.new ≡ sent amount flows.old (slots_at slots.now cycle.now)) }
+{
+    let amount = least_room(graph, slots, cycle, flows);
+    'slots: for &number in cycle {
+        raise(graph, slots[number as usize], amount, flows);
+    }
+}
+
+/// How much can flow along each of the slots: at least 1, and no more than there can be room for.
+fn least_room(graph: &Graph, slots: &[Slot], cycle: &[u32], flows: &[i64]) -> u32
+    requires numbers { All (λ number. number < length slots.now) cycle.now }
+    requires within { All (λ slot. slot.place < length graph.now.links.now) slots.now }
+    requires flows { AreBounded graph.now.weights.now flows.now }
+    requires room { All (HasRoom graph.now.weights.now 1 flows.now) slots.now }
+    ensures some { 1 ≤ result }
+    ensures small { result ≤ 2000 }
+    ensures room { All (HasRoom graph.now.weights.now result flows.now) (slots_at slots.now cycle.now) }
+{
+    let mut least = 2_000u32;
+    for &number in cycle {
+        let room = graph.room(flows, slots[number as usize]) as u32;
+        if room < least {
+            least = room;
+        }
+    }
+    least
+}
+
+/// Sends an amount along a slot.
+fn raise(graph: &Graph, slot: Slot, amount: u32, flows: &mut [i64])
+    requires place { slot.place < length graph.now.links.now }
+    requires flows { AreBounded graph.now.weights.now flows.old }
+    requires room { HasRoom graph.now.weights.now amount flows.old slot }
+    ensures sent { flows.new ≡ send amount flows.old slot }
+    ensures flows { AreBounded graph.now.weights.now flows.new }
+{
+    let place = slot.place as usize;
+    if slot.is_forward {
+        flows[place] += amount as i64;
+    } else {
+        flows[place] -= amount as i64;
+    }
+}

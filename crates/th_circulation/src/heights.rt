@@ -1,0 +1,27 @@
+ghost use Rattle.std.specs.Prelude.{◌≡◌, ◌≤◌, ℕ, ◌-ℤ◌};
+ghost use Rattle.th_circulation.specs.Inside.Graphs.{AreWithin};
+ghost use Rattle.th_search.specs.Potentials.{value_at};
+
+/// Raises the height of each vertex by as much as its potential is below 0.
+pub(crate) fn raise(heights: &mut [i64], potentials: &[i64], vertices: u32)
+    requires heights { AreWithin vertices 2500000000000 heights.old }
+    requires potentials { AreWithin vertices 40000000000000000 potentials.now }
+    ensures each { (v : ℕ) → value_at heights.new v ≡ value_at heights.old v -ℤ value_at potentials.now v }
+    ensures within { AreWithin vertices 40002500000000000 heights.new }
+{
+    for (vertex, &potential) in potentials.iter().enumerate() {
+        heights[vertex] -= potential;
+    }
+}
+
+/// Doubles the heights above vertex 0, as far as costs that they reduce stay in range.
+pub(crate) fn double(heights: &mut [i64], vertices: u32)
+    requires some { 1 ≤ vertices }
+    requires heights { AreWithin vertices 40002500000000000 heights.old }
+    ensures within { AreWithin vertices 2500000000000 heights.new }
+{
+    let level = heights[0];
+    for height in heights.iter_mut() {
+        *height = (2 * (*height - level)).clamp(-2_500_000_000_000, 2_500_000_000_000);
+    }
+}

@@ -1,0 +1,53 @@
+//! Laws over the definitions alone. A law is its contract: it calls nothing and computes nothing.
+
+ghost use Rattle.std.specs.Prelude.{◌≡◌, ℕ, ◌*◌, ℤ, pos, ◌+ℤ◌, ◌-ℤ◌, ◌*ℤ◌, ◌≤ℤ◌, ◌<ℤ◌, List, length, sum};
+ghost use Rattle.th_circulation.specs.Inside.Cycles.{IsCycle, sent, walk_cost};
+ghost use Rattle.th_circulation.specs.Inside.Flows.{IsFlow, Next, ShowsLinks, cost, gain, residuals};
+ghost use Rattle.th_circulation.specs.declared.slots.Slot.{Slot};
+ghost use Rattle.th_network.specs.declared.links.Link.{Link};
+
+/// No flow gains more than the cost of any heights; one that shows them gains it.
+pub(crate) fn gain_is_at_most_cost()
+    ensures most { (links : List Link) (weights : List ℕ) (diffs flows : List ℤ) (heights : ℕ → ℤ)
+        → length diffs ≡ length links
+        → IsFlow links weights flows
+        → gain flows diffs ≤ℤ pos (cost weights (residuals links diffs heights)) }
+    ensures shown { (links : List Link) (weights : List ℕ) (diffs flows : List ℤ) (heights : ℕ → ℤ)
+        → length diffs ≡ length links
+        → IsFlow links weights flows
+        → ShowsLinks weights flows (residuals links diffs heights)
+        → gain flows diffs ≡ pos (cost weights (residuals links diffs heights)) }
+{}
+
+/// In the next phase no flow gains more than the last phase's by over twice the sum of the weights.
+pub(crate) fn phase_starts_near()
+    ensures { (links : List Link) (weights : List ℕ) (diffs next flows others : List ℤ)
+        (heights : ℕ → ℤ)
+        → length diffs ≡ length links
+        → IsFlow links weights flows
+        → ShowsLinks weights flows (residuals links diffs heights)
+        → Next diffs next
+        → IsFlow links weights others
+        → gain others next ≤ℤ (gain flows next +ℤ pos (2 * sum weights)) }
+{}
+
+/// An amount sent along a cycle with room for it leaves a flow, and gains what the cycle's cost saves.
+pub(crate) fn cycle_keeps_flow()
+    ensures flow { (links : List Link) (weights : List ℕ) (flows : List ℤ) (amount vertex : ℕ)
+        (slots : List Slot)
+        → IsFlow links weights flows
+        → IsCycle links weights flows amount vertex slots
+        → IsFlow links weights (sent amount flows slots) }
+    ensures gains { (links : List Link) (weights : List ℕ) (diffs flows : List ℤ)
+        (amount vertex : ℕ) (slots : List Slot)
+        → IsFlow links weights flows
+        → IsCycle links weights flows amount vertex slots
+        → gain (sent amount flows slots) diffs
+        ≡ gain flows diffs -ℤ pos amount *ℤ walk_cost diffs slots }
+    ensures raises { (links : List Link) (weights : List ℕ) (diffs flows : List ℤ)
+        (amount vertex : ℕ) (slots : List Slot)
+        → IsFlow links weights flows
+        → IsCycle links weights flows amount vertex slots
+        → walk_cost diffs slots <ℤ pos 0
+        → (gain flows diffs +ℤ pos amount) ≤ℤ gain (sent amount flows slots) diffs }
+{}

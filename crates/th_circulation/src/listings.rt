@@ -1,0 +1,109 @@
+ghost use Rattle.std.specs.Prelude.{◌≡◌, ◌+◌, ◌*◌, ◌<◌, ◌≤◌, ◌++◌, ◌∷◌, [], Contains, IfOk, length};
+ghost use Rattle.std.specs.Vec.{vec_capacity, vec_len};
+ghost use Rattle.th_circulation.specs.Inside.Cycles.{HasRoom};
+ghost use Rattle.th_circulation.specs.Inside.Flows.{AreBounded};
+ghost use Rattle.th_circulation.specs.declared.slots.Slot.{Slot as ASlot};
+ghost use Rattle.th_circulation.specs.Inside.Graphs.{AreWithin};
+ghost use Rattle.th_circulation.specs.Inside.Listings.{AreResidual, HasAllBefore};
+ghost use Rattle.th_search.specs.Potentials.{value_at};
+
+use crate::graphs::Graph;
+use crate::slots::Slot;
+use std::alloc::{AllocError, Global};
+use th_search::Arc;
+
+/// Residual arcs, and the slot that each stands for.
+#[derive(Drop)]
+pub(crate) struct Listing {
+    pub arcs: Vec<Arc>,
+    pub slots: Vec<Slot>,
+}
+
+impl Listing {
+    /// An empty listing with room for two arcs for each of so many links.
+    pub fn new(alloc: Global, links: usize) -> Result<Listing, AllocError>
+        requires few { links ≤ 40000 }
+        ensures room { IfOk result (λ listing. (2 * links ≤ vec_capacity listing.arcs)
+            × (2 * links ≤ vec_capacity listing.slots)) }
+    {
+        let arcs = Vec::with_capacity(alloc, 2 * links)?;
+        let slots = Vec::with_capacity(alloc, 2 * links)?;
+        Ok(Listing { arcs, slots })
+    }
+
+    /// Adds an arc and its slot, for which there is room.
+    fn add(&mut self, slot: Slot, arc: Arc)
+        requires arcs { vec_len self.old.arcs < vec_capacity self.old.arcs }
+        requires slots { vec_len self.old.slots < vec_capacity self.old.slots }
+        ensures arcs { self.new.arcs.items ≡ self.old.arcs.items ++ arc ∷ [] }
+        ensures slots { self.new.slots.items ≡ self.old.slots.items ++ slot ∷ [] }
+        ensures room_for_arcs { vec_capacity self.old.arcs ≤ vec_capacity self.new.arcs }
+        ensures room_for_slots { vec_capacity self.old.slots ≤ vec_capacity self.new.slots }
+    {
+        self.arcs.push(arc).unwrap();
+        self.slots.push(slot).unwrap();
+    }
+
+    /// Adds the residual arc of a slot, where it has room.
+    fn list(
+        &mut self,
+        graph: &Graph,
+        differences: &[i64],
+        heights: &[i64],
+        flows: &[i64],
+        slot: Slot,
+    )
+        requires place { slot.place < length graph.now.links.now }
+        requires differences { AreWithin (length graph.now.links.now) 5000000000000 differences.now }
+        requires heights { AreWithin graph.now.vertices 2500000000000 heights.now }
+        requires flows { AreBounded graph.now.weights.now flows.now }
+        requires arcs { vec_len self.old.slots < vec_capacity self.old.arcs }
+        requires slots { vec_len self.old.slots < vec_capacity self.old.slots }
+        requires residual { AreResidual graph.now.links.now graph.now.weights.now differences.now
+            (value_at heights.now) flows.now self.old.arcs.items self.old.slots.items }
+        ensures few { vec_len self.new.slots ≤ vec_len self.old.slots + 1 }
+        ensures room_for_arcs { vec_capacity self.old.arcs ≤ vec_capacity self.new.arcs }
+        ensures room_for_slots { vec_capacity self.old.slots ≤ vec_capacity self.new.slots }
+        ensures residual { AreResidual graph.now.links.now graph.now.weights.now differences.now
+            (value_at heights.now) flows.now self.new.arcs.items self.new.slots.items }
+        ensures listed { HasRoom graph.now.weights.now 1 flows.now slot → Contains self.new.slots.items slot }
+        ensures kept { (other : ASlot) → Contains self.old.slots.items other
+            → Contains self.new.slots.items other }
+    {
+        if graph.room(flows, slot) > 0 {
+            self.add(slot, graph.arc(differences, heights, slot));
+        }
+    }
+
+    /// Lists all residual arcs, at costs that the heights reduce.
+    pub fn list_all(&mut self, graph: &Graph, differences: &[i64], heights: &[i64], flows: &[i64])
+        requires differences { AreWithin (length graph.now.links.now) 5000000000000 differences.now }
+        requires heights { AreWithin graph.now.vertices 2500000000000 heights.now }
+        requires flows { AreBounded graph.now.weights.now flows.now }
+        requires arcs { 2 * length graph.now.links.now ≤ vec_capacity self.old.arcs }
+        requires slots { 2 * length graph.now.links.now ≤ vec_capacity self.old.slots }
+        ensures few { length self.new.slots.items ≤ 2 * length graph.now.links.now }
+        ensures room_for_arcs { vec_capacity self.old.arcs ≤ vec_capacity self.new.arcs }
+        ensures room_for_slots { vec_capacity self.old.slots ≤ vec_capacity self.new.slots }
+        ensures residual { AreResidual graph.now.links.now graph.now.weights.now differences.now
+            (value_at heights.now) flows.now self.new.arcs.items self.new.slots.items }
+        ensures all { HasAllBefore graph.now.weights.now flows.now self.new.slots.items
+            (length graph.now.links.now) }
+    {
+        self.arcs.clear();
+        self.slots.clear();
+        'links: for place in 0..graph.links.len() {
+            let place = place as u32;
+            let along = Slot {
+                place,
+                is_forward: true,
+            };
+            let against = Slot {
+                place,
+                is_forward: false,
+            };
+            self.list(graph, differences, heights, flows, along);
+            self.list(graph, differences, heights, flows, against);
+        }
+    }
+}

@@ -1,0 +1,30 @@
+ghost use Rattle.std.specs.Prelude.{◌≡◌, ◌<◌, All, length, unsigned_abs};
+ghost use Rattle.th_circulation.specs.Inside.Graphs.{AreWithin};
+ghost use Rattle.th_circulation.specs.Inside.Placed.{ArePlaced};
+ghost use Rattle.th_circulation.specs.Limits.{height_limit};
+ghost use Rattle.th_network.specs.Networks.{points_of, vertices_of};
+ghost use Rattle.th_search.specs.Potentials.{value_at};
+
+use th_network::Network;
+
+/// Lists the height of each point: a benchmark's own, and of another point how far its vertex is above
+/// vertex 0.
+pub(crate) fn place(network: &Network, heights: &[i64], listed: &mut [i64])
+    requires heights { AreWithin (vertices_of network.now) 40002500000000000 heights.now }
+    requires each { length listed.old ≡ length (points_of network.now) }
+    ensures placed { ArePlaced network.now.observations network.now.benchmarks (value_at heights.now)
+        listed.new }
+    ensures in_range { All (λ height. unsigned_abs height < height_limit) listed.new }
+{
+    let level = heights[0];
+    let mut vertex = 0usize;
+    for place in 0..listed.len() {
+        listed[place] = match network.fixed(place) {
+            Some(height) => height,
+            None => {
+                vertex += 1;
+                heights[vertex] - level
+            }
+        };
+    }
+}

@@ -1,0 +1,41 @@
+ghost use Rattle.std.specs.Prelude.{◌≡◌, ◌+◌, ◌<◌};
+
+use std::marker::Model;
+
+/// How many steps were counted: one for each cycle that was cancelled.
+#[derive(Debug, Drop)]
+pub struct Steps {
+    count: u128,
+}
+
+impl Model for Steps {
+    ghost use Rattle.std.specs.Prelude.{ℕ};
+
+    ghost Value = { ℕ };
+
+    ghost view = { λ steps. steps.count };
+}
+
+impl Steps {
+    /// No step yet.
+    pub fn new() -> Steps
+        ensures { result ≡ 0 }
+    {
+        Steps { count: 0 }
+    }
+
+    /// How many steps were counted.
+    pub fn count(&self) -> u128
+        ensures { result ≡ self.now }
+    {
+        self.count
+    }
+
+    /// Counts one step more.
+    pub(crate) fn tick(&mut self)
+        requires { self.old < 1000000000000000000000000000000000000 }
+        ensures { self.new ≡ self.old + 1 }
+    {
+        self.count += 1;
+    }
+}

@@ -1,0 +1,199 @@
+ghost use Rattle.std.specs.Prelude.{◌≡◌, ◌+◌, ◌<◌, ◌≤◌, ◌≤ℤ◌, ◌+ℤ◌, ◌-◌, ◌*◌, pos, IfOk, MatchBool, OnErr, OnOk, length, sum};
+ghost use Rattle.std.specs.Vec.{vec_capacity};
+ghost use Rattle.th_circulation.specs.Inside.Flows.{IsFlow, ShowsLinks, gain, residuals};
+ghost use Rattle.th_circulation.specs.Inside.Graphs.{AreWithin};
+ghost use Rattle.th_circulation.specs.Inside.Phases.{differences_in};
+ghost use Rattle.th_circulation.specs.Inside.Workspaces.{IsNear, IsReady};
+ghost use Rattle.th_circulation.specs.Limits.{max_counted};
+ghost use Rattle.th_search.specs.Answers.{refusals_in};
+ghost use Rattle.th_search.specs.Potentials.{value_at};
+
+use crate::cancels::cancel;
+use crate::differences::set_differences;
+use crate::graphs::Graph;
+use crate::heights::{double, raise};
+use crate::limits::PHASES;
+use crate::listings::Listing;
+use crate::steps::Steps;
+use std::alloc::{AllocError, Global};
+use th_search::{Found, Search};
+
+/// What a settling works on.
+#[derive(Drop)]
+pub(crate) struct Workspace {
+    /// The difference of each link in this phase.
+    pub differences: Vec<i64>,
+    /// The height of each vertex.
+    pub heights: Vec<i64>,
+    /// The flow of each link.
+    pub flows: Vec<i64>,
+    /// The residual arcs.
+    pub listing: Listing,
+}
+
+impl Workspace {
+    /// No flow yet, and all heights 0.
+    pub fn new(alloc: Global, graph: &Graph) -> Result<Workspace, AllocError>
+        ensures differences { IfOk result (λ work.
+            length work.differences.items ≡ length graph.now.links.now) }
+        ensures heights { IfOk result (λ work.
+            AreWithin graph.now.vertices 40002500000000000 work.heights.items) }
+        ensures flow { IfOk result (λ work.
+            IsFlow graph.now.links.now graph.now.weights.now work.flows.items) }
+        ensures near { IfOk result (λ work. IsNear graph.now.links.now graph.now.weights.now
+            (differences_in 43 graph.now.links.now) work.flows.items) }
+        ensures arcs { IfOk result (λ work.
+            2 * length graph.now.links.now ≤ vec_capacity work.listing.arcs) }
+        ensures slots { IfOk result (λ work.
+            2 * length graph.now.links.now ≤ vec_capacity work.listing.slots) }
+    {
+        let differences = vec![in alloc; 0i64; graph.links.len()]?;
+        let heights = vec![in alloc; 0i64; graph.vertices as usize]?;
+        let flows = vec![in alloc; 0i64; graph.links.len()]?;
+        let listing = Listing::new(alloc, graph.links.len())?;
+        Ok(Workspace {
+            differences,
+            heights,
+            flows,
+            listing,
+        })
+    }
+
+    /// Settles the phases one after another, each with its differences and on from the flows of the
+    /// one before it, until the flows show heights for the links' own differences.
+    pub fn settle<S: Search>(
+        &mut self,
+        alloc: Global,
+        graph: &Graph,
+        search: &mut S,
+        steps: &mut Steps,
+    ) -> Result<(), AllocError>
+        requires differences { length self.old.differences.items ≡ length graph.now.links.now }
+        requires heights { AreWithin graph.now.vertices 40002500000000000 self.old.heights.items }
+        requires flow { IsFlow graph.now.links.now graph.now.weights.now self.old.flows.items }
+        requires near { IsNear graph.now.links.now graph.now.weights.now
+            (differences_in 43 graph.now.links.now) self.old.flows.items }
+        requires arcs { 2 * length graph.now.links.now ≤ vec_capacity self.old.listing.arcs }
+        requires slots { 2 * length graph.now.links.now ≤ vec_capacity self.old.listing.slots }
+        requires calls { S.calls search.old ≤ max_counted }
+        requires steps { steps.old ≤ max_counted }
+        ensures flow { IsFlow graph.now.links.now graph.now.weights.now self.new.flows.items }
+        ensures heights { OnOk result (AreWithin graph.now.vertices 40002500000000000
+            self.new.heights.items) }
+        ensures shown { OnOk result (ShowsLinks graph.now.weights.now self.new.flows.items
+            (residuals graph.now.links.now (differences_in 0 graph.now.links.now)
+            (value_at self.new.heights.items))) }
+        ensures more { steps.old ≤ steps.new }
+        ensures few { steps.new ≤ steps.old + 88 * sum graph.now.weights.now }
+        ensures calls { OnOk result (S.calls search.new + steps.old ≡ S.calls search.old + steps.new + 44) }
+        ensures refused { OnErr result (S.calls search.new + steps.old ≤ S.calls search.old + steps.new + 44) }
+        ensures asked { S.calls search.old + steps.new ≤ S.calls search.new + steps.old }
+        ensures refusals { S.refusals search.new ≡ S.refusals search.old + refusals_in result }
+    {
+        'phases: for done in 0..PHASES {
+            self.start_phase(graph, PHASES - 1 - done);
+            self.settle_phase(alloc, graph, search, steps)?;
+        }
+        Ok(())
+    }
+
+    /// Asks the search once: cancels the cycle that it names and answers true, or raises the heights
+    /// by its potentials to heights that the flows show, and answers false.
+    fn advance<S: Search>(
+        &mut self,
+        alloc: Global,
+        graph: &Graph,
+        search: &mut S,
+        steps: &mut Steps,
+    ) -> Result<bool, AllocError>
+        requires ready { IsReady graph.now.vertices graph.now.links.now graph.now.weights.now
+            self.old.differences.items self.old.heights.items self.old.flows.items
+            (vec_capacity self.old.listing.arcs) (vec_capacity self.old.listing.slots) }
+        requires calls { S.calls search.old < 1000000000000000000000000000000000000 }
+        requires steps { steps.old < 1000000000000000000000000000000000000 }
+        ensures differences { self.new.differences.items ≡ self.old.differences.items }
+        ensures flow { IsFlow graph.now.links.now graph.now.weights.now self.new.flows.items }
+        ensures arcs { vec_capacity self.old.listing.arcs ≤ vec_capacity self.new.listing.arcs }
+        ensures slots { vec_capacity self.old.listing.slots ≤ vec_capacity self.new.listing.slots }
+        ensures calls { S.calls search.new ≡ S.calls search.old + 1 }
+        ensures refusals { S.refusals search.new ≡ S.refusals search.old + refusals_in result }
+        ensures answer { IfOk result (λ cancelled. MatchBool cancelled
+            ((self.new.heights.items ≡ self.old.heights.items)
+            × (steps.new ≡ steps.old + 1)
+            × ((gain self.old.flows.items self.old.differences.items +ℤ pos 1)
+            ≤ℤ gain self.new.flows.items self.old.differences.items))
+            (AreWithin graph.now.vertices 40002500000000000 self.new.heights.items
+            × (steps.new ≡ steps.old)
+            × (self.new.flows.items ≡ self.old.flows.items)
+            × ShowsLinks graph.now.weights.now self.new.flows.items (residuals graph.now.links.now
+            self.old.differences.items (value_at self.new.heights.items)))) }
+        ensures refused { OnErr result ((steps.new ≡ steps.old)
+            × (self.new.heights.items ≡ self.old.heights.items)
+            × (self.new.flows.items ≡ self.old.flows.items)) }
+    {
+        self.listing
+            .list_all(graph, &self.differences, &self.heights, &self.flows);
+        match search.search(alloc, graph.vertices, &self.listing.arcs)? {
+            Found::Cycle(cycle) => {
+                cancel(graph, &self.listing.slots, &cycle, &mut self.flows);
+                steps.tick();
+                Ok(true)
+            }
+            Found::Potentials(potentials) => {
+                raise(&mut self.heights, &potentials, graph.vertices);
+                Ok(false)
+            }
+        }
+    }
+
+    /// Takes the differences of a phase, and the heights doubled.
+    fn start_phase(&mut self, graph: &Graph, phase: u32)
+        requires phase { phase ≤ 43 }
+        requires differences { length self.old.differences.items ≡ length graph.now.links.now }
+        requires heights { AreWithin graph.now.vertices 40002500000000000 self.old.heights.items }
+        ensures differences { self.new.differences.items ≡ differences_in phase graph.now.links.now }
+        ensures heights { AreWithin graph.now.vertices 2500000000000 self.new.heights.items }
+        ensures flows { self.new.flows.items ≡ self.old.flows.items }
+        ensures arcs { vec_capacity self.new.listing.arcs ≡ vec_capacity self.old.listing.arcs }
+        ensures slots { vec_capacity self.new.listing.slots ≡ vec_capacity self.old.listing.slots }
+    {
+        set_differences(graph.links, phase, &mut self.differences);
+        double(&mut self.heights, graph.vertices);
+    }
+
+    /// Cancels cycles until the search answers potentials: then the flows show the heights for these
+    /// differences.
+    fn settle_phase<S: Search>(
+        &mut self,
+        alloc: Global,
+        graph: &Graph,
+        search: &mut S,
+        steps: &mut Steps,
+    ) -> Result<(), AllocError>
+        requires ready { IsReady graph.now.vertices graph.now.links.now graph.now.weights.now
+            self.old.differences.items self.old.heights.items self.old.flows.items
+            (vec_capacity self.old.listing.arcs) (vec_capacity self.old.listing.slots) }
+        requires few { IsNear graph.now.links.now graph.now.weights.now self.old.differences.items
+            self.old.flows.items }
+        requires calls { S.calls search.old + 2 * sum graph.now.weights.now
+            < 1000000000000000000000000000000000000 }
+        requires steps { steps.old + 2 * sum graph.now.weights.now
+            < 1000000000000000000000000000000000000 }
+        ensures differences { self.new.differences.items ≡ self.old.differences.items }
+        ensures flow { IsFlow graph.now.links.now graph.now.weights.now self.new.flows.items }
+        ensures arcs { vec_capacity self.old.listing.arcs ≤ vec_capacity self.new.listing.arcs }
+        ensures slots { vec_capacity self.old.listing.slots ≤ vec_capacity self.new.listing.slots }
+        ensures more { steps.old ≤ steps.new }
+        ensures few { steps.new ≤ steps.old + 2 * sum graph.now.weights.now }
+        ensures gained { (gain self.old.flows.items self.old.differences.items
+            +ℤ pos (steps.new - steps.old)) ≤ℤ gain self.new.flows.items self.old.differences.items }
+        ensures calls { S.calls search.new + steps.old ≡ S.calls search.old + steps.new + 1 }
+        ensures refusals { S.refusals search.new ≡ S.refusals search.old + refusals_in result }
+        ensures shown { OnOk result (AreWithin graph.now.vertices 40002500000000000 self.new.heights.items
+            × ShowsLinks graph.now.weights.now self.new.flows.items (residuals graph.now.links.now
+            self.old.differences.items (value_at self.new.heights.items))) }
+    {
+        'cycles: while self.advance(alloc, graph, search, steps)? {}
+        Ok(())
+    }
+}
