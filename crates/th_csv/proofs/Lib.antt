@@ -1,0 +1,4 @@
+pub mod RecordLemmas
+pub mod FieldLemmas
+pub mod RowLemmas
+pub mod RoundTripLemmas
