@@ -1,0 +1,6 @@
+pub mod Certified
+pub mod Faults
+pub mod Numbers
+pub mod Statements
+pub mod Reading
+pub mod Inside
