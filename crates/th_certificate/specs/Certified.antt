@@ -1,11 +1,15 @@
 -- What a certificate says.
-use Rattle.std.specs.Prelude.{◌<◌, ℕ, ℤ, pos, List, All, Option, bytes_eq, unsigned_abs, unwrap_or}
+use Rattle.std.specs.Prelude.{◌<◌, ℕ, ℤ, pos, List, All, Option, bytes_eq, unsigned_abs, unwrap_or, map}
 use Rattle.std.specs.List.{IsDistinct}
 use Rattle.std.specs.Map.{keys_of, lookup}
 
 -- rows of heights: names, and a height of each in units of 10 nm
 abbrev pub HeightRows : Type 0
 HeightRows = List (List ℕ × ℤ)
+
+-- a row for each of some names, with its height
+abbrev pub rows_at : List (List ℕ) → (List ℕ → ℤ) → HeightRows
+rows_at names heights = map (λ name. (name, heights name)) names
 
 -- the height that rows state for a name, and zero for another name
 abbrev pub stated_height : HeightRows → List ℕ → ℤ

@@ -1,6 +1,8 @@
-ghost use Rattle.std.specs.Prelude.{◌≡◌, ◌<◌, ◌^◌, ◌++◌, ◌∷◌, [], IfSome, None, OnErr, OnOk, bytes_eq, length, slice_get, unsigned_abs, ◌==◌};
+ghost use Rattle.std.specs.Prelude.{◌≡◌, ◌<◌, ◌^◌, ◌++◌, ◌∷◌, [], All, IfOk, IfSome, None, OnErr, OnOk, bytes_eq, length, slice_get, unsigned_abs, ◌==◌};
+ghost use Rattle.std.specs.List.{IsDistinct};
 ghost use Rattle.std.specs.Map.{lookup};
-ghost use Rattle.th_certificate.specs.Certified.{AreHeightRows, height_limit};
+ghost use Rattle.th_network.specs.Heights.{heights_at};
+ghost use Rattle.th_certificate.specs.Certified.{AreHeightRows, height_limit, rows_at};
 
 use gsi_word::Name;
 use indexmap::IndexMap;
@@ -34,6 +36,24 @@ impl StatedHeights {
         }
     }
 
+    /// The heights of some points, listed in their order.
+    pub(crate) fn at_points(
+        alloc: Global,
+        points: &[Name],
+        heights: &[i64],
+    ) -> Result<StatedHeights, AllocError>
+        requires distinct { IsDistinct bytes_eq points.now }
+        requires each { length heights.now ≡ length points.now }
+        requires in_range { All (λ height. unsigned_abs height < height_limit) heights.now }
+        ensures { IfOk result (λ stated. stated ≡ rows_at points.now (heights_at points.now heights.now)) }
+    {
+        let mut stated = StatedHeights::new(alloc);
+        for (k, name) in points.iter().enumerate() {
+            stated.add(*name, heights[k])?;
+        }
+        Ok(stated)
+    }
+
     /// How many rows there are.
     pub fn len(&self) -> usize
         ensures { result ≡ length self.now }
@@ -60,6 +80,7 @@ impl StatedHeights {
     pub fn entry(&self, k: usize) -> Option<(Name, i64)>
         ensures value { result ≡ slice_get self.now k }
         ensures rows { AreHeightRows self.now }
+        ensures counted { length self.now < 2 ^ 64 }
     {
         self.heights
             .as_slice()

@@ -20,8 +20,13 @@ mod numbers;
 mod reading;
 mod statements;
 
+// Writing.
+mod costs;
+mod writing;
+
 pub use certificates::Certificate;
 pub use faults::{CertFault, CertKind};
 pub use heights::StatedHeights;
 pub use limits::{MAX_CERTIFICATE, MAX_FLOWS};
 pub use reading::read_certificate;
+pub use writing::write_certificate;
