@@ -4,3 +4,8 @@ pub mod StatementLemmas
 pub mod PointLemmas
 pub mod CostLemmas
 pub mod TextLemmas
+pub mod ReadNumbers
+pub mod ReadRows
+pub mod SurveyLemmas
+pub mod TextLengths
+pub mod RoundTrip

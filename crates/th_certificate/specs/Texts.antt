@@ -1,10 +1,14 @@
 -- The text of a certificate, in each of its versions.
-use Rattle.std.specs.Prelude.{◌≡◌, ◌≤◌, ◌<◌, ℕ, ℤ, List, [], ◌∷◌, ◌++◌, All, codes, decimal, length, map, unsigned_abs}
+use Rattle.std.specs.Prelude.{◌≡◌, ◌≤◌, ◌<◌, ℕ, ℤ, List, Some, [], ◌∷◌, ◌++◌, All, codes, decimal, length, map, unsigned_abs}
 use Rattle.std.specs.Fmt.{signed_decimal}
 use Rattle.std.specs.List.{enumerate_from}
+use Rattle.gsi_word.specs.Names.{name_of}
+use Rattle.th_book.specs.Observed.{IsBetweenPoints}
+use Rattle.th_tables.specs.Rows.{AreWeights}
 use Rattle.th_units.specs.Metres.{metres}
 use Rattle.th_csv.specs.Records.{Fields}
 use Rattle.th_csv.specs.Texts.{csv_text}
+use Rattle.th_network.specs.Faults.{IsNetwork}
 use Rattle.th_network.specs.Heights.{cost}
 use Rattle.th_network.specs.Networks.{Survey, points_of}
 use Rattle.th_certificate.specs.Certified.{HeightRows, height_limit, rows_at}
@@ -71,3 +75,14 @@ pub record AreAtPoints (survey : Survey) (heights : List ℤ) : Type 0 where
 pub record AreOfObservations (survey : Survey) (flows : List ℤ) : Type 0 where
   pub each : length flows ≡ length survey.observations
   pub in_range : All (λ flow. unsigned_abs flow ≤ 1000) flows
+
+-- what holds of each network: it has no fault, the observations and the weights are in their ranges, and each point has a name in reduced form
+pub record IsCertifiable (survey : Survey) : Type 0 where
+  pub network : IsNetwork survey.observations survey.benchmarks
+  pub between : All IsBetweenPoints survey.observations
+  pub weights : AreWeights survey.weights
+  pub names : All (λ name. name_of name ≡ Some name) (points_of survey)
+
+-- a map of heights below 10^17 in size at the points
+abbrev pub AreInRange : Survey → (List ℕ → ℤ) → Type 0
+AreInRange survey heights = All (λ name. unsigned_abs (heights name) < height_limit) (points_of survey)

@@ -24,6 +24,9 @@ mod statements;
 mod costs;
 mod writing;
 
+// What holds of the definitions alone.
+pub mod laws;
+
 pub use certificates::Certificate;
 pub use faults::{CertFault, CertKind};
 pub use heights::StatedHeights;
