@@ -1,10 +1,10 @@
--- What stands at a place of a list, after a write and after a push.
-use Rattle.std.proofs.Common.{◌≡◌, ◌≢◌, ℕ, ◌<◌, ◌≤◌, ◌⊎◌, inl, inr, List, [], ◌∷◌, ◌++◌, length, get_or, slice_get, Some, refl, sym, ap, ◌∙◌, arith, length-append}
+-- What stands at a place of a list, after a write and after a push; what a list has that is made of another.
+use Rattle.std.proofs.Common.{◌≡◌, ◌≢◌, ℕ, ◌<◌, ◌≤◌, ◌⊎◌, inl, inr, List, [], ◌∷◌, ◌++◌, length, get_or, slice_get, map, Some, None, Contains, refl, sym, ap, ◌∙◌, arith, length-append}
 use Rattle.std.proofs.Math.ListN.{set, get_or-append}
 use Rattle.std.proofs.Math.Nat.{eq-or-lt_of_le}
 use Rattle.std.proofs.Math.Seq.{get_or-append_seam}
-use Rattle.std.proofs.lemmas.List.{length-set, get_or-set_other, get_or-set_same}
-use Rattle.std.proofs.lemmas.Option.{slice_get_within, slice_get_read, get_or_from_slice_get}
+use Rattle.std.proofs.lemmas.List.{length-map, length-set, get_or-map, get_or-set_other, get_or-set_same}
+use Rattle.std.proofs.lemmas.Option.{slice_get_within, slice_get_read, slice_get_cases, get_or_from_slice_get}
 
 module _ {X : Type 0} where
   -- what is found elsewhere than at a write was there
@@ -39,3 +39,18 @@ module _ {X : Type 0} where
   pub at-push_last : (xs : List X) (x : X) (j : ℕ) → j ≡ length xs → slice_get (xs ++ x ∷ []) j ≡ Some x
   at-push_last xs x j last =
       slice_get_read (xs ++ x ∷ []) (length (xs ++ x ∷ [])) j x refl (omega (arith, length-append xs (x ∷ []))) (sym (ap (λ k. get_or (xs ++ x ∷ []) k x) last ∙ get_or-append_seam xs x [] x))
+
+module _ {X Y : Type 0} where
+  -- an element of a list that is made for each element
+  pub Contains-map : (f : X → Y) (xs : List X) (y : Y) → Contains (map f xs) y → (x : X) × Contains xs x × (f x ≡ y)
+  Contains-map f xs y has = by (slice_get_cases xs has.0).1
+    where
+      within : has.0 < length xs
+      within = omega (arith, has.1, length-map xs f)
+
+      by : ((x : X) × (has.0 < length xs) × (slice_get xs has.0 ≡ Some x) × (get_or xs has.0 x ≡ x)) ⊎ ((length xs ≤ has.0) × (slice_get xs has.0 ≡ None)) → (x : X) × Contains xs x × (f x ≡ y)
+      by (inl found) = (found.0, (has.0, found.1, found.3), ap f (sym found.3) ∙ sym (get_or-map f xs has.0 found.0 y within) ∙ has.2)
+      by (inr past) = let far : length xs ≤ has.0 = past.0 in let near : has.0 < length xs = within in absurd (omega arith)
+
+  pub Contains-in_map : (f : X → Y) (xs : List X) (x : X) → Contains xs x → Contains (map f xs) (f x)
+  Contains-in_map f xs x has = (has.0, omega (arith, has.1, length-map xs f), get_or-map f xs has.0 x (f x) has.1 ∙ ap f has.2)

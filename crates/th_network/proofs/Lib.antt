@@ -3,7 +3,7 @@ pub mod Balance
 pub mod PointLemmas
 pub mod PointOrder
 pub mod Gets
-pub mod GroupLemmas
+pub mod NeighbourLemmas
 pub mod MarkLemmas
 pub mod AnchorLemmas
 pub mod TieLemmas

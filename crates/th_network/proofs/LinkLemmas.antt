@@ -6,8 +6,10 @@ use Rattle.std.proofs.lemmas.Option.{slice_get_within, get_or_from_slice_get}
 use Rattle.th_book.specs.Observed.{Observed, IsBetweenPoints}
 use Rattle.th_tables.specs.Rows.{BenchmarkRows}
 use Rattle.th_network.specs.Points.{points}
-use Rattle.th_network.specs.Places.{place_of, ArePoints}
-use Rattle.th_network.specs.Vertices.{vertex_of, AreVertices}
+use Rattle.th_network.specs.Places.{place_of}
+use Rattle.th_network.specs.Vertices.{vertex_of}
+use Rattle.th_network.specs.Inside.Ends.{ends_in, ArePoints}
+use Rattle.th_network.specs.Inside.Numbered.{AreVertices}
 use Rattle.th_network.specs.Links.{largest_link_difference, link_difference, link_of}
 use Rattle.th_network.specs.declared.links.Link.{Link}
 use Rattle.th_network.proofs.TieLemmas.{ends_at_places}
@@ -17,24 +19,19 @@ abbrev pub Reads : List ℕ → ℕ → ℕ → Type 0
 Reads vertices place vertex = (place < length vertices) × ((read : ℕ) → read ≡ get_or vertices place read → read ≡ vertex)
 
 -- a vertex is read at the place of its point
-vertex_at : (observations : List Observed) (benchmarks : BenchmarkRows) (vertices : List ℕ) (name : List ℕ) (place : ℕ) → AreVertices benchmarks (points observations benchmarks) vertices → slice_get (points observations benchmarks) (place_of (points observations benchmarks) name) ≡ Some name → place ≡ place_of (points observations benchmarks) name → Reads vertices place (vertex_of observations benchmarks name)
-vertex_at observations benchmarks vertices name place h at is =
+read_at : (observations : List Observed) (benchmarks : BenchmarkRows) (vertices : List ℕ) (name : List ℕ) (place : ℕ) → AreVertices benchmarks (points observations benchmarks) vertices → slice_get (points observations benchmarks) (place_of (points observations benchmarks) name) ≡ Some name → place ≡ place_of (points observations benchmarks) name → Reads vertices place (vertex_of observations benchmarks name)
+read_at observations benchmarks vertices name place h at is =
     let vertex = vertex_of observations benchmarks name in
     let there : slice_get vertices place ≡ Some vertex = ap (slice_get vertices) is ∙ h.each (place_of (points observations benchmarks) name) name at in
     (slice_get_within vertices place vertex there, λ read same. same ∙ get_or_from_slice_get vertices place vertex read there)
 
--- the vertex of an observation's station is read at the station's place, and that of its target at the target's
-pub tail_at : (observations : List Observed) (benchmarks : BenchmarkRows) (names : List (List ℕ)) (stations targets vertices : List ℕ) (i s : ℕ) (o : Observed) → i < length observations → o ≡ get_or observations i o → s ≡ get_or stations i s → ArePoints observations benchmarks names stations targets → AreVertices benchmarks (points observations benchmarks) vertices → Reads vertices s (vertex_of observations benchmarks o.station)
-tail_at observations benchmarks names stations targets vertices i s o within here read h v =
-    let place : Observed → ℕ = λ (x : Observed). place_of (points observations benchmarks) x.station in
-    let found : s ≡ place o = read ∙ ap (λ (xs : List ℕ). get_or xs i s) h.from ∙ get_or-map place observations i o s within ∙ ap place (sym here) in
-    vertex_at observations benchmarks vertices o.station s v (ends_at_places observations benchmarks o (i, within, sym here)).0 found
-
-pub head_at : (observations : List Observed) (benchmarks : BenchmarkRows) (names : List (List ℕ)) (stations targets vertices : List ℕ) (i t : ℕ) (o : Observed) → i < length observations → o ≡ get_or observations i o → t ≡ get_or targets i t → ArePoints observations benchmarks names stations targets → AreVertices benchmarks (points observations benchmarks) vertices → Reads vertices t (vertex_of observations benchmarks o.target)
-head_at observations benchmarks names stations targets vertices i t o within here read h v =
-    let place : Observed → ℕ = λ (x : Observed). place_of (points observations benchmarks) x.target in
-    let found : t ≡ place o = read ∙ ap (λ (xs : List ℕ). get_or xs i t) h.to ∙ get_or-map place observations i o t within ∙ ap place (sym here) in
-    vertex_at observations benchmarks vertices o.target t v (ends_at_places observations benchmarks o (i, within, sym here)).1 found
+-- the vertices of an observation's ends are read at the places where it ends
+pub ends_read : (observations : List Observed) (benchmarks : BenchmarkRows) (names : List (List ℕ)) (ends : List (ℕ × ℕ)) (vertices : List ℕ) (i : ℕ) (o : Observed) (pair : ℕ × ℕ) → i < length observations → o ≡ get_or observations i o → pair ≡ get_or ends i pair → ArePoints observations benchmarks names ends → AreVertices benchmarks (points observations benchmarks) vertices → Reads vertices pair.0 (vertex_of observations benchmarks o.station) × Reads vertices pair.1 (vertex_of observations benchmarks o.target)
+ends_read observations benchmarks names ends vertices i o pair within here read h v =
+    let at : Observed → ℕ × ℕ = ends_in (points observations benchmarks) in
+    let found : pair ≡ at o = read ∙ ap (λ (es : List (ℕ × ℕ)). get_or es i pair) h.placed ∙ get_or-map at observations i o pair within ∙ ap at (sym here) in
+    let there = ends_at_places observations benchmarks o (i, within, sym here) in
+    (read_at observations benchmarks vertices o.station pair.0 v there.0 (ap (λ (p : ℕ × ℕ). p.0) found), read_at observations benchmarks vertices o.target pair.1 v there.1 (ap (λ (p : ℕ × ℕ). p.1) found))
 
 abbrev made : ℕ → ℕ → ℤ → Link
 made t u d = record { tail = t; head = u; diff = d }

@@ -1,13 +1,13 @@
 -- How marks spread: one at a time, and one state after another.
-use Rattle.std.proofs.Common.{◌≡◌, ◌≢◌, ℕ, ◌+◌, ◌<◌, inl, inr, Bool, true, false, ℤ, List, [], ◌∷◌, ◌++◌, length, get_or, take, map, Option, None, Contains, is_some, if◌then◌else◌, refl, sym, ap, ◌∙◌, subst, arith, length-append, length-take}
+use Rattle.std.proofs.Common.{◌≡◌, ◌≢◌, ℕ, ◌+◌, ◌<◌, ◌≤◌, ◌⊎◌, inl, inr, Bool, true, false, ℤ, List, [], ◌∷◌, ◌++◌, length, get_or, take, map, Option, None, Contains, is_some, if◌then◌else◌, refl, sym, ap, ◌∙◌, subst, arith, length-append, length-take}
 use Rattle.std.proofs.Math.ListN.{set, get_or-append}
 use Rattle.std.proofs.Math.Seq.{get_or-append_seam}
 use Rattle.std.proofs.lemmas.Bool.{cases_eq, false≢true}
-use Rattle.std.proofs.lemmas.List.{length-map, length-set, get_or-set_other, get_or-set_same, map-append, take_more}
+use Rattle.std.proofs.lemmas.List.{length-map, length-set, get_or-set_other, get_or-set_same, map-append, take_more, take_all}
 use Rattle.std.proofs.lemmas.List.Sums.{sum_by-set}
 use Rattle.std.proofs.lemmas.List.Elements.{Contains-append_left, Contains-push, Contains-push_cases}
 use Rattle.std.proofs.lemmas.Option.{slice_get_within, slice_get_read, get_or_from_slice_get}
-use Rattle.th_network.specs.Marks.{IsMarked, unmarked_count, IsSeeded, Spreads}
+use Rattle.th_network.specs.Inside.Marks.{IsMarked, unmarked_count, IsSeeded, Spreads, AreAdded}
 use Rattle.th_network.proofs.Gets.{got-set_other, got-push}
 
 -- a mark at another place stays
@@ -81,6 +81,41 @@ spreads_on m1 m2 m3 w1 w2 w3 first second = record {
   ];
   work = second.work ∙ first.work;
 }
+
+-- the first i places are marked, and those wait that were not marked before
+pub record AreMarkedTo (places : List ℕ) (i : ℕ) (marked : List Bool) (waiting : List ℕ) (marked' : List Bool) (waiting' : List ℕ) : Type 0 where
+  pub added : AreAdded (take i places) marked marked'
+  pub spreads : Spreads marked waiting marked' waiting'
+
+pub none_marked : (places : List ℕ) (marked : List Bool) (waiting : List ℕ) → AreMarkedTo places 0 marked waiting marked waiting
+none_marked places marked waiting = record {
+  added = record { all = λ place has. absurd (omega (arith, has.1, length-take 0 places)); no_other = λ place is. inl is };
+  spreads = spreads_none marked waiting;
+}
+
+pub one_more_marked : (places : List ℕ) (i : ℕ) (m1 m2 m3 : List Bool) (w1 w2 w3 : List ℕ) → i < length places → IsMarked m3 (get_or places i 0) → ((other : ℕ) → IsMarked m3 other → IsMarked m2 other ⊎ (other ≡ get_or places i 0)) → Spreads m2 w2 m3 w3 → AreMarkedTo places i m1 w1 m2 w2 → AreMarkedTo places (i + 1) m1 w1 m3 w3
+one_more_marked places i m1 m2 m3 w1 w2 w3 within is only more h =
+    let place = get_or places i 0 in
+    let taken : take (i + 1) places ≡ take i places ++ place ∷ [] = take_more places i 0 within in
+    record {
+      added = subst (λ (done : List ℕ). AreAdded done m1 m3) (sym taken) (record {
+        all = λ other has. elim (Contains-push_cases (take i places) place other has) [
+          | inl before ↦ more.kept other (h.added.all other before)
+          | inr same ↦ subst (IsMarked m3) same is
+        ];
+        no_other = λ other now. elim (only other now) [
+          | inl before ↦ elim (h.added.no_other other before) [
+            | inl old ↦ inl old
+            | inr done ↦ inr (Contains-append_left (take i places) (place ∷ []) other done)
+          ]
+          | inr same ↦ inr (subst (Contains (take i places ++ place ∷ [])) (sym same) (Contains-push (take i places) place))
+        ];
+      });
+      spreads = spreads_on m1 m2 m3 w1 w2 w3 h.spreads more;
+    }
+
+pub all_marked : (places : List ℕ) (i : ℕ) (m1 m2 : List Bool) (w1 w2 : List ℕ) → length places ≤ i → AreMarkedTo places i m1 w1 m2 w2 → AreAdded places m1 m2
+all_marked places i m1 m2 w1 w2 all h = subst (λ (done : List ℕ). AreAdded done m1 m2) (take_all i places all) h.added
 
 -- a mark before a push stays
 marked_before : (marked : List Bool) (mark : Bool) (place : ℕ) → IsMarked marked place → IsMarked (marked ++ mark ∷ []) place

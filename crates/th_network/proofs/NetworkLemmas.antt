@@ -7,54 +7,49 @@ use Rattle.std.proofs.lemmas.Option.{slice_get_within, slice_get-get_or, get_or_
 use Rattle.th_book.specs.Observed.{Observed}
 use Rattle.th_tables.specs.Rows.{BenchmarkRows, height_of}
 use Rattle.th_network.specs.Points.{points}
-use Rattle.th_network.specs.Places.{place_of, ArePoints}
-use Rattle.th_network.specs.Marks.{IsReached, IsFirstUnreached}
+use Rattle.th_network.specs.Places.{place_of}
+use Rattle.th_network.specs.Inside.Ends.{AreBelow, ends_in, ends_of, ArePoints}
+use Rattle.th_network.specs.Inside.Reached.{IsFirstUnreached}
 use Rattle.th_network.specs.Walks.{IsTied, Anchored}
 use Rattle.th_network.specs.Faults.{IsFirstUntied}
-use Rattle.th_network.specs.Vertices.{is_free, free_before, vertex_of, vertex_count}
+use Rattle.th_network.specs.Vertices.{is_free, free_before, vertex_at, vertex_of, vertex_count}
 use Rattle.th_network.specs.Links.{link_of}
 use Rattle.th_network.specs.declared.links.Link.{Link}
 use Rattle.th_network.proofs.Balance.{weaker}
 use Rattle.th_network.proofs.PointLemmas.{is_among, EndsAmong, ends_are_points}
-use Rattle.th_network.proofs.TieLemmas.{at_place_of, place_of_at, points_distinct, heights_at, stations_at, targets_at, tied_from_reached, reached_from_tied}
+use Rattle.th_network.proofs.TieLemmas.{at_place_of, place_of_at, points_distinct, point_heights, IsPointReached, tied_from_reached, reached_from_tied}
 
 -- ---- the places of the ends are places of points
 place_within : (names : List (List ℕ)) (name : List ℕ) → is_among names name ≡ true → place_of names name < length names
 place_within names name there = slice_get_within names (place_of names name) name (at_place_of names name there)
 
-ends_within : (observations : List Observed) (benchmarks : BenchmarkRows) (end : Observed → List ℕ) → ((o : Observed) → EndsAmong (points observations benchmarks) o → is_among (points observations benchmarks) (end o) ≡ true) → (names : List (List ℕ)) (places : List ℕ) → names ≡ points observations benchmarks → places ≡ map (λ o. place_of (points observations benchmarks) (end o)) observations → All (λ place. place < length names) places
-ends_within observations benchmarks end among names places all is =
+pub ends_within : (observations : List Observed) (benchmarks : BenchmarkRows) (names : List (List ℕ)) (ends : List (ℕ × ℕ)) → ArePoints observations benchmarks names ends → All (AreBelow (length names)) ends
+ends_within observations benchmarks names ends h =
     let ps = points observations benchmarks in
-    let Within : ℕ → Type 0 = λ place. place < length ps in
-    let each : All (λ o. Within (place_of ps (end o))) observations = All-from_recursion (λ o. Within (place_of ps (end o))) observations (weaker (EndsAmong ps) (λ o. Within (place_of ps (end o))) (λ o h. place_within ps (end o) (among o h)) observations (ends_are_points observations benchmarks)) in
-    subst (λ (xs : List ℕ). All (λ place. place < length names) xs) (sym is) (subst (λ (ns : List (List ℕ)). All (λ place. place < length ns) (map (λ o. place_of ps (end o)) observations)) (sym all) (All-map Within (λ o. place_of ps (end o)) observations each))
-
-pub stations_within : (observations : List Observed) (benchmarks : BenchmarkRows) (names : List (List ℕ)) (stations targets : List ℕ) → ArePoints observations benchmarks names stations targets → All (λ place. place < length names) stations
-stations_within observations benchmarks names stations targets h = ends_within observations benchmarks (λ o. o.station) (λ o among. among.0) names stations h.all h.from
-
-pub targets_within : (observations : List Observed) (benchmarks : BenchmarkRows) (names : List (List ℕ)) (stations targets : List ℕ) → ArePoints observations benchmarks names stations targets → All (λ place. place < length names) targets
-targets_within observations benchmarks names stations targets h = ends_within observations benchmarks (λ o. o.target) (λ o among. among.1) names targets h.all h.to
+    let Within : Observed → Type 0 = λ o. AreBelow (length ps) (ends_in ps o) in
+    let each : All Within observations = All-from_recursion Within observations (weaker (EndsAmong ps) Within (λ o among. (place_within ps o.station among.0, place_within ps o.target among.1)) observations (ends_are_points observations benchmarks)) in
+    subst (All (AreBelow (length names))) (sym h.placed) (subst (λ (ns : List (List ℕ)). All (AreBelow (length ns)) (ends_of observations benchmarks)) (sym h.all) (All-map (AreBelow (length ps)) (ends_in ps) observations each))
 
 -- ---- what is found of places, said of points
-unreached_of_points : (observations : List Observed) (benchmarks : BenchmarkRows) (names : List (List ℕ)) (stations targets : List ℕ) (found : Option (List ℕ)) → ArePoints observations benchmarks names stations targets → IsFirstUnreached (map (height_of benchmarks) names) stations targets names found → IsFirstUnreached (heights_at observations benchmarks) (stations_at observations benchmarks) (targets_at observations benchmarks) (points observations benchmarks) found
-unreached_of_points observations benchmarks names stations targets found h first =
-    subst (λ (ns : List (List ℕ)). IsFirstUnreached (map (height_of benchmarks) ns) (stations_at observations benchmarks) (targets_at observations benchmarks) ns found) h.all (subst (λ (xs : List ℕ). IsFirstUnreached (map (height_of benchmarks) names) xs (targets_at observations benchmarks) names found) h.from (subst (λ (xs : List ℕ). IsFirstUnreached (map (height_of benchmarks) names) stations xs names found) h.to first))
+unreached_of_points : (observations : List Observed) (benchmarks : BenchmarkRows) (names : List (List ℕ)) (ends : List (ℕ × ℕ)) (found : Option (List ℕ)) → ArePoints observations benchmarks names ends → IsFirstUnreached (map (height_of benchmarks) names) ends names found → IsFirstUnreached (point_heights observations benchmarks) (ends_of observations benchmarks) (points observations benchmarks) found
+unreached_of_points observations benchmarks names ends found h first =
+    subst (λ (ns : List (List ℕ)). IsFirstUnreached (map (height_of benchmarks) ns) (ends_of observations benchmarks) ns found) h.all (subst (λ (es : List (ℕ × ℕ)). IsFirstUnreached (map (height_of benchmarks) names) es names found) h.placed first)
 
-tied_below : (observations : List Observed) (benchmarks : BenchmarkRows) (n : ℕ) → ((place : ℕ) → place < n → IsReached (heights_at observations benchmarks) (stations_at observations benchmarks) (targets_at observations benchmarks) place) → All (IsTied observations benchmarks) (take n (points observations benchmarks))
+tied_below : (observations : List Observed) (benchmarks : BenchmarkRows) (n : ℕ) → ((place : ℕ) → place < n → IsPointReached observations benchmarks place) → All (IsTied observations benchmarks) (take n (points observations benchmarks))
 tied_below observations benchmarks n reached = λ k d within.
     let names = points observations benchmarks in
     let below : k < n = omega (arith, length-take n names) in
     let here : slice_get names k ≡ Some (get_or (take n names) k d) = slice_get-get_or names k d (omega (arith, length-take n names)) ∙ ap Some (sym (get_or-take n names k d below)) in
     tied_from_reached observations benchmarks k (reached k below) (get_or (take n names) k d) here
 
-pub first_untied_of_points : (observations : List Observed) (benchmarks : BenchmarkRows) (names : List (List ℕ)) (stations targets : List ℕ) (name : List ℕ) → ArePoints observations benchmarks names stations targets → IsFirstUnreached (map (height_of benchmarks) names) stations targets names (Some name) → IsFirstUntied observations benchmarks name
-first_untied_of_points observations benchmarks names stations targets name h first =
-    let found = unreached_of_points observations benchmarks names stations targets (Some name) h first in
+pub first_untied_of_points : (observations : List Observed) (benchmarks : BenchmarkRows) (names : List (List ℕ)) (ends : List (ℕ × ℕ)) (name : List ℕ) → ArePoints observations benchmarks names ends → IsFirstUnreached (map (height_of benchmarks) names) ends names (Some name) → IsFirstUntied observations benchmarks name
+first_untied_of_points observations benchmarks names ends name h first =
+    let found = unreached_of_points observations benchmarks names ends (Some name) h first in
     (found.0, found.1, tied_below observations benchmarks found.0 found.2, λ tied. found.3 (reached_from_tied observations benchmarks found.0 name found.1 tied))
 
-pub anchored_points : (observations : List Observed) (benchmarks : BenchmarkRows) (names : List (List ℕ)) (stations targets : List ℕ) → ArePoints observations benchmarks names stations targets → IsFirstUnreached (map (height_of benchmarks) names) stations targets names None → Anchored observations benchmarks
-anchored_points observations benchmarks names stations targets h all =
-    let found = unreached_of_points observations benchmarks names stations targets None h all in
+pub anchored_points : (observations : List Observed) (benchmarks : BenchmarkRows) (names : List (List ℕ)) (ends : List (ℕ × ℕ)) → ArePoints observations benchmarks names ends → IsFirstUnreached (map (height_of benchmarks) names) ends names None → Anchored observations benchmarks
+anchored_points observations benchmarks names ends h all =
+    let found = unreached_of_points observations benchmarks names ends None h all in
     let ps = points observations benchmarks in
     subst (All (IsTied observations benchmarks)) (take_all (length ps) ps (omega arith)) (tied_below observations benchmarks (length ps) found)
 
@@ -84,10 +79,10 @@ arcs_within observations benchmarks arcs is =
     subst (All Within) (sym is) (All-map Within (link_of observations benchmarks) observations each)
 
 -- the vertex of the point at a place
-pub vertex_by_place : (observations : List Observed) (benchmarks : BenchmarkRows) (place : ℕ) (name : List ℕ) → slice_get (points observations benchmarks) place ≡ Some name → vertex_of observations benchmarks name ≡ (if is_free benchmarks name then free_before benchmarks (points observations benchmarks) place + 1 else 0)
+pub vertex_by_place : (observations : List Observed) (benchmarks : BenchmarkRows) (place : ℕ) (name : List ℕ) → slice_get (points observations benchmarks) place ≡ Some name → vertex_of observations benchmarks name ≡ vertex_at benchmarks (points observations benchmarks) place name
 vertex_by_place observations benchmarks place name at =
     let names = points observations benchmarks in
-    ap (λ (k : ℕ). if is_free benchmarks name then free_before benchmarks names k + 1 else 0) (place_of_at names place name (points_distinct observations benchmarks) at)
+    ap (λ (k : ℕ). vertex_at benchmarks names k name) (place_of_at names place name (points_distinct observations benchmarks) at)
 
 free_vertex : (observations : List Observed) (benchmarks : BenchmarkRows) (place : ℕ) (name : List ℕ) → slice_get (points observations benchmarks) place ≡ Some name → is_free benchmarks name ≡ true → vertex_of observations benchmarks name ≡ free_before benchmarks (points observations benchmarks) place + 1
 free_vertex observations benchmarks place name at free =

@@ -1,5 +1,6 @@
 -- Each end of an observation is a point.
 use Rattle.std.proofs.Common.{◌≡◌, ℕ, Bool, true, false, not, cond, ◌||◌, List, [], ◌∷◌, ◌++◌, map, filter, bytes_eq, refl, ap, ◌∙◌, sym, arith}
+use Rattle.std.proofs.lemmas.Bool.{or_left, or_right}
 use Rattle.std.proofs.lemmas.Slice.Eq.{bytes_eq-Decides}
 use Rattle.std.specs.List.{list_any, AllByRecursion}
 use Rattle.th_book.specs.Observed.{Observed}
@@ -12,13 +13,6 @@ is_among names name = list_any (bytes_eq name) names
 
 pub bytes_eq_same : (name : List ℕ) → bytes_eq name name ≡ true
 bytes_eq_same name = (bytes_eq-Decides name name).1 refl
-
-or_right : (b c : Bool) → c ≡ true → (b || c) ≡ true
-or_right true c e = refl
-or_right false c e = e
-
-or_left : (b c : Bool) → b ≡ true → (b || c) ≡ true
-or_left b c e = ap (λ t. t || c) e
 
 among_append : (names more : List (List ℕ)) (name : List ℕ) → is_among names name ≡ true → is_among (names ++ more) name ≡ true
 among_append [] more name e = grind arith

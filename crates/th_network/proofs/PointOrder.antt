@@ -9,7 +9,8 @@ use Rattle.indexmap.specs.IndexSet.{insert_key, insert_all}
 use Rattle.th_book.specs.Observed.{Observed}
 use Rattle.th_tables.specs.Rows.{BenchmarkRows}
 use Rattle.th_network.specs.Points.{distinct, ends, points}
-use Rattle.th_network.specs.Places.{place_of, ArePoints}
+use Rattle.th_network.specs.Places.{place_of}
+use Rattle.th_network.specs.Inside.Ends.{ends_in, ArePoints}
 use Rattle.th_network.proofs.PointLemmas.{is_among, among_filter, among_distinct}
 
 -- another name than this one
@@ -158,22 +159,22 @@ map_more : {X : Type 0} (f : Observed → X) (observations : List Observed) (i :
 map_more f observations i o within here =
     sym (ap (map f) (take_more observations i o within ∙ ap (λ x. take i observations ++ x ∷ []) here) ∙ map-append f (take i observations) (o ∷ []))
 
--- the ends of the first observations are found: their names, and each end's place among all points
-pub record IsFound (observations : List Observed) (benchmarks : BenchmarkRows) (i : ℕ) (names : List (List ℕ)) (stations targets : List ℕ) : Type 0 where
+-- the ends of the first observations are found: their names, and where each end stands among all points
+pub record IsFound (observations : List Observed) (benchmarks : BenchmarkRows) (i : ℕ) (names : List (List ℕ)) (placed : List (ℕ × ℕ)) : Type 0 where
   pub seen : names ≡ distinct (ends (take i observations))
-  pub from : stations ≡ map (λ o. place_of (points observations benchmarks) o.station) (take i observations)
-  pub to : targets ≡ map (λ o. place_of (points observations benchmarks) o.target) (take i observations)
+  pub all_placed : placed ≡ map (ends_in (points observations benchmarks)) (take i observations)
 
-pub found_more : (observations : List Observed) (benchmarks : BenchmarkRows) (i : ℕ) (o : Observed) (names names' : List (List ℕ)) (stations stations' targets targets' : List ℕ) → i < length observations → o ≡ get_or observations i o → IsFound observations benchmarks i names stations targets → names' ≡ insert_all bytes_eq names (o.station ∷ o.target ∷ []) → stations' ≡ stations ++ place_of names o.station ∷ [] → targets' ≡ targets ++ place_of (insert_key bytes_eq names o.station) o.target ∷ [] → IsFound observations benchmarks (i + 1) names' stations' targets'
-found_more observations benchmarks i o names names' stations stations' targets targets' within is found n s t =
+pub found_more : (observations : List Observed) (benchmarks : BenchmarkRows) (i : ℕ) (o : Observed) (names names' : List (List ℕ)) (placed placed' : List (ℕ × ℕ)) → i < length observations → o ≡ get_or observations i o → IsFound observations benchmarks i names placed → names' ≡ insert_all bytes_eq names (o.station ∷ o.target ∷ []) → placed' ≡ placed ++ (place_of names o.station, place_of (insert_key bytes_eq names o.station) o.target) ∷ [] → IsFound observations benchmarks (i + 1) names' placed'
+found_more observations benchmarks i o names names' placed placed' within is found n p =
     let here = sym is in
     let before = ends (take i observations) in
-    let first : place_of names o.station ≡ place_of (points observations benchmarks) o.station = ap (λ seen. place_of seen o.station) found.seen ∙ sym (station_place observations benchmarks i o within here) in
-    let second : place_of (insert_key bytes_eq names o.station) o.target ≡ place_of (points observations benchmarks) o.target = ap (λ seen. place_of (insert_key bytes_eq seen o.station) o.target) found.seen ∙ ap (λ seen. place_of seen o.target) (sym (distinct_push before o.station)) ∙ sym (target_place observations benchmarks i o within here) in
+    let all = points observations benchmarks in
+    let first : place_of names o.station ≡ place_of all o.station = ap (λ seen. place_of seen o.station) found.seen ∙ sym (station_place observations benchmarks i o within here) in
+    let second : place_of (insert_key bytes_eq names o.station) o.target ≡ place_of all o.target = ap (λ seen. place_of (insert_key bytes_eq seen o.station) o.target) found.seen ∙ ap (λ seen. place_of seen o.target) (sym (distinct_push before o.station)) ∙ sym (target_place observations benchmarks i o within here) in
+    let both : (place_of names o.station, place_of (insert_key bytes_eq names o.station) o.target) ≡ ends_in all o = ap (λ (s : ℕ). (s, place_of (insert_key bytes_eq names o.station) o.target)) first ∙ ap (λ (t : ℕ). (place_of all o.station, t)) second in
     record {
       seen = n ∙ ap (λ seen. insert_all bytes_eq seen (o.station ∷ o.target ∷ [])) found.seen ∙ names_more observations i o within here;
-      from = s ∙ ap (λ place. stations ++ place ∷ []) first ∙ ap (λ found. found ++ place_of (points observations benchmarks) o.station ∷ []) found.from ∙ map_more (λ o. place_of (points observations benchmarks) o.station) observations i o within here;
-      to = t ∙ ap (λ place. targets ++ place ∷ []) second ∙ ap (λ found. found ++ place_of (points observations benchmarks) o.target ∷ []) found.to ∙ map_more (λ o. place_of (points observations benchmarks) o.target) observations i o within here;
+      all_placed = p ∙ ap (λ pair. placed ++ pair ∷ []) both ∙ ap (λ done. done ++ ends_in all o ∷ []) found.all_placed ∙ map_more (ends_in all) observations i o within here;
     }
 
 -- where the table has no row, all are before
@@ -185,13 +186,12 @@ no_row_more benchmarks k none = by (slice_get_cases benchmarks k).1
     by (inr past) = take_all k benchmarks past.0
 
 -- when all ends are found, the benchmarks make the points whole
-pub found_all : (observations : List Observed) (benchmarks : BenchmarkRows) (i : ℕ) (names names' : List (List ℕ)) (stations targets : List ℕ) → length observations ≤ i → IsFound observations benchmarks i names stations targets → names' ≡ insert_all bytes_eq names (map (λ row. row.0) benchmarks) → ArePoints observations benchmarks names' stations targets
+pub found_all : (observations : List Observed) (benchmarks : BenchmarkRows) (i : ℕ) (names names' : List (List ℕ)) (placed : List (ℕ × ℕ)) → length observations ≤ i → IsFound observations benchmarks i names placed → names' ≡ insert_all bytes_eq names (map (λ row. row.0) benchmarks) → ArePoints observations benchmarks names' placed
 unfolding points
-found_all observations benchmarks i names names' stations targets all found added =
+found_all observations benchmarks i names names' placed all found added =
     let rows = map (λ row. row.0) benchmarks in
     let taken = take_all i observations all in
     record {
       all = added ∙ ap (λ seen. insert_all bytes_eq seen rows) (found.seen ∙ ap (λ seen. distinct (ends seen)) taken) ∙ distinct_more (ends observations) rows;
-      from = found.from ∙ ap (map (λ o. place_of (points observations benchmarks) o.station)) taken;
-      to = found.to ∙ ap (map (λ o. place_of (points observations benchmarks) o.target)) taken;
+      placed = found.all_placed ∙ ap (map (ends_in (points observations benchmarks))) taken;
     }

@@ -5,22 +5,23 @@ use Rattle.std.proofs.lemmas.List.{take_all}
 use Rattle.std.proofs.lemmas.List.Sums.{count_by_more_no, count_by_more_yes}
 use Rattle.std.proofs.lemmas.Option.{slice_get_within, get_or_from_slice_get}
 use Rattle.th_tables.specs.Rows.{BenchmarkRows, height_of}
-use Rattle.th_network.specs.Vertices.{is_free, free_before, AreVertices}
+use Rattle.th_network.specs.Vertices.{is_free, free_before, vertex_at}
+use Rattle.th_network.specs.Inside.Numbered.{AreVertices}
 use Rattle.th_network.proofs.Gets.{at-push_before, at-push_last}
 
 -- the vertices of the first i names
 pub record IsNumbered (benchmarks : BenchmarkRows) (names : List (List ℕ)) (i count : ℕ) (vertices : List ℕ) : Type 0 where
   pub next : count ≡ free_before benchmarks names i + 1
   pub size : length vertices ≡ i
-  pub each : (place : ℕ) (name : List ℕ) → place < i → slice_get names place ≡ Some name → slice_get vertices place ≡ Some (if is_free benchmarks name then free_before benchmarks names place + 1 else 0)
+  pub each : (place : ℕ) (name : List ℕ) → place < i → slice_get names place ≡ Some name → slice_get vertices place ≡ Some (vertex_at benchmarks names place name)
 
-each_more : (benchmarks : BenchmarkRows) (names : List (List ℕ)) (i count v : ℕ) (name : List ℕ) (vertices : List ℕ) → slice_get names i ≡ Some name → v ≡ (if is_free benchmarks name then free_before benchmarks names i + 1 else 0) → IsNumbered benchmarks names i count vertices → (place : ℕ) (other : List ℕ) → place < i + 1 → slice_get names place ≡ Some other → slice_get (vertices ++ v ∷ []) place ≡ Some (if is_free benchmarks other then free_before benchmarks names place + 1 else 0)
+each_more : (benchmarks : BenchmarkRows) (names : List (List ℕ)) (i count v : ℕ) (name : List ℕ) (vertices : List ℕ) → slice_get names i ≡ Some name → v ≡ vertex_at benchmarks names i name → IsNumbered benchmarks names i count vertices → (place : ℕ) (other : List ℕ) → place < i + 1 → slice_get names place ≡ Some other → slice_get (vertices ++ v ∷ []) place ≡ Some (vertex_at benchmarks names place other)
 each_more benchmarks names i count v name vertices here is h place other before at =
     elim (cases_eq place i) [
       | inl same ↦
           let named : other ≡ name = cc (sym at ∙ ap (slice_get names) same ∙ here) in
-          at-push_last vertices v place (same ∙ sym h.size) ∙ ap Some (is ∙ ap (λ (x : List ℕ). if is_free benchmarks x then free_before benchmarks names i + 1 else 0) (sym named) ∙ ap (λ (k : ℕ). if is_free benchmarks other then free_before benchmarks names k + 1 else 0) (sym same))
-      | inr differs ↦ at-push_before vertices v place (if is_free benchmarks other then free_before benchmarks names place + 1 else 0) (h.each place other (omega arith) at)
+          at-push_last vertices v place (same ∙ sym h.size) ∙ ap Some (is ∙ ap (vertex_at benchmarks names i) (sym named) ∙ ap (λ (k : ℕ). vertex_at benchmarks names k other) (sym same))
+      | inr differs ↦ at-push_before vertices v place (vertex_at benchmarks names place other) (h.each place other (omega arith) at)
     ]
 
 -- a benchmark

@@ -5,7 +5,7 @@ use Rattle.th_network.specs.Points.{points}
 use Rattle.th_network.specs.Walks.{IsTied, Anchored}
 use Rattle.th_network.specs.declared.faults.NetFault.{NetFault}
 use Rattle.th_network.specs.declared.faults.NetFault.TheVariants.{TooManyObservations, TooManyPoints, NoBenchmark, NoMemory}
-use Rattle.th_network.specs.declared.limits.TheConstants.{MAX_OBSERVATIONS, MAX_POINTS}
+use Rattle.th_network.specs.Limits.{max_observations, max_points}
 
 -- the name is the first point from which no walk leads to a benchmark
 abbrev pub IsFirstUntied : List Observed → BenchmarkRows → List ℕ → Type 0
@@ -14,14 +14,14 @@ IsFirstUntied observations benchmarks name =
 
 -- the fault of a network: of those that apply, the first in this order; want of memory is none of them
 abbrev pub HasFault : List Observed → BenchmarkRows → NetFault → Type 0
-HasFault observations benchmarks TooManyObservations = MAX_OBSERVATIONS < length observations
-HasFault observations benchmarks TooManyPoints = (length observations ≤ MAX_OBSERVATIONS) × (MAX_POINTS < length (points observations benchmarks))
+HasFault observations benchmarks TooManyObservations = max_observations < length observations
+HasFault observations benchmarks TooManyPoints = (length observations ≤ max_observations) × (max_points < length (points observations benchmarks))
 HasFault observations benchmarks (NoBenchmark name) =
-    (length observations ≤ MAX_OBSERVATIONS) × (length (points observations benchmarks) ≤ MAX_POINTS) × IsFirstUntied observations benchmarks name
+    (length observations ≤ max_observations) × (length (points observations benchmarks) ≤ max_points) × IsFirstUntied observations benchmarks name
 HasFault observations benchmarks NoMemory = ⊥
 
 -- a network without fault
 pub record IsNetwork (observations : List Observed) (benchmarks : BenchmarkRows) : Type 0 where
-  pub few_observations : length observations ≤ MAX_OBSERVATIONS
-  pub few_points : length (points observations benchmarks) ≤ MAX_POINTS
+  pub few_observations : length observations ≤ max_observations
+  pub few_points : length (points observations benchmarks) ≤ max_points
   pub anchored : Anchored observations benchmarks

@@ -1,11 +1,12 @@
+pub mod Limits
 pub mod Points
 pub mod Places
-pub mod Groups
-pub mod Marks
 pub mod Walks
 pub mod Faults
+pub mod Texts
 pub mod Heights
 pub mod Circulation
 pub mod Vertices
 pub mod Links
 pub mod Networks
+pub mod Inside

@@ -1,4 +1,4 @@
-use Rattle.std.specs.Prelude.{◌≡◌, ℕ, ◌+◌, Bool, List, Some, is_none, if◌then◌else◌, count_by, length, slice_get, take}
+use Rattle.std.specs.Prelude.{ℕ, ◌+◌, Bool, List, is_none, if◌then◌else◌, count_by, take}
 use Rattle.th_book.specs.Observed.{Observed}
 use Rattle.th_tables.specs.Rows.{BenchmarkRows, height_of}
 use Rattle.th_network.specs.Points.{points}
@@ -12,17 +12,16 @@ is_free benchmarks name = is_none (height_of benchmarks name)
 abbrev pub free_before : BenchmarkRows → List (List ℕ) → ℕ → ℕ
 free_before benchmarks names place = count_by (is_free benchmarks) (take place names)
 
--- the vertex of a point: 0 for a benchmark, and else one more than the number of points before it that are no benchmark
+-- the vertex of the name at a place: 0 for a benchmark, and else one more than the number of names before it that are no benchmark
+abbrev pub vertex_at : BenchmarkRows → List (List ℕ) → ℕ → List ℕ → ℕ
+vertex_at benchmarks names place name = if is_free benchmarks name then free_before benchmarks names place + 1 else 0
+
+-- the vertex of a point
 abbrev pub vertex_of : List Observed → BenchmarkRows → List ℕ → ℕ
 vertex_of observations benchmarks name =
     let names = points observations benchmarks in
-    if is_free benchmarks name then free_before benchmarks names (place_of names name) + 1 else 0
+    vertex_at benchmarks names (place_of names name) name
 
 -- how many vertices a network has: one more than it has points that are no benchmark
 abbrev pub vertex_count : List Observed → BenchmarkRows → ℕ
 vertex_count observations benchmarks = count_by (is_free benchmarks) (points observations benchmarks) + 1
-
--- the vertices of the names, place by place
-pub record AreVertices (benchmarks : BenchmarkRows) (names : List (List ℕ)) (vertices : List ℕ) : Type 0 where
-  pub size : length vertices ≡ length names
-  pub each : (place : ℕ) (name : List ℕ) → slice_get names place ≡ Some name → slice_get vertices place ≡ Some (if is_free benchmarks name then free_before benchmarks names place + 1 else 0)

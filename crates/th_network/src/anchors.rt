@@ -1,9 +1,11 @@
-ghost use Rattle.std.specs.Prelude.{◌≡◌, ◌↔◌, ℕ, ◌<◌, All, IfOk, OnOk, length, map};
-ghost use Rattle.th_network.specs.Marks.{IsMarked, Spreads, AreFarEndsMarked, OnlyFarEnds, IsReached, IsFirstUnreached};
+ghost use Rattle.std.specs.Prelude.{◌≡◌, ◌↔◌, ℕ, All, IfOk, length, map};
+ghost use Rattle.th_network.specs.Inside.Ends.{AreBelow};
+ghost use Rattle.th_network.specs.Inside.Marks.{IsMarked};
+ghost use Rattle.th_network.specs.Inside.Reached.{IsFirstUnreached, IsReached};
 ghost use Rattle.th_tables.specs.Rows.{height_of};
 
-use crate::groups::Groups;
 use crate::marks::Marks;
+use crate::neighbours::Neighbours;
 use crate::points::Points;
 use gsi_word::Name;
 use std::alloc::{AllocError, Global};
@@ -15,17 +17,13 @@ pub(crate) fn first_untied(
     points: &Points,
     benchmarks: &Benchmarks,
 ) -> Result<Option<Name>, AllocError>
-    requires each { length points.now.stations.items ≡ length points.now.targets.items }
-    requires stations_within { All (λ place. place < length points.now.names.keys)
-        points.now.stations.items }
-    requires targets_within { All (λ place. place < length points.now.names.keys)
-        points.now.targets.items }
+    requires { All (AreBelow (length points.now.names.keys)) points.now.ends.items }
     ensures { IfOk result (IsFirstUnreached (map (height_of benchmarks.now) points.now.names.keys)
-        points.now.stations.items points.now.targets.items points.now.names.keys) }
+        points.now.ends.items points.now.names.keys) }
 {
     let names = points.names.as_slice();
     let heights = heights_of(alloc, names, benchmarks)?;
-    let reached = reached_places(alloc, &heights, &points.stations, &points.targets)?;
+    let reached = reached_places(alloc, &heights, &points.ends)?;
     let Some(place) = reached.iter().position(|mark| !*mark) else {
         return Ok(None);
     };
@@ -46,53 +44,24 @@ fn heights_of(
         .collect(alloc)
 }
 
-/// Which places are reached from those that have a height, by the items that join a station's place
-/// to a target's.
+/// Which places are reached from those that have a height, by observations that end at these places.
 ///
-/// Each place waits once for its items to be walked, so the time is near the number of items and
-/// places.
+/// Each place waits once for its neighbours to be marked, so the time is near the number of
+/// observations and places.
 fn reached_places(
     alloc: Global,
     heights: &[Option<i64>],
-    stations: &[usize],
-    targets: &[usize],
+    ends: &[(usize, usize)],
 ) -> Result<Vec<bool>, AllocError>
-    requires each { length stations.now ≡ length targets.now }
-    requires stations_within { All (λ place. place < length heights.now) stations.now }
-    requires targets_within { All (λ place. place < length heights.now) targets.now }
+    requires { All (AreBelow (length heights.now)) ends.now }
     ensures size { IfOk result (λ marked. length marked.items ≡ length heights.now) }
-    ensures reached { IfOk result (λ marked. (place : ℕ)
-        → IsMarked marked.items place ↔ IsReached heights.now stations.now targets.now place) }
+    ensures reached { IfOk result (λ marked.
+        (place : ℕ) → IsMarked marked.items place ↔ IsReached heights.now ends.now place) }
 {
-    let by_station = Groups::of(alloc, stations, heights.len())?;
-    let by_target = Groups::of(alloc, targets, heights.len())?;
+    let neighbours = Neighbours::of(alloc, ends, heights.len())?;
     let mut marks = Marks::of(alloc, heights)?;
     while let Some(place) = marks.waiting.pop() {
-        mark_far_ends(&mut marks, &by_station, targets, place)?;
-        mark_far_ends(&mut marks, &by_target, stations, place)?;
+        marks.mark_all(neighbours.of_place(place))?;
     }
     Ok(marks.marked)
-}
-
-/// Marks the far end of each item that has its near end at a place.
-fn mark_far_ends(
-    marks: &mut Marks,
-    near: &Groups<'_>,
-    far: &[usize],
-    place: usize,
-) -> Result<(), AllocError>
-    requires each { length far.now ≡ length near.now }
-    requires within { All (λ other. other < length marks.old.marked.items) far.now }
-    ensures marks { OnOk result (AreFarEndsMarked near.now far.now place marks.new.marked.items) }
-    ensures no_other { OnOk result
-        (OnlyFarEnds near.now far.now place marks.old.marked.items marks.new.marked.items) }
-    ensures spreads { OnOk result (Spreads marks.old.marked.items marks.old.waiting.items
-        marks.new.marked.items marks.new.waiting.items) }
-{
-    let mut item = near.last(place);
-    while let Some(i) = item {
-        marks.mark(far[i])?;
-        item = near.earlier(i);
-    }
-    Ok(())
 }

@@ -3,6 +3,8 @@ ghost use Rattle.th_network.specs.declared.faults.NetFault.TheVariants.{NoMemory
 
 use gsi_word::Name;
 use std::alloc::AllocError;
+use std::error::Error;
+use std::{fmt, str};
 
 /// Why observations and benchmarks make no network. Of several faults the first in this order counts.
 #[derive(Clone, Copy, Debug, PartialEq, Eq)]
@@ -22,5 +24,33 @@ impl From<AllocError> for NetFault {
 
     fn from(_error: AllocError) -> NetFault {
         NetFault::NoMemory
+    }
+}
+
+impl fmt::Display for NetFault {
+    ghost use Rattle.std.specs.Prelude.{Some};
+    ghost use Rattle.th_network.specs.Texts.{fault_text};
+
+    ghost output = { λ fault. Some (fault_text fault) };
+
+    fn fmt<W: fmt::Write>(&self, f: &mut fmt::Formatter<W>) -> fmt::Result {
+        match self {
+            NetFault::TooManyObservations => f.write_str("N1 too many observations"),
+            NetFault::TooManyPoints => f.write_str("N2 too many points"),
+            NetFault::NoBenchmark(name) => write!(f, "N3 no benchmark for {}", text_of(name)),
+            NetFault::NoMemory => f.write_str("out of memory"),
+        }
+    }
+}
+
+impl Error for NetFault {}
+
+/// The text of a name, which has printable ASCII alone.
+fn text_of(name: &Name) -> &str
+    ensures { result.now ≡ name.now }
+{
+    match str::from_utf8(name.as_bytes()) {
+        Ok(text) => text,
+        Err(_) => "",
     }
 }

@@ -1,6 +1,6 @@
 //! Laws over the definitions alone. A law is its contract: it calls nothing and computes nothing.
 
-ghost use Rattle.std.specs.Prelude.{◌≡◌, ℕ, ◌+◌, ℤ, ◌-ℤ◌, List, None, Some, if◌then◌else◌, slice_get};
+ghost use Rattle.std.specs.Prelude.{◌≡◌, ℕ, ℤ, ◌-ℤ◌, List, None, Some, slice_get};
 ghost use Rattle.th_book.specs.Observed.{Observed};
 ghost use Rattle.th_tables.specs.Rows.{BenchmarkRows, WeightRows, height_of};
 ghost use Rattle.th_network.specs.Faults.{HasFault, IsNetwork};
@@ -9,7 +9,7 @@ ghost use Rattle.th_network.specs.Heights.{IsHeights, residual, Least, LeastFine
 ghost use Rattle.th_network.specs.Circulation.{Circulation, Shows};
 ghost use Rattle.th_network.specs.Links.{IsRelative, link_difference};
 ghost use Rattle.th_network.specs.Points.{points};
-ghost use Rattle.th_network.specs.Vertices.{free_before, is_free, vertex_of};
+ghost use Rattle.th_network.specs.Vertices.{vertex_at, vertex_of};
 
 /// Observations and benchmarks have one fault at most, and where they make a network they have none.
 pub fn faults_exclude_each_other()
@@ -63,8 +63,7 @@ pub fn vertices_number_points()
         (place : ℕ) (name : List ℕ)
         → slice_get (points observations benchmarks) place ≡ Some name
         → vertex_of observations benchmarks name
-        ≡ (if is_free benchmarks name
-        then free_before benchmarks (points observations benchmarks) place + 1 else 0) }
+        ≡ vertex_at benchmarks (points observations benchmarks) place name }
     ensures apart { (observations : List Observed) (benchmarks : BenchmarkRows)
         (j k : ℕ) (first second : List ℕ)
         → slice_get (points observations benchmarks) j ≡ Some first

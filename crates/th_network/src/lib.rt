@@ -4,25 +4,36 @@
 //! A network has at most `MAX_OBSERVATIONS` observations and `MAX_POINTS` points, and from each
 //! point a chain of observations leads to a benchmark. `Network::build` makes it, or names the first
 //! fault: it finds the points in order of first sight (`points`), walks from the benchmarks to all
-//! that they reach (`anchors`, over `groups` and `marks`), numbers the vertices (`vertices`) and
+//! that they reach (`anchors`, over `neighbours` and `marks`), numbers the vertices (`vertices`) and
 //! takes the benchmarks' heights out of the observations (`links`).
 //!
 //! The definitions stand in `specs/`: points, walks and faults, heights and their cost, circulations,
 //! vertices and links. `laws` proves what they are for: heights that a circulation shows are least.
 #![tactic(auto)]
 
-mod anchors;
+// How large a network is, and why there is none.
 mod faults;
-mod groups;
-pub mod laws;
 mod limits;
-mod links;
-mod marks;
-mod networks;
+
+// The points, and which of them a chain of observations ties to a benchmark.
 mod points;
+// They are found in two steps: what joins the points, and what is marked as the walk goes on.
+mod marks;
+mod neighbours;
+// The walk itself.
+mod anchors;
+
+// The vertices and the arcs between them.
+mod links;
+mod vertices;
+
+// The network.
+mod networks;
+
+// What holds of the definitions alone.
+pub mod laws;
 #[cfg(test)]
 mod tests;
-mod vertices;
 
 pub use faults::NetFault;
 pub use limits::{MAX_OBSERVATIONS, MAX_POINTS};

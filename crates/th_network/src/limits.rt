@@ -1,5 +1,5 @@
 /// The most observations that a network takes.
-pub const MAX_OBSERVATIONS: usize = 4_000;
+pub const MAX_OBSERVATIONS: usize = 40_000;
 
 /// The most points that a network takes.
-pub const MAX_POINTS: usize = 400;
+pub const MAX_POINTS: usize = 4_000;

@@ -1,9 +1,9 @@
 ghost use Rattle.std.specs.Prelude.{◌≡◌, ◌≤◌, All, IfOk, OnOk, map, unsigned_abs};
 ghost use Rattle.th_book.specs.Observed.{IsBetweenPoints};
+ghost use Rattle.th_network.specs.Inside.Ends.{ArePoints};
+ghost use Rattle.th_network.specs.Inside.Numbered.{AreVertices};
 ghost use Rattle.th_network.specs.Links.{base as base_of, largest_link_difference, link_difference, link_of};
-ghost use Rattle.th_network.specs.Places.{ArePoints};
 ghost use Rattle.th_network.specs.Points.{points as points_of};
-ghost use Rattle.th_network.specs.Vertices.{AreVertices};
 ghost use Rattle.th_units.specs.declared.lens.TheConstants.{MAX_LEN};
 
 use crate::points::Points;
@@ -34,7 +34,7 @@ pub(crate) fn links_of(
     vertices: &Vertices,
 ) -> Result<Vec<Link>, AllocError>
     requires points { ArePoints observations.now benchmarks.now
-        points.now.names.keys points.now.stations.items points.now.targets.items }
+        points.now.names.keys points.now.ends.items }
     requires vertices { AreVertices benchmarks.now (points_of observations.now benchmarks.now)
         vertices.now.of_places.items }
     ensures links { IfOk result (λ links. links.items
@@ -45,8 +45,7 @@ pub(crate) fn links_of(
 {
     let mut links = Vec::with_capacity(alloc, observations.len())?;
     for (i, o) in observations.iter().enumerate() {
-        let station = points.stations[i];
-        let target = points.targets[i];
+        let (station, target) = points.ends[i];
         let tail = vertices.of_places[station];
         let head = vertices.of_places[target];
         links.push(link_between(o, benchmarks, tail, head))?;

@@ -1,5 +1,5 @@
-ghost use Rattle.std.specs.Prelude.{◌≡◌, ◌⊎◌, ◌<◌, ℕ, IfOk, OnErr, OnOk, length};
-ghost use Rattle.th_network.specs.Marks.{IsMarked, IsSeeded, Spreads};
+ghost use Rattle.std.specs.Prelude.{◌≡◌, ◌⊎◌, ◌<◌, ℕ, All, IfOk, OnErr, OnOk, length};
+ghost use Rattle.th_network.specs.Inside.Marks.{AreAdded, IsMarked, IsSeeded, Spreads};
 
 use std::alloc::{AllocError, Global};
 
@@ -29,9 +29,23 @@ impl Marks {
         Ok(Marks { marked, waiting })
     }
 
+    /// Marks some points, and lets those wait that were not marked yet.
+    pub fn mark_all(&mut self, places: &[usize]) -> Result<(), AllocError>
+        requires { All (λ place. place < length self.old.marked.items) places.now }
+        ensures added { OnOk result
+            (AreAdded places.now self.old.marked.items self.new.marked.items) }
+        ensures spreads { OnOk result (Spreads self.old.marked.items self.old.waiting.items
+            self.new.marked.items self.new.waiting.items) }
+    {
+        for place in places {
+            self.mark(*place)?;
+        }
+        Ok(())
+    }
+
     /// Marks a point, and lets it wait if it was not marked yet. Where room to wait is refused, nothing
     /// is marked.
-    pub fn mark(&mut self, place: usize) -> Result<(), AllocError>
+    fn mark(&mut self, place: usize) -> Result<(), AllocError>
         requires { place < length self.old.marked.items }
         ensures marks { OnOk result (IsMarked self.new.marked.items place) }
         ensures no_other { OnOk result ((other : ℕ) → IsMarked self.new.marked.items other

@@ -2,11 +2,12 @@ ghost use Rattle.std.specs.Prelude.{◌≡◌, ◌≢◌, ◌+◌, ◌<◌, ◌�
 ghost use Rattle.std.specs.List.{IsDistinct};
 ghost use Rattle.th_book.specs.Observed.{IsBetweenPoints};
 ghost use Rattle.th_network.specs.Faults.{HasFault, IsNetwork};
+ghost use Rattle.th_network.specs.Limits.{max_observations, max_points};
 ghost use Rattle.th_network.specs.Links.{largest_link_difference};
 ghost use Rattle.th_network.specs.Networks.{IsBuilt, arcs_of, heights_of, points_of, vertices_of, weights_of};
 ghost use Rattle.th_network.specs.declared.faults.NetFault.TheVariants.{NoMemory, TooManyObservations};
+ghost use Rattle.th_tables.specs.Limits.{max_weight};
 ghost use Rattle.th_tables.specs.Rows.{height_of};
-ghost use Rattle.th_tables.specs.declared.fields.TheConstants.{MAX_WEIGHT};
 ghost use Rattle.th_units.specs.declared.lens.TheConstants.{MAX_LEN};
 
 use crate::anchors::first_untied;
@@ -68,7 +69,7 @@ impl<'a> Network<'a> {
         ensures network { OnOk result (IsNetwork observations.items benchmarks.now) }
         ensures fault { IfErr result (λ fault.
             fault ≢ NoMemory → HasFault observations.items benchmarks.now fault) }
-        ensures many { MAX_OBSERVATIONS < length observations.items
+        ensures many { max_observations < length observations.items
             → result ≡ Err TooManyObservations }
     {
         let Graph {
@@ -122,7 +123,7 @@ impl<'a> Network<'a> {
         requires { i < length self.now.observations }
         ensures weight { slice_get (weights_of self.now) i ≡ Some result }
         ensures positive { 1 ≤ result }
-        ensures in_range { result ≤ MAX_WEIGHT }
+        ensures in_range { result ≤ max_weight }
     {
         let o = &self.observations[i];
         self.weights.of(&o.station, &o.target)
@@ -131,7 +132,7 @@ impl<'a> Network<'a> {
     /// How many vertices there are: 0 for all benchmarks, and one for each other point.
     pub fn vertices(&self) -> u32
         ensures vertices { result ≡ vertices_of self.now }
-        ensures few { result ≤ MAX_POINTS + 1 }
+        ensures few { result ≤ max_points + 1 }
     {
         self.vertices
     }
@@ -165,7 +166,7 @@ fn graph_of(
         IsBuilt observations.now benchmarks.now graph.points.keys graph.vertices graph.arcs.items) }
     ensures fault { IfErr result (λ fault.
         fault ≢ NoMemory → HasFault observations.now benchmarks.now fault) }
-    ensures many { MAX_OBSERVATIONS < length observations.now
+    ensures many { max_observations < length observations.now
         → result ≡ Err TooManyObservations }
 {
     if observations.len() > MAX_OBSERVATIONS {

@@ -1,6 +1,7 @@
 ghost use Rattle.std.specs.Prelude.{◌≡◌, [], ◌∷◌, ◌++◌, IfOk, OnOk, bytes_eq, map};
 ghost use Rattle.indexmap.specs.IndexSet.{insert_all, insert_key};
-ghost use Rattle.th_network.specs.Places.{ArePoints, place_of};
+ghost use Rattle.th_network.specs.Inside.Ends.{ArePoints};
+ghost use Rattle.th_network.specs.Places.{place_of};
 
 use gsi_word::Name;
 use indexmap::IndexSet;
@@ -13,10 +14,8 @@ use th_tables::Benchmarks;
 pub(crate) struct Points {
     /// The points' names: the ends of the observations, then the benchmarks that are no end.
     pub names: IndexSet<Name>,
-    /// For each observation its station's place among the names, from 0.
-    pub stations: Vec<usize>,
-    /// For each observation its target's place among the names, from 0.
-    pub targets: Vec<usize>,
+    /// For each observation the places of its station and its target among the names, from 0.
+    pub ends: Vec<(usize, usize)>,
 }
 
 impl Points {
@@ -27,12 +26,11 @@ impl Points {
         benchmarks: &Benchmarks,
     ) -> Result<Points, AllocError>
         ensures { IfOk result (λ points. ArePoints observations.now benchmarks.now
-            points.names.keys points.stations.items points.targets.items) }
+            points.names.keys points.ends.items) }
     {
         let mut points = Points {
             names: IndexSet::new(alloc),
-            stations: Vec::with_capacity(alloc, observations.len())?,
-            targets: Vec::with_capacity(alloc, observations.len())?,
+            ends: Vec::with_capacity(alloc, observations.len())?,
         };
         for o in observations {
             points.add(o)?;
@@ -45,15 +43,15 @@ impl Points {
     fn add(&mut self, o: &Observation) -> Result<(), AllocError>
         ensures names { OnOk result (self.new.names.keys
             ≡ insert_all bytes_eq self.old.names.keys (o.now.station ∷ o.now.target ∷ [])) }
-        ensures stations { OnOk result (self.new.stations.items
-            ≡ self.old.stations.items ++ place_of self.old.names.keys o.now.station ∷ []) }
-        ensures targets { OnOk result (self.new.targets.items ≡ self.old.targets.items
-            ++ place_of (insert_key bytes_eq self.old.names.keys o.now.station) o.now.target ∷ []) }
+        ensures ends { OnOk result (self.new.ends.items ≡ self.old.ends.items
+            ++ (
+              place_of self.old.names.keys o.now.station,
+              place_of (insert_key bytes_eq self.old.names.keys o.now.station) o.now.target,
+            ) ∷ []) }
     {
         let station = place_in(&mut self.names, o.station)?;
-        self.stations.push(station)?;
         let target = place_in(&mut self.names, o.target)?;
-        self.targets.push(target)?;
+        self.ends.push((station, target))?;
         Ok(())
     }
 }

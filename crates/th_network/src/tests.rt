@@ -253,10 +253,30 @@ fn names_the_first_untied_point(rt: HostRuntime) -> Result<(), Fail> {
     Ok(())
 }
 
+/// A fault, and how it is said.
+type Said = (NetFault, &'static str);
+
+#[test]
+fn says_faults(rt: HostRuntime) -> Result<(), Fail> {
+    let point = name_of(b"00A 1 ").expect(&rt, "a name");
+    let said: [Said; 4] = [
+        (NetFault::TooManyObservations, "N1 too many observations"),
+        (NetFault::TooManyPoints, "N2 too many points"),
+        (NetFault::NoBenchmark(point), "N3 no benchmark for A 1"),
+        (NetFault::NoMemory, "out of memory"),
+    ];
+    for (fault, text) in &said {
+        let line = format!(in rt.alloc(); "{fault}")?;
+        assert_eq!(rt; line.as_str(), *text);
+    }
+    Ok(())
+}
+
+/// 40,000 observations of one pair are taken, and 40,001 are too many.
 #[test]
 fn takes_so_many_observations(rt: HostRuntime) -> Result<(), Fail> {
     let mut book = joined(rt.alloc(), &[SETUP])?;
-    for _ in 0..MAX_OBSERVATIONS {
+    for _ in 0..40_000 {
         book.extend_from_slice(SIGHT)?;
     }
     assert_eq!(rt;
@@ -269,10 +289,11 @@ fn takes_so_many_observations(rt: HostRuntime) -> Result<(), Fail> {
     Ok(())
 }
 
+/// A and 3,999 targets are taken, and A and 4,000 are too many.
 #[test]
 fn takes_so_many_points(rt: HostRuntime) -> Result<(), Fail> {
     let mut book = joined(rt.alloc(), &[SETUP])?;
-    for k in 1..MAX_POINTS {
+    for k in 1..=3_999 {
         let sight = format!(in rt.alloc(); "110002+{k:08} 33..00+00002345 87..10+00001300 \n")?;
         book.extend_from_slice(sight.as_bytes())?;
     }
@@ -286,10 +307,11 @@ fn takes_so_many_points(rt: HostRuntime) -> Result<(), Fail> {
     Ok(())
 }
 
+/// 4,000 benchmarks are taken, and 4,001 are too many.
 #[test]
 fn takes_so_many_benchmarks(rt: HostRuntime) -> Result<(), Fail> {
     let mut table = joined(rt.alloc(), &[b"point,height\n"])?;
-    for k in 0..MAX_POINTS {
+    for k in 1..=4_000 {
         let row = format!(in rt.alloc(); "{k},1\n")?;
         table.extend_from_slice(row.as_bytes())?;
     }

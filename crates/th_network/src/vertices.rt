@@ -1,7 +1,8 @@
 ghost use Rattle.std.specs.Prelude.{◌≡◌, ◌+◌, ◌≤◌, IfOk, count_by, length};
-ghost use Rattle.th_network.specs.Vertices.{AreVertices, is_free};
+ghost use Rattle.th_network.specs.Inside.Numbered.{AreVertices};
+ghost use Rattle.th_network.specs.Limits.{max_points};
+ghost use Rattle.th_network.specs.Vertices.{is_free};
 
-use crate::limits::MAX_POINTS;
 use gsi_word::Name;
 use std::alloc::{AllocError, Global};
 use th_tables::Benchmarks;
@@ -22,7 +23,7 @@ impl Vertices {
         names: &[Name],
         benchmarks: &Benchmarks,
     ) -> Result<Vertices, AllocError>
-        requires { length names.now ≤ MAX_POINTS }
+        requires { length names.now ≤ max_points }
         ensures of_places { IfOk result (λ vertices.
             AreVertices benchmarks.now names.now vertices.of_places.items) }
         ensures count { IfOk result (λ vertices.

@@ -5,20 +5,20 @@ use Rattle.std.specs.Result.{result_err}
 use Rattle.std.proofs.Math.Seq.{get_or-append_seam, take-append_seam}
 use Rattle.std.proofs.lemmas.List.{append-nil}
 use Rattle.std.proofs.lemmas.Option.{slice_get-get_or, slice_get_past}
-use Rattle.th_tables.specs.Records.{Record}
+use Rattle.th_csv.specs.Records.{Fields}
 use Rattle.th_tables.specs.Tables.{AreRowsOf, IsFirstFault, is_row_with, kind_at, kind_under, row_first, rows_after, unless_repeated}
 use Rattle.th_tables.specs.declared.faults.TableFault.{TableFault}
 use Rattle.th_tables.specs.declared.faults.TableKind.{TableKind}
 use Rattle.th_tables.specs.declared.faults.TableKind.TheVariants.{Repeated}
 
 -- the record after those that are done
-slice_get_after : (done : List Record) (this : Record) (later : List Record) → slice_get (done ++ this ∷ later) (length done) ≡ Some this
+slice_get_after : (done : List Fields) (this : Fields) (later : List Fields) → slice_get (done ++ this ∷ later) (length done) ≡ Some this
 slice_get_after done this later =
     slice_get-get_or (done ++ this ∷ later) (length done) this (omega (arith, length-append done (this ∷ later))) ∙ ap Some (get_or-append_seam done this later this)
 
-module _ {K V : Type 0} (same : K → K → Bool) (row_in : Record → Result (K × V) TableKind) where
+module _ {K V : Type 0} (same : K → K → Bool) (row_in : Fields → Result (K × V) TableKind) where
   -- its fault
-  kind_at_next : (done : List Record) (this : Record) (later : List Record) → kind_at same row_in (done ++ this ∷ later) (length done + 0) ≡ result_err (unless_repeated same row_in done (row_in this))
+  kind_at_next : (done : List Fields) (this : Fields) (later : List Fields) → kind_at same row_in (done ++ this ∷ later) (length done + 0) ≡ result_err (unless_repeated same row_in done (row_in this))
   kind_at_next done this later =
       let here : length done + 0 ≡ length done = omega arith in
       ap (kind_at same row_in (done ++ this ∷ later)) here
@@ -26,7 +26,7 @@ module _ {K V : Type 0} (same : K → K → Bool) (row_in : Record → Result (K
       ∙ ap (kind_under same row_in done) (slice_get_after done this later)
 
   -- the faults of the later ones, once it is done too
-  kind_at_later : (done : List Record) (this : Record) (later : List Record) (place : ℕ)
+  kind_at_later : (done : List Fields) (this : Fields) (later : List Fields) (place : ℕ)
       → kind_at same row_in (done ++ this ∷ later) (length done + suc place) ≡ kind_at same row_in ((done ++ this ∷ []) ++ later) (length (done ++ this ∷ []) + place)
   kind_at_later done this later place =
       let further : length done + suc place ≡ length (done ++ this ∷ []) + place = omega (arith, length-append done (this ∷ [])) in
@@ -34,17 +34,17 @@ module _ {K V : Type 0} (same : K → K → Bool) (row_in : Record → Result (K
       ∙ ap (λ records. kind_at same row_in records (length (done ++ this ∷ []) + place)) (sym (append_assoc done (this ∷ []) later))
 
   -- past the last record there is no fault
-  kind_at_past : (records : List Record) (place : ℕ) → length records ≤ place → kind_at same row_in records place ≡ None
+  kind_at_past : (records : List Fields) (place : ℕ) → length records ≤ place → kind_at same row_in records place ≡ None
   kind_at_past records place past = ap (kind_under same row_in (take place records)) (slice_get_past records place past)
 
   -- the first fault of the records after those that are done
-  record FaultFrom (done left : List Record) (fault : TableFault) : Type 0 where
+  record FaultFrom (done left : List Fields) (fault : TableFault) : Type 0 where
     place : ℕ
     number : fault.row ≡ length done + place + 2
     kind : kind_at same row_in (done ++ left) (length done + place) ≡ Some fault.kind
     earlier : (before : ℕ) → before < place → kind_at same row_in (done ++ left) (length done + before) ≡ None
 
-  fault_from : (done left : List Record) (fault : TableFault) → rows_after same row_in done left ≡ Err fault → FaultFrom done left fault
+  fault_from : (done left : List Fields) (fault : TableFault) → rows_after same row_in done left ≡ Err fault → FaultFrom done left fault
   fault_from done [] fault h = cc h
   fault_from done (this ∷ later) fault h =
       by (unless_repeated same row_in done (row_in this)) (rows_after same row_in (done ++ this ∷ []) later) refl h (fault_from (done ++ this ∷ []) later fault)
@@ -76,12 +76,12 @@ module _ {K V : Type 0} (same : K → K → Bool) (row_in : Record → Result (K
       by (Ok row) (Ok rows) is h more = cc h
 
   -- the rows of the records after those that are done
-  record RowsFrom (done left : List Record) (rows : List (K × V)) : Type 0 where
+  record RowsFrom (done left : List Fields) (rows : List (K × V)) : Type 0 where
     faultless : (place : ℕ) → kind_at same row_in (done ++ left) (length done + place) ≡ None
     said : map row_in left ≡ map Ok rows
 
   -- a row that no earlier record has is what its record says
-  own_row : (done : List Record) (row : K × V) (read : Result (K × V) TableKind) → unless_repeated same row_in done read ≡ Ok row → read ≡ Ok row
+  own_row : (done : List Fields) (row : K × V) (read : Result (K × V) TableKind) → unless_repeated same row_in done read ≡ Ok row → read ≡ Ok row
   own_row done row (Err kind) h = cc h
   own_row done row (Ok other) h = by (list_any (λ earlier. is_row_with same other.0 (row_in earlier)) done) h
     where
@@ -89,7 +89,7 @@ module _ {K V : Type 0} (same : K → K → Bool) (row_in : Record → Result (K
       by true h = cc h
       by false h = h
 
-  rows_from : (done left : List Record) (rows : List (K × V)) → rows_after same row_in done left ≡ Ok rows → RowsFrom done left rows
+  rows_from : (done left : List Fields) (rows : List (K × V)) → rows_after same row_in done left ≡ Ok rows → RowsFrom done left rows
   rows_from done [] rows h =
       let none : [] ≡ rows = cc in
       record {
@@ -116,7 +116,7 @@ module _ {K V : Type 0} (same : K → K → Bool) (row_in : Record → Result (K
           each after first zero = first
           each after first (suc place) = kind_at_later done this later place ∙ after.faultless place
 
-  pub AreRowsOf-rows_after : (records : List Record) (rows : List (K × V)) → rows_after same row_in [] records ≡ Ok rows → AreRowsOf same row_in records rows
+  pub AreRowsOf-rows_after : (records : List Fields) (rows : List (K × V)) → rows_after same row_in [] records ≡ Ok rows → AreRowsOf same row_in records rows
   AreRowsOf-rows_after records rows h =
       let from : RowsFrom [] records rows = rows_from [] records rows h in
       record {
@@ -124,7 +124,7 @@ module _ {K V : Type 0} (same : K → K → Bool) (row_in : Record → Result (K
         said = from.said;
       }
 
-  pub IsFirstFault-rows_after : (records : List Record) (fault : TableFault) → rows_after same row_in [] records ≡ Err fault → IsFirstFault same row_in records fault
+  pub IsFirstFault-rows_after : (records : List Fields) (fault : TableFault) → rows_after same row_in [] records ≡ Err fault → IsFirstFault same row_in records fault
   IsFirstFault-rows_after records fault h =
       let from : FaultFrom [] records fault = fault_from [] records fault h in
       let here : from.place ≡ 0 + from.place = omega arith in

@@ -1,29 +1,14 @@
--- The fields of a record by their places.
-use Rattle.std.proofs.Common.{◌≡◌, ◌<◌, ◌≤◌, ℕ, ℤ, ◌&&◌, Bool, true, false, if◌then◌else◌, List, [], ◌∷◌, length, Option, Some, None, Result, Ok, Err, nat_le, unsigned_abs, suc, zero, refl, ap, subst, arith}
+-- What the rows that records say are within.
+use Rattle.std.proofs.Common.{◌≡◌, ◌≤◌, ℕ, ℤ, ◌&&◌, Bool, true, false, if◌then◌else◌, List, [], ◌∷◌, length, Option, Some, None, Result, Ok, Err, nat_le, unsigned_abs, refl, ap, subst, arith}
 use Rattle.std.proofs.lemmas.Bool.Decides.{nat_tests}
-use Rattle.csv.specs.Records.{field_at}
 use Rattle.th_units.specs.Lens.{longest, short_number}
 use Rattle.th_units.specs.Metres.{value}
 use Rattle.th_units.specs.declared.lens.LenFault.{LenFault}
 use Rattle.th_tables.specs.Fields.{allowed_weight, benchmark_in, both, height_in, name_in, weight_in, weighted_in, within_limit}
-use Rattle.th_tables.specs.Records.{Record}
+use Rattle.th_csv.specs.Records.{Fields}
 use Rattle.th_tables.specs.declared.faults.TableKind.{TableKind}
 use Rattle.th_tables.specs.declared.faults.TableKind.TheVariants.{BadHeight, BadWeight}
-use Rattle.th_tables.specs.Rows.{heaviest}
-
--- a field that is there stands at a place below their count
-pub field_there : (fields : List (List ℕ)) (place : ℕ) (field : List ℕ) → Some field ≡ field_at fields place → place < length fields
-unfolding field_at
-field_there [] place field h = cc h
-field_there (first ∷ fields) zero field h = omega arith
-field_there (first ∷ fields) (suc place) field h = omega (arith, field_there fields place field h)
-
--- past the last field there is none
-pub field_missing : (fields : List (List ℕ)) (place : ℕ) → None ≡ field_at fields place → length fields ≤ place
-unfolding field_at
-field_missing [] place h = omega arith
-field_missing (first ∷ fields) zero h = cc h
-field_missing (first ∷ fields) (suc place) h = omega (arith, field_missing fields place h)
+use Rattle.th_tables.specs.Limits.{max_weight, max_weight_digits}
 
 -- the second part of a row
 both_second : {A B : Type 0} (first : Result A TableKind) (second : Result B TableKind) (row : A × B) → both first second ≡ Ok row → second ≡ Ok row.1
@@ -46,36 +31,36 @@ limit_of_height (Ok length) height h = by (nat_le (unsigned_abs length) longest)
     by false is h = cc h
 
 -- the height of a benchmark is within the limit
-pub benchmark_limit : (fields : Record) (row : List ℕ × ℤ) → benchmark_in fields ≡ Ok row → unsigned_abs row.1 ≤ longest
+pub benchmark_limit : (fields : Fields) (row : List ℕ × ℤ) → benchmark_in fields ≡ Ok row → unsigned_abs row.1 ≤ longest
 benchmark_limit [] row h = cc h
 benchmark_limit (name ∷ []) row h = cc h
 benchmark_limit (name ∷ height ∷ []) row h = limit_of_height (value height) row.1 (both_second (name_in name) (height_in height) row h)
 benchmark_limit (name ∷ height ∷ more ∷ rest) row h = cc h
 
 -- a weight that is allowed is within the limits
-limits_of_weight : (number : Option ℕ) (weight : ℕ) → allowed_weight number ≡ Ok weight → (1 ≤ weight) × (weight ≤ heaviest)
+limits_of_weight : (number : Option ℕ) (weight : ℕ) → allowed_weight number ≡ Ok weight → (1 ≤ weight) × (weight ≤ max_weight)
 limits_of_weight None weight h = cc h
-limits_of_weight (Some n) weight h = by (nat_le 1 n) (nat_le n heaviest) refl refl h
+limits_of_weight (Some n) weight h = by (nat_le 1 n) (nat_le n max_weight) refl refl h
   where
-    by : (positive within : Bool) → nat_le 1 n ≡ positive → nat_le n heaviest ≡ within → (if positive && within then Ok n else Err BadWeight) ≡ Ok weight → (1 ≤ weight) × (weight ≤ heaviest)
+    by : (positive within : Bool) → nat_le 1 n ≡ positive → nat_le n max_weight ≡ within → (if positive && within then Ok n else Err BadWeight) ≡ Ok weight → (1 ≤ weight) × (weight ≤ max_weight)
     by false within is is' h = cc h
     by true false is is' h = cc h
     by true true is is' h =
         let same : n ≡ weight = cc in
         let low : 1 ≤ n = grind (arith, nat_tests) in
-        let high : n ≤ heaviest = grind (arith, nat_tests) in
-        subst (λ w. (1 ≤ w) × (w ≤ heaviest)) same (low, high)
+        let high : n ≤ max_weight = grind (arith, nat_tests) in
+        subst (λ w. (1 ≤ w) × (w ≤ max_weight)) same (low, high)
 
 -- the weight of a field is within the limits
-weight_limits : (field : List ℕ) (weight : ℕ) → weight_in field ≡ Ok weight → (1 ≤ weight) × (weight ≤ heaviest)
-weight_limits field weight h = by (nat_le (length field) 4) h
+weight_limits : (field : List ℕ) (weight : ℕ) → weight_in field ≡ Ok weight → (1 ≤ weight) × (weight ≤ max_weight)
+weight_limits field weight h = by (nat_le (length field) max_weight_digits) h
   where
-    by : (short : Bool) → (if short then allowed_weight (short_number field) else Err BadWeight) ≡ Ok weight → (1 ≤ weight) × (weight ≤ heaviest)
+    by : (short : Bool) → (if short then allowed_weight (short_number field) else Err BadWeight) ≡ Ok weight → (1 ≤ weight) × (weight ≤ max_weight)
     by true h = limits_of_weight (short_number field) weight h
     by false h = cc h
 
 -- the weight of a row is within the limits
-pub weighted_limits : (fields : Record) (row : (List ℕ × List ℕ) × ℕ) → weighted_in fields ≡ Ok row → (1 ≤ row.1) × (row.1 ≤ heaviest)
+pub weighted_limits : (fields : Fields) (row : (List ℕ × List ℕ) × ℕ) → weighted_in fields ≡ Ok row → (1 ≤ row.1) × (row.1 ≤ max_weight)
 weighted_limits [] row h = cc h
 weighted_limits (station ∷ []) row h = cc h
 weighted_limits (station ∷ target ∷ []) row h = cc h

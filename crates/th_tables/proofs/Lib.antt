@@ -1,4 +1,3 @@
 pub mod FieldLemmas
-pub mod RecordLemmas
 pub mod TableLemmas
 pub mod FaultLaws

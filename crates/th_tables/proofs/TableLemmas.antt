@@ -5,7 +5,7 @@ use Rattle.std.specs.Map.{lookup}
 use Rattle.std.proofs.lemmas.List.{append-nil, map-append}
 use Rattle.indexmap.specs.IndexMap.{IndexMap, get, insert_entry}
 use Rattle.indexmap.proofs.CallerLemmas.{insert_entry-new}
-use Rattle.th_tables.specs.Records.{Record}
+use Rattle.th_csv.specs.Records.{Fields}
 use Rattle.th_tables.specs.Tables.{is_row_with, row_first, rows_after, unless_repeated}
 use Rattle.th_tables.specs.declared.faults.TableFault.{TableFault}
 use Rattle.th_tables.specs.declared.faults.TableKind.{TableKind}
@@ -27,17 +27,17 @@ module _ {K V : Type 0} where
   rows_before-push above rows row (Ok later) = ap Ok (sym (append_assoc rows (row ∷ []) later))
   rows_before-push above rows row (Err fault) = refl
 
-module _ {K V : Type 0} (same : K → K → Bool) (row_in : Record → Result (K × V) TableKind) where
+module _ {K V : Type 0} (same : K → K → Bool) (row_in : Fields → Result (K × V) TableKind) where
   -- of all records those before the ones that are left say these rows, and the last of them is record `number`
-  pub record ReadUpTo (all left : List Record) (rows : List (K × V)) (number : ℕ) : Type 0 where
-    pub done : List Record
+  pub record ReadUpTo (all left : List Fields) (rows : List (K × V)) (number : ℕ) : Type 0 where
+    pub done : List Fields
     pub joined : all ≡ done ++ left
     pub says : map row_in done ≡ map Ok rows
     pub so_far : rows_after same row_in [] all ≡ rows_before rows (rows_after same row_in done left)
     pub counted : number ≡ length done + 1
 
   -- before the first record
-  pub read_none : (all : List Record) → ReadUpTo all all [] 1
+  pub read_none : (all : List Fields) → ReadUpTo all all [] 1
   read_none all = record {
     done = [];
     joined = refl;
@@ -47,11 +47,11 @@ module _ {K V : Type 0} (same : K → K → Bool) (row_in : Record → Result (K
   }
 
   -- the number of a record is at most one more than there are records
-  pub number_bound : (all left : List Record) (rows : List (K × V)) (number : ℕ) → ReadUpTo all left rows number → number + length left ≡ length all + 1
+  pub number_bound : (all left : List Fields) (rows : List (K × V)) (number : ℕ) → ReadUpTo all left rows number → number + length left ≡ length all + 1
   number_bound all left rows number read = omega (arith, ap length read.joined, length-append read.done left, read.counted)
 
   -- an earlier record has this key just where a row has it
-  any_row : (key : K) (done : List Record) (rows : List (K × V)) → map row_in done ≡ map Ok rows → list_any (λ other. is_row_with same key (row_in other)) done ≡ is_some (lookup (same key) rows)
+  any_row : (key : K) (done : List Fields) (rows : List (K × V)) → map row_in done ≡ map Ok rows → list_any (λ other. is_row_with same key (row_in other)) done ≡ is_some (lookup (same key) rows)
   any_row key [] [] says = refl
   any_row key [] (row ∷ rows) says = cc says
   any_row key (first ∷ done) [] says = cc says
@@ -67,18 +67,18 @@ module _ {K V : Type 0} (same : K → K → Bool) (row_in : Record → Result (K
       by false = refl
 
   -- the first of the records that are left
-  next_row : (all left later : List Record) (this : Record) (rows : List (K × V)) (number : ℕ) (read : ReadUpTo all left rows number) → left ≡ this ∷ later
+  next_row : (all left later : List Fields) (this : Fields) (rows : List (K × V)) (number : ℕ) (read : ReadUpTo all left rows number) → left ≡ this ∷ later
       → rows_after same row_in [] all ≡ rows_before rows (row_first (length read.done) (unless_repeated same row_in read.done (row_in this)) (rows_after same row_in (read.done ++ this ∷ []) later))
   next_row all left later this rows number read first = read.so_far ∙ ap (λ left. rows_before rows (rows_after same row_in read.done left)) first
 
   -- whether it repeats a key
-  repeats : (all left : List Record) (this : Record) (rows : List (K × V)) (number : ℕ) (row : K × V) (read : ReadUpTo all left rows number) → row_in this ≡ Ok row
+  repeats : (all left : List Fields) (this : Fields) (rows : List (K × V)) (number : ℕ) (row : K × V) (read : ReadUpTo all left rows number) → row_in this ≡ Ok row
       → unless_repeated same row_in read.done (row_in this) ≡ (if is_some (lookup (same row.0) rows) then Err Repeated else Ok row)
   repeats all left this rows number row read says =
       ap (unless_repeated same row_in read.done) says ∙ ap (λ repeated. if repeated then Err Repeated else Ok row) (any_row row.0 read.done rows read.says)
 
   -- a record with a fault of its own
-  pub read_fault : (all left later : List Record) (this : Record) (rows : List (K × V)) (number : ℕ) (kind : TableKind) → ReadUpTo all left rows number → left ≡ this ∷ later
+  pub read_fault : (all left later : List Fields) (this : Fields) (rows : List (K × V)) (number : ℕ) (kind : TableKind) → ReadUpTo all left rows number → left ≡ this ∷ later
       → row_in this ≡ Err kind → rows_after same row_in [] all ≡ Err (record { row = number + 1; kind = kind })
   read_fault all left later this rows number kind read first faulty =
       next_row all left later this rows number read first
@@ -86,7 +86,7 @@ module _ {K V : Type 0} (same : K → K → Bool) (row_in : Record → Result (K
       ∙ (let numbered : length read.done + 2 ≡ number + 1 = omega (arith, read.counted) in ap (λ n. Err (record { row = n; kind = kind })) numbered)
 
   -- a record with a key that is there
-  pub read_repeated : (all left later : List Record) (this : Record) (rows : List (K × V)) (number : ℕ) (row : K × V) → ReadUpTo all left rows number → left ≡ this ∷ later
+  pub read_repeated : (all left later : List Fields) (this : Fields) (rows : List (K × V)) (number : ℕ) (row : K × V) → ReadUpTo all left rows number → left ≡ this ∷ later
       → row_in this ≡ Ok row → is_some (lookup (same row.0) rows) ≡ true → rows_after same row_in [] all ≡ Err (record { row = number + 1; kind = Repeated })
   read_repeated all left later this rows number row read first says there =
       next_row all left later this rows number read first
@@ -95,7 +95,7 @@ module _ {K V : Type 0} (same : K → K → Bool) (row_in : Record → Result (K
       ∙ (let numbered : length read.done + 2 ≡ number + 1 = omega (arith, read.counted) in ap (λ n. Err (record { row = n; kind = Repeated })) numbered)
 
   -- a record with a new key
-  pub read_row : (all left later : List Record) (this : Record) (rows : List (K × V)) (number : ℕ) (row : K × V) → ReadUpTo all left rows number → left ≡ this ∷ later
+  pub read_row : (all left later : List Fields) (this : Fields) (rows : List (K × V)) (number : ℕ) (row : K × V) → ReadUpTo all left rows number → left ≡ this ∷ later
       → row_in this ≡ Ok row → is_some (lookup (same row.0) rows) ≡ false → ReadUpTo all later (rows ++ row ∷ []) (number + 1)
   read_row all left later this rows number row read first says absent = record {
     done = read.done ++ this ∷ [];
@@ -112,7 +112,7 @@ module _ {K V : Type 0} (same : K → K → Bool) (row_in : Record → Result (K
   }
 
   -- after the last record
-  pub read_all : (all left : List Record) (rows : List (K × V)) (number : ℕ) → ReadUpTo all left rows number → left ≡ [] → rows_after same row_in [] all ≡ Ok rows
+  pub read_all : (all left : List Fields) (rows : List (K × V)) (number : ℕ) → ReadUpTo all left rows number → left ≡ [] → rows_after same row_in [] all ≡ Ok rows
   read_all all left rows number read none =
       read.so_far ∙ ap (λ left. rows_before rows (rows_after same row_in read.done left)) none ∙ ap Ok (append-nil rows)
 

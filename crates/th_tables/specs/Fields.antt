@@ -4,10 +4,10 @@ use Rattle.gsi_word.specs.Names.{name_of}
 use Rattle.th_units.specs.Lens.{longest, short_number}
 use Rattle.th_units.specs.Metres.{value}
 use Rattle.th_units.specs.declared.lens.LenFault.{LenFault}
-use Rattle.th_tables.specs.Records.{Record}
+use Rattle.th_csv.specs.Records.{Fields}
 use Rattle.th_tables.specs.declared.faults.TableKind.{TableKind}
 use Rattle.th_tables.specs.declared.faults.TableKind.TheVariants.{FieldCount, BadName, BadHeight, BadWeight}
-use Rattle.th_tables.specs.Rows.{heaviest}
+use Rattle.th_tables.specs.Limits.{max_weight, max_weight_digits}
 
 -- the name of a field
 abbrev pub name_in : List ℕ → Result (List ℕ) TableKind
@@ -24,12 +24,12 @@ height_in field = within_limit (value field)
 
 -- a number that is read, if it is 1 to 1,000
 abbrev pub allowed_weight : Option ℕ → Result ℕ TableKind
-allowed_weight (Some weight) = if nat_le 1 weight && nat_le weight heaviest then Ok weight else Err BadWeight
+allowed_weight (Some weight) = if nat_le 1 weight && nat_le weight max_weight then Ok weight else Err BadWeight
 allowed_weight None = Err BadWeight
 
--- the weight of a field of one to four digits, zeros in front counted among the four
+-- the weight of a field of few digits, zeros in front counted among them
 abbrev pub weight_in : List ℕ → Result ℕ TableKind
-weight_in field = if nat_le (length field) 4 then allowed_weight (short_number field) else Err BadWeight
+weight_in field = if nat_le (length field) max_weight_digits then allowed_weight (short_number field) else Err BadWeight
 
 -- two parts of a row: the fault of the first comes before that of the second
 abbrev pub both : {A B : Type 0} → Result A TableKind → Result B TableKind → Result (A × B) TableKind
@@ -38,21 +38,21 @@ both (Ok first) (Err kind) = Err kind
 both (Ok first) (Ok second) = Ok (first, second)
 
 -- a record that has the two words of the benchmarks' header
-abbrev pub is_benchmarks_header : Record → Bool
+abbrev pub is_benchmarks_header : Fields → Bool
 is_benchmarks_header (point ∷ height ∷ []) = bytes_eq point (codes "point") && bytes_eq height (codes "height")
 is_benchmarks_header _ = false
 
 -- the row of a benchmarks record, a name and a height, or the first kind of fault that it has by itself
-abbrev pub benchmark_in : Record → Result (List ℕ × ℤ) TableKind
+abbrev pub benchmark_in : Fields → Result (List ℕ × ℤ) TableKind
 benchmark_in (name ∷ height ∷ []) = both (name_in name) (height_in height)
 benchmark_in _ = Err FieldCount
 
 -- a record that has the three words of the weights' header
-abbrev pub is_weights_header : Record → Bool
+abbrev pub is_weights_header : Fields → Bool
 is_weights_header (from ∷ to ∷ weight ∷ []) = bytes_eq from (codes "from") && (bytes_eq to (codes "to") && bytes_eq weight (codes "weight"))
 is_weights_header _ = false
 
 -- the row of a weights record, a station and a target and their weight, or the first kind of fault that it has by itself
-abbrev pub weighted_in : Record → Result ((List ℕ × List ℕ) × ℕ) TableKind
+abbrev pub weighted_in : Fields → Result ((List ℕ × List ℕ) × ℕ) TableKind
 weighted_in (station ∷ target ∷ weight ∷ []) = both (both (name_in station) (name_in target)) (weight_in weight)
 weighted_in _ = Err FieldCount

@@ -1,5 +1,5 @@
-pub mod Records
+pub mod Limits
 pub mod Rows
 pub mod Fields
 pub mod Tables
-pub mod Reading
+pub mod Texts

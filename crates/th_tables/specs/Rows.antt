@@ -2,6 +2,7 @@ use Rattle.std.specs.Prelude.{◌≤◌, ℕ, ℤ, ◌&&◌, Bool, All, List, Op
 use Rattle.std.specs.List.{IsDistinct}
 use Rattle.std.specs.Map.{keys_of, lookup}
 use Rattle.th_units.specs.Lens.{longest}
+use Rattle.th_tables.specs.Limits.{max_weight}
 
 -- the rows of the benchmarks: each name and its height in units of 10 nm
 abbrev pub BenchmarkRows : Type 0
@@ -10,10 +11,6 @@ BenchmarkRows = List (List ℕ × ℤ)
 -- the rows of the weights: each station and target, and the weight of their observations
 abbrev pub WeightRows : Type 0
 WeightRows = List ((List ℕ × List ℕ) × ℕ)
-
--- the largest weight
-abbrev pub heaviest : ℕ
-heaviest = 1000
 
 -- whether two pairs of a station and a target are the same
 abbrev pub same_ends : List ℕ × List ℕ → List ℕ × List ℕ → Bool
@@ -35,4 +32,4 @@ pub record AreBenchmarks (rows : BenchmarkRows) : Type 0 where
 -- the rows of a table of weights: a station and a target have one row, and a weight is 1 to 1,000
 pub record AreWeights (rows : WeightRows) : Type 0 where
   pub distinct : IsDistinct same_ends (keys_of rows)
-  pub weights : All (λ row. (1 ≤ row.1) × (row.1 ≤ heaviest)) rows
+  pub weights : All (λ row. (1 ≤ row.1) × (row.1 ≤ max_weight)) rows

@@ -1,8 +1,9 @@
 use Rattle.std.specs.Prelude.{◌≡◌, ℕ, ◌+◌, ◌<◌, ◌==◌, Bool, false, List, [], ◌∷◌, ◌++◌, length, map, slice_get, take, Option, Some, None, Result, Ok, Err, if◌then◌else◌, bytes_eq, nat_lt}
 use Rattle.std.specs.List.{list_any}
 use Rattle.std.specs.Result.{result_err}
+use Rattle.th_tables.specs.Limits.{max_table}
 use Rattle.th_tables.specs.Fields.{benchmark_in, is_benchmarks_header, is_weights_header, weighted_in}
-use Rattle.th_tables.specs.Records.{Record, records_of}
+use Rattle.th_csv.specs.Records.{Fields, records_of}
 use Rattle.th_tables.specs.Rows.{BenchmarkRows, WeightRows, same_ends}
 use Rattle.th_tables.specs.declared.faults.TableFault.{TableFault}
 use Rattle.th_tables.specs.declared.faults.TableKind.{TableKind}
@@ -30,50 +31,46 @@ module _ {K V : Type 0} where
   row_first above (Ok row) (Err fault) = Err fault
   row_first above (Ok row) (Ok rows) = Ok (row ∷ rows)
 
-module _ {K V : Type 0} (same : K → K → Bool) (row_in : Record → Result (K × V) TableKind) where
+module _ {K V : Type 0} (same : K → K → Bool) (row_in : Fields → Result (K × V) TableKind) where
   -- a row, if no earlier record has its key
-  abbrev pub unless_repeated : List Record → Result (K × V) TableKind → Result (K × V) TableKind
+  abbrev pub unless_repeated : List Fields → Result (K × V) TableKind → Result (K × V) TableKind
   unless_repeated earlier (Err kind) = Err kind
   unless_repeated earlier (Ok row) = if list_any (λ other. is_row_with same row.0 (row_in other)) earlier then Err Repeated else Ok row
 
   -- the rows of records, in their order, or the fault of the first that has one; the earlier records stand between the header and them
-  abbrev pub rows_after : List Record → List Record → Result (List (K × V)) TableFault
+  abbrev pub rows_after : List Fields → List Fields → Result (List (K × V)) TableFault
   rows_after earlier [] = Ok []
   rows_after earlier (this ∷ later) = row_first (length earlier) (unless_repeated earlier (row_in this)) (rows_after (earlier ++ this ∷ []) later)
 
   -- the rows of all records under the header
-  abbrev pub rows_under : (Record → Bool) → List Record → Result (List (K × V)) TableFault
+  abbrev pub rows_under : (Fields → Bool) → List Fields → Result (List (K × V)) TableFault
   rows_under is_header [] = Err bad_header
   rows_under is_header (first ∷ rest) = if is_header first then rows_after [] rest else Err bad_header
 
   -- the first kind of fault that a record has under the earlier ones, if it has one
-  abbrev pub kind_under : List Record → Option Record → Option TableKind
+  abbrev pub kind_under : List Fields → Option Fields → Option TableKind
   kind_under earlier None = None
   kind_under earlier (Some this) = result_err (unless_repeated earlier (row_in this))
 
   -- the same of the record at a place, counted from 0 under the header
-  abbrev pub kind_at : List Record → ℕ → Option TableKind
+  abbrev pub kind_at : List Fields → ℕ → Option TableKind
   kind_at records place = kind_under (take place records) (slice_get records place)
 
   -- no record has a fault, and the rows are what the records say
-  pub record AreRowsOf (records : List Record) (rows : List (K × V)) : Type 0 where
+  pub record AreRowsOf (records : List Fields) (rows : List (K × V)) : Type 0 where
     pub faultless : (place : ℕ) → kind_at records place ≡ None
     pub said : map row_in records ≡ map Ok rows
 
   -- the fault is that of the first record that has one, with its first kind; the record at place 0 is record 2
-  pub record IsFirstFault (records : List Record) (fault : TableFault) : Type 0 where
+  pub record IsFirstFault (records : List Fields) (fault : TableFault) : Type 0 where
     pub place : ℕ
     pub number : fault.row ≡ place + 2
     pub kind : kind_at records place ≡ Some fault.kind
     pub earlier : (before : ℕ) → before < place → kind_at records before ≡ None
 
--- how many bytes a table has at most
-abbrev pub longest_table : ℕ
-longest_table = 1048576
-
 -- a table that is not too long
 abbrev pub if_short : {X : Type 0} → List ℕ → Result X TableFault → Result X TableFault
-if_short bytes table = if nat_lt longest_table (length bytes) then Err too_long else table
+if_short bytes table = if nat_lt max_table (length bytes) then Err too_long else table
 
 -- the benchmarks that a table's bytes stand for, or its first fault
 abbrev pub benchmarks_of : List ℕ → Result BenchmarkRows TableFault

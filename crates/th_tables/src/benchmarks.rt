@@ -1,19 +1,18 @@
 ghost use Rattle.std.specs.Prelude.{◌≡◌, ◌⊎◌, ◌<◌, ◌≤◌, ◌^◌, ◌+◌, [], Ok, Err, IfErr, IfOk, IfSome, bytes_eq, length, slice_get, unsigned_abs};
 ghost use Rattle.th_tables.specs.Fields.{benchmark_in};
-ghost use Rattle.th_tables.specs.Reading.{IsReading, records_left};
 ghost use Rattle.th_tables.specs.Rows.{AreBenchmarks, height_of};
 ghost use Rattle.th_units.specs.declared.lens.TheConstants.{MAX_LEN};
-ghost use Rattle.th_tables.specs.Tables.{benchmarks_of, longest_table, no_memory, rows_after, too_long};
+ghost use Rattle.th_tables.specs.Limits.{max_table};
+ghost use Rattle.th_tables.specs.Tables.{benchmarks_of, no_memory, rows_after, too_long};
 
 use crate::faults::{TableFault, TableKind};
 use crate::fields::{benchmark_in, is_benchmarks_header};
-use crate::records::{open, read_next};
-use crate::tables::MAX_TABLE_LEN;
-use csv::{ByteRecord, Reader};
+use crate::limits::MAX_TABLE;
 use gsi_word::Name;
 use indexmap::IndexMap;
 use std::alloc::Global;
 use std::marker::Model;
+use th_csv::{Record, RecordReader};
 
 /// The benchmarks: names and their heights in units of 10 nm, in the order of their table.
 #[derive(Debug, Drop)]
@@ -60,14 +59,14 @@ impl Benchmarks {
 pub fn read_benchmarks(alloc: Global, bytes: &[u8]) -> Result<Benchmarks, TableFault>
     ensures table { IfOk result (λ table. benchmarks_of bytes.now ≡ Ok table) }
     ensures fault { IfErr result (λ fault. (fault ≡ no_memory) ⊎ (benchmarks_of bytes.now ≡ Err fault)) }
-    ensures too_long { longest_table < length bytes.now → result ≡ Err too_long }
+    ensures too_long { max_table < length bytes.now → result ≡ Err too_long }
 {
-    if bytes.len() > MAX_TABLE_LEN {
+    if bytes.len() > MAX_TABLE {
         return Err(TableFault::TOO_LONG);
     }
-    let mut reader = open(alloc, bytes);
-    let mut record = ByteRecord::new(alloc);
-    if !read_next(&mut reader, &mut record)? || !is_benchmarks_header(&record) {
+    let mut reader = RecordReader::open(alloc, bytes);
+    let mut record = Record::new(alloc);
+    if !reader.next(&mut record)? || !is_benchmarks_header(&record) {
         return Err(TableFault::BAD_HEADER);
     }
     read_rows(alloc, reader, record)
@@ -76,17 +75,16 @@ pub fn read_benchmarks(alloc: Global, bytes: &[u8]) -> Result<Benchmarks, TableF
 /// The benchmarks of the records that a reader has left, the first of which is record 2.
 fn read_rows(
     alloc: Global,
-    mut reader: Reader<&[u8]>,
-    mut record: ByteRecord,
+    mut reader: RecordReader<'_>,
+    mut record: Record,
 ) -> Result<Benchmarks, TableFault>
-    requires reading { IsReading reader }
-    requires few { length (records_left reader) + 2 < 2 ^ 32 }
-    ensures table { IfOk result (λ table. rows_after bytes_eq benchmark_in [] (records_left reader.entry) ≡ Ok table) }
-    ensures fault { IfErr result (λ fault. (fault ≡ no_memory) ⊎ (rows_after bytes_eq benchmark_in [] (records_left reader.entry) ≡ Err fault)) }
+    requires { length reader.records + 2 < 2 ^ 32 }
+    ensures table { IfOk result (λ table. rows_after bytes_eq benchmark_in [] reader.entry.records ≡ Ok table) }
+    ensures fault { IfErr result (λ fault. (fault ≡ no_memory) ⊎ (rows_after bytes_eq benchmark_in [] reader.entry.records ≡ Err fault)) }
 {
     let mut heights = IndexMap::new(alloc);
     let mut row = 1;
-    'records: while read_next(&mut reader, &mut record)? {
+    'records: while reader.next(&mut record)? {
         row += 1;
         let (name, height) = match benchmark_in(&record) {
             Ok(benchmark) => benchmark,

@@ -2,24 +2,26 @@ ghost use Rattle.std.specs.Prelude.{◌≡◌};
 ghost use Rattle.th_tables.specs.declared.faults.TableKind.TheVariants.{NoMemory};
 
 use std::alloc::{AllocError, AllocFailed};
+use std::error::Error;
+use std::fmt;
 
 /// What is wrong with a table. A record has the first kind that applies, in this order; a table that
 /// is too long is that before all else.
 #[derive(Clone, Copy, Debug, PartialEq, Eq)]
 pub enum TableKind {
-    /// Record 1 is not the table's header, or there is no record.
+    /// E1: record 1 is not the table's header, or there is no record.
     BadHeader,
-    /// A record has another number of fields than the header.
+    /// E2: a record has another number of fields than the header.
     FieldCount,
-    /// A field gives no name.
+    /// E3: a field gives no name.
     BadName,
-    /// A height is not in metres, or more than 10 km in size.
+    /// E4: a height is not in metres, or more than 10 km in size.
     BadHeight,
-    /// A weight is not one to four digits, or not 1 to 1,000.
+    /// E5: a weight is not one to four digits, or not 1 to 1,000.
     BadWeight,
-    /// An earlier record has the same name, or the same station and target.
+    /// E6: an earlier record has the same name, or the same station and target.
     Repeated,
-    /// The table has more than `MAX_TABLE_LEN` bytes.
+    /// E7: the table has more than `MAX_TABLE` bytes.
     TableTooLong,
     /// Memory was refused, which is no fault of the table.
     NoMemory,
@@ -70,3 +72,40 @@ impl<T: Drop> From<AllocFailed<T>> for TableFault {
         TableFault::NO_MEMORY
     }
 }
+
+impl fmt::Display for TableKind {
+    ghost use Rattle.std.specs.Prelude.{Some};
+    ghost use Rattle.th_tables.specs.Texts.{kind_text};
+
+    ghost output = { λ kind. Some (kind_text kind) };
+
+    fn fmt<W: fmt::Write>(&self, f: &mut fmt::Formatter<W>) -> fmt::Result {
+        f.write_str(match self {
+            TableKind::BadHeader => "E1 bad header",
+            TableKind::FieldCount => "E2 field count",
+            TableKind::BadName => "E3 bad name",
+            TableKind::BadHeight => "E4 bad height",
+            TableKind::BadWeight => "E5 bad weight",
+            TableKind::Repeated => "E6 repeated",
+            TableKind::TableTooLong => "E7 table too long",
+            TableKind::NoMemory => "out of memory",
+        })
+    }
+}
+
+impl Error for TableKind {}
+
+impl fmt::Display for TableFault {
+    ghost use Rattle.std.specs.Prelude.{Some};
+    ghost use Rattle.th_tables.specs.Texts.{fault_text};
+
+    ghost output = { λ fault. Some (fault_text fault) };
+
+    fn fmt<W: fmt::Write>(&self, f: &mut fmt::Formatter<W>) -> fmt::Result {
+        let row = self.row;
+        let kind = self.kind;
+        write!(f, "record {row}: {kind}")
+    }
+}
+
+impl Error for TableFault {}

@@ -1,42 +1,35 @@
 ghost use Rattle.std.specs.Prelude.{◌≡◌};
-ghost use Rattle.csv.specs.Records.{fields_of};
 ghost use Rattle.th_tables.specs.Fields.{benchmark_in, height_in, is_benchmarks_header, is_weights_header, name_in, weight_in, weighted_in};
 
 use crate::faults::TableKind;
-use crate::records::{three_fields, two_fields};
-use csv::ByteRecord;
+use crate::limits::{MAX_WEIGHT, MAX_WEIGHT_DIGITS};
 use gsi_word::{Name, name_of};
+use th_csv::Record;
 use th_units::{MAX_LEN, parse_metres, short_number};
 
-/// The largest weight of an observation.
-pub const MAX_WEIGHT: u32 = 1_000;
-
-/// How many digits a weight has at most, zeros in front among them.
-pub const MAX_WEIGHT_DIGITS: usize = 4;
-
 /// Whether a record is the header of the benchmarks.
-pub fn is_benchmarks_header(fields: &ByteRecord) -> bool
-    ensures { result ≡ is_benchmarks_header (fields_of fields.now) }
+pub fn is_benchmarks_header(fields: &Record) -> bool
+    ensures { result ≡ is_benchmarks_header fields.now }
 {
-    match two_fields(fields) {
+    match fields.two() {
         Some((point, height)) => point == b"point".as_slice() && height == b"height".as_slice(),
         None => false,
     }
 }
 
 /// The name and the height of a benchmark, or the first kind of fault of its record.
-pub fn benchmark_in(fields: &ByteRecord) -> Result<(Name, i64), TableKind>
-    ensures { result ≡ benchmark_in (fields_of fields.now) }
+pub fn benchmark_in(fields: &Record) -> Result<(Name, i64), TableKind>
+    ensures { result ≡ benchmark_in fields.now }
 {
-    let (name, height) = two_fields(fields).ok_or(TableKind::FieldCount)?;
+    let (name, height) = fields.two().ok_or(TableKind::FieldCount)?;
     Ok((name_in(name)?, height_in(height)?))
 }
 
 /// Whether a record is the header of the weights.
-pub fn is_weights_header(fields: &ByteRecord) -> bool
-    ensures { result ≡ is_weights_header (fields_of fields.now) }
+pub fn is_weights_header(fields: &Record) -> bool
+    ensures { result ≡ is_weights_header fields.now }
 {
-    match three_fields(fields) {
+    match fields.three() {
         Some((from, to, weight)) => from == b"from".as_slice()
             && to == b"to".as_slice()
             && weight == b"weight".as_slice(),
@@ -45,10 +38,10 @@ pub fn is_weights_header(fields: &ByteRecord) -> bool
 }
 
 /// The station, the target and the weight of a record, or the first kind of its fault.
-pub fn weighted_in(fields: &ByteRecord) -> Result<((Name, Name), u32), TableKind>
-    ensures { result ≡ weighted_in (fields_of fields.now) }
+pub fn weighted_in(fields: &Record) -> Result<((Name, Name), u32), TableKind>
+    ensures { result ≡ weighted_in fields.now }
 {
-    let (station, target, weight) = three_fields(fields).ok_or(TableKind::FieldCount)?;
+    let (station, target, weight) = fields.three().ok_or(TableKind::FieldCount)?;
     let ends = (name_in(station)?, name_in(target)?);
     Ok((ends, weight_in(weight)?))
 }
@@ -70,7 +63,7 @@ fn height_in(field: &[u8]) -> Result<i64, TableKind>
     }
 }
 
-/// The weight that a field has in one to four digits, 1 to `MAX_WEIGHT`.
+/// The weight that a field has in at most `MAX_WEIGHT_DIGITS` digits, 1 to `MAX_WEIGHT`.
 fn weight_in(field: &[u8]) -> Result<u32, TableKind>
     ensures { result ≡ weight_in field.now }
 {

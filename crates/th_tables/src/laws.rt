@@ -1,8 +1,8 @@
 //! Laws of the definitions: what they say of one another, with no call of the code.
 
 ghost use Rattle.std.specs.Prelude.{◌≡◌, [], List, Ok, Err, bytes_eq};
+ghost use Rattle.th_csv.specs.Records.{Fields};
 ghost use Rattle.th_tables.specs.Fields.{benchmark_in, weighted_in};
-ghost use Rattle.th_tables.specs.Records.{Record};
 ghost use Rattle.th_tables.specs.Rows.{BenchmarkRows, WeightRows, same_ends};
 ghost use Rattle.th_tables.specs.Tables.{AreRowsOf, IsFirstFault, rows_after};
 ghost use Rattle.th_tables.specs.declared.faults.TableFault.{TableFault};
@@ -10,12 +10,12 @@ ghost use Rattle.th_tables.specs.declared.faults.TableFault.{TableFault};
 /// The records under the header of a table of benchmarks either have no fault and say its rows, or
 /// the table has the fault of the first of them that has one.
 pub fn benchmarks_have_no_fault_or_the_first()
-    ensures rows { (records : List Record) (rows : BenchmarkRows) → rows_after bytes_eq benchmark_in [] records ≡ Ok rows → AreRowsOf bytes_eq benchmark_in records rows }
-    ensures fault { (records : List Record) (fault : TableFault) → rows_after bytes_eq benchmark_in [] records ≡ Err fault → IsFirstFault bytes_eq benchmark_in records fault }
+    ensures rows { (records : List Fields) (rows : BenchmarkRows) → rows_after bytes_eq benchmark_in [] records ≡ Ok rows → AreRowsOf bytes_eq benchmark_in records rows }
+    ensures fault { (records : List Fields) (fault : TableFault) → rows_after bytes_eq benchmark_in [] records ≡ Err fault → IsFirstFault bytes_eq benchmark_in records fault }
 {}
 
 /// The same of a table of weights.
 pub fn weights_have_no_fault_or_the_first()
-    ensures rows { (records : List Record) (rows : WeightRows) → rows_after same_ends weighted_in [] records ≡ Ok rows → AreRowsOf same_ends weighted_in records rows }
-    ensures fault { (records : List Record) (fault : TableFault) → rows_after same_ends weighted_in [] records ≡ Err fault → IsFirstFault same_ends weighted_in records fault }
+    ensures rows { (records : List Fields) (rows : WeightRows) → rows_after same_ends weighted_in [] records ≡ Ok rows → AreRowsOf same_ends weighted_in records rows }
+    ensures fault { (records : List Fields) (fault : TableFault) → rows_after same_ends weighted_in [] records ≡ Err fault → IsFirstFault same_ends weighted_in records fault }
 {}

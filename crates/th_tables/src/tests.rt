@@ -147,6 +147,11 @@ const WEIGHT_FAULTS: [(&[u8], u32, TableKind); 17] = [
     (b"from,to,weight\nA,B,1\nA,B,x\n", 3, TableKind::BadWeight),
 ];
 
+const TOO_LONG: TableFault = TableFault {
+    row: 0,
+    kind: TableKind::TableTooLong,
+};
+
 fn named(rt: &impl Abort, bytes: &[u8]) -> Name {
     name_of(bytes).expect(rt, "a name")
 }
@@ -213,27 +218,66 @@ fn faults_of_weights(rt: HostRuntime) {
     }
 }
 
+/// A table of 1 MiB, all of it rows, is read to its last one; a byte more is too much.
 #[test]
-fn tables_as_long_as_they_may_be(rt: HostRuntime) -> Result<(), AllocError> {
-    let mut benchmarks = Vec::from_slice(rt.alloc(), b"point,height\nA,1")?;
-    let mut weights = Vec::from_slice(rt.alloc(), b"from,to,weight\nA,B,2")?;
-    benchmarks.resize(MAX_TABLE_LEN, b'\n')?;
-    weights.resize(MAX_TABLE_LEN, b'\n')?;
-    let benchmark = read_benchmarks(rt.alloc(), &benchmarks).expect(&rt, "benchmarks");
-    assert_eq!(rt; benchmark.height_of(&named(&rt, b"A")), Some(100_000_000));
-    let weight = read_weights(rt.alloc(), &weights).expect(&rt, "weights");
-    assert_eq!(rt; weight.of(&named(&rt, b"A"), &named(&rt, b"B")), 2);
+fn reads_full_benchmarks(rt: HostRuntime) -> Result<(), AllocError> {
+    let mut table = Vec::from_slice(rt.alloc(), b"point,height\n")?;
+    for k in 0..116_507_u32 {
+        let row = format!(in rt.alloc(); "{k:06},1\n")?;
+        table.extend_from_slice(row.as_bytes())?;
+    }
+    assert_eq!(rt; table.len(), 1_048_576);
+    let benchmarks = read_benchmarks(rt.alloc(), &table).expect(&rt, "benchmarks");
+    let last = named(&rt, b"116506");
+    assert_eq!(rt; benchmarks.entry(116_506), Some((last, 100_000_000)));
+    assert_eq!(rt; benchmarks.entry(116_507), None);
+    assert_eq!(rt; benchmarks.height_of(&last), Some(100_000_000));
 
-    benchmarks.push(b'\n')?;
-    weights.push(b'\n')?;
-    let too_long = TableFault {
-        row: 0,
-        kind: TableKind::TableTooLong,
-    };
-    assert_eq!(rt;
-        read_benchmarks(rt.alloc(), &benchmarks).err(),
-        Some(too_long)
-    );
-    assert_eq!(rt; read_weights(rt.alloc(), &weights).err(), Some(too_long));
+    table.push(b'\n')?;
+    let fault = read_benchmarks(rt.alloc(), &table).err();
+    assert_eq!(rt; fault, Some(TOO_LONG));
+    Ok(())
+}
+
+#[test]
+fn reads_full_weights(rt: HostRuntime) -> Result<(), AllocError> {
+    let mut table = Vec::from_slice(rt.alloc(), b"from,to,weight\n")?;
+    for k in 0..95_323_u32 {
+        let row = format!(in rt.alloc(); "{k:06},B,2\n")?;
+        table.extend_from_slice(row.as_bytes())?;
+    }
+    table.resize(1_048_576, b'\n')?;
+    let weights = read_weights(rt.alloc(), &table).expect(&rt, "weights");
+    let target = named(&rt, b"B");
+    assert_eq!(rt; weights.of(&named(&rt, b"95322"), &target), 2);
+    assert_eq!(rt; weights.of(&named(&rt, b"95323"), &target), 1);
+
+    table.push(b'\n')?;
+    assert_eq!(rt; read_weights(rt.alloc(), &table).err(), Some(TOO_LONG));
+    Ok(())
+}
+
+/// A fault, and how it is said.
+const SAID: [(u32, TableKind, &str); 8] = [
+    (1, TableKind::BadHeader, "record 1: E1 bad header"),
+    (2, TableKind::FieldCount, "record 2: E2 field count"),
+    (2, TableKind::BadName, "record 2: E3 bad name"),
+    (12, TableKind::BadHeight, "record 12: E4 bad height"),
+    (2, TableKind::BadWeight, "record 2: E5 bad weight"),
+    (3, TableKind::Repeated, "record 3: E6 repeated"),
+    (0, TableKind::TableTooLong, "record 0: E7 table too long"),
+    (0, TableKind::NoMemory, "record 0: out of memory"),
+];
+
+#[test]
+fn says_faults(rt: HostRuntime) -> Result<(), AllocError> {
+    for (row, kind, text) in &SAID {
+        let fault = TableFault {
+            row: *row,
+            kind: *kind,
+        };
+        let line = format!(in rt.alloc(); "{fault}")?;
+        assert_eq!(rt; line.as_str(), *text);
+    }
     Ok(())
 }

@@ -1,18 +1,17 @@
 ghost use Rattle.std.specs.Prelude.{◌≡◌, ◌⊎◌, ◌<◌, ◌≤◌, ◌^◌, ◌+◌, [], Ok, Err, IfErr, IfOk, length};
 ghost use Rattle.th_tables.specs.Fields.{weighted_in};
-ghost use Rattle.th_tables.specs.Reading.{IsReading, records_left};
+ghost use Rattle.th_tables.specs.Limits.{max_table, max_weight};
 ghost use Rattle.th_tables.specs.Rows.{same_ends, weight_of};
-ghost use Rattle.th_tables.specs.Tables.{longest_table, no_memory, rows_after, too_long, weights_of};
+ghost use Rattle.th_tables.specs.Tables.{no_memory, rows_after, too_long, weights_of};
 
 use crate::faults::{TableFault, TableKind};
-use crate::fields::{MAX_WEIGHT, is_weights_header, weighted_in};
-use crate::records::{open, read_next};
-use crate::tables::MAX_TABLE_LEN;
-use csv::{ByteRecord, Reader};
+use crate::fields::{is_weights_header, weighted_in};
+use crate::limits::MAX_TABLE;
 use gsi_word::Name;
 use indexmap::IndexMap;
 use std::alloc::Global;
 use std::marker::Model;
+use th_csv::{Record, RecordReader};
 
 /// The weights of observations by their station and target, in the order of their table.
 #[derive(Debug, Drop)]
@@ -21,6 +20,7 @@ pub struct Weights {
 }
 
 impl Model for Weights {
+    ghost use Rattle.th_tables.specs.Limits.{max_table, max_weight};
     ghost use Rattle.th_tables.specs.Rows.{AreWeights, WeightRows};
 
     ghost Value = { WeightRows };
@@ -44,7 +44,7 @@ impl Weights {
     pub fn of(&self, station: &Name, target: &Name) -> u32
         ensures value { result ≡ weight_of self.now station.now target.now }
         ensures positive { 1 ≤ result }
-        ensures range { result ≤ MAX_WEIGHT }
+        ensures range { result ≤ max_weight }
     {
         self.weights.get(&(*station, *target)).copied().unwrap_or(1)
     }
@@ -59,17 +59,17 @@ pub fn read_weights(alloc: Global, bytes: &[u8]) -> Result<Weights, TableFault>
     ensures table { IfOk result (λ table. weights_of bytes.now ≡ Ok table) }
     ensures fault { IfErr result (λ fault. (fault ≡ no_memory) ⊎ (weights_of bytes.now ≡ Err fault)) }
     ensures empty { length bytes.now ≡ 0 → result ≡ Ok [] }
-    ensures too_long { longest_table < length bytes.now → result ≡ Err too_long }
+    ensures too_long { max_table < length bytes.now → result ≡ Err too_long }
 {
     if bytes.is_empty() {
         return Ok(Weights::empty(alloc));
     }
-    if bytes.len() > MAX_TABLE_LEN {
+    if bytes.len() > MAX_TABLE {
         return Err(TableFault::TOO_LONG);
     }
-    let mut reader = open(alloc, bytes);
-    let mut record = ByteRecord::new(alloc);
-    if !read_next(&mut reader, &mut record)? || !is_weights_header(&record) {
+    let mut reader = RecordReader::open(alloc, bytes);
+    let mut record = Record::new(alloc);
+    if !reader.next(&mut record)? || !is_weights_header(&record) {
         return Err(TableFault::BAD_HEADER);
     }
     read_rows(alloc, reader, record)
@@ -78,17 +78,16 @@ pub fn read_weights(alloc: Global, bytes: &[u8]) -> Result<Weights, TableFault>
 /// The weights of the records that a reader has left, the first of which is record 2.
 fn read_rows(
     alloc: Global,
-    mut reader: Reader<&[u8]>,
-    mut record: ByteRecord,
+    mut reader: RecordReader<'_>,
+    mut record: Record,
 ) -> Result<Weights, TableFault>
-    requires reading { IsReading reader }
-    requires few { length (records_left reader) + 2 < 2 ^ 32 }
-    ensures table { IfOk result (λ table. rows_after same_ends weighted_in [] (records_left reader.entry) ≡ Ok table) }
-    ensures fault { IfErr result (λ fault. (fault ≡ no_memory) ⊎ (rows_after same_ends weighted_in [] (records_left reader.entry) ≡ Err fault)) }
+    requires { length reader.records + 2 < 2 ^ 32 }
+    ensures table { IfOk result (λ table. rows_after same_ends weighted_in [] reader.entry.records ≡ Ok table) }
+    ensures fault { IfErr result (λ fault. (fault ≡ no_memory) ⊎ (rows_after same_ends weighted_in [] reader.entry.records ≡ Err fault)) }
 {
     let mut weights = IndexMap::new(alloc);
     let mut row = 1;
-    'records: while read_next(&mut reader, &mut record)? {
+    'records: while reader.next(&mut record)? {
         row += 1;
         let (ends, weight) = match weighted_in(&record) {
             Ok(weighted) => weighted,

@@ -1,16 +1,14 @@
 use Rattle.std.proofs.Common.{length}
 use Rattle.th_tables.specs.Fields.{weighted_in}
-use Rattle.th_tables.specs.Reading.{IsReading, records_left}
 use Rattle.th_tables.specs.Rows.{AreWeights, same_ends}
 use Rattle.th_tables.proofs.TableLemmas.{ReadUpTo}
 use Rattle.th_tables.proofs.weights.read_rows.Given as goal
 
 abbrev pub invariant-records : goal.invariant-records
 invariant-records l = record {
-  reading : IsReading l.reader;
-  read : ReadUpTo same_ends weighted_in (records_left l.fn.reader) (records_left l.reader) l.weights.entries l.row;
+  read : ReadUpTo same_ends weighted_in l.fn.reader.records l.reader.records l.weights.entries l.row;
   valid : AreWeights l.weights.entries;
 }
 
 abbrev pub decreases-records : goal.decreases-records
-decreases-records l = length (records_left l.reader)
+decreases-records l = length l.reader.records

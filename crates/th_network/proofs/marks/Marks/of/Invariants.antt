@@ -1,5 +1,5 @@
 use Rattle.std.proofs.Common.{take}
-use Rattle.th_network.specs.Marks.{IsSeeded}
+use Rattle.th_network.specs.Inside.Marks.{IsSeeded}
 use Rattle.th_network.proofs.marks.Marks.of.Given as goal
 
 abbrev pub invariant-loop-place : goal.invariant-loop-place

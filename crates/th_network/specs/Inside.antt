@@ -1,0 +1,5 @@
+pub mod Ends
+pub mod Neighbours
+pub mod Marks
+pub mod Reached
+pub mod Numbered
