@@ -1,0 +1,11 @@
+pub mod NumberLemmas
+pub mod HeightLemmas
+pub mod StatementLemmas
+pub mod PointLemmas
+pub mod CostLemmas
+pub mod TextLemmas
+pub mod ReadNumbers
+pub mod ReadRows
+pub mod SurveyLemmas
+pub mod TextLengths
+pub mod RoundTrip

@@ -1,0 +1,13 @@
+use Rattle.std.proofs.Common.{◌≡◌, ◌-◌, ◌≤◌, ◌++◌, drop, length, map}
+use Rattle.th_csv.specs.Texts.{csv_text}
+use Rattle.th_certificate.specs.Texts.{height_row}
+use Rattle.th_certificate.proofs.writing.write_heights.Given as goal
+
+abbrev pub invariant-loop-row : goal.invariant-loop-row
+invariant-loop-row l = record {
+  within : l.k ≤ length l.heights;
+  text : l.writer.text ++ csv_text (map (height_row l.letter) (drop l.k l.heights)) ≡ l.initial.writer.text ++ csv_text (map (height_row l.letter) l.heights);
+}
+
+abbrev pub decreases-loop-row : goal.decreases-loop-row
+decreases-loop-row l = length l.heights - l.k

@@ -1,0 +1,47 @@
+-- What a certificate says.
+use Rattle.std.specs.Prelude.{◌<◌, ℕ, ℤ, pos, List, All, Option, bytes_eq, unsigned_abs, unwrap_or, map}
+use Rattle.std.specs.List.{IsDistinct}
+use Rattle.std.specs.Map.{keys_of, lookup}
+
+-- rows of heights: names, and a height of each in units of 10 nm
+abbrev pub HeightRows : Type 0
+HeightRows = List (List ℕ × ℤ)
+
+-- a row for each of some names, with its height
+abbrev pub rows_at : List (List ℕ) → (List ℕ → ℤ) → HeightRows
+rows_at names heights = map (λ name. (name, heights name)) names
+
+-- the height that rows state for a name, and zero for another name
+abbrev pub stated_height : HeightRows → List ℕ → ℤ
+stated_height rows name = unwrap_or (lookup (bytes_eq name) rows) (pos 0)
+
+-- the size that each height stays below: 10^17 units, a million kilometres
+abbrev pub height_limit : ℕ
+height_limit = 100000000000000000
+
+-- the size that each flow stays below
+abbrev pub flow_limit : ℕ
+flow_limit = 1000000000
+
+-- what each cost stays below: 10^30 units
+abbrev pub cost_limit : ℕ
+cost_limit = 1000000000000000000000000000000
+
+-- What a certificate says: its version, 1 or 2; heights, and in version 2 the lowest and the highest of the best heights; a flow for each observation, in
+-- their order; and a cost. Whether it is right is another matter.
+pub record Certified : Type 0 where
+  pub version : ℕ
+  pub heights : HeightRows
+  pub low : Option HeightRows
+  pub high : Option HeightRows
+  pub flows : List ℤ
+  pub cost : ℕ
+
+-- a name has one row, and each height is in its range
+pub record AreHeightRows (rows : HeightRows) : Type 0 where
+  pub distinct : IsDistinct bytes_eq (keys_of rows)
+  pub in_range : All (λ row. unsigned_abs row.1 < height_limit) rows
+
+-- flows in their range
+abbrev pub AreFlows : List ℤ → Type 0
+AreFlows flows = All (λ flow. unsigned_abs flow < flow_limit) flows

@@ -1,0 +1,43 @@
+-- The numbers of a certificate. Digits are counted as they stand, zeros in front among them.
+use Rattle.std.specs.Prelude.{ℕ, ℤ, ◌&&◌, ◌==◌, Bool, List, length, Result, Ok, Err, if◌then◌else◌, nat_le}
+use Rattle.th_units.specs.Lens.{are_digits, number, signed}
+use Rattle.th_units.specs.Metres.{has_minus, value, without_sign}
+use Rattle.th_units.specs.declared.lens.LenFault.{LenFault}
+use Rattle.th_units.specs.declared.lens.LenFault.TheVariants.{NotDigits, TooLarge as LongMetres}
+use Rattle.th_certificate.specs.declared.faults.CertKind.{CertKind}
+use Rattle.th_certificate.specs.declared.faults.CertKind.TheVariants.{BadNumber, TooLarge}
+
+-- the most observations that a certificate may count
+abbrev pub most_flows : ℕ
+most_flows = 40000
+
+-- a length in metres that is read, or what is wrong with its text
+abbrev pub height_from : Result ℤ LenFault → Result ℤ CertKind
+height_from (Ok height) = Ok height
+height_from (Err NotDigits) = Err BadNumber
+height_from (Err LongMetres) = Err TooLarge
+
+-- the height of a field in metres
+abbrev pub height_in : List ℕ → Result ℤ CertKind
+height_in field = height_from (value field)
+
+-- the count of observations: one to nine digits, at most 40,000
+abbrev pub count_in : List ℕ → Result ℕ CertKind
+count_in field =
+    if are_digits field then (if nat_le (length field) 9 && nat_le (number field) most_flows then Ok (number field) else Err TooLarge) else Err BadNumber
+
+-- whether a field has the digits of just this number, however many zeros before it
+abbrev pub writes : List ℕ → ℕ → Bool
+writes field n = are_digits field && (number field == n)
+
+-- The flow in a field, with the number before it in another: that number has to be this one; a flow is an optional sign and digits. More than nine digits
+-- of either are too large.
+abbrev pub flow_in : ℕ → List ℕ → List ℕ → Result ℤ CertKind
+flow_in place key field =
+    if writes key place && are_digits (without_sign field)
+    then (if nat_le (length key) 9 && nat_le (length (without_sign field)) 9 then Ok (signed (has_minus field) (number (without_sign field))) else Err TooLarge)
+    else Err BadNumber
+
+-- the cost: one to thirty digits
+abbrev pub cost_in : List ℕ → Result ℕ CertKind
+cost_in field = if are_digits field then (if nat_le (length field) 30 then Ok (number field) else Err TooLarge) else Err BadNumber

@@ -1,0 +1,88 @@
+-- The text of a certificate, in each of its versions.
+use Rattle.std.specs.Prelude.{◌≡◌, ◌≤◌, ◌<◌, ℕ, ℤ, List, Some, [], ◌∷◌, ◌++◌, All, codes, decimal, length, map, unsigned_abs}
+use Rattle.std.specs.Fmt.{signed_decimal}
+use Rattle.std.specs.List.{enumerate_from}
+use Rattle.gsi_word.specs.Names.{name_of}
+use Rattle.th_book.specs.Observed.{IsBetweenPoints}
+use Rattle.th_tables.specs.Rows.{AreWeights}
+use Rattle.th_units.specs.Metres.{metres}
+use Rattle.th_csv.specs.Records.{Fields}
+use Rattle.th_csv.specs.Texts.{csv_text}
+use Rattle.th_network.specs.Faults.{IsNetwork}
+use Rattle.th_network.specs.Heights.{cost}
+use Rattle.th_network.specs.Networks.{Survey, points_of}
+use Rattle.th_certificate.specs.Certified.{HeightRows, height_limit, rows_at}
+
+-- the row of a name and its height in metres, under the letter of its kind
+abbrev pub height_row : List ℕ → List ℕ × ℤ → Fields
+height_row letter (name, height) = letter ∷ name ∷ metres height ∷ []
+
+-- the row of an observation's number and its flow
+abbrev pub flow_row : ℕ × ℤ → Fields
+flow_row (number, flow) = codes "F" ∷ decimal number ∷ signed_decimal flow ∷ []
+
+-- a name and its height for each point of a survey, in point order
+abbrev pub heights_at_points : Survey → (List ℕ → ℤ) → HeightRows
+heights_at_points survey heights = rows_at (points_of survey) heights
+
+-- the first row, and the second, which has the version and the number of observations
+abbrev pub header_row : Fields
+header_row = codes "kind" ∷ codes "key" ∷ codes "value" ∷ []
+
+abbrev pub version_row : List ℕ → ℕ → Fields
+version_row version count = codes "V" ∷ version ∷ decimal count ∷ []
+
+-- the row of a cost
+abbrev pub cost_row : ℕ → Fields
+cost_row cost = codes "Z" ∷ codes "cost" ∷ decimal cost ∷ []
+
+-- a row for each flow, numbered from 1, and the cost
+abbrev pub end_rows : List ℤ → ℕ → List Fields
+end_rows flows cost = map flow_row (enumerate_from 1 flows) ++ cost_row cost ∷ []
+
+-- what heights cost over a survey
+abbrev pub cost_of : Survey → (List ℕ → ℤ) → ℕ
+cost_of survey heights = cost survey.observations survey.weights heights
+
+-- the rows of version 1: heights at the points, flows, and what the heights cost
+abbrev pub rows_of_version_1 : Survey → (List ℕ → ℤ) → List ℤ → List Fields
+rows_of_version_1 survey heights flows =
+    header_row ∷ version_row (codes "1") (length survey.observations)
+    ∷ (map (height_row (codes "H")) (heights_at_points survey heights) ++ end_rows flows (cost_of survey heights))
+
+-- the rows of version 2, which has lowest and highest best heights too
+abbrev pub rows_of_version_2 : Survey → (List ℕ → ℤ) → (List ℕ → ℤ) → (List ℕ → ℤ) → List ℤ → List Fields
+rows_of_version_2 survey heights low high flows =
+    header_row ∷ version_row (codes "2") (length survey.observations)
+    ∷ (map (height_row (codes "H")) (heights_at_points survey heights)
+    ++ (map (height_row (codes "L")) (heights_at_points survey low)
+    ++ (map (height_row (codes "U")) (heights_at_points survey high)
+    ++ end_rows flows (cost_of survey heights))))
+
+-- the texts
+abbrev pub text_of_version_1 : Survey → (List ℕ → ℤ) → List ℤ → List ℕ
+text_of_version_1 survey heights flows = csv_text (rows_of_version_1 survey heights flows)
+
+abbrev pub text_of_version_2 : Survey → (List ℕ → ℤ) → (List ℕ → ℤ) → (List ℕ → ℤ) → List ℤ → List ℕ
+text_of_version_2 survey heights low high flows = csv_text (rows_of_version_2 survey heights low high flows)
+
+-- a height for each point, below 10^17 units in size
+pub record AreAtPoints (survey : Survey) (heights : List ℤ) : Type 0 where
+  pub each : length heights ≡ length (points_of survey)
+  pub in_range : All (λ height. unsigned_abs height < height_limit) heights
+
+-- a flow for each observation, at most 1,000 in size
+pub record AreOfObservations (survey : Survey) (flows : List ℤ) : Type 0 where
+  pub each : length flows ≡ length survey.observations
+  pub in_range : All (λ flow. unsigned_abs flow ≤ 1000) flows
+
+-- what holds of each network: it has no fault, the observations and the weights are in their ranges, and each point has a name in reduced form
+pub record IsCertifiable (survey : Survey) : Type 0 where
+  pub network : IsNetwork survey.observations survey.benchmarks
+  pub between : All IsBetweenPoints survey.observations
+  pub weights : AreWeights survey.weights
+  pub names : All (λ name. name_of name ≡ Some name) (points_of survey)
+
+-- a map of heights below 10^17 in size at the points
+abbrev pub AreInRange : Survey → (List ℕ → ℤ) → Type 0
+AreInRange survey heights = All (λ name. unsigned_abs (heights name) < height_limit) (points_of survey)

@@ -1,0 +1,101 @@
+ghost use Rattle.std.specs.Prelude.{◌≡◌, ◌<◌, ◌^◌, ◌++◌, ◌∷◌, [], All, IfOk, IfSome, None, OnErr, OnOk, bytes_eq, length, slice_get, unsigned_abs, ◌==◌};
+ghost use Rattle.std.specs.List.{IsDistinct};
+ghost use Rattle.std.specs.Map.{lookup};
+ghost use Rattle.th_network.specs.Heights.{heights_at};
+ghost use Rattle.th_certificate.specs.Certified.{AreHeightRows, height_limit, rows_at};
+
+use gsi_word::Name;
+use indexmap::IndexMap;
+use std::alloc::{AllocError, Global};
+use std::marker::Model;
+
+/// Heights that a certificate states: names, and a height of each in units of 10 nm and below 10^17
+/// in size, in the order of their rows. Each name has one row.
+#[derive(Debug, Drop)]
+pub struct StatedHeights {
+    heights: IndexMap<Name, i64>,
+}
+
+impl Model for StatedHeights {
+    ghost use Rattle.th_certificate.specs.Certified.{AreHeightRows, HeightRows};
+
+    ghost Value = { HeightRows };
+
+    ghost view = { λ stated. stated.heights.entries };
+
+    ghost invariant = { λ stated. AreHeightRows stated.heights.entries };
+}
+
+impl StatedHeights {
+    /// No heights.
+    pub(crate) fn new(alloc: Global) -> StatedHeights
+        ensures { result ≡ [] }
+    {
+        StatedHeights {
+            heights: IndexMap::new(alloc),
+        }
+    }
+
+    /// The heights of some points, listed in their order.
+    pub(crate) fn at_points(
+        alloc: Global,
+        points: &[Name],
+        heights: &[i64],
+    ) -> Result<StatedHeights, AllocError>
+        requires distinct { IsDistinct bytes_eq points.now }
+        requires each { length heights.now ≡ length points.now }
+        requires in_range { All (λ height. unsigned_abs height < height_limit) heights.now }
+        ensures { IfOk result (λ stated. stated ≡ rows_at points.now (heights_at points.now heights.now)) }
+    {
+        let mut stated = StatedHeights::new(alloc);
+        for (k, name) in points.iter().enumerate() {
+            stated.add(*name, heights[k])?;
+        }
+        Ok(stated)
+    }
+
+    /// How many rows there are.
+    pub fn len(&self) -> usize
+        ensures { result ≡ length self.now }
+    {
+        self.heights.len()
+    }
+
+    /// Whether there is no row.
+    pub fn is_empty(&self) -> bool
+        ensures { result ≡ (length self.now == 0) }
+    {
+        self.heights.is_empty()
+    }
+
+    /// The height of a name; none for a name without a row.
+    pub fn height_of(&self, name: &Name) -> Option<i64>
+        ensures value { result ≡ lookup (bytes_eq name.now) self.now }
+        ensures in_range { IfSome result (λ height. unsigned_abs height < height_limit) }
+    {
+        self.heights.get(name).copied()
+    }
+
+    /// The row at this place, counted from 0; none past the last.
+    pub fn entry(&self, k: usize) -> Option<(Name, i64)>
+        ensures value { result ≡ slice_get self.now k }
+        ensures rows { AreHeightRows self.now }
+        ensures counted { length self.now < 2 ^ 64 }
+    {
+        self.heights
+            .as_slice()
+            .get_index(k)
+            .map(|(name, height)| (*name, *height))
+    }
+
+    /// Adds a row. Where memory is refused, the rows stay as they were.
+    pub(crate) fn add(&mut self, name: Name, height: i64) -> Result<(), AllocError>
+        requires new { lookup (bytes_eq name) self.old ≡ None }
+        requires in_range { unsigned_abs height < height_limit }
+        ensures added { OnOk result (self.new ≡ self.old ++ (name, height) ∷ []) }
+        ensures unchanged { OnErr result (self.new ≡ self.old) }
+    {
+        self.heights.insert(name, height)?;
+        Ok(())
+    }
+}

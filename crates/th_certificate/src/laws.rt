@@ -1,0 +1,41 @@
+//! Laws of the definitions: what they say of one another. They compute nothing.
+
+ghost use Rattle.std.specs.Prelude.{◌≡◌, ℕ, ℤ, List, None, Ok, Some};
+ghost use Rattle.th_network.specs.Networks.{Survey};
+ghost use Rattle.th_certificate.specs.Reading.{certificate_of};
+ghost use Rattle.th_certificate.specs.Texts.{AreInRange, AreOfObservations, IsCertifiable, cost_of, heights_at_points, text_of_version_1, text_of_version_2};
+
+/// The text of version 1 is read as the certificate with just these heights, flows and their cost.
+pub fn text_of_version_1_is_read_back()
+    ensures { (survey : Survey) (heights : List ℕ → ℤ) (flows : List ℤ)
+        → IsCertifiable survey
+        → AreInRange survey heights
+        → AreOfObservations survey flows
+        → certificate_of (text_of_version_1 survey heights flows) ≡ Ok (record {
+          version = 1;
+          heights = heights_at_points survey heights;
+          low = None;
+          high = None;
+          flows = flows;
+          cost = cost_of survey heights;
+        }) }
+{}
+
+/// The text of version 2 is read as the certificate with just these three maps of heights, flows and
+/// the cost of the first.
+pub fn text_of_version_2_is_read_back()
+    ensures { (survey : Survey) (heights low high : List ℕ → ℤ) (flows : List ℤ)
+        → IsCertifiable survey
+        → AreInRange survey heights
+        → AreInRange survey low
+        → AreInRange survey high
+        → AreOfObservations survey flows
+        → certificate_of (text_of_version_2 survey heights low high flows) ≡ Ok (record {
+          version = 2;
+          heights = heights_at_points survey heights;
+          low = Some (heights_at_points survey low);
+          high = Some (heights_at_points survey high);
+          flows = flows;
+          cost = cost_of survey heights;
+        }) }
+{}

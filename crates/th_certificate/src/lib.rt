@@ -1,0 +1,35 @@
+//! The certificate of least heights: what it says, and its text, both ways.
+//!
+//! A certificate carries heights, the lowest and the highest of the best heights, a flow for each
+//! observation and a cost, so that anyone can check that no heights cost less. Its text is
+//! comma-separated values, a row for each of these. Version 2 is written; version 1, which has no
+//! lowest and highest heights, is still read. A certificate is read whole or refused with its first
+//! faulty record and the first kind of fault that applies there; whether it is right is for the
+//! checker to say.
+#![tactic(auto)]
+
+// What a certificate says.
+mod certificates;
+mod heights;
+mod limits;
+
+// Reading.
+mod drafts;
+mod faults;
+mod numbers;
+mod reading;
+mod statements;
+
+// Writing.
+mod costs;
+mod writing;
+
+// What holds of the definitions alone.
+pub mod laws;
+
+pub use certificates::Certificate;
+pub use faults::{CertFault, CertKind};
+pub use heights::StatedHeights;
+pub use limits::{MAX_CERTIFICATE, MAX_FLOWS};
+pub use reading::read_certificate;
+pub use writing::write_certificate;

@@ -1,0 +1,104 @@
+ghost use Rattle.std.specs.Prelude.{◌≡◌, ◌<◌, ◌≤◌, ◌^◌, true, length, min};
+ghost use Rattle.std.specs.List.{list_all};
+ghost use Rattle.th_units.specs.Lens.{is_digit, number};
+ghost use Rattle.th_units.specs.Metres.{has_minus, without_sign};
+ghost use Rattle.th_certificate.specs.Certified.{cost_limit};
+ghost use Rattle.th_certificate.specs.Numbers.{cost_in, count_in, flow_in, height_in, writes};
+
+use crate::faults::CertKind;
+use crate::limits::{MAX_COST_DIGITS, MAX_DIGITS, MAX_FLOWS};
+use th_units::{LenFault, are_digits, parse_metres, short_number};
+
+/// What no cost reaches: the least number of more digits than a cost has.
+const COST_LIMIT: u128 = 1_000_000_000_000_000_000_000_000_000_000;
+
+/// The height that a field has in metres.
+pub(crate) fn height_in(field: &[u8]) -> Result<i64, CertKind>
+    ensures { result ≡ height_in field.now }
+{
+    match parse_metres(field) {
+        Ok(height) => Ok(height),
+        Err(LenFault::NotDigits) => Err(CertKind::BadNumber),
+        Err(LenFault::TooLarge) => Err(CertKind::TooLarge),
+    }
+}
+
+/// The count of observations that a field has.
+pub(crate) fn count_in(field: &[u8]) -> Result<u32, CertKind>
+    ensures { result ≡ count_in field.now }
+{
+    if !are_digits(field) {
+        return Err(CertKind::BadNumber);
+    }
+    match short_number(field) {
+        Some(count) if count <= MAX_FLOWS => Ok(count),
+        _ => Err(CertKind::TooLarge),
+    }
+}
+
+/// The flow in a field, where the key beside it has the number of its place, counted from 1.
+pub(crate) fn flow_in(place: u32, key: &[u8], field: &[u8]) -> Result<i64, CertKind>
+    ensures { result ≡ flow_in place key.now field.now }
+{
+    let digits = without_sign(field);
+    if !writes(key, place) || !are_digits(digits) {
+        return Err(CertKind::BadNumber);
+    }
+    match short_number(digits) {
+        Some(size) if key.len() <= MAX_DIGITS => {
+            let flow = i64::from(size);
+            Ok(if has_minus(field) { -flow } else { flow })
+        }
+        _ => Err(CertKind::TooLarge),
+    }
+}
+
+/// The cost that a field has.
+pub(crate) fn cost_in(field: &[u8]) -> Result<u128, CertKind>
+    ensures { result ≡ cost_in field.now }
+{
+    if !are_digits(field) {
+        return Err(CertKind::BadNumber);
+    }
+    if field.len() > MAX_COST_DIGITS {
+        return Err(CertKind::TooLarge);
+    }
+    Ok(capped_number(field))
+}
+
+/// Whether a field has the digits of a number, however many zeros before it.
+fn writes(field: &[u8], number: u32) -> bool
+    ensures { result ≡ writes field.now number }
+{
+    are_digits(field) && capped_number(field) == u128::from(number)
+}
+
+/// The number that digits write, or `COST_LIMIT` where it is larger.
+fn capped_number(digits: &[u8]) -> u128
+    requires { list_all is_digit digits.now ≡ true }
+    ensures { result ≡ min (number digits.now) cost_limit }
+{
+    let mut number = 0;
+    for digit in digits {
+        let more = 10 * number + u128::from(*digit - b'0');
+        number = if more < COST_LIMIT { more } else { COST_LIMIT };
+    }
+    number
+}
+
+/// Whether a text begins with a minus sign.
+fn has_minus(text: &[u8]) -> bool
+    ensures { result ≡ has_minus text.now }
+{
+    matches!(text, [b'-', ..])
+}
+
+/// A text without the sign that it may begin with.
+fn without_sign(text: &[u8]) -> &[u8]
+    ensures { result.now ≡ without_sign text.now }
+{
+    match text {
+        [b'+' | b'-', digits @ ..] => digits,
+        _ => text,
+    }
+}

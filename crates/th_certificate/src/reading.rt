@@ -1,0 +1,115 @@
+ghost use Rattle.std.specs.Prelude.{◌≡◌, ◌⊎◌, ◌<◌, ◌^◌, ◌+◌, Ok, Err, IfErr, IfOk, length};
+ghost use Rattle.th_certificate.specs.Faults.{no_memory, too_long};
+ghost use Rattle.th_certificate.specs.Reading.{certificate_after, certificate_of, ended, in_version_2, is_header, longest_certificate};
+
+use crate::certificates::Certificate;
+use crate::drafts::Draft;
+use crate::faults::{CertFault, CertKind};
+use crate::heights::StatedHeights;
+use crate::limits::MAX_CERTIFICATE;
+use std::alloc::Global;
+use th_csv::{Record, RecordReader};
+
+/// The certificate that bytes stand for, of version 1 or 2, or its first fault.
+///
+/// A record has three fields and stands in the order of the kinds: the version, heights, lowest and
+/// highest best heights (in version 2), flows numbered from 1, and the cost, which is the last. The
+/// memory that is taken is in proportion to the bytes. Want of memory may be answered for a
+/// certificate that is not too long.
+pub fn read_certificate(alloc: Global, bytes: &[u8]) -> Result<Certificate, CertFault>
+    ensures certificate { IfOk result (λ certificate. certificate_of bytes.now ≡ Ok certificate) }
+    ensures fault { IfErr result (λ fault. (fault ≡ no_memory) ⊎ (certificate_of bytes.now ≡ Err fault)) }
+    ensures too_long { longest_certificate < length bytes.now → result ≡ Err too_long }
+{
+    if bytes.len() > MAX_CERTIFICATE {
+        return Err(CertFault::TOO_LONG);
+    }
+    let mut reader = RecordReader::open(alloc, bytes);
+    let mut record = Record::new(alloc);
+    if !reader.next(&mut record)? || !is_header(&record) {
+        return Err(CertFault::BAD_HEADER);
+    }
+    if !reader.next(&mut record)? {
+        return Err(CertFault {
+            row: 2,
+            kind: CertKind::Truncated,
+        });
+    }
+    match Draft::begin(alloc, &record) {
+        Ok(draft) => read_rows(reader, record, draft),
+        Err(kind) => Err(CertFault { row: 2, kind }),
+    }
+}
+
+/// Whether a record is the header of a certificate.
+fn is_header(fields: &Record) -> bool
+    ensures { result ≡ is_header fields.now }
+{
+    match fields.three() {
+        Some((kind, key, number)) => kind == b"kind".as_slice()
+            && key == b"key".as_slice()
+            && number == b"value".as_slice(),
+        None => false,
+    }
+}
+
+/// The certificate of a draft and the records that a reader has left, the first of which is record 3.
+fn read_rows(
+    mut reader: RecordReader,
+    mut record: Record,
+    mut draft: Draft,
+) -> Result<Certificate, CertFault>
+    requires few { length reader.records + 4 < 2 ^ 32 }
+    ensures certificate { IfOk result (λ certificate.
+        certificate_after reader.entry.records 3 draft ≡ Ok certificate) }
+    ensures fault { IfErr result (λ fault.
+        (fault ≡ no_memory) ⊎ (certificate_after reader.entry.records 3 draft ≡ Err fault)) }
+{
+    let mut row = 3;
+    'records: while reader.next(&mut record)? {
+        let statement = match draft.statement_of(&record) {
+            Ok(statement) => statement,
+            Err(kind) => return Err(CertFault { row, kind }),
+        };
+        draft.add(statement)?;
+        row += 1;
+    }
+    certificate_of_draft(row, draft)
+}
+
+/// The certificate of a draft at the end of the records, where the record after the last one has this
+/// number.
+fn certificate_of_draft(row: u32, draft: Draft) -> Result<Certificate, CertFault>
+    ensures { result ≡ ended row draft draft.cost }
+{
+    let Draft {
+        version,
+        count: _,
+        heights,
+        low,
+        high,
+        flows,
+        cost,
+    } = draft;
+    match cost {
+        None => Err(CertFault {
+            row,
+            kind: CertKind::Truncated,
+        }),
+        Some(cost) => Ok(Certificate {
+            version,
+            heights,
+            low: in_version_2(version, low),
+            high: in_version_2(version, high),
+            flows,
+            cost,
+        }),
+    }
+}
+
+/// The rows of spans, which version 2 has.
+fn in_version_2(version: u32, rows: StatedHeights) -> Option<StatedHeights>
+    ensures { result ≡ in_version_2 version rows }
+{
+    if version == 2 { Some(rows) } else { None }
+}
