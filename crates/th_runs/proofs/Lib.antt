@@ -1,1 +1,2 @@
 pub mod BookFronts
+pub mod FeedLemmas

@@ -1,6 +1,7 @@
 //! The runs: each reads its inputs, makes all its outputs in memory, and only then writes them.
-ghost use Rattle.std.specs.Prelude.{◌≡◌, ◌≢◌, ◌+◌, ◌<◌, ◌≤◌, IfSome, IfOk, IfErr, OnOk, OnErr, Some, Err, true, take};
+ghost use Rattle.std.specs.Prelude.{◌≡◌, ◌≢◌, ◌+◌, ◌<◌, ◌≤◌, IfSome, IfOk, IfErr, OnOk, OnErr, Some, Err, true, take, []};
 ghost use Rattle.th_book.specs.Books.{longest_book};
+ghost use Rattle.th_book.specs.Feeds.{feed_due};
 ghost use Rattle.th_report.specs.Lists.{list_text};
 ghost use Rattle.th_runs.specs.Runs.{AreOfBook, HoldsList, HoldsListBeginning, IsCalledForList, IsRefusalOf, failed_reads, failed_writes, limit_of};
 ghost use Rattle.th_devices.specs.Limits.{calls_before};
@@ -8,9 +9,12 @@ ghost use Rattle.th_devices.specs.Transfer.{Advances};
 
 use crate::refusals::{Input, Output, Refusal};
 use std::alloc::Global;
-use th_book::{BookFault, BookKind, MAX_BOOK, Observation, read_book};
-use th_devices::{Failed, ReadFault, Sink, Source, read_all, write_all};
+use th_book::{BookFault, BookFeed, BookKind, MAX_BOOK, Observation};
+use th_devices::{Failed, Sink, Source, write_all};
 use th_report::list_text;
+
+/// How many bytes of a book are read at once, at most.
+const PIECE: usize = 4_096;
 
 /// Lists the observations of a book.
 ///
@@ -48,7 +52,9 @@ pub fn run_list<S: Source, K: Sink>(alloc: Global, book: &mut S, out: &mut K) ->
     }
 }
 
-/// The observations of the book with this number.
+/// The observations of the book with this number, which is read in pieces.
+///
+/// It keeps one line and the observations, and nothing else of the book.
 fn observations_of<S: Source>(
     alloc: Global,
     number: u32,
@@ -63,16 +69,42 @@ fn observations_of<S: Source>(
     ensures stands { Advances (longest_book + 1) (S.left book.old) (S.left book.new) }
     ensures reads { S.calls book.new ≤ S.calls book.old + longest_book + 1 }
 {
-    let input = Input::Book(number);
-    let bytes = match read_all(alloc, book, limit_of(input)) {
-        Ok(bytes) => bytes,
-        Err(ReadFault::Failed) => return Err(Refusal::Read(input)),
-        Err(ReadFault::NoMemory) => return Err(Refusal::NoMemory),
-    };
-    match read_book(alloc, number, bytes.as_slice()) {
+    let mut feed = BookFeed::new(alloc, number);
+    feed_from(number, book, &mut feed)?;
+    match feed.finish() {
         Ok(observations) => Ok(observations),
         Err(fault) => Err(refusal_of(number, fault)),
     }
+}
+
+/// Feeds a source to its end, or to one byte more than a book may have.
+fn feed_from<S: Source>(number: u32, book: &mut S, feed: &mut BookFeed) -> Result<(), Refusal>
+    requires { S.calls book.old ≤ calls_before }
+    ensures fed { OnOk result (IfSome (S.left book.old) (λ text.
+        feed_due feed.new [] ≡ feed_due feed.old (take (longest_book + 1) text))) }
+    ensures refused { IfErr result (IsRefusalOf number (S.left book.old)) }
+    ensures read_fails { S.failures book.new ≡ S.failures book.old + failed_reads result }
+    ensures no_write { failed_writes result ≡ 0 }
+    ensures stands { Advances (longest_book + 1) (S.left book.old) (S.left book.new) }
+    ensures reads { S.calls book.new ≤ S.calls book.old + longest_book + 1 }
+{
+    let input = Input::Book(number);
+    let most = limit_of(input) as usize + 1;
+    let mut done = 0;
+    let mut piece = [0u8; PIECE];
+    'pieces: while done < most {
+        let asked = PIECE.min(most - done);
+        let count = match book.read(&mut piece[..asked]) {
+            Ok(count) => count,
+            Err(Failed) => return Err(Refusal::Read(input)),
+        };
+        if count == 0 {
+            return Ok(());
+        }
+        feed.feed(&piece[..count])?;
+        done += count;
+    }
+    Ok(())
 }
 
 /// The most bytes that an input has.

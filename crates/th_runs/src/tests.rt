@@ -247,7 +247,14 @@ fn a_fault_of_a_late_line_is_shown(rt: HostRuntime) -> Result<(), Fail> {
 
 #[test]
 fn a_book_has_at_most_64_mib(rt: HostRuntime) -> Result<(), Fail> {
-    let mut book = vec![in rt.alloc(); b'\n'; MAX_BOOK]?;
+    // Blank lines of a KiB each.
+    let mut line = [b' '; 1_024];
+    line[1_023] = b'\n';
+    let mut book = Vec::new(rt.alloc());
+    for _ in 0..65_536_u32 {
+        book.extend_from_slice(&line)?;
+    }
+    assert_eq!(rt; book.len(), MAX_BOOK);
     assert!(rt; shown(&rt, book.as_slice(), 1_000_000)?.as_slice() == HEADER);
     book.push(b'\n')?;
     let line = shown(&rt, book.as_slice(), 1_000_000)?;
@@ -320,6 +327,40 @@ fn each_refusal_has_a_line_and_a_status(rt: HostRuntime) -> Result<(), Fail> {
         let text = format!(in rt.alloc(); "{refusal}")?;
         assert!(rt; text.as_str() == line, "{line}");
         assert_eq!(rt; status_of(&refusal), status, "{line}");
+    }
+    Ok(())
+}
+
+#[test]
+fn a_long_book_comes_in_very_many_reads(rt: HostRuntime) -> Result<(), Fail> {
+    let mut book = Vec::from_slice(rt.alloc(), SETUP)?;
+    let mut list = Vec::from_slice(rt.alloc(), HEADER)?;
+    for number in 1..100_001_u32 {
+        book.push(b'\n')?;
+        book.extend_from_slice(SIGHT)?;
+        let row = format!(in rt.alloc(); "{number},A,B,2.54500000\n")?;
+        list.extend_from_slice(row.as_bytes())?;
+    }
+    for piece in [1, 4_095, 4_096, 4_097] {
+        let mut source = TextSource::new(book.as_slice(), piece, None);
+        let mut sink = TextSink::new(rt.alloc(), 3_000_000, 1, None)?;
+        assert_eq!(rt; run_list(rt.alloc(), &mut source, &mut sink), Ok(()));
+        assert!(rt; sink.bytes() == list.as_slice(), "piece {piece}");
+    }
+    Ok(())
+}
+
+#[test]
+fn a_book_is_listed_however_it_is_cut(rt: HostRuntime) -> Result<(), Fail> {
+    let mut book = Vec::from_slice(rt.alloc(), SETUP)?;
+    book.extend_from_slice(b"\r\n")?;
+    book.extend_from_slice(SIGHT)?;
+    book.extend_from_slice(b"\r\n")?;
+    for piece in 1..133_usize {
+        assert!(rt;
+            shown(&rt, book.as_slice(), piece)?.as_slice() == LIST,
+            "piece {piece}"
+        );
     }
     Ok(())
 }
