@@ -2,14 +2,15 @@
 use Rattle.std.proofs.Common.{◌≡◌, ◌≢◌, ◌↔◌, ℕ, ◌≤◌, Bool, true, false, cond, nat_lt, ◌⊎◌, inl, inr, List, [], ◌∷◌, ◌++◌, Option, Some, None, Result, Ok, Err, length, slice_index, drop, replicate, refl, ap, ◌∙◌, arith, suc, zero}
 use Rattle.std.proofs.lemmas.Bool.Decides.{nat_tests}
 use Rattle.std.proofs.lemmas.List.{length-replicate}
-use Rattle.th_units.specs.Lens.{is_digit}
+use Rattle.th_units.specs.Lengths.{is_digit}
 use Rattle.gsi_word.specs.Words.{Parts, result_map}
 use Rattle.gsi_word.specs.declared.words.Width.{Width}
 use Rattle.gsi_word.specs.declared.words.Width.TheVariants.{Eight, Sixteen}
-use Rattle.gsi_word.specs.declared.words.WordFault.TheVariants.{Short}
-use Rattle.gsi_block.specs.Blocks.{most_bytes, most_words, BlockParts, is_star, is_blank, words_from, block_of, block_at, IsBlankLine, mark, SpellsRow, IsBlock}
-use Rattle.gsi_block.specs.declared.blocks.BlockFault.{BlockFault}
-use Rattle.gsi_block.specs.declared.blocks.BlockFault.TheVariants.{BadWord, LineTooLong}
+use Rattle.gsi_word.specs.declared.faults.WordFault.TheVariants.{Short}
+use Rattle.gsi_block.specs.Limits.{max_line, max_words}
+use Rattle.gsi_block.specs.Blocks.{BlockParts, is_star, is_blank, words_from, block_of, block_at, IsBlankLine, mark, SpellsRow, IsBlock}
+use Rattle.gsi_block.specs.declared.faults.BlockFault.{BlockFault}
+use Rattle.gsi_block.specs.declared.faults.BlockFault.TheVariants.{BadWord, LineTooLong}
 use Rattle.gsi_block.proofs.RowsLaw.{WordsAreSpelled, not_blank, row_begins, row-read, row-spelled}
 
 -- spaces alone are so many spaces
@@ -66,8 +67,8 @@ said-block false false false alone wide narrow block e = (refl, inr (refl, e))
 -- a line that says nothing is at most 1,600 spaces
 blank_line-only : (line : List ℕ) → block_at line ≡ Ok None → IsBlankLine line
 blank_line-only line e =
-    let found = said-nothing (nat_lt most_bytes (length line)) (is_blank line) (is_star (slice_index line 0)) (is_blank (drop 1 line)) (block_of Sixteen (drop 1 line)) (block_of Eight line)
-    (row_block-some Sixteen (words_from most_words Sixteen 1 (drop 1 line))) (row_block-some Eight (words_from most_words Eight 1 line)) e in
+    let found = said-nothing (nat_lt max_line (length line)) (is_blank line) (is_star (slice_index line 0)) (is_blank (drop 1 line)) (block_of Sixteen (drop 1 line)) (block_of Eight line)
+    (row_block-some Sixteen (words_from max_words Sixteen 1 (drop 1 line))) (row_block-some Eight (words_from max_words Eight 1 line)) e in
     (length line, grind (arith, nat_tests, found.0), spaces_only line found.1)
 
 -- at most 1,600 spaces are a line that says nothing
@@ -75,7 +76,7 @@ blank_line-all : (line : List ℕ) → IsBlankLine line → block_at line ≡ Ok
 blank_line-all line (spaces, few, e) =
     let blank : is_blank line ≡ true = ap is_blank e ∙ blank-replicate spaces in
     let long : length line ≡ spaces = ap length e ∙ length-replicate {A = ℕ} spaces 32 in
-    let short : nat_lt most_bytes (length line) ≡ false = grind (arith, nat_tests) in
+    let short : nat_lt max_line (length line) ≡ false = grind (arith, nat_tests) in
     rw short (rw blank refl)
 
 -- a line is passed over just where it is at most 1,600 spaces and nothing else
@@ -91,10 +92,10 @@ star_first (byte ∷ bytes) e =
 
 module _ (law : WordsAreSpelled) where
   -- the words of a block that was read are spelled behind what stands before words of their width
-  row_made : (width : Width) (line bytes : List ℕ) (block : BlockParts) → length line ≤ most_bytes → line ≡ mark width ++ bytes → block_of width bytes ≡ Ok (Some block) → IsBlock line block
+  row_made : (width : Width) (line bytes : List ℕ) (block : BlockParts) → length line ≤ max_line → line ≡ mark width ++ bytes → block_of width bytes ≡ Ok (Some block) → IsBlock line block
   row_made width line bytes block short made e =
-      let found = row_block-words width (words_from most_words width 1 bytes) block e in
-      let row = row-read law most_words 1 width bytes block.words found.0 in
+      let found = row_block-words width (words_from max_words width 1 bytes) block e in
+      let row = row-read law max_words 1 width bytes block.words found.0 in
       record {
         short = short;
         few = row.1;
@@ -105,11 +106,11 @@ module _ (law : WordsAreSpelled) where
   pub block_read : (line : List ℕ) (block : BlockParts) → block_at line ≡ Ok (Some block) → IsBlock line block
   block_read line block e = from (found.1)
     where
-      found : (nat_lt most_bytes (length line) ≡ false) × (((is_star (slice_index line 0) ≡ true) × (block_of Sixteen (drop 1 line) ≡ Ok (Some block))) ⊎ ((is_star (slice_index line 0) ≡ false) × (block_of Eight line ≡ Ok (Some block))))
+      found : (nat_lt max_line (length line) ≡ false) × (((is_star (slice_index line 0) ≡ true) × (block_of Sixteen (drop 1 line) ≡ Ok (Some block))) ⊎ ((is_star (slice_index line 0) ≡ false) × (block_of Eight line ≡ Ok (Some block))))
       found =
-          said-block (nat_lt most_bytes (length line)) (is_blank line) (is_star (slice_index line 0)) (is_blank (drop 1 line)) (block_of Sixteen (drop 1 line)) (block_of Eight line) block e
+          said-block (nat_lt max_line (length line)) (is_blank line) (is_star (slice_index line 0)) (is_blank (drop 1 line)) (block_of Sixteen (drop 1 line)) (block_of Eight line) block e
 
-      short : length line ≤ most_bytes
+      short : length line ≤ max_line
       short = grind (arith, nat_tests, found.0)
 
       from : ((is_star (slice_index line 0) ≡ true) × (block_of Sixteen (drop 1 line) ≡ Ok (Some block))) ⊎ ((is_star (slice_index line 0) ≡ false) × (block_of Eight line ≡ Ok (Some block))) → IsBlock line block
@@ -117,17 +118,17 @@ module _ (law : WordsAreSpelled) where
       from (inr (plain, narrow)) = row_made Eight line line block short refl narrow
 
   -- a line that is a block is read as that block
-  spelled_row : (width : Width) (words : List Parts) (line bytes : List ℕ) → length line ≤ most_bytes → length words ≤ most_words → line ≡ mark width ++ bytes → SpellsRow width words bytes → block_at line ≡ Ok (Some (record { width = width; words = words }))
+  spelled_row : (width : Width) (words : List Parts) (line bytes : List ℕ) → length line ≤ max_line → length words ≤ max_words → line ≡ mark width ++ bytes → SpellsRow width words bytes → block_at line ≡ Ok (Some (record { width = width; words = words }))
   spelled_row Eight words line bytes short few made row =
       let digit : is_digit (slice_index bytes 0) ≡ true = row_begins Eight words bytes row in
       let plain : is_star (slice_index bytes 0) ≡ false = grind (arith, nat_tests) in
-      let long : nat_lt most_bytes (length bytes) ≡ false = grind (arith, nat_tests, ap length made) in
-      let read : words_from most_words Eight 1 bytes ≡ Ok words = row-spelled law words most_words 1 Eight bytes few row in
+      let long : nat_lt max_line (length bytes) ≡ false = grind (arith, nat_tests, ap length made) in
+      let read : words_from max_words Eight 1 bytes ≡ Ok words = row-spelled law words max_words 1 Eight bytes few row in
       rw made (rw (long, not_blank bytes digit, plain, read) refl)
   spelled_row Sixteen words line bytes short few made row =
       let digit : is_digit (slice_index bytes 0) ≡ true = row_begins Sixteen words bytes row in
-      let long : nat_lt most_bytes (length (42 ∷ bytes)) ≡ false = grind (arith, nat_tests, ap length made) in
-      let read : words_from most_words Sixteen 1 bytes ≡ Ok words = row-spelled law words most_words 1 Sixteen bytes few row in
+      let long : nat_lt max_line (length (42 ∷ bytes)) ≡ false = grind (arith, nat_tests, ap length made) in
+      let read : words_from max_words Sixteen 1 bytes ≡ Ok words = row-spelled law words max_words 1 Sixteen bytes few row in
       rw made (rw (long, not_blank bytes digit, read) refl)
 
   -- a line is read as a block just where it is one

@@ -2,7 +2,8 @@
 use Rattle.std.proofs.Common.{◌≡◌, ℕ, ◌<◌, true, false, List, [], ◌∷◌, length, take, drop, refl, ap, ◌∙◌, arith, suc, zero}
 use Rattle.std.specs.List.{prefix_len}
 use Rattle.std.proofs.lemmas.Bool.Decides.{nat_tests}
-use Rattle.gsi_block.specs.Lines.{is_in_line, onto_first, lines_of, end_len}
+use Rattle.gsi_block.specs.Inside.Ends.{end_len}
+use Rattle.gsi_block.specs.Lines.{is_in_line, onto_first, lines_of}
 
 -- a byte of a line goes before the first of the lines behind it
 pub lines_of-in_line : (byte : ℕ) (bytes : List ℕ) → is_in_line byte ≡ true → lines_of (byte ∷ bytes) ≡ onto_first byte (lines_of bytes)

@@ -23,7 +23,7 @@ lines_of-line (byte ∷ line) rest lines h e =
     lines_of-in_line byte (line ++ rest) first ∙ ap (onto_first byte) (lines_of-line line rest lines others e)
 
 -- a line that no end follows is the last
-lines_of-last : (line : List ℕ) → IsTrue (list_all is_in_line line) → line ≢ [] → lines_of line ≡ line ∷ []
+pub lines_of-last : (line : List ℕ) → IsTrue (list_all is_in_line line) → line ≢ [] → lines_of line ≡ line ∷ []
 unfolding lines_of
 lines_of-last [] h some = absurd (some refl)
 lines_of-last (byte ∷ []) h some = lines_of-in_line byte [] (grind arith)

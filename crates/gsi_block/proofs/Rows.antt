@@ -3,10 +3,11 @@ use Rattle.std.proofs.Common.{◌≡◌, ℕ, ◌+◌, true, false, List, [], �
 use Rattle.gsi_word.specs.Bytes.{is_space}
 use Rattle.gsi_word.specs.Words.{Parts, result_map, spelling_len, word_at}
 use Rattle.gsi_word.specs.declared.words.Width.{Width}
-use Rattle.gsi_word.specs.declared.words.WordFault.{WordFault}
-use Rattle.gsi_block.specs.Blocks.{most_words, is_blank, words_from, block_of}
-use Rattle.gsi_block.specs.declared.blocks.BlockFault.{BlockFault}
-use Rattle.gsi_block.specs.declared.blocks.BlockFault.TheVariants.{BadWord, TooManyWords, BadSeparator}
+use Rattle.gsi_word.specs.declared.faults.WordFault.{WordFault}
+use Rattle.gsi_block.specs.Limits.{max_words}
+use Rattle.gsi_block.specs.Blocks.{is_blank, words_from, block_of}
+use Rattle.gsi_block.specs.declared.faults.BlockFault.{BlockFault}
+use Rattle.gsi_block.specs.declared.faults.BlockFault.TheVariants.{BadWord, TooManyWords, BadSeparator}
 
 -- what stands behind the word that the bytes begin with
 abbrev pub behind : Width → List ℕ → List ℕ
@@ -15,7 +16,7 @@ behind width bytes = drop (spelling_len width) bytes
 -- a row is the words that were read in front of it, and then the words of the bytes that are left
 abbrev pub Goes : Width → List ℕ → List Parts → ℕ → ℕ → List ℕ → Type 0
 Goes width bytes front room k rest =
-    words_from most_words width 1 bytes ≡ result_map (λ further. front ++ further) (words_from room width k rest)
+    words_from max_words width 1 bytes ≡ result_map (λ further. front ++ further) (words_from room width k rest)
 
 module _ (width : Width) (bytes : List ℕ) (front : List Parts) (rest : List ℕ) where
   -- a row that goes on where no more words may stand has too many

@@ -42,11 +42,6 @@ GivesNext (Some line) before after = before ≡ line.now ∷ after
 abbrev pub is_in_line : ℕ → Bool
 is_in_line byte = not (is_end_byte byte)
 
--- how many bytes the end has that stands at the front, none where nothing stands there
-abbrev pub end_len : List ℕ → ℕ
-end_len [] = 0
-end_len (byte ∷ bytes) = if is_carriage_return byte && is_line_feed (slice_index bytes 0) then 2 else 1
-
 -- the bytes that end a line, where these bytes come after: CR LF, LF, or a CR that no LF follows, also as the text's last byte
 abbrev pub EndsLine : List ℕ → List ℕ → Type 0
 EndsLine end rest =

@@ -4,6 +4,7 @@
 ghost use Rattle.std.specs.Prelude.{◌≡◌, ◌↔◌, ℕ, List, Some, None, Ok};
 ghost use Rattle.gsi_block.specs.Blocks.{BlockParts, block_at, IsBlock, IsBlankLine};
 ghost use Rattle.gsi_block.specs.Lines.{lines_of, AreLines};
+ghost use Rattle.gsi_block.specs.Pieces.{cut_line};
 
 use gsi_word::laws::word_at_reads_spellings;
 
@@ -22,4 +23,9 @@ pub fn block_at_reads_blocks()
 /// A line is passed over just where it is at most 1,600 spaces and nothing else.
 pub fn block_at_passes_spaces()
     ensures { (line : List ℕ) → (block_at line ≡ Ok None) ↔ IsBlankLine line }
+{}
+
+/// What is kept of a line is read as the line itself: one that is longer than is kept is too long.
+pub fn cut_line_is_read_as_its_line()
+    ensures { (line : List ℕ) → block_at (cut_line line) ≡ block_at line }
 {}

@@ -1,76 +1,117 @@
-ghost use Rattle.std.specs.Prelude.{◌≡◌, ◌<◌, length, IfSome};
-ghost use Rattle.std.specs.List.{prefix_len};
-ghost use Rattle.gsi_block.specs.Lines.{is_end_byte, is_in_line, lines_of, end_len, due, GivesNext};
+ghost use Rattle.std.specs.Prelude.{◌≡◌, ◌<◌, ◌≤◌, ℕ, List, [], ◌∷◌, ◌++◌, length, take, IsTrue, false};
+ghost use Rattle.std.specs.List.{list_all};
+ghost use Rattle.gsi_block.specs.Lines.{is_in_line, lines_of, GivesNext};
+ghost use Rattle.gsi_block.specs.Pieces.{cut_line, cut_lines, begun, lines_due};
 
+use crate::ends::{end_len, feed_len, is_lone_return, line_len};
+use crate::limits::MAX_KEPT;
+use arrayvec::ArrayVec;
 use std::marker::Model;
 
-/// The lines of a text, lent one by one without their ends.
+/// The lines of a text that comes in pieces, however it is cut.
 ///
-/// A line ends with CR LF, CR or LF. What stands after the last end is a line where there is any.
+/// It keeps one line, in an array, and takes no memory. Of a longer line it keeps the first
+/// `MAX_KEPT` bytes, which `read_block` refuses as it refuses the line.
 #[derive(Drop)]
-pub struct LineCursor<'a> {
-    rest: &'a [u8],
+pub struct Lines {
+    line: ArrayVec<u8, MAX_KEPT>,
+    complete: bool,
+    after_return: bool,
 }
 
-impl<'a> Model for LineCursor<'a> {
-    ghost use Rattle.std.specs.Prelude.{List, ℕ};
+impl Model for Lines {
+    ghost use Rattle.std.specs.Prelude.{IsTrue};
+    ghost use Rattle.std.specs.List.{list_all};
+    ghost use Rattle.gsi_block.specs.Lines.{is_in_line};
+    ghost use Rattle.gsi_block.specs.Pieces.{LineState};
 
-    ghost Value = { List ℕ };
+    ghost Value = { LineState };
 
-    ghost view = { λ cursor. cursor.rest.now };
+    ghost view = { λ lines. record { line = lines.line.items; complete = lines.complete; after_return = lines.after_return } };
+
+    ghost invariant = { λ lines. IsTrue (list_all is_in_line lines.line.items) };
 }
 
-impl<'a> LineCursor<'a> {
-    /// A cursor before the first line of a text.
-    pub fn new(text: &'a [u8]) -> LineCursor<'a>
-        ensures bytes { result ≡ text.now }
-        ensures owes { due result ≡ lines_of text.now }
+impl Lines {
+    /// Before the first byte of a text.
+    pub fn new() -> Lines
+        ensures owes { (text : List ℕ) → lines_due result text ≡ cut_lines (lines_of text) }
     {
-        LineCursor { rest: text }
-    }
-
-    /// The next line, whole however long it is, or None after the last.
-    pub fn next(&mut self) -> Option<&'a [u8]>
-        ensures gives { GivesNext result (due self.old) (due self.new) }
-        ensures fewer { IfSome result (λ _. length self.new < length self.old) }
-    {
-        let text = self.rest;
-        if text.is_empty() {
-            return None;
-        }
-        let len = line_len(text);
-        let (line, after) = text.split_at(len);
-        self.rest = &after[end_len(after)..];
-        Some(line)
-    }
-}
-
-/// How many bytes stand before the first one of an end.
-fn line_len(text: &[u8]) -> usize
-    ensures { result ≡ prefix_len is_in_line text.now }
-{
-    for (place, byte) in text.iter().enumerate() {
-        if is_end_byte(*byte) {
-            return place;
+        Lines {
+            line: ArrayVec::new(),
+            complete: false,
+            after_return: false,
         }
     }
-    text.len()
-}
 
-/// Whether a byte is one of those that line ends are made of.
-fn is_end_byte(byte: u8) -> bool
-    ensures { result ≡ is_end_byte byte }
-{
-    byte == b'\n' || byte == b'\r'
-}
+    /// Takes bytes of the next piece up to and including the first line end: how many it took, and
+    /// whether a line is complete now, which `line` then lends. Where none is, it took the whole
+    /// piece. The bytes that are left are for the next call.
+    ///
+    /// An LF right behind a CR that ended a line belongs to that end, also in a later piece.
+    pub fn take(&mut self, piece: &[u8]) -> (usize, bool)
+        ensures within { result.0 ≤ length piece.now }
+        ensures complete { result.1 ≡ self.new.complete }
+        ensures some { IsTrue result.1 → 0 < result.0 }
+        ensures whole { result.1 ≡ false → result.0 ≡ length piece.now }
+        ensures gives { IsTrue result.1 → (later : List ℕ) →
+            lines_due self.old (take result.0 piece.now ++ later) ≡ self.new.line ∷ lines_due self.new later }
+        ensures keeps { result.1 ≡ false → (later : List ℕ) →
+            lines_due self.old (piece.now ++ later) ≡ lines_due self.new later }
+    {
+        self.begin();
+        let skipped = feed_len(self.after_return, piece);
+        let (_, bytes) = piece.split_at(skipped);
+        let (front, end) = bytes.split_at(line_len(bytes));
+        self.keep(front);
+        if end.is_empty() {
+            self.after_return = self.after_return && piece.is_empty();
+            return (piece.len(), false);
+        }
+        self.after_return = is_lone_return(end);
+        self.complete = true;
+        (skipped + front.len() + end_len(end), true)
+    }
 
-/// How many bytes the end has that stands at the front, none where nothing stands there.
-fn end_len(bytes: &[u8]) -> usize
-    ensures { result ≡ end_len bytes.now }
-{
-    match bytes {
-        [] => 0,
-        [b'\r', b'\n', ..] => 2,
-        _ => 1,
+    /// The line that is complete, without its end: of a longer one its first `MAX_KEPT` bytes.
+    pub fn line(&self) -> &[u8]
+        requires { IsTrue self.now.complete }
+        ensures { result.now ≡ self.now.line }
+    {
+        self.line.as_slice()
+    }
+
+    /// The last line of the text, where no more bytes come, or None where it ended with its last
+    /// line end.
+    pub fn finish(&self) -> Option<&[u8]>
+        ensures { GivesNext result (lines_due self.now []) [] }
+    {
+        if self.complete || self.line.is_empty() {
+            None
+        } else {
+            Some(self.line.as_slice())
+        }
+    }
+
+    /// Begins the next line where one is complete.
+    fn begin(&mut self)
+        ensures line { self.new.line ≡ begun self.old }
+        ensures complete { self.new.complete ≡ false }
+        ensures after_return { self.new.after_return ≡ self.old.after_return }
+    {
+        if self.complete {
+            self.line.clear();
+            self.complete = false;
+        }
+    }
+
+    /// Keeps the next bytes of the line that has begun, as many as there is room for.
+    fn keep(&mut self, bytes: &[u8])
+        requires { IsTrue (list_all is_in_line bytes.now) }
+        ensures { self.new ≡ record self.old { line = cut_line (self.old.line ++ bytes.now) } }
+    {
+        let room = self.line.remaining_capacity();
+        let kept = &bytes[..bytes.len().min(room)];
+        let _ = self.line.try_extend_from_slice(kept);
     }
 }

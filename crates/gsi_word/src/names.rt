@@ -6,14 +6,12 @@ ghost use Rattle.std.specs.Ordering.{nat_cmp};
 ghost use Rattle.gsi_word.specs.Bytes.{is_padding};
 ghost use Rattle.gsi_word.specs.Names.{name_of, without_leading, without_trailing};
 
-use crate::readings::are_data;
+use crate::bytes::are_data;
+use crate::limits::MAX_NAME;
 use std::cmp::Ordering;
 use std::hash::{Hash, Hasher};
 use std::marker::Model;
 use std::{fmt, str};
-
-/// The most bytes that a name has.
-pub const MAX_NAME: usize = 16;
 
 /// A point's name in reduced form: 1 to 16 printable bytes, compared and hashed as bytes.
 #[derive(Clone, Copy)]
@@ -24,7 +22,7 @@ pub struct Name {
 
 impl Model for Name {
     ghost use Rattle.std.specs.Prelude.{◌≡◌, List, ℕ, length, take};
-    ghost use Rattle.gsi_word.specs.PaddedNames.{padded, IsPaddedName};
+    ghost use Rattle.gsi_word.specs.Inside.PaddedNames.{padded, IsPaddedName};
 
     ghost Value = { List ℕ };
 

@@ -2,15 +2,17 @@
 use Rattle.std.proofs.Common.{◌≡◌, ℕ, ◌+◌, Bool, true, false, cond, ◌&&◌, ◌||◌, List, [], ◌∷◌, ◌++◌, Option, Some, None, refl, sym, ap, ◌∙◌, arith}
 use Rattle.std.specs.Prelude.{count_by, find, is_some, nat_lt, option_map}
 use Rattle.std.specs.Option.{option_or}
+use Rattle.std.specs.Result.{result_ok}
 use Rattle.std.specs.List.{list_any}
 use Rattle.std.proofs.lemmas.List.Folds.{find-append, list_any-append}
 use Rattle.std.proofs.lemmas.List.Sums.{sum_by-append, sum_by-cons}
 use Rattle.std.proofs.lemmas.Bool.Decides.{nat_tests}
 use Rattle.gsi_word.specs.Words.{Parts}
-use Rattle.gsi_word.specs.Data.{length_of}
+use Rattle.gsi_word.specs.Values.{length_of}
 use Rattle.th_book.specs.Lines.{counts_for, holds}
-use Rattle.th_book.specs.Faults.{repeats_word, single_indexes}
-use Rattle.th_book.specs.Steps.{counted_in, counted_with, first_kept, first_length, repeats}
+use Rattle.gsi_word.specs.declared.faults.LengthFault.TheVariants.{BadNumber, BadUnit, TooLarge}
+use Rattle.th_book.specs.Faults.{is_length, repeats_word, single_indexes, some_length}
+use Rattle.th_book.specs.Inside.Countings.{counted_in, counted_with, first_kept, first_length, is_refused_for, repeats}
 use Rattle.th_book.specs.Indexes.{height_difference, station_easting, station_northing, station_height, reflector_height, instrument_height}
 
 or_false : (b : Bool) → (b || false) ≡ b
@@ -22,16 +24,16 @@ pub first_length-there : (index : ℕ) (words : List Parts) → is_some (first_l
 first_length-there index [] = refl
 first_length-there index (word ∷ words) = go (counts_for index word) (first_length-there index words)
   where
-    go : (counts : Bool) → is_some (first_length index words) ≡ holds index words → is_some (option_map length_of (cond counts (Some word) (find (counts_for index) words))) ≡ (counts || holds index words)
+    go : (counts : Bool) → is_some (first_length index words) ≡ holds index words → is_some (option_map (λ (own : Parts). result_ok (length_of own)) (cond counts (Some word) (find (counts_for index) words))) ≡ (counts || holds index words)
     go true later = refl
     go false later = later
 
 -- one more word at the end: the first length
 first_length-more : (index : ℕ) (words : List Parts) (word : Parts) → first_length index (words ++ word ∷ []) ≡ first_kept (counts_for index word) (first_length index words) word
 first_length-more index words word =
-    ap (option_map length_of) (find-append (counts_for index) words (word ∷ [])) ∙ go (counts_for index word) (find (counts_for index) words)
+    ap (option_map (λ (own : Parts). result_ok (length_of own))) (find-append (counts_for index) words (word ∷ [])) ∙ go (counts_for index word) (find (counts_for index) words)
   where
-    go : (counts : Bool) (found : Option Parts) → option_map length_of (option_or found (cond counts (Some word) None)) ≡ first_kept counts (option_map length_of found) word
+    go : (counts : Bool) (found : Option Parts) → option_map (λ (own : Parts). result_ok (length_of own)) (option_or found (cond counts (Some word) None)) ≡ first_kept counts (option_map (λ (own : Parts). result_ok (length_of own)) found) word
     go true None = refl
     go true (Some first) = refl
     go false None = refl
@@ -91,20 +93,29 @@ repeats_word-more words word =
   where
     again : list_any (λ index. counts_for index word && holds index words) single_indexes ≡ repeats word (counted_in words)
     again =
-        let difference = sym (first_length-there height_difference words) in
+        let sighted = sym (first_length-there height_difference words) in
         let reflector = sym (first_length-there reflector_height words) in
         let instrument = sym (first_length-there instrument_height words) in
         let last = or_false (counts_for instrument_height word && holds instrument_height words) in
         cc
 
+-- whether some length has a defect
+some_length-more : (defect : Parts → Bool) (words : List Parts) (word : Parts) → some_length defect (words ++ word ∷ []) ≡ (some_length defect words || (is_length word && defect word))
+some_length-more defect words word =
+    list_any-append (λ own. is_length own && defect own) words (word ∷ [])
+    ∙ ap (λ here. some_length defect words || here) (or_false (is_length word && defect word))
+
 -- what some words say, and one more word
 pub counted_in-more : (words : List Parts) (word : Parts) → counted_in (words ++ word ∷ []) ≡ counted_with word (counted_in words)
 counted_in-more words word =
-    let difference = first_length-more height_difference words word in
+    let sighted = first_length-more height_difference words word in
     let easting = holds-more station_easting words word in
     let northing = holds-more station_northing words word in
     let height = holds-more station_height words word in
     let reflector = first_length-more reflector_height words word in
     let instrument = first_length-more instrument_height words word in
     let repeated = repeats_word-more words word in
+    let bad_number = some_length-more (is_refused_for BadNumber) words word in
+    let bad_unit = some_length-more (is_refused_for BadUnit) words word in
+    let too_large = some_length-more (is_refused_for TooLarge) words word in
     cc

@@ -1,52 +1,45 @@
--- What a line without a fault is: the lengths that count can be read, and a sight or a setup has a name.
-use Rattle.std.proofs.Common.{◌≡◌, ℕ, ℤ, Bool, true, false, not, cond, ◌&&◌, ◌||◌, List, [], ◌∷◌, Option, Some, None, Result, Ok, Err, refl, sym, subst}
+-- What a block without a fault of its own words is: the lengths that count can be read, and a sight or a setup has a name.
+use Rattle.std.proofs.Common.{◌≡◌, ℕ, ℤ, Bool, true, false, not, cond, ◌&&◌, ◌||◌, List, [], ◌∷◌, ◌++◌, Option, Some, None, Result, Ok, Err, refl, sym, subst}
 use Rattle.std.specs.Prelude.{is_some, is_none, find, option_and_then, nat_le, slice_index, ◌*◌}
 use Rattle.std.specs.Result.{result_map_both, result_ok}
 use Rattle.std.proofs.lemmas.Bool.{false≢true, true≢false, or_parts, not-false, cond-false}
-use Rattle.th_units.specs.Lens.{are_digits, number, signed}
+use Rattle.th_units.specs.Lengths.{are_digits, number, signed}
 use Rattle.th_units.specs.Units.{step, unit_of}
 use Rattle.th_units.specs.declared.units.Unit.{Unit}
-use Rattle.th_units.specs.declared.lens.LenFault.TheVariants as len_fault
-use Rattle.th_units.specs.declared.lens.TheConstants.{MAX_LEN}
+use Rattle.th_units.specs.declared.faults.LenFault.TheVariants as len_fault
+use Rattle.th_units.specs.declared.limits.TheConstants.{MAX_LEN}
 use Rattle.gsi_word.specs.Words.{Parts}
-use Rattle.gsi_word.specs.Data as word_data
-use Rattle.gsi_word.specs.Data.{in_unit, length_of}
-use Rattle.gsi_word.specs.declared.data.LengthFault.{LengthFault}
-use Rattle.gsi_word.specs.declared.data.LengthFault.TheVariants as length_fault
-use Rattle.th_book.specs.Lines.{Said, counts_for, holds, is_setup, is_sight, length_in, point_name, words_in}
-use Rattle.th_book.specs.Faults.{Standing, begins_with_point, block_faults, first_applying, has_bad_number, has_bad_unit, is_length, is_refused, is_too_large, kind_of, repeats_word, are_one, some_length}
+use Rattle.gsi_word.specs.Values as word_data
+use Rattle.gsi_word.specs.Values.{in_unit, length_of}
+use Rattle.gsi_word.specs.declared.faults.LengthFault.{LengthFault}
+use Rattle.gsi_word.specs.declared.faults.LengthFault.TheVariants as length_fault
+use Rattle.th_book.specs.Lines.{ParsedLine, counts_for, holds, is_setup, is_sight, length_in, point_name, words_in}
+use Rattle.th_book.specs.Faults.{Row, Standing, begins_with_point, first_applying, has_bad_number, has_bad_unit, is_length, is_refused, is_too_large, kind_of, own_faults, repeats_word, sight_faults, some_length}
 use Rattle.th_book.specs.declared.faults.BookKind.{BookKind}
 
--- no row of the table applies to these words
-pub record IsFaultless (standing : Standing) (words : List Parts) : Type 0 where
+-- no row of the table of a block's own faults applies to these words
+pub record IsFaultless (words : List Parts) : Type 0 where
   pub once : repeats_word words ≡ false
   pub pointed : ((is_sight words || is_setup words) && not (begins_with_point words)) ≡ false
   pub named : ((is_sight words || is_setup words) && is_none (point_name words)) ≡ false
   pub numbers : some_length has_bad_number words ≡ false
   pub units : some_length has_bad_unit words ≡ false
   pub sizes : some_length is_too_large words ≡ false
-  pub placed : (is_sight words && not standing.setup) ≡ false
-  pub instrument : (is_sight words && not standing.instrument) ≡ false
-  pub reflector : (is_sight words && not standing.reflector) ≡ false
-  pub apart : (is_sight words && are_one standing.station (point_name words)) ≡ false
 
 -- a row that does not apply is passed over
 passed : (applies : Bool) (kind : BookKind) (rest : Option BookKind) → cond applies (Some kind) rest ≡ None → (applies ≡ false) × (rest ≡ None)
 passed true kind rest h = (cc, cc)
 passed false kind rest h = (refl, h)
 
-rows_pass : (standing : Standing) (words : List Parts) → first_applying (block_faults standing words) ≡ None → IsFaultless standing words
-rows_pass standing words h =
+-- whatever rows come after them
+pub rows_pass : (words : List Parts) (more : List Row) → first_applying (own_faults words ++ more) ≡ None → IsFaultless words
+rows_pass words more h =
     let once = passed _ _ _ h in
     let pointed = passed _ _ _ once.1 in
     let named = passed _ _ _ pointed.1 in
     let numbers = passed _ _ _ named.1 in
     let units = passed _ _ _ numbers.1 in
     let sizes = passed _ _ _ units.1 in
-    let placed = passed _ _ _ sizes.1 in
-    let instrument = passed _ _ _ placed.1 in
-    let reflector = passed _ _ _ instrument.1 in
-    let apart = passed _ _ _ reflector.1 in
     record {
       once = once.0;
       pointed = pointed.0;
@@ -54,31 +47,23 @@ rows_pass standing words h =
       numbers = numbers.0;
       units = units.0;
       sizes = sizes.0;
-      placed = placed.0;
-      instrument = instrument.0;
-      reflector = reflector.0;
-      apart = apart.0;
     }
 
 -- a line that says no words has no fault in them
-no_words : (standing : Standing) → IsFaultless standing []
-no_words standing = record {
+no_words : IsFaultless []
+no_words = record {
   once = refl;
   pointed = refl;
   named = refl;
   numbers = refl;
   units = refl;
   sizes = refl;
-  placed = refl;
-  instrument = refl;
-  reflector = refl;
-  apart = refl;
 }
 
-pub faultless : (standing : Standing) (said : Said) → kind_of standing said ≡ None → IsFaultless standing (words_in said)
+pub faultless : (standing : Standing) (parsed : ParsedLine) → kind_of standing parsed ≡ None → IsFaultless (words_in parsed)
 faultless standing (Err fault) h = cc
-faultless standing (Ok None) h = no_words standing
-faultless standing (Ok (Some block)) h = rows_pass standing block.words h
+faultless standing (Ok None) h = no_words
+faultless standing (Ok (Some block)) h = rows_pass block.words (cond (is_sight block.words) (sight_faults standing (point_name block.words)) []) h
 
 -- a length whose data are digits is read, or it is too large
 digits_read : (digits within : Bool) (length : ℤ) → digits ≡ true → is_refused length_fault.TooLarge (result_map_both (λ read. read) word_data.length_fault (cond digits (cond within (Ok length) (Err len_fault.TooLarge)) (Err len_fault.NotDigits))) ≡ false → is_some (result_ok (result_map_both (λ read. read) word_data.length_fault (cond digits (cond within (Ok length) (Err len_fault.TooLarge)) (Err len_fault.NotDigits)))) ≡ true

@@ -1,22 +1,21 @@
 -- What a book holds after one more line.
-use Rattle.std.proofs.Common.{◌≡◌, ◌≢◌, ℕ, ◌+◌, Bool, true, false, cond, List, [], ◌∷◌, ◌++◌, map, Option, Some, None, Result, Ok, Err, refl, sym, ap, ◌∙◌, subst}
-use Rattle.std.specs.Prelude.{IsSome, is_none, is_some, option_to_list}
-use Rattle.std.proofs.lemmas.List.{append-nil}
-use Rattle.std.proofs.lemmas.Bool.{false≢true}
+use Rattle.std.proofs.Common.{◌≡◌, ◌≢◌, ◌≤◌, ℕ, ◌+◌, Bool, true, false, cond, List, [], ◌∷◌, ◌++◌, length, map, Option, Some, None, Result, Ok, Err, refl, sym, ap, ◌∙◌, subst}
+use Rattle.std.specs.Prelude.{IsSome, is_none, is_some, option_map, option_to_list}
+use Rattle.std.specs.List.{list_all}
+use Rattle.std.proofs.lemmas.Bool.{false≢true, and_parts}
 use Rattle.std.proofs.lemmas.Option.{none-some, same_Some}
 use Rattle.std.specs.Result.{IfErr, OnErr, OnOk}
-use Rattle.gsi_word.specs.Words.{Parts}
 use Rattle.gsi_block.specs.Blocks.{block_at}
-use Rattle.th_book.specs.Observed.{Observed}
-use Rattle.th_book.specs.Lines.{Said, is_sight, words_in}
-use Rattle.th_book.specs.Faults.{Standing, fault_in, kind_of}
+use Rattle.th_book.specs.Lines.{ParsedLine, is_sight, point_name, words_in}
+use Rattle.th_book.specs.Faults.{Row, Standing, block_faults, fault_in, first_applying, kind_of, own_faults, sight_faults}
 use Rattle.th_book.specs.Books.{answer}
-use Rattle.th_book.specs.Due.{EndsWithSight, Held, IsRefused, IsTaken, IsWanting, after, after_unless, after_words, due, observations_after, observed_in, setup_after}
-use Rattle.th_book.specs.Steps.{IsStep, held_refusing, held_with, observation_in}
+use Rattle.th_book.specs.Due.{BookState, EndsWithSight, IsRefused, IsTaken, IsWanting, after, after_parsed, after_unless, after_words, due, due_parsed, standing_in}
+use Rattle.th_book.specs.Inside.Steps.{IsLeft, line_fault, stamped, state_refusing, state_with}
+use Rattle.th_book.specs.declared.setups.Sight.{Sight}
 use Rattle.th_book.specs.declared.steps.Step.{Step}
 use Rattle.th_book.specs.declared.faults.BookFault.{BookFault}
 use Rattle.th_book.specs.declared.faults.BookKind.{BookKind}
-use Rattle.th_book.specs.declared.faults.BookKind.TheVariants.{Block, RepeatedWord, NoPointNumber, BadName, BadNumber, BadUnit, TooLarge, SightBeforeSetup, NoInstrumentHeight, NoReflectorHeight, SightToItself, NoMemory}
+use Rattle.th_book.specs.declared.faults.BookKind.TheVariants.{Block, NoMemory}
 use Rattle.th_book.proofs.Keeping.{fault_stays_due}
 
 -- a kind of fault that a book keeps, as each but want of memory
@@ -24,115 +23,118 @@ abbrev is_kept : BookKind → Bool
 is_kept NoMemory = false
 is_kept _ = true
 
+abbrev are_kept : List Row → Bool
+are_kept rows = list_all (λ row. is_kept row.1) rows
+
 -- the first of some rows that applies is kept where each of them is
-row_kept : (applies : Bool) (own kind : BookKind) (rest : Option BookKind) → is_kept own ≡ true → (rest ≡ Some kind → is_kept kind ≡ true) → cond applies (Some own) rest ≡ Some kind → is_kept kind ≡ true
-row_kept true own kind rest kept later e = ap is_kept (sym (same_Some own kind e)) ∙ kept
-row_kept false own kind rest kept later e = later e
+row_kept : (rows : List Row) (kind : BookKind) → are_kept rows ≡ true → first_applying rows ≡ Some kind → is_kept kind ≡ true
+row_kept [] kind kept e = absurd (none-some kind e)
+row_kept (row ∷ rows) kind kept e = go row.0 (and_parts _ _ kept).0 e (row_kept rows kind (and_parts _ _ kept).1)
+  where
+    go : (applies : Bool) → is_kept row.1 ≡ true → cond applies (Some row.1) (first_applying rows) ≡ Some kind → (first_applying rows ≡ Some kind → is_kept kind ≡ true) → is_kept kind ≡ true
+    go true own same later = ap is_kept (sym (same_Some row.1 kind same)) ∙ own
+    go false own same later = later same
 
-no_row_kept : (kind : BookKind) → None ≡ Some kind → is_kept kind ≡ true
-no_row_kept kind e = absurd (none-some kind e)
-
-kind_kept : (standing : Standing) (said : Said) (kind : BookKind) → kind_of standing said ≡ Some kind → is_kept kind ≡ true
+kind_kept : (standing : Standing) (parsed : ParsedLine) (kind : BookKind) → kind_of standing parsed ≡ Some kind → is_kept kind ≡ true
 kind_kept standing (Err fault) kind e = ap is_kept (sym (same_Some (Block fault) kind e))
-kind_kept standing (Ok None) kind e = no_row_kept kind e
-kind_kept standing (Ok (Some block)) kind e =
-    row_kept _ RepeatedWord kind _ refl
-    (row_kept _ NoPointNumber kind _ refl
-    (row_kept _ BadName kind _ refl
-    (row_kept _ BadNumber kind _ refl
-    (row_kept _ BadUnit kind _ refl
-    (row_kept _ TooLarge kind _ refl
-    (row_kept _ SightBeforeSetup kind _ refl
-    (row_kept _ NoInstrumentHeight kind _ refl
-    (row_kept _ NoReflectorHeight kind _ refl
-    (row_kept _ SightToItself kind _ refl
-    (no_row_kept kind)))))))))) e
+kind_kept standing (Ok None) kind e = absurd (none-some kind e)
+kind_kept standing (Ok (Some block)) kind e = row_kept (block_faults standing block.words) kind (all (is_sight block.words)) e
+  where
+    all : (sight : Bool) → are_kept (own_faults block.words ++ cond sight (sight_faults standing (point_name block.words)) []) ≡ true
+    all true = refl
+    all false = refl
 
 -- no line has a want of memory as its fault
-pub kind_lasts : (standing : Standing) (said : Said) (kind : BookKind) → kind_of standing said ≡ Some kind → kind ≢ NoMemory
-kind_lasts standing said kind e = λ wanting. false≢true (sym (ap is_kept wanting) ∙ kind_kept standing said kind e)
+pub kind_lasts : (standing : Standing) (parsed : ParsedLine) (kind : BookKind) → Some kind ≡ kind_of standing parsed → kind ≢ NoMemory
+kind_lasts standing parsed kind e = λ wanting. false≢true (sym (ap is_kept wanting) ∙ kind_kept standing parsed kind (sym e))
 
--- the observations after a line, as those before it and its own
-observations_joined : (held : Held) (words : List Parts) → observations_after held words ≡ held.observations ++ option_to_list (observation_in held.book (held.lines + 1) held.setup words)
-observations_joined held words = go (is_sight words)
+-- what is due does not depend on the room
+due_any_room : (state : BookState) (room : ℕ) (lines : List ParsedLine) → due_parsed (record state { room = room }) lines ≡ due_parsed state lines
+due_any_room state room [] = refl
+due_any_room state room (parsed ∷ rest) =
+    ap (λ (own : BookState). due_parsed own rest) (by_fault state.fault) ∙ due_any_room (after_parsed state parsed) room rest
   where
-    go : (sight : Bool) → cond sight (held.observations ++ observed_in held.book (held.lines + 1) (setup_after held.setup words) words ∷ []) held.observations ≡ held.observations ++ option_to_list (cond sight (Some (observed_in held.book (held.lines + 1) (setup_after held.setup words) words)) None)
-    go true = refl
-    go false = sym (append-nil held.observations)
+    by_kind : (kind : Option BookKind) → after_words (record state { room = room }) (words_in parsed) kind ≡ record (after_words state (words_in parsed) kind) { room = room }
+    by_kind None = refl
+    by_kind (Some kind) = refl
 
--- what is held after a line without a fault
-pub after-taken : (held : Held) (line : List ℕ) (step : Step) → held.fault ≡ None → IsStep (Ok step) held.setup (block_at line) held.book (held.lines + 1) → after held line ≡ held_with held step
-after-taken held line step sound is =
-    ap (λ (fault : Option BookFault). after_unless fault held (block_at line)) sound
-    ∙ ap (after_words held (words_in (block_at line))) is.0
-    ∙ with_step
+    by_fault : (fault : Option BookFault) → after_unless fault (record state { room = room }) parsed ≡ record (after_unless fault state parsed) { room = room }
+    by_fault (Some fault) = refl
+    by_fault None = by_kind (kind_of (standing_in state.setup (words_in parsed)) parsed)
+
+-- what is held after a line without a fault, whatever room there is then
+after-taken : (state : BookState) (line : List ℕ) (step : Step) (room : ℕ) → state.fault ≡ None → None ≡ line_fault state.setup (block_at line) → IsLeft state.setup (words_in (block_at line)) step → state_with state step room ≡ record (after state line) { room = room }
+after-taken state line step room sound none left =
+    with_step
+    ∙ ap (λ (own : BookState). record own { room = room }) (ap (after_words state (words_in (block_at line))) none
+    ∙ ap (λ (fault : Option BookFault). after_unless fault state (block_at line)) (sym sound))
   where
-    with_step : after_words held (words_in (block_at line)) None ≡ held_with held step
+    with_step : state_with state step room ≡ record (after_words state (words_in (block_at line)) None) { room = room }
     with_step =
-        let observations = observations_joined held (words_in (block_at line)) in
-        let left = is.1 in
+        let sight = left.sight state.book (state.lines + 1) in
+        let setup = left.setup in
         cc
 
 -- what is held after a line with a fault
-pub after-refused : (held : Held) (line : List ℕ) (kind : BookKind) → held.fault ≡ None → IsStep (Err kind) held.setup (block_at line) held.book (held.lines + 1) → after held line ≡ held_refusing held kind
-after-refused held line kind sound is =
-    ap (λ (fault : Option BookFault). after_unless fault held (block_at line)) sound
-    ∙ ap (after_words held (words_in (block_at line))) is
+after-refused : (state : BookState) (line : List ℕ) (kind : BookKind) → state.fault ≡ None → Some kind ≡ line_fault state.setup (block_at line) → after state line ≡ state_refusing state kind
+after-refused state line kind sound is =
+    ap (λ (fault : Option BookFault). after_unless fault state (block_at line)) sound
+    ∙ ap (after_words state (words_in (block_at line))) (sym is)
 
 -- a line without a fault is taken
-pub IsTaken-step : (held : Held) (line : List ℕ) (step : Step) → held.fault ≡ None → IsStep (Ok step) held.setup (block_at line) held.book (held.lines + 1) → IsTaken held (held_with held step) line
-IsTaken-step held line step sound is = record {
-  keeps = λ rest. ap (λ (own : Held). due own rest) (sym (after-taken held line step sound is));
+IsTaken-step : (state : BookState) (line : List ℕ) (step : Step) (room : ℕ) → state.fault ≡ None → None ≡ line_fault state.setup (block_at line) → IsLeft state.setup (words_in (block_at line)) step → state.room ≤ room → IsTaken state (state_with state step room) line
+IsTaken-step state line step room sound none left more = record {
+  keeps = λ rest. ap (λ (own : BookState). due own rest) (after-taken state line step room sound none left) ∙ due_any_room (after state line) room (map block_at rest);
   faultless = sound;
   lines = refl;
+  room = more;
 }
 
 -- the fault of a line is answered
-pub IsRefused-step : (held : Held) (line : List ℕ) (kind : BookKind) → held.fault ≡ None → IsStep (Err kind) held.setup (block_at line) held.book (held.lines + 1) → IsRefused held (held_refusing held kind) line (fault_in held.lines kind)
-IsRefused-step held line kind sound is = record {
-  was = λ rest. ap (λ (own : Held). due own rest) (after-refused held line kind sound is) ∙ fault_stays_due (fault_in held.lines kind) (held_refusing held kind) (map block_at rest) refl;
-  stays = λ rest. fault_stays_due (fault_in held.lines kind) (held_refusing held kind) (map block_at rest) refl;
-  lines = ap (λ (fault : Option BookFault). cond (is_none fault) (held.lines + 1) held.lines) (sym sound);
+pub IsRefused-step : (state : BookState) (line : List ℕ) (kind : BookKind) → state.fault ≡ None → Some kind ≡ line_fault state.setup (block_at line) → IsRefused state (state_refusing state kind) line (fault_in state.lines kind)
+IsRefused-step state line kind sound is = record {
+  was = λ rest. ap (λ (own : BookState). due own rest) (after-refused state line kind sound is) ∙ fault_stays_due (fault_in state.lines kind) (state_refusing state kind) (map block_at rest) refl;
+  stays = λ rest. fault_stays_due (fault_in state.lines kind) (state_refusing state kind) (map block_at rest) refl;
+  lines = ap (λ (fault : Option BookFault). cond (is_none fault) (state.lines + 1) state.lines) (sym sound);
 }
 
 -- a fault that was found before is answered again
-pub IsRefused-before : (held : Held) (line : List ℕ) (fault : BookFault) → held.fault ≡ Some fault → IsRefused held held line fault
-IsRefused-before held line fault found = record {
-  was = λ rest. fault_stays_due fault held (map block_at (line ∷ rest)) found;
-  stays = λ rest. fault_stays_due fault held (map block_at rest) found;
-  lines = ap (λ (own : Option BookFault). cond (is_none own) (held.lines + 1) held.lines) (sym found);
+pub IsRefused-before : (state : BookState) (line : List ℕ) (fault : BookFault) → state.fault ≡ Some fault → IsRefused state state line fault
+IsRefused-before state line fault found = record {
+  was = λ rest. fault_stays_due fault state (map block_at (line ∷ rest)) found;
+  stays = λ rest. fault_stays_due fault state (map block_at rest) found;
+  lines = ap (λ (own : Option BookFault). cond (is_none own) (state.lines + 1) state.lines) (sym found);
 }
 
 -- memory is wanting at a line that gives an observation
-pub IsWanting-step : (held : Held) (line : List ℕ) (step : Step) → held.fault ≡ None → IsStep (Ok step) held.setup (block_at line) held.book (held.lines + 1) → is_some step.observation ≡ true → IsWanting held held line (fault_in held.lines NoMemory)
-IsWanting-step held line step sound is sight = record {
+IsWanting-step : (state : BookState) (line : List ℕ) (step : Step) → state.fault ≡ None → None ≡ line_fault state.setup (block_at line) → IsLeft state.setup (words_in (block_at line)) step → is_some step.sight ≡ true → state.room ≤ length state.observations → IsWanting state state line (fault_in state.lines NoMemory)
+IsWanting-step state line step sound none left sight full = record {
   unchanged = refl;
   at_line = refl;
-  observes = go step.observation sight refl (is_sight (words_in (block_at line))) (ap (λ (own : Step). own.observation) is.1);
+  observes = go step.sight sight refl;
+  full = full;
 }
   where
-    go : (observation : Option Observed) → is_some observation ≡ true → step.observation ≡ observation → (seen : Bool) → step.observation ≡ cond seen (Some (observed_in held.book (held.lines + 1) (setup_after held.setup (words_in (block_at line))) (words_in (block_at line)))) None → EndsWithSight (due held (line ∷ [])) (held.lines + 1)
-    go None e there seen same = absurd (false≢true e)
-    go (Some observed) e there false same = absurd (none-some observed (sym same ∙ there))
-    go (Some observed) e there true same =
-        let own : observed_in held.book (held.lines + 1) (setup_after held.setup (words_in (block_at line))) (words_in (block_at line)) ≡ observed = same_Some _ _ (sym same ∙ there) in (
-          held.observations,
-          observed,
-          ap (λ (after : Held). answer after.fault after.observations) (after-taken held line step sound is)
-              ∙ ap (λ (fault : Option BookFault). answer fault (held.observations ++ option_to_list step.observation)) sound
-              ∙ ap (λ (observation : Option Observed). Ok (held.observations ++ option_to_list observation)) there,
-          ap (λ (seen : Observed). seen.line) (sym own),
-        )
+    go : (own : Option Sight) → is_some own ≡ true → step.sight ≡ own → EndsWithSight (due state (line ∷ [])) (state.lines + 1)
+    go None e there = absurd (false≢true e)
+    go (Some own) e there = (
+      state.observations,
+      stamped state.book (state.lines + 1) own,
+      ap (λ (after : BookState). answer after.fault after.observations) (sym (after-taken state line step state.room sound none left))
+          ∙ ap (λ (fault : Option BookFault). answer fault (state.observations ++ option_to_list (option_map (stamped state.book (state.lines + 1)) step.sight))) sound
+          ∙ ap (λ (sight : Option Sight). Ok (state.observations ++ option_to_list (option_map (stamped state.book (state.lines + 1)) sight))) there,
+      refl,
+    )
 
 -- a line that is taken where there is room
-pub taken_ok : {A : Type 0} (given : Result A BookFault) (held new : Held) (line : List ℕ) (step : Step) → held.fault ≡ None → IsStep (Ok step) held.setup (block_at line) held.book (held.lines + 1) → OnOk given (new ≡ held_with held step) → OnOk given (IsTaken held new line)
-taken_ok (Ok value) held new line step sound is with_step =
-    subst (λ (own : Held). IsTaken held own line) (sym with_step) (IsTaken-step held line step sound is)
-taken_ok (Err fault) held new line step sound is with_step = tt
+pub taken_ok : {A : Type 0} (given : Result A BookFault) (state new : BookState) (line : List ℕ) (step : Step) → state.fault ≡ None → None ≡ line_fault state.setup (block_at line) → IsLeft state.setup (words_in (block_at line)) step → OnOk given (new ≡ state_with state step new.room) → OnOk given (state.room ≤ new.room) → OnOk given (IsTaken state new line)
+taken_ok (Ok value) state new line step sound none left with_step more =
+    subst (λ (own : BookState). IsTaken state own line) (sym with_step) (IsTaken-step state line step new.room sound none left more)
+taken_ok (Err fault) state new line step sound none left with_step more = tt
 
 -- and one for which memory was wanting
-pub wanting_err : {A : Type 0} (given : Result A BookFault) (held new : Held) (line : List ℕ) (step : Step) → held.fault ≡ None → IsStep (Ok step) held.setup (block_at line) held.book (held.lines + 1) → IfErr given (λ fault. (new ≡ held) × (fault ≡ fault_in held.lines NoMemory)) → OnErr given (IsSome step.observation) → IfErr given (λ fault. fault.kind ≡ NoMemory → IsWanting held new line fault)
-wanting_err (Ok value) held new line step sound is as_before sight = tt
-wanting_err (Err fault) held new line step sound is as_before sight = λ wanting.
-    subst (λ (own : Held). IsWanting held own line fault) (sym as_before.0)
-    (subst (λ (own : BookFault). IsWanting held held line own) (sym as_before.1) (IsWanting-step held line step sound is sight))
+pub wanting_err : {A : Type 0} (given : Result A BookFault) (state new : BookState) (line : List ℕ) (step : Step) → state.fault ≡ None → None ≡ line_fault state.setup (block_at line) → IsLeft state.setup (words_in (block_at line)) step → IfErr given (λ fault. (new ≡ state) × (fault ≡ fault_in state.lines NoMemory)) → OnErr given (IsSome step.sight) → OnErr given (state.room ≤ length state.observations) → IfErr given (λ fault. fault.kind ≡ NoMemory → IsWanting state new line fault)
+wanting_err (Ok value) state new line step sound none left as_before sight full = tt
+wanting_err (Err fault) state new line step sound none left as_before sight full = λ wanting.
+    subst (λ (own : BookState). IsWanting state own line fault) (sym as_before.0)
+    (subst (λ (own : BookFault). IsWanting state state line own) (sym as_before.1) (IsWanting-step state line step sound none left sight full))

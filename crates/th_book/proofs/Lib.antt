@@ -1,8 +1,10 @@
 pub mod CountedWords
-pub mod Faultless
 pub mod RefusedLengths
+pub mod EntryLemmas
+pub mod Faultless
 pub mod Running
 pub mod Keeping
+pub mod StepLemmas
 pub mod Holding
 pub mod Reading
-pub mod Stepping
+pub mod FeedLemmas

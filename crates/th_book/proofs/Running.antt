@@ -3,7 +3,7 @@ use Rattle.std.proofs.Common.{◌≡◌, ℕ, ℤ, zero, suc, ◌<◌, ◌≤◌
 use Rattle.std.specs.Prelude.{is_some, nat_le, option_and_then, option_map}
 use Rattle.std.proofs.lemmas.Bool.{false≢true, and_left, cond-false, le-leb, lt-leb}
 use Rattle.gsi_word.specs.Words.{Parts}
-use Rattle.th_book.specs.Lines.{Said, holds, is_setup, length_in, point_name}
+use Rattle.th_book.specs.Lines.{ParsedLine, holds, is_setup, length_in, point_name}
 use Rattle.th_book.specs.Places.{holds_from, last_below, setup_of, words_at}
 use Rattle.th_book.specs.Books.{known_name}
 use Rattle.th_book.specs.Due.{begun, latest, setup_after, with_heights}
@@ -26,54 +26,54 @@ last_below-none test (suc bound) fails =
     cond-false (test bound) _ _ (fails bound (omega arith)) ∙ last_below-none test bound (λ k below. fails k (omega arith))
 
 -- a running height: that of the last line from the setup's on and below a bound, and it is there just where such a line is
-pub record IsHeight (index : ℕ) (said : List Said) (from bound : ℕ) (height : Option ℤ) : Type 0 where
-  pub length : height ≡ option_and_then (λ k. length_in index (words_at said k)) (last_below (holds_from said index from) bound)
-  pub there : is_some height ≡ is_some (last_below (holds_from said index from) bound)
+pub record IsHeight (index : ℕ) (parsed : List ParsedLine) (from bound : ℕ) (height : Option ℤ) : Type 0 where
+  pub length : height ≡ option_and_then (λ k. length_in index (words_at parsed k)) (last_below (holds_from parsed index from) bound)
+  pub there : is_some height ≡ is_some (last_below (holds_from parsed index from) bound)
 
 -- one more line from the setup's on
-pub last_below-holds : (index : ℕ) (said : List Said) (from n : ℕ) → from ≤ n → last_below (holds_from said index from) (suc n) ≡ cond (holds index (words_at said n)) (Some n) (last_below (holds_from said index from) n)
-last_below-holds index said from n after =
-    ap (λ late. cond (late && holds index (words_at said n)) (Some n) (last_below (holds_from said index from) n)) (le-leb from n after)
+pub last_below-holds : (index : ℕ) (parsed : List ParsedLine) (from n : ℕ) → from ≤ n → last_below (holds_from parsed index from) (suc n) ≡ cond (holds index (words_at parsed n)) (Some n) (last_below (holds_from parsed index from) n)
+last_below-holds index parsed from n after =
+    ap (λ late. cond (late && holds index (words_at parsed n)) (Some n) (last_below (holds_from parsed index from) n)) (le-leb from n after)
 
 -- the height that one more line leaves
-pub IsHeight-more : (index : ℕ) (said : List Said) (from n : ℕ) (height : Option ℤ) → from ≤ n → IsHeight index said from n height → (holds index (words_at said n) ≡ true → is_some (length_in index (words_at said n)) ≡ true) → IsHeight index said from (suc n) (latest index (words_at said n) height)
-IsHeight-more index said from n height after was read =
-    let more = last_below-holds index said from n after in
+pub IsHeight-more : (index : ℕ) (parsed : List ParsedLine) (from n : ℕ) (height : Option ℤ) → from ≤ n → IsHeight index parsed from n height → (holds index (words_at parsed n) ≡ true → is_some (length_in index (words_at parsed n)) ≡ true) → IsHeight index parsed from (suc n) (latest index (words_at parsed n) height)
+IsHeight-more index parsed from n height after was read =
+    let more = last_below-holds index parsed from n after in
     record {
-      length = length_after (holds index (words_at said n)) ∙ ap (option_and_then (λ k. length_in index (words_at said k))) (sym more);
-      there = there_after (holds index (words_at said n)) read ∙ ap is_some (sym more);
+      length = length_after (holds index (words_at parsed n)) ∙ ap (option_and_then (λ k. length_in index (words_at parsed k))) (sym more);
+      there = there_after (holds index (words_at parsed n)) read ∙ ap is_some (sym more);
     }
   where
-    length_after : (here : Bool) → cond here (length_in index (words_at said n)) height ≡ option_and_then (λ k. length_in index (words_at said k)) (cond here (Some n) (last_below (holds_from said index from) n))
+    length_after : (here : Bool) → cond here (length_in index (words_at parsed n)) height ≡ option_and_then (λ k. length_in index (words_at parsed k)) (cond here (Some n) (last_below (holds_from parsed index from) n))
     length_after true = refl
     length_after false = was.length
 
-    there_after : (here : Bool) → (here ≡ true → is_some (length_in index (words_at said n)) ≡ true) → is_some (cond here (length_in index (words_at said n)) height) ≡ is_some (cond here (Some n) (last_below (holds_from said index from) n))
+    there_after : (here : Bool) → (here ≡ true → is_some (length_in index (words_at parsed n)) ≡ true) → is_some (cond here (length_in index (words_at parsed n)) height) ≡ is_some (cond here (Some n) (last_below (holds_from parsed index from) n))
     there_after true r = r refl
     there_after false r = was.there
 
 -- a new setup has no height before its own line
-pub IsHeight-new : (index : ℕ) (said : List Said) (n : ℕ) → IsHeight index said n n None
-IsHeight-new index said n =
-    let none = last_below-none (holds_from said index n) n (λ k below. and_left (nat_le n k) (holds index (words_at said k)) (lt-leb n k below)) in
+pub IsHeight-new : (index : ℕ) (parsed : List ParsedLine) (n : ℕ) → IsHeight index parsed n n None
+IsHeight-new index parsed n =
+    let none = last_below-none (holds_from parsed index n) n (λ k below. and_left (nat_le n k) (holds index (words_at parsed k)) (lt-leb n k below)) in
     record {
-      length = ap (option_and_then (λ k. length_in index (words_at said k))) (sym none);
+      length = ap (option_and_then (λ k. length_in index (words_at parsed k))) (sym none);
       there = ap is_some (sym none);
     }
 
 -- a setup that is kept stands at a place: it has the name of the point there, and the last heights since
-pub record StandsAt (said : List Said) (from bound : ℕ) (setup : Setup) : Type 0 where
+pub record StandsAt (parsed : List ParsedLine) (from bound : ℕ) (setup : Setup) : Type 0 where
   pub before : from < bound
-  pub name : point_name (words_at said from) ≡ Some setup.station
-  pub instrument : IsHeight instrument_height said from bound setup.instrument
-  pub reflector : IsHeight reflector_height said from bound setup.reflector
+  pub name : point_name (words_at parsed from) ≡ Some setup.station
+  pub instrument : IsHeight instrument_height parsed from bound setup.instrument
+  pub reflector : IsHeight reflector_height parsed from bound setup.reflector
 
 -- what is kept is the last setup below a bound, if there is one
-abbrev pub IsRunning : List Said → ℕ → Option ℕ → Option Setup → Type 0
-IsRunning said bound None None = Unit {0}
-IsRunning said bound None (Some setup) = ⊥
-IsRunning said bound (Some from) None = ⊥
-IsRunning said bound (Some from) (Some setup) = StandsAt said from bound setup
+abbrev pub IsRunning : List ParsedLine → ℕ → Option ℕ → Option Setup → Type 0
+IsRunning parsed bound None None = Unit {0}
+IsRunning parsed bound None (Some setup) = ⊥
+IsRunning parsed bound (Some from) None = ⊥
+IsRunning parsed bound (Some from) (Some setup) = StandsAt parsed from bound setup
 
 -- the heights of a line can be read where it holds them
 pub record AreRead (words : List Parts) : Type 0 where
@@ -81,21 +81,21 @@ pub record AreRead (words : List Parts) : Type 0 where
   pub reflector : holds reflector_height words ≡ true → is_some (length_in reflector_height words) ≡ true
 
 -- a setup that stood before a line stands after it, with the line's heights
-pub StandsAt-more : (said : List Said) (from n : ℕ) (setup : Setup) → StandsAt said from n setup → AreRead (words_at said n) → StandsAt said from (suc n) (with_heights (words_at said n) setup)
-StandsAt-more said from n setup stands read = record {
+pub StandsAt-more : (parsed : List ParsedLine) (from n : ℕ) (setup : Setup) → StandsAt parsed from n setup → AreRead (words_at parsed n) → StandsAt parsed from (suc n) (with_heights (words_at parsed n) setup)
+StandsAt-more parsed from n setup stands read = record {
   before = omega (arith, stands.before);
   name = stands.name;
-  instrument = IsHeight-more instrument_height said from n setup.instrument (omega (arith, stands.before)) stands.instrument read.instrument;
-  reflector = IsHeight-more reflector_height said from n setup.reflector (omega (arith, stands.before)) stands.reflector read.reflector;
+  instrument = IsHeight-more instrument_height parsed from n setup.instrument (omega (arith, stands.before)) stands.instrument read.instrument;
+  reflector = IsHeight-more reflector_height parsed from n setup.reflector (omega (arith, stands.before)) stands.reflector read.reflector;
 }
 
 -- a setup stands from its own line on
-pub StandsAt-new : (said : List Said) (n : ℕ) → is_some (point_name (words_at said n)) ≡ true → AreRead (words_at said n) → StandsAt said n (suc n) (with_heights (words_at said n) (begun (words_at said n)))
-StandsAt-new said n named read = record {
+pub StandsAt-new : (parsed : List ParsedLine) (n : ℕ) → is_some (point_name (words_at parsed n)) ≡ true → AreRead (words_at parsed n) → StandsAt parsed n (suc n) (with_heights (words_at parsed n) (begun (words_at parsed n)))
+StandsAt-new parsed n named read = record {
   before = omega arith;
-  name = known (point_name (words_at said n)) named;
-  instrument = IsHeight-more instrument_height said n n None (omega arith) (IsHeight-new instrument_height said n) read.instrument;
-  reflector = IsHeight-more reflector_height said n n None (omega arith) (IsHeight-new reflector_height said n) read.reflector;
+  name = known (point_name (words_at parsed n)) named;
+  instrument = IsHeight-more instrument_height parsed n n None (omega arith) (IsHeight-new instrument_height parsed n) read.instrument;
+  reflector = IsHeight-more reflector_height parsed n n None (omega arith) (IsHeight-new reflector_height parsed n) read.reflector;
 }
   where
     known : (name : Option (List ℕ)) → is_some name ≡ true → name ≡ Some (known_name name)
@@ -103,15 +103,15 @@ StandsAt-new said n named read = record {
     known (Some name) h = refl
 
 -- the running setup after one more line
-pub IsRunning-more : (said : List Said) (n : ℕ) (setup : Option Setup) → IsRunning said n (setup_of said n) setup → (is_setup (words_at said n) ≡ true → is_some (point_name (words_at said n)) ≡ true) → AreRead (words_at said n) → IsRunning said (suc n) (setup_of said (suc n)) (setup_after setup (words_at said n))
-IsRunning-more said n setup was named read = go (is_setup (words_at said n)) named
+pub IsRunning-more : (parsed : List ParsedLine) (n : ℕ) (setup : Option Setup) → IsRunning parsed n (setup_of parsed n) setup → (is_setup (words_at parsed n) ≡ true → is_some (point_name (words_at parsed n)) ≡ true) → AreRead (words_at parsed n) → IsRunning parsed (suc n) (setup_of parsed (suc n)) (setup_after setup (words_at parsed n))
+IsRunning-more parsed n setup was named read = go (is_setup (words_at parsed n)) named
   where
-    kept : (found : Option ℕ) (held : Option Setup) → IsRunning said n found held → IsRunning said (suc n) found (option_map (with_heights (words_at said n)) held)
+    kept : (found : Option ℕ) (held : Option Setup) → IsRunning parsed n found held → IsRunning parsed (suc n) found (option_map (with_heights (words_at parsed n)) held)
     kept None None r = tt
     kept None (Some own) r = r
     kept (Some from) None r = r
-    kept (Some from) (Some own) r = StandsAt-more said from n own r read
+    kept (Some from) (Some own) r = StandsAt-more parsed from n own r read
 
-    go : (begins : Bool) → (begins ≡ true → is_some (point_name (words_at said n)) ≡ true) → IsRunning said (suc n) (cond begins (Some n) (setup_of said n)) (option_map (with_heights (words_at said n)) (cond begins (Some (begun (words_at said n))) setup))
-    go true names = StandsAt-new said n (names refl) read
-    go false names = kept (setup_of said n) setup was
+    go : (begins : Bool) → (begins ≡ true → is_some (point_name (words_at parsed n)) ≡ true) → IsRunning parsed (suc n) (cond begins (Some n) (setup_of parsed n)) (option_map (with_heights (words_at parsed n)) (cond begins (Some (begun (words_at parsed n))) setup))
+    go true names = StandsAt-new parsed n (names refl) read
+    go false names = kept (setup_of parsed n) setup was

@@ -3,7 +3,7 @@ use Rattle.std.specs.List.{range_with_len}
 use Rattle.gsi_block.specs.Lines.{lines_of}
 use Rattle.gsi_block.specs.Blocks.{block_at}
 use Rattle.th_book.specs.Observed.{Observed}
-use Rattle.th_book.specs.Lines.{Said, is_sight, length_in, point_name}
+use Rattle.th_book.specs.Lines.{ParsedLine, is_sight, length_in, point_name}
 use Rattle.th_book.specs.Places.{height_at, station_at, words_at}
 use Rattle.th_book.specs.Faults.{first_fault}
 use Rattle.th_book.specs.declared.faults.BookFault.{BookFault}
@@ -22,27 +22,27 @@ abbrev pub difference : Option ℤ → Option ℤ → Option ℤ → ℤ
 difference sighted instrument reflector = known sighted +ℤ known instrument -ℤ known reflector
 
 -- the observation of the sight at a place
-abbrev pub observed_at : ℕ → List Said → ℕ → Observed
-observed_at book said place = record {
-  station = known_name (station_at said place);
-  target = known_name (point_name (words_at said place));
-  difference = difference (length_in height_difference (words_at said place)) (height_at instrument_height said place) (height_at reflector_height said place);
+abbrev pub observed_at : ℕ → List ParsedLine → ℕ → Observed
+observed_at book parsed place = record {
+  station = known_name (station_at parsed place);
+  target = known_name (point_name (words_at parsed place));
+  difference = difference (length_in height_difference (words_at parsed place)) (height_at instrument_height parsed place) (height_at reflector_height parsed place);
   book = book;
   line = place + 1;
 }
 
 -- the observations of a book's lines, in the order of their sights
-abbrev pub observations_of : ℕ → List Said → List Observed
-observations_of book said =
-    map (observed_at book said) (filter (λ place. is_sight (words_at said place)) (range_with_len 0 (length said)))
+abbrev pub observations_of : ℕ → List ParsedLine → List Observed
+observations_of book parsed =
+    map (observed_at book parsed) (filter (λ place. is_sight (words_at parsed place)) (range_with_len 0 (length parsed)))
 
 -- what a book gives: the fault that counts, or else the observations
 abbrev pub answer : Option BookFault → List Observed → Result (List Observed) BookFault
 answer (Some fault) observations = Err fault
 answer None observations = Ok observations
 
-abbrev pub answer_of : ℕ → List Said → Result (List Observed) BookFault
-answer_of book said = answer (first_fault said) (observations_of book said)
+abbrev pub answer_of : ℕ → List ParsedLine → Result (List Observed) BookFault
+answer_of book parsed = answer (first_fault parsed) (observations_of book parsed)
 
 -- what the lines of a book give
 abbrev pub lines_answer : ℕ → List (List ℕ) → Result (List Observed) BookFault

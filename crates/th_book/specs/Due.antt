@@ -1,8 +1,8 @@
-use Rattle.std.specs.Prelude.{◌≡◌, ◌≢◌, ℕ, ℤ, ◌+◌, ◌||◌, true, false, List, [], ◌∷◌, ◌++◌, Option, Some, None, Result, Ok, Err, if◌then◌else◌, is_none, is_some, map, option_and_then, option_map}
+use Rattle.std.specs.Prelude.{◌≡◌, ◌≢◌, ◌≤◌, ℕ, ℤ, ◌+◌, ◌||◌, true, false, List, [], ◌∷◌, ◌++◌, Option, Some, None, Result, Ok, Err, if◌then◌else◌, is_none, is_some, length, map, option_and_then, option_map, option_to_list}
 use Rattle.gsi_word.specs.Words.{Parts}
 use Rattle.gsi_block.specs.Blocks.{block_at}
 use Rattle.th_book.specs.Observed.{Observed}
-use Rattle.th_book.specs.Lines.{Said, holds, is_setup, is_sight, length_in, point_name, words_in}
+use Rattle.th_book.specs.Lines.{ParsedLine, holds, is_setup, is_sight, length_in, point_name, words_in}
 use Rattle.th_book.specs.Faults.{Standing, fault_in, kind_of}
 use Rattle.th_book.specs.Books.{answer, difference, known_name}
 use Rattle.th_book.specs.declared.setups.Setup.{Setup}
@@ -11,17 +11,19 @@ use Rattle.th_book.specs.declared.faults.BookKind.TheVariants.{NoMemory}
 use Rattle.th_book.specs.declared.faults.BookFault.{BookFault}
 use Rattle.th_book.specs.Indexes.{height_difference, reflector_height, instrument_height}
 
--- what a `Book` holds: its number, how many lines were taken, the running setup, the observations so far, and the fault if one was found
-pub record Held : Type 0 where
+-- What a `Book` holds: its number, how many lines were taken, the running setup, the observations so far, how many observations there is
+-- room for before memory is asked for, and the fault if one was found. What is due does not depend on the room.
+pub record BookState : Type 0 where
   pub book : ℕ
   pub lines : ℕ
   pub setup : Option Setup
   pub observations : List Observed
+  pub room : ℕ
   pub fault : Option BookFault
 
 -- what a new book holds
-abbrev pub empty : ℕ → Held
-empty book = record { book = book; lines = 0; setup = None; observations = []; fault = None }
+abbrev pub empty : ℕ → BookState
+empty book = record { book = book; lines = 0; setup = None; observations = []; room = 0; fault = None }
 
 -- what stands for a sight with these words in a running setup
 abbrev pub standing_in : Option Setup → List Parts → Standing
@@ -63,60 +65,52 @@ observed_in book line setup words = record {
   line = line;
 }
 
--- the observations after some words
-abbrev pub observations_after : Held → List Parts → List Observed
-observations_after held words =
-    if is_sight words
-    then held.observations ++ observed_in held.book (held.lines + 1) (setup_after held.setup words) words ∷ []
-    else held.observations
+-- the observation that some words give in a running setup, if they are a sight
+abbrev pub observation_in : ℕ → ℕ → Option Setup → List Parts → Option Observed
+observation_in book line setup words =
+    if is_sight words then Some (observed_in book line (setup_after setup words) words) else None
 
 -- what is held after a line with these words, by the kind of its fault: a fault is kept, and else what the words say
-abbrev pub after_words : Held → List Parts → Option BookKind → Held
-after_words held words (Some kind) = record {
-  book = held.book;
-  lines = held.lines + 1;
-  setup = held.setup;
-  observations = held.observations;
-  fault = Some (fault_in held.lines kind);
-}
-after_words held words None = record {
-  book = held.book;
-  lines = held.lines + 1;
-  setup = setup_after held.setup words;
-  observations = observations_after held words;
+abbrev pub after_words : BookState → List Parts → Option BookKind → BookState
+after_words state words (Some kind) = record state { lines = state.lines + 1; fault = Some (fault_in state.lines kind) }
+after_words state words None = record state {
+  lines = state.lines + 1;
+  setup = setup_after state.setup words;
+  observations = state.observations ++ option_to_list (observation_in state.book (state.lines + 1) state.setup words);
   fault = None;
 }
 
 -- what is held after one more line, by the fault that was found before: after a fault nothing changes
-abbrev pub after_unless : Option BookFault → Held → Said → Held
-after_unless (Some fault) held said = held
-after_unless None held said = after_words held (words_in said) (kind_of (standing_in held.setup (words_in said)) said)
+abbrev pub after_unless : Option BookFault → BookState → ParsedLine → BookState
+after_unless (Some fault) state parsed = state
+after_unless None state parsed = after_words state (words_in parsed) (kind_of (standing_in state.setup (words_in parsed)) parsed)
 
 -- what is held after a line that says this
-abbrev pub after_said : Held → Said → Held
-after_said held said = after_unless held.fault held said
+abbrev pub after_parsed : BookState → ParsedLine → BookState
+after_parsed state parsed = after_unless state.fault state parsed
 
 -- what is held after one more line
-abbrev pub after : Held → List ℕ → Held
-after held line = after_said held (block_at line)
+abbrev pub after : BookState → List ℕ → BookState
+after state line = after_parsed state (block_at line)
 
 -- what is still to come if lines that say this follow
-abbrev pub due_said : Held → List Said → Result (List Observed) BookFault
-due_said held [] = answer held.fault held.observations
-due_said held (said ∷ rest) = due_said (after_said held said) rest
+abbrev pub due_parsed : BookState → List ParsedLine → Result (List Observed) BookFault
+due_parsed state [] = answer state.fault state.observations
+due_parsed state (parsed ∷ rest) = due_parsed (after_parsed state parsed) rest
 
 -- what is still to come from a book that holds this, if these lines follow: the observations of the whole book or its fault
-abbrev pub due : Held → List (List ℕ) → Result (List Observed) BookFault
-due held lines = due_said held (map block_at lines)
+abbrev pub due : BookState → List (List ℕ) → Result (List Observed) BookFault
+due state lines = due_parsed state (map block_at lines)
 
--- a line was taken: what was due with this line before it is due now, and no line had a fault
-pub record IsTaken (old new : Held) (line : List ℕ) : Type 0 where
+-- a line was taken: what was due with this line before it is due now, no line had a fault, and there is no less room than before
+pub record IsTaken (old new : BookState) (line : List ℕ) : Type 0 where
   pub keeps : (rest : List (List ℕ)) → due new rest ≡ due old (line ∷ rest)
   pub faultless : new.fault ≡ None
   pub lines : new.lines ≡ old.lines + 1
+  pub room : old.room ≤ new.room
 
 -- a fault was answered: it was due with this line, and it stays due whatever follows; only the line where it was found is counted
-pub record IsRefused (old new : Held) (line : List ℕ) (fault : BookFault) : Type 0 where
+pub record IsRefused (old new : BookState) (line : List ℕ) (fault : BookFault) : Type 0 where
   pub was : (rest : List (List ℕ)) → due old (line ∷ rest) ≡ Err fault
   pub stays : (rest : List (List ℕ)) → due new rest ≡ Err fault
   pub lines : new.lines ≡ (if is_none old.fault then old.lines + 1 else old.lines)
@@ -125,11 +119,12 @@ pub record IsRefused (old new : Held) (line : List ℕ) (fault : BookFault) : Ty
 abbrev pub EndsWithSight : Result (List Observed) BookFault → ℕ → Type 0
 EndsWithSight answer line = (before : List Observed) × (last : Observed) × (answer ≡ Ok (before ++ last ∷ [])) × (last.line ≡ line)
 
--- memory was wanting for the observation of this line: the book is as before it
-pub record IsWanting (old new : Held) (line : List ℕ) (fault : BookFault) : Type 0 where
+-- memory was wanting for the observation of this line, for which there was no room: the book is as before it
+pub record IsWanting (old new : BookState) (line : List ℕ) (fault : BookFault) : Type 0 where
   pub unchanged : new ≡ old
   pub at_line : fault.line ≡ old.lines + 1
   pub observes : EndsWithSight (due old (line ∷ [])) fault.line
+  pub full : old.room ≤ length old.observations
 
 -- a fault that is kept is no want of memory
 abbrev pub IsLasting : Option BookFault → Type 0

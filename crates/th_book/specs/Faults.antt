@@ -1,14 +1,14 @@
-use Rattle.std.specs.Prelude.{ℕ, ℤ, ◌+◌, ◌==◌, ◌&&◌, ◌||◌, not, Bool, true, false, List, [], ◌∷◌, Option, Some, None, Result, Ok, Err, if◌then◌else◌, count_by, nat_lt, option_map, is_none, is_some, slice_get, slice_index, length}
+use Rattle.std.specs.Prelude.{ℕ, ℤ, ◌+◌, ◌++◌, ◌==◌, ◌&&◌, ◌||◌, not, Bool, true, false, List, [], ◌∷◌, Option, Some, None, Result, Ok, Err, if◌then◌else◌, count_by, nat_lt, option_map, is_none, is_some, slice_get, slice_index, length}
 use Rattle.std.specs.List.{list_any, filter_map, range_with_len}
-use Rattle.th_units.specs.Lens.{are_digits}
+use Rattle.th_units.specs.Lengths.{are_digits}
 use Rattle.th_units.specs.Units.{unit_of}
 use Rattle.gsi_word.specs.Words.{Parts}
 use Rattle.gsi_word.specs.Names.{same_name}
-use Rattle.gsi_word.specs.Data.{length_of}
-use Rattle.gsi_word.specs.declared.data.LengthFault.{LengthFault}
-use Rattle.gsi_word.specs.declared.data.LengthFault.TheVariants as length_fault
-use Rattle.th_book.specs.Lines.{Said, counts_for, is_setup, is_sight, point_name}
-use Rattle.th_book.specs.Places.{last_with, said_at, setup_of, station_at}
+use Rattle.gsi_word.specs.Values.{length_of}
+use Rattle.gsi_word.specs.declared.faults.LengthFault.{LengthFault}
+use Rattle.gsi_word.specs.declared.faults.LengthFault.TheVariants as length_fault
+use Rattle.th_book.specs.Lines.{ParsedLine, counts_for, is_setup, is_sight, point_name}
+use Rattle.th_book.specs.Places.{last_with, line_at, setup_of, station_at}
 use Rattle.th_book.specs.declared.faults.BookKind.{BookKind}
 use Rattle.th_book.specs.declared.faults.BookKind.TheVariants.{Block, RepeatedWord, NoPointNumber, BadName, BadNumber, BadUnit, TooLarge, SightBeforeSetup, NoInstrumentHeight, NoReflectorHeight, SightToItself}
 use Rattle.th_book.specs.declared.faults.BookFault.{BookFault}
@@ -71,12 +71,12 @@ pub record Standing : Type 0 where
   pub station : Option (List ℕ)
 
 -- what stands for a sight at a place
-abbrev pub standing_at : List Said → ℕ → Standing
-standing_at said place = record {
-  setup = is_some (setup_of said place);
-  instrument = is_some (last_with instrument_height said place);
-  reflector = is_some (last_with reflector_height said place);
-  station = station_at said place;
+abbrev pub standing_at : List ParsedLine → ℕ → Standing
+standing_at parsed place = record {
+  setup = is_some (setup_of parsed place);
+  instrument = is_some (last_with instrument_height parsed place);
+  reflector = is_some (last_with reflector_height parsed place);
+  station = station_at parsed place;
 }
 
 -- a row of the table of faults: whether the fault is there, and which it is
@@ -88,45 +88,60 @@ abbrev pub first_applying : List Row → Option BookKind
 first_applying [] = None
 first_applying (row ∷ rows) = if row.0 then Some row.1 else first_applying rows
 
--- the table of the faults of a block
-abbrev pub block_faults : Standing → List Parts → List Row
-block_faults standing words =
-    let sight = is_sight words in
-    let named = sight || is_setup words in
-    (repeats_word words, RepeatedWord)
-    ∷ (named && not (begins_with_point words), NoPointNumber)
+-- the table of the faults of the point that a sight or a setup begins with
+abbrev pub point_faults : Bool → List Parts → List Row
+point_faults named words =
+    (named && not (begins_with_point words), NoPointNumber)
     ∷ (named && is_none (point_name words), BadName)
-    ∷ (some_length has_bad_number words, BadNumber)
-    ∷ (some_length has_bad_unit words, BadUnit)
-    ∷ (some_length is_too_large words, TooLarge)
-    ∷ (sight && not standing.setup, SightBeforeSetup)
-    ∷ (sight && not standing.instrument, NoInstrumentHeight)
-    ∷ (sight && not standing.reflector, NoReflectorHeight)
-    ∷ (sight && are_one standing.station (point_name words), SightToItself)
     ∷ []
 
+-- the table of the faults of lengths
+abbrev pub length_faults : List Parts → List Row
+length_faults words =
+    (some_length has_bad_number words, BadNumber)
+    ∷ (some_length has_bad_unit words, BadUnit)
+    ∷ (some_length is_too_large words, TooLarge)
+    ∷ []
+
+-- the table of the faults that a block's own words have
+abbrev pub own_faults : List Parts → List Row
+own_faults words = (repeats_word words, RepeatedWord) ∷ (point_faults (is_sight words || is_setup words) words ++ length_faults words)
+
+-- the table of the faults of a sight of a target, by what stands for it
+abbrev pub sight_faults : Standing → Option (List ℕ) → List Row
+sight_faults standing target =
+    (not standing.setup, SightBeforeSetup)
+    ∷ (not standing.instrument, NoInstrumentHeight)
+    ∷ (not standing.reflector, NoReflectorHeight)
+    ∷ (are_one standing.station target, SightToItself)
+    ∷ []
+
+-- the table of the faults of a block: those of its own words come before those of a sight where it stands
+abbrev pub block_faults : Standing → List Parts → List Row
+block_faults standing words = own_faults words ++ (if is_sight words then sight_faults standing (point_name words) else [])
+
 -- the first kind of fault of a line, by what it says
-abbrev pub kind_of : Standing → Said → Option BookKind
+abbrev pub kind_of : Standing → ParsedLine → Option BookKind
 kind_of standing (Err fault) = Some (Block fault)
 kind_of standing (Ok None) = None
 kind_of standing (Ok (Some block)) = first_applying (block_faults standing block.words)
 
 -- the kind of fault of the line at a place
-abbrev pub kind_at : List Said → ℕ → Option BookKind
-kind_at said place = kind_of (standing_at said place) (said_at said place)
+abbrev pub kind_at : List ParsedLine → ℕ → Option BookKind
+kind_at parsed place = kind_of (standing_at parsed place) (line_at parsed place)
 
 -- a fault of this kind in the line at a place
 abbrev pub fault_in : ℕ → BookKind → BookFault
 fault_in place kind = record { line = place + 1; kind = kind }
 
 -- the fault of the line at a place
-abbrev pub fault_at : List Said → ℕ → Option BookFault
-fault_at said place = option_map (fault_in place) (kind_at said place)
+abbrev pub fault_at : List ParsedLine → ℕ → Option BookFault
+fault_at parsed place = option_map (fault_in place) (kind_at parsed place)
 
 -- the faults of a book's lines, in their order
-abbrev pub faults_of : List Said → List BookFault
-faults_of said = filter_map (fault_at said) (range_with_len 0 (length said))
+abbrev pub faults_of : List ParsedLine → List BookFault
+faults_of parsed = filter_map (fault_at parsed) (range_with_len 0 (length parsed))
 
 -- the fault that counts: that of the first line that has one
-abbrev pub first_fault : List Said → Option BookFault
-first_fault said = slice_get (faults_of said) 0
+abbrev pub first_fault : List ParsedLine → Option BookFault
+first_fault parsed = slice_get (faults_of parsed) 0

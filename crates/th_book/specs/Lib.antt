@@ -6,4 +6,5 @@ pub mod Faults
 pub mod Texts
 pub mod Books
 pub mod Due
-pub mod Steps
+pub mod Feeds
+pub mod Inside

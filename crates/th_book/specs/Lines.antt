@@ -4,17 +4,17 @@ use Rattle.std.specs.Option.{option_map_or}
 use Rattle.std.specs.Result.{result_ok}
 use Rattle.gsi_word.specs.Words.{Parts}
 use Rattle.gsi_word.specs.Names.{name_of}
-use Rattle.gsi_word.specs.Data.{length_of, two_digit}
+use Rattle.gsi_word.specs.Values.{length_of, two_digit}
 use Rattle.gsi_block.specs.Blocks.{BlockParts}
-use Rattle.gsi_block.specs.declared.blocks.BlockFault.{BlockFault}
+use Rattle.gsi_block.specs.declared.faults.BlockFault.{BlockFault}
 use Rattle.th_book.specs.Indexes.{height_difference, station_easting, station_northing, station_height}
 
 -- what a line says: nothing, a block, or why it is neither
-abbrev pub Said : Type 0
-Said = Result (Option BlockParts) BlockFault
+abbrev pub ParsedLine : Type 0
+ParsedLine = Result (Option BlockParts) BlockFault
 
 -- the words of a line's block; a blank line has none, nor has one that is no block
-abbrev pub words_in : Said → List Parts
+abbrev pub words_in : ParsedLine → List Parts
 words_in (Ok (Some block)) = block.words
 words_in (Ok None) = []
 words_in (Err fault) = []

@@ -4,9 +4,10 @@ ghost use Rattle.gsi_word.specs.Words.{result_map};
 ghost use Rattle.th_book.specs.Books.{lines_answer, book_answer, longest_book, too_long};
 ghost use Rattle.th_book.specs.Faults.{fault_in};
 ghost use Rattle.th_book.specs.Due.{due, empty, EndsWithSight, IsTaken, IsRefused, IsWanting};
-ghost use Rattle.th_book.specs.Steps.{held_with, held_refusing};
+ghost use Rattle.th_book.specs.Inside.Steps.{state_refusing, state_with};
 
-use crate::faults::{BookFault, BookKind, MAX_BOOK};
+use crate::faults::{BookFault, BookKind};
+use crate::limits::MAX_BOOK;
 use crate::observations::Observation;
 use crate::setups::Setup;
 use crate::steps::{Step, step_of_line};
@@ -26,15 +27,17 @@ pub struct Book {
 }
 
 impl Model for Book {
-    ghost use Rattle.th_book.specs.Due.{Held, IsLasting};
+    ghost use Rattle.std.specs.Prelude.{vec_capacity};
+    ghost use Rattle.th_book.specs.Due.{BookState, IsLasting};
 
-    ghost Value = { Held };
+    ghost Value = { BookState };
 
     ghost view = { λ b. record {
       book = b.number;
       lines = b.lines;
       setup = b.setup;
       observations = b.observations.items;
+      room = vec_capacity b.observations;
       fault = b.fault;
     } };
 
@@ -72,7 +75,7 @@ impl Book {
         if let Some(fault) = self.fault {
             return Err(fault);
         }
-        match step_of_line(self.setup, line, self.number, self.lines + 1) {
+        match step_of_line(self.setup, line) {
             Ok(step) => self.take(step),
             Err(kind) => Err(self.refuse(kind)),
         }
@@ -104,18 +107,22 @@ impl Book {
     /// Takes what a line without a fault leaves.
     fn take(&mut self, step: Step) -> Result<(), BookFault>
         requires { self.old.lines < longest_book }
-        ensures taken { OnOk result (self.new ≡ held_with self.old step) }
+        ensures taken { OnOk result (self.new ≡ state_with self.old step self.new.room) }
+        ensures room { OnOk result (self.old.room ≤ self.new.room) }
         ensures wanting { IfErr result
             (λ fault. (self.new ≡ self.old) × (fault ≡ fault_in self.old.lines BookKind.NoMemory)) }
-        ensures sight { OnErr result (IsSome step.observation) }
+        ensures sight { OnErr result (IsSome step.sight) }
+        ensures full { OnErr result (self.old.room ≤ length self.old.observations) }
     {
-        if let Some(observation) = step.observation {
-            if self.observations.push(observation).is_err() {
+        if let Some(sight) = &step.sight {
+            let line = self.lines + 1;
+            if self.observations.reserve(1).is_err() {
                 return Err(BookFault {
-                    line: self.lines + 1,
+                    line,
                     kind: BookKind::NoMemory,
                 });
             }
+            self.observations.push_reserved(sight.at(self.number, line));
         }
         self.setup = step.setup;
         self.lines += 1;
@@ -127,13 +134,13 @@ impl Book {
         requires room { self.old.lines < longest_book }
         requires lasting { kind ≢ BookKind.NoMemory }
         ensures fault { result ≡ fault_in self.old.lines kind }
-        ensures kept { self.new ≡ held_refusing self.old kind }
+        ensures kept { self.new ≡ state_refusing self.old kind }
     {
+        self.lines += 1;
         let fault = BookFault {
-            line: self.lines + 1,
+            line: self.lines,
             kind,
         };
-        self.lines += 1;
         self.fault = Some(fault);
         fault
     }

@@ -9,80 +9,46 @@ use crate::indexes::{
 use gsi_word::{LengthFault, Word, length_of, two_digit};
 use th_units::Len;
 
-/// The lengths that a block's counting words write.
-#[derive(Clone, Copy, Debug)]
-pub struct Lengths {
-    pub difference: Option<Len>,
-    pub reflector: Option<Len>,
-    pub instrument: Option<Len>,
-}
-
-/// What the counting words of a block say: of each index that has a length, the first length or why
-/// it is refused; of the others whether the block holds them; and whether an index is repeated.
+/// What the counting words of a block say: of each index that has a length, whether the block holds
+/// it, and the first length where it can be read; of the others whether the block holds them; whether
+/// an index is repeated; and which defects the lengths have.
 #[derive(Clone, Copy, Debug)]
 pub struct Counted {
-    pub difference: Option<Result<Len, LengthFault>>,
+    pub sighted: Option<Option<Len>>,
     pub easting: bool,
     pub northing: bool,
     pub height: bool,
-    pub reflector: Option<Result<Len, LengthFault>>,
-    pub instrument: Option<Result<Len, LengthFault>>,
+    pub reflector: Option<Option<Len>>,
+    pub instrument: Option<Option<Len>>,
     pub repeated: bool,
+    pub bad_number: bool,
+    pub bad_unit: bool,
+    pub too_large: bool,
 }
 
 impl Counted {
-    ghost use Rattle.th_book.specs.Steps.{counted_in, counted_with, counts_sight, counts_setup, lengths_in, some_refused, is_refused_in};
+    ghost use Rattle.std.specs.Result.{result_err, result_ok};
+    ghost use Rattle.gsi_word.specs.Values.{length_of};
+    ghost use Rattle.th_book.specs.Inside.Countings.{counted_fault, counted_in, counted_with, counts_setup, counts_sight, with_defect};
 
     /// What some words say.
     pub fn of(words: &[Word<'_>]) -> Counted
         ensures { result ≡ counted_in (map parts_of words.now) }
     {
         let mut counted = Counted {
-            difference: None,
+            sighted: None,
             easting: false,
             northing: false,
             height: false,
             reflector: None,
             instrument: None,
             repeated: false,
+            bad_number: false,
+            bad_unit: false,
+            too_large: false,
         };
         for word in words {
-            counted = counted.with(word);
-        }
-        counted
-    }
-
-    /// What was counted, and one more word.
-    fn with(self, word: &Word<'_>) -> Counted
-        ensures { result ≡ counted_with (parts_of word.now) self }
-    {
-        let mut counted = self;
-        match two_digit(word) {
-            Some(HEIGHT_DIFFERENCE) => {
-                counted.repeated = self.repeated || self.difference.is_some();
-                counted.difference = self.difference.or(Some(length_of(word)));
-            }
-            Some(STATION_EASTING) => {
-                counted.repeated = self.repeated || self.easting;
-                counted.easting = true;
-            }
-            Some(STATION_NORTHING) => {
-                counted.repeated = self.repeated || self.northing;
-                counted.northing = true;
-            }
-            Some(STATION_HEIGHT) => {
-                counted.repeated = self.repeated || self.height;
-                counted.height = true;
-            }
-            Some(REFLECTOR_HEIGHT) => {
-                counted.repeated = self.repeated || self.reflector.is_some();
-                counted.reflector = self.reflector.or(Some(length_of(word)));
-            }
-            Some(INSTRUMENT_HEIGHT) => {
-                counted.repeated = self.repeated || self.instrument.is_some();
-                counted.instrument = self.instrument.or(Some(length_of(word)));
-            }
-            _ => {}
+            counted.take(word);
         }
         counted
     }
@@ -91,7 +57,7 @@ impl Counted {
     pub fn is_sight(&self) -> bool
         ensures { result ≡ counts_sight self.now }
     {
-        self.difference.is_some()
+        self.sighted.is_some()
     }
 
     /// Whether a coordinate of the station counts and no height difference, as in a setup.
@@ -101,44 +67,68 @@ impl Counted {
         !self.is_sight() && (self.easting || self.northing || self.height)
     }
 
-    /// The lengths, or the first kind of fault among them: a number, then a unit, then a size.
-    pub fn lengths(&self) -> Result<Lengths, BookKind>
-        ensures { result ≡ lengths_in self.now }
+    /// Refuses lengths that have a defect: a number first, then a unit, then a size.
+    pub fn check_lengths(&self) -> Result<(), BookKind>
+        ensures { result_err result ≡ counted_fault self.now }
     {
-        if self.some_refused(LengthFault::BadNumber) {
-            return Err(BookKind::BadNumber);
+        if self.bad_number {
+            Err(BookKind::BadNumber)
+        } else if self.bad_unit {
+            Err(BookKind::BadUnit)
+        } else if self.too_large {
+            Err(BookKind::TooLarge)
+        } else {
+            Ok(())
         }
-        if self.some_refused(LengthFault::BadUnit) {
-            return Err(BookKind::BadUnit);
-        }
-        if self.some_refused(LengthFault::TooLarge) {
-            return Err(BookKind::TooLarge);
-        }
-        Ok(Lengths {
-            difference: self.difference.and_then(|length| length.ok()),
-            reflector: self.reflector.and_then(|length| length.ok()),
-            instrument: self.instrument.and_then(|length| length.ok()),
-        })
     }
 
-    /// Whether some length is refused for this fault.
-    fn some_refused(&self, fault: LengthFault) -> bool
-        ensures { result ≡ some_refused fault self.now }
+    /// Counts one more word.
+    fn take(&mut self, word: &Word<'_>)
+        ensures { self.new ≡ counted_with (parts_of word.now) self.old }
     {
-        is_refused(self.difference, fault)
-            || is_refused(self.reflector, fault)
-            || is_refused(self.instrument, fault)
+        match two_digit(word) {
+            Some(HEIGHT_DIFFERENCE) => {
+                self.repeated = self.repeated || self.sighted.is_some();
+                let length = self.length(word);
+                self.sighted = self.sighted.or(Some(length));
+            }
+            Some(STATION_EASTING) => {
+                self.repeated = self.repeated || self.easting;
+                self.easting = true;
+            }
+            Some(STATION_NORTHING) => {
+                self.repeated = self.repeated || self.northing;
+                self.northing = true;
+            }
+            Some(STATION_HEIGHT) => {
+                self.repeated = self.repeated || self.height;
+                self.height = true;
+            }
+            Some(REFLECTOR_HEIGHT) => {
+                self.repeated = self.repeated || self.reflector.is_some();
+                let length = self.length(word);
+                self.reflector = self.reflector.or(Some(length));
+            }
+            Some(INSTRUMENT_HEIGHT) => {
+                self.repeated = self.repeated || self.instrument.is_some();
+                let length = self.length(word);
+                self.instrument = self.instrument.or(Some(length));
+            }
+            _ => {}
+        }
     }
-}
 
-ghost use Rattle.th_book.specs.Steps.{is_refused_in};
-
-/// Whether a length is there and refused for this fault.
-fn is_refused(length: Option<Result<Len, LengthFault>>, fault: LengthFault) -> bool
-    ensures { result ≡ is_refused_in fault length }
-{
-    match length {
-        Some(Err(own)) => own == fault,
-        _ => false,
+    /// The length of a word that counts for one; why it is refused is kept.
+    fn length(&mut self, word: &Word<'_>) -> Option<Len>
+        ensures read { result ≡ result_ok (length_of (parts_of word.now)) }
+        ensures kept { self.new ≡ with_defect (length_of (parts_of word.now)) self.old }
+    {
+        match length_of(word) {
+            Ok(length) => return Some(length),
+            Err(LengthFault::BadNumber) => self.bad_number = true,
+            Err(LengthFault::BadUnit) => self.bad_unit = true,
+            Err(LengthFault::TooLarge) => self.too_large = true,
+        }
+        None
     }
 }

@@ -2,9 +2,6 @@ use gsi_block::BlockFault;
 use std::error::Error;
 use std::fmt;
 
-/// The most bytes that a book has: 64 MiB.
-pub const MAX_BOOK: usize = 67_108_864;
-
 /// What is wrong with a book. A line has the first kind that applies, in this order; a book that is
 /// too long is that before all else.
 #[derive(Clone, Copy, Debug, PartialEq, Eq)]
@@ -21,7 +18,7 @@ pub enum BookKind {
     BadNumber,
     /// B6: the unit of a counting word 33, 87 or 88 is none of a book's.
     BadUnit,
-    /// B7: a counting word 33, 87 or 88 is more than 10 km.
+    /// B7: a counting word 33, 87 or 88 is more than `MAX_LEN` in size.
     TooLarge,
     /// B8: no setup stands before the sight.
     SightBeforeSetup,
@@ -31,7 +28,7 @@ pub enum BookKind {
     NoReflectorHeight,
     /// B11: the sight's station and target have one name.
     SightToItself,
-    /// B12: the book has more than 64 MiB.
+    /// B12: the book has more than `MAX_BOOK` bytes.
     BookTooLong,
     /// Memory for an observation was refused, which is no fault of the book.
     NoMemory,

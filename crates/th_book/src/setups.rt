@@ -1,6 +1,7 @@
-ghost use Rattle.std.specs.Prelude.{◌≡◌, ℕ};
+ghost use Rattle.std.specs.Prelude.{◌≡◌, ◌≢◌, ◌≤◌, ℕ, IfOk, unsigned_abs};
+ghost use Rattle.th_book.specs.Observed.{largest_difference};
 
-use crate::countings::Lengths;
+use crate::entries::Entry;
 use crate::faults::BookKind;
 use crate::observations::Observation;
 use gsi_word::Name;
@@ -14,11 +15,34 @@ pub struct Setup {
     pub reflector: Option<Len>,
 }
 
+/// What is seen from a station: the height of the target above it, in units of 10 nm.
+#[derive(Clone, Copy, Debug)]
+pub struct Sight {
+    pub station: Name,
+    pub target: Name,
+    pub difference: i64,
+    ghost distinct: { station ≢ target },
+    ghost in_range: { unsigned_abs difference ≤ largest_difference },
+}
+
 impl Setup {
-    ghost use Rattle.th_book.specs.Steps.{setup_at, with_lengths, with_heights_of};
+    ghost use Rattle.std.specs.Result.{result_err};
+    ghost use Rattle.th_book.specs.Inside.Entries.{setup_at, setup_by, with_entry};
+    ghost use Rattle.th_book.specs.Inside.Steps.{IsSeen, sight_fault};
+
+    /// The running setup after an entry: the one that it begins, or the one before, with its heights.
+    pub fn after(running: Option<Setup>, entry: &Entry) -> Option<Setup>
+        ensures { result ≡ setup_by entry.now running }
+    {
+        let setup = match entry.station {
+            Some(station) => Some(Setup::at(station)),
+            None => running,
+        };
+        setup.map(|setup| setup.with(entry))
+    }
 
     /// A setup that begins, with no height yet.
-    pub fn at(station: Name) -> Setup
+    fn at(station: Name) -> Setup
         ensures { result ≡ setup_at station }
     {
         Setup {
@@ -28,39 +52,50 @@ impl Setup {
         }
     }
 
-    /// The setup with the heights of one more block.
-    pub fn with_lengths(self, lengths: Lengths) -> Setup
-        ensures { result ≡ with_lengths lengths self }
+    /// The setup with the heights of an entry.
+    fn with(self, entry: &Entry) -> Setup
+        ensures { result ≡ with_entry entry.now self }
     {
         Setup {
             station: self.station,
-            instrument: lengths.instrument.or(self.instrument),
-            reflector: lengths.reflector.or(self.reflector),
+            instrument: entry.instrument.or(self.instrument),
+            reflector: entry.reflector.or(self.reflector),
         }
     }
 
-    /// The observation of a target: word 33 runs from the tilting axis to the reflector.
-    pub fn observe(
-        &self,
-        target: Name,
-        sighted: Len,
-        book: u32,
-        line: u32,
-    ) -> Result<Observation, BookKind>
-        ensures { let setup = self.now in
-            result ≡ with_heights_of setup setup.instrument setup.reflector target sighted book line }
+    /// The sight of a target from the running setup, or the first kind of its faults: word 33 runs
+    /// from the tilting axis to the reflector.
+    pub fn sight(running: Option<Setup>, target: Name, sighted: Len) -> Result<Sight, BookKind>
+        ensures fault { result_err result ≡ sight_fault running target }
+        ensures seen { IfOk result (IsSeen running target sighted) }
     {
-        let instrument = self.instrument.ok_or(BookKind::NoInstrumentHeight)?;
-        let reflector = self.reflector.ok_or(BookKind::NoReflectorHeight)?;
-        if self.station == target {
+        let setup = running.ok_or(BookKind::SightBeforeSetup)?;
+        let instrument = setup.instrument.ok_or(BookKind::NoInstrumentHeight)?;
+        let reflector = setup.reflector.ok_or(BookKind::NoReflectorHeight)?;
+        if setup.station == target {
             return Err(BookKind::SightToItself);
         }
-        Ok(Observation {
-            station: self.station,
+        Ok(Sight {
+            station: setup.station,
             target,
-            diff: sighted.get() + instrument.get() - reflector.get(),
-            book,
-            line,
+            difference: sighted.get() + instrument.get() - reflector.get(),
         })
+    }
+}
+
+impl Sight {
+    ghost use Rattle.th_book.specs.Inside.Steps.{stamped};
+
+    /// The observation of the sight, at its place: the book's number and the line, both from 1.
+    pub fn at(&self, book: u32, line_number: u32) -> Observation
+        ensures { result ≡ stamped book line_number self.now }
+    {
+        Observation {
+            station: self.station,
+            target: self.target,
+            diff: self.difference,
+            book,
+            line: line_number,
+        }
     }
 }

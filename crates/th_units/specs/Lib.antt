@@ -1,3 +1,3 @@
 pub mod Units
-pub mod Lens
+pub mod Lengths
 pub mod Metres

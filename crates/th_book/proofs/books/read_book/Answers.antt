@@ -1,15 +1,10 @@
-use Rattle.std.proofs.Common.{◌≡◌, ◌≢◌, ◌≤◌, ℕ, List, length, Result, Ok, Err, sym, ◌∙◌, arith}
+use Rattle.std.proofs.Common.{◌≡◌, ◌≤◌, ℕ, List, length, sym, ◌∙◌, arith}
 use Rattle.std.specs.Prelude.{nat_lt}
-use Rattle.std.specs.Result.{IfErr, IfOk}
 use Rattle.std.proofs.lemmas.Bool.{cond-false, le-ltb}
 use Rattle.std.proofs.lemmas.Result.{err_from_is_err_and}
-use Rattle.gsi_word.specs.Words.{result_map}
 use Rattle.gsi_block.specs.Lines.{lines_of}
-use Rattle.th_book.specs.Observed.{Observed}
 use Rattle.th_book.specs.Books.{book_answer, lines_answer, longest_book}
-use Rattle.th_book.specs.declared.faults.BookFault.{BookFault}
-use Rattle.th_book.specs.declared.faults.BookKind.TheVariants.{NoMemory}
-use Rattle.th_book.proofs.Reading.{IsReading-more, end_answer, length-lines_of, lines_left, refused_answer, wanting_answer}
+use Rattle.th_book.proofs.Reading.{IsReading-more, end_answer, finished_err, finished_ok, length-lines_of, lines_left, refused_answer, wanting_answer}
 use Rattle.th_book.proofs.books.read_book.Goals as goal
 
 -- a book that is not too long gives what its lines give
@@ -35,15 +30,6 @@ pub returns-in_err-line-clause-wanting : goal.returns-in_err-line-clause-wanting
 returns-in_err-line-clause-wanting c =
     let p = err_from_is_err_and c.from_residual.result c.from_residual.ensures.1 in
     rw (p.1, p.2) (λ wanting. wanting_answer c.args.book (lines_of c.args.bytes.now) c.lines.reader c.line.new.self (lines_of c.lines.cursor) c.in-Some.line.now (lines_of c.next.new.self) c.in_err-line.field-0.0 c.lines.invariant c.in-Some.ensures.gives (c.in_err-line.ensures.wanting wanting))
-
--- what a finished book gives is the answer
-finished_ok : {A : Type 0} (items : A → List Observed) (given : Result A BookFault) (answer : Result (List Observed) BookFault) → result_map items given ≡ answer → IfOk given (λ observations. answer ≡ Ok (items observations))
-finished_ok items (Ok observations) answer e = sym e
-finished_ok items (Err fault) answer e = tt
-
-finished_err : {A : Type 0} (items : A → List Observed) (given : Result A BookFault) (answer : Result (List Observed) BookFault) → result_map items given ≡ answer → IfErr given (λ fault. fault.kind ≢ NoMemory → answer ≡ Err fault)
-finished_err items (Ok observations) answer e = tt
-finished_err items (Err fault) answer e = λ kept. sym e
 
 pub returns-clause-ok : goal.returns-clause-ok
 returns-clause-ok c =

@@ -1,7 +1,7 @@
 use Rattle.std.proofs.Common.{map, take, [], ◌∷◌, ◌++◌, sym, ap, ◌∙◌}
 use Rattle.std.proofs.lemmas.List.{map_push, take_more, take_all}
 use Rattle.gsi_word.specs.Words.{parts_of}
-use Rattle.th_book.specs.Steps.{counted_in, counted_with}
+use Rattle.th_book.specs.Inside.Countings.{counted_in, counted_with}
 use Rattle.th_book.proofs.CountedWords.{counted_in-more}
 use Rattle.th_book.proofs.countings.Counted.of.Goals as goal
 
@@ -10,7 +10,7 @@ loop-word-preserved c =
     let words = c.args.words.now in
     let index = c.loop-word.word-index in
     let word = c.word-item.result in
-    c.with-counted.ensures
+    c.take.ensures
     ∙ ap (counted_with (parts_of word)) c.loop-word.invariant
     ∙ sym (counted_in-more (map parts_of (take index words)) (parts_of word))
     ∙ ap counted_in (sym (map_push parts_of (take index words) word))

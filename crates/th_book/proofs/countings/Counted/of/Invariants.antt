@@ -1,6 +1,6 @@
 use Rattle.std.proofs.Common.{◌≡◌, map, take}
 use Rattle.gsi_word.specs.Words.{parts_of}
-use Rattle.th_book.specs.Steps.{counted_in}
+use Rattle.th_book.specs.Inside.Countings.{counted_in}
 use Rattle.th_book.proofs.countings.Counted.of.Given as goal
 
 abbrev pub invariant-loop-word : goal.invariant-loop-word

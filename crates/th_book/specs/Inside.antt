@@ -1,0 +1,4 @@
+pub mod Countings
+pub mod Entries
+pub mod Steps
+pub mod Feeds

@@ -1,0 +1,89 @@
+-- What is counted of a block's words.
+use Rattle.std.specs.Prelude.{ℕ, ℤ, ◌&&◌, ◌||◌, not, Bool, List, Option, Some, None, Result, find, if◌then◌else◌, is_some, option_map}
+use Rattle.std.specs.Option.{option_or}
+use Rattle.std.specs.Result.{result_ok}
+use Rattle.gsi_word.specs.Words.{Parts}
+use Rattle.gsi_word.specs.Values.{length_of}
+use Rattle.gsi_word.specs.declared.faults.LengthFault.{LengthFault}
+use Rattle.gsi_word.specs.declared.faults.LengthFault.TheVariants.{BadNumber, BadUnit, TooLarge}
+use Rattle.th_book.specs.Lines.{counts_for, holds}
+use Rattle.th_book.specs.Faults.{is_length, is_refused, repeats_word, some_length}
+use Rattle.th_book.specs.declared.countings.Counted.{Counted}
+use Rattle.th_book.specs.declared.faults.BookKind.{BookKind}
+use Rattle.th_book.specs.declared.faults.BookKind.TheVariants as book_kind
+use Rattle.th_book.specs.Indexes.{height_difference, station_easting, station_northing, station_height, reflector_height, instrument_height}
+
+-- the first word that counts for an index, by its length where it can be read
+abbrev pub first_length : ℕ → List Parts → Option (Option ℤ)
+first_length index words = option_map (λ word. result_ok (length_of word)) (find (counts_for index) words)
+
+-- the length of a word is refused for this fault
+abbrev pub is_refused_for : LengthFault → Parts → Bool
+is_refused_for fault word = is_refused fault (length_of word)
+
+-- what the counting words of a block say
+abbrev pub counted_in : List Parts → Counted
+counted_in words = record {
+  sighted = first_length height_difference words;
+  easting = holds station_easting words;
+  northing = holds station_northing words;
+  height = holds station_height words;
+  reflector = first_length reflector_height words;
+  instrument = first_length instrument_height words;
+  repeated = repeats_word words;
+  bad_number = some_length (is_refused_for BadNumber) words;
+  bad_unit = some_length (is_refused_for BadUnit) words;
+  too_large = some_length (is_refused_for TooLarge) words;
+}
+
+-- a word's length is kept where it counts and none was kept before
+abbrev pub first_kept : Bool → Option (Option ℤ) → Parts → Option (Option ℤ)
+first_kept counts kept word = if counts then option_or kept (Some (result_ok (length_of word))) else kept
+
+-- a word counts for an index that was held before
+abbrev pub repeats : Parts → Counted → Bool
+repeats word counted =
+    (counts_for height_difference word && is_some counted.sighted)
+    || ((counts_for station_easting word && counted.easting)
+    || ((counts_for station_northing word && counted.northing)
+    || ((counts_for station_height word && counted.height)
+    || ((counts_for reflector_height word && is_some counted.reflector)
+    || (counts_for instrument_height word && is_some counted.instrument)))))
+
+-- a height difference was counted, or a coordinate of the station and no height difference
+abbrev pub counts_sight : Counted → Bool
+counts_sight counted = is_some counted.sighted
+
+abbrev pub counts_setup : Counted → Bool
+counts_setup counted = not (counts_sight counted) && (counted.easting || (counted.northing || counted.height))
+
+-- the first kind of fault of the lengths that were counted
+abbrev pub counted_fault : Counted → Option BookKind
+counted_fault counted =
+    if counted.bad_number then Some book_kind.BadNumber
+    else (if counted.bad_unit then Some book_kind.BadUnit
+    else (if counted.too_large then Some book_kind.TooLarge
+    else None))
+
+-- what is counted after the length of one more word was asked
+abbrev pub with_defect : Result ℤ LengthFault → Counted → Counted
+with_defect length counted = record counted {
+  bad_number = counted.bad_number || is_refused BadNumber length;
+  bad_unit = counted.bad_unit || is_refused BadUnit length;
+  too_large = counted.too_large || is_refused TooLarge length;
+}
+
+-- what is counted after one more word
+abbrev pub counted_with : Parts → Counted → Counted
+counted_with word counted = record {
+  sighted = first_kept (counts_for height_difference word) counted.sighted word;
+  easting = counted.easting || counts_for station_easting word;
+  northing = counted.northing || counts_for station_northing word;
+  height = counted.height || counts_for station_height word;
+  reflector = first_kept (counts_for reflector_height word) counted.reflector word;
+  instrument = first_kept (counts_for instrument_height word) counted.instrument word;
+  repeated = counted.repeated || repeats word counted;
+  bad_number = counted.bad_number || (is_length word && is_refused_for BadNumber word);
+  bad_unit = counted.bad_unit || (is_length word && is_refused_for BadUnit word);
+  too_large = counted.too_large || (is_length word && is_refused_for TooLarge word);
+}

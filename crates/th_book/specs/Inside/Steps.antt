@@ -1,0 +1,89 @@
+-- What a block leaves.
+use Rattle.std.specs.Prelude.{◌≡◌, ℕ, ℤ, ◌+◌, ◌++◌, ◌&&◌, Bool, false, true, List, Option, Some, None, if◌then◌else◌, is_some, option_and_then, option_map, option_to_list}
+use Rattle.gsi_word.specs.Words.{Parts}
+use Rattle.th_book.specs.Observed.{Observed}
+use Rattle.th_book.specs.Lines.{ParsedLine, words_in}
+use Rattle.th_book.specs.Faults.{Standing, block_faults, fault_in, first_applying, kind_of, sight_faults}
+use Rattle.th_book.specs.Books.{difference, known, known_name}
+use Rattle.th_book.specs.Due.{BookState, observation_in, setup_after, standing_in}
+use Rattle.th_book.specs.declared.entries.Entry.{Entry}
+use Rattle.th_book.specs.declared.setups.Setup.{Setup}
+use Rattle.th_book.specs.declared.setups.Sight.{Sight}
+use Rattle.th_book.specs.declared.steps.Step.{Step}
+use Rattle.th_book.specs.declared.faults.BookKind.{BookKind}
+
+-- what stands for a sight in a setup that has the sight's own heights
+abbrev pub standing_of : Option Setup → Standing
+standing_of None = record { setup = false; instrument = false; reflector = false; station = None }
+standing_of (Some setup) = record {
+  setup = true;
+  instrument = is_some setup.instrument;
+  reflector = is_some setup.reflector;
+  station = Some setup.station;
+}
+
+-- the observation of a target in a setup that has the sight's own heights
+abbrev pub observed_from : Option Setup → List ℕ → ℤ → ℕ → ℕ → Observed
+observed_from setup target sighted book line = record {
+  station = known_name (option_map (λ own. own.station) setup);
+  target = target;
+  difference = difference (Some sighted) (option_and_then (λ own. own.instrument) setup) (option_and_then (λ own. own.reflector) setup);
+  book = book;
+  line = line;
+}
+
+-- the observation that a sight gives in a book's line
+abbrev pub stamped : ℕ → ℕ → Sight → Observed
+stamped book line sight = record {
+  station = sight.station;
+  target = sight.target;
+  difference = sight.difference;
+  book = book;
+  line = line;
+}
+
+-- the first kind of fault of a sight of a target
+abbrev pub sight_fault : Option Setup → List ℕ → Option BookKind
+sight_fault setup target = first_applying (sight_faults (standing_of setup) (Some target))
+
+-- this is the sight of a target
+pub record IsSeen (running : Option Setup) (target : List ℕ) (sighted : ℤ) (sight : Sight) : Type 0 where
+  pub seen : (book line : ℕ) → stamped book line sight ≡ observed_from running target sighted book line
+
+-- an entry has a target and a height difference
+abbrev pub is_seen : Entry → Bool
+is_seen entry = is_some entry.target && is_some entry.sighted
+
+-- the first kind of fault of an entry in a setup that has its heights
+abbrev pub entry_fault : Option Setup → Entry → Option BookKind
+entry_fault setup entry = if is_seen entry then sight_fault setup (known_name entry.target) else None
+
+-- this is the sight of an entry, where it has one
+pub record AreSeen (setup : Option Setup) (entry : Entry) (sight : Option Sight) : Type 0 where
+  pub seen : (book line : ℕ) → option_map (stamped book line) sight ≡ (if is_seen entry then Some (observed_from setup (known_name entry.target) (known entry.sighted) book line) else None)
+
+-- the first kind of fault of a block in a running setup
+abbrev pub block_fault : Option Setup → List Parts → Option BookKind
+block_fault running words = first_applying (block_faults (standing_in running words) words)
+
+-- the first kind of fault of a line in a running setup
+abbrev pub line_fault : Option Setup → ParsedLine → Option BookKind
+line_fault running parsed = kind_of (standing_in running (words_in parsed)) parsed
+
+-- this is what words without a fault leave: the running setup after them, and the sight where they are one
+pub record IsLeft (running : Option Setup) (words : List Parts) (step : Step) : Type 0 where
+  pub setup : step.setup ≡ setup_after running words
+  pub sight : (book line : ℕ) → option_map (stamped book line) step.sight ≡ observation_in book line running words
+
+-- what a book holds after a line without a fault, with the room that there is then
+abbrev pub state_with : BookState → Step → ℕ → BookState
+state_with state step room = record state {
+  lines = state.lines + 1;
+  setup = step.setup;
+  observations = state.observations ++ option_to_list (option_map (stamped state.book (state.lines + 1)) step.sight);
+  room = room;
+}
+
+-- what a book holds after a line with a fault
+abbrev pub state_refusing : BookState → BookKind → BookState
+state_refusing state kind = record state { lines = state.lines + 1; fault = Some (fault_in state.lines kind) }

@@ -1,0 +1,146 @@
+ghost use Rattle.std.specs.Prelude.{◌≡◌, ◌≢◌, ◌<◌, ◌≤◌, ◌+◌, [], List, ℕ, None, length, IfErr, IfOk, IfSome, IsErr, OnErr, OnOk, OnSome};
+ghost use Rattle.gsi_block.specs.Pieces.{lines_due};
+ghost use Rattle.th_book.specs.Books.{book_answer, longest_book, too_long};
+ghost use Rattle.th_book.specs.Due.{EndsWithSight, IsWanting};
+ghost use Rattle.th_book.specs.Feeds.{feed_due, IsFed, IsWantingIn, StopsAt};
+ghost use Rattle.th_book.specs.Inside.Feeds.{AreTaken, IsGiven};
+
+use crate::books::Book;
+use crate::faults::{BookFault, BookKind};
+use crate::limits::MAX_BOOK;
+use crate::observations::Observation;
+use gsi_block::Lines;
+use gsi_block::laws::cut_line_is_read_as_its_line;
+use std::alloc::{AllocError, Global};
+use std::marker::Model;
+
+/// A book that comes in pieces, however it is cut: it keeps one line, and what a `Book` keeps.
+///
+/// Its answer is that of `read_book` for the pieces joined.
+#[derive(Drop)]
+pub struct BookFeed {
+    book: Book,
+    lines: Lines,
+    bytes: usize,
+    wanting: Option<BookFault>,
+}
+
+impl Model for BookFeed {
+    ghost use Rattle.th_book.specs.Feeds.{FeedState, IsWithin};
+
+    ghost Value = { FeedState };
+
+    ghost view = { λ f. record { book = f.book; lines = f.lines; bytes = f.bytes; wanting = f.wanting } };
+
+    ghost invariant = { λ f. IsWithin (record { book = f.book; lines = f.lines; bytes = f.bytes; wanting = f.wanting }) };
+}
+
+impl BookFeed {
+    /// A book with its number, from 1, of which no byte came yet.
+    pub fn new(alloc: Global, book: u32) -> BookFeed
+        ensures owes { (bytes : List ℕ) → feed_due result bytes ≡ book_answer book bytes }
+        ensures wanting { result.wanting ≡ None }
+    {
+        cut_line_is_read_as_its_line();
+        BookFeed {
+            book: Book::new(alloc, book),
+            lines: Lines::new(),
+            bytes: 0,
+            wanting: None,
+        }
+    }
+
+    /// Takes the next piece of the book.
+    ///
+    /// A fault of the book is kept and told by `finish`, since that it is too long would come before
+    /// it. Memory is wanting where the room for one more observation was refused; from then on each
+    /// call says so.
+    pub fn feed(&mut self, piece: &[u8]) -> Result<(), AllocError>
+        ensures fed { OnOk result (IsFed self.old self.new piece.now) }
+        ensures wanting { OnErr result (StopsAt self.old self.new piece.now) }
+        ensures lasting { OnSome self.old.wanting (IsErr result) }
+    {
+        if self.wanting.is_some() {
+            return Err(AllocError);
+        }
+        self.bytes = self.bytes.saturating_add(piece.len());
+        if self.bytes > MAX_BOOK {
+            return Ok(());
+        }
+        match take_lines(&mut self.book, &mut self.lines, piece) {
+            Ok(()) => Ok(()),
+            Err(fault) => {
+                self.wanting = Some(fault);
+                Err(AllocError)
+            }
+        }
+    }
+
+    /// The observations in the order of their sights, or the fault of the book.
+    ///
+    /// `NoMemory` is answered where it was met, or where the room for the observation of the last line
+    /// was refused, if that has no end.
+    pub fn finish(self) -> Result<Vec<Observation>, BookFault>
+        ensures ok { IfOk result (λ observations. feed_due self [] ≡ Ok observations.items) }
+        ensures fault { IfErr result (λ fault. fault.kind ≢ BookKind.NoMemory → feed_due self [] ≡ Err fault) }
+        ensures lasting { IfSome self.wanting (λ fault. result ≡ Err fault) }
+        ensures too_long { self.wanting ≡ None → longest_book < self.bytes → result ≡ Err too_long }
+        ensures wanting { IfErr result (λ fault. fault.kind ≡ BookKind.NoMemory → self.wanting ≡ None
+            → EndsWithSight (feed_due self []) fault.line) }
+        ensures full { IfErr result (λ fault. fault.kind ≡ BookKind.NoMemory → self.wanting ≡ None
+            → self.book.room ≤ length self.book.observations) }
+    {
+        let BookFeed {
+            mut book,
+            lines,
+            bytes,
+            wanting,
+        } = self;
+        if let Some(fault) = wanting {
+            return Err(fault);
+        }
+        if bytes > MAX_BOOK {
+            return Err(BookFault {
+                line: 0,
+                kind: BookKind::BookTooLong,
+            });
+        }
+        if let Some(line) = lines.finish() {
+            book.line(line)?;
+        }
+        book.finish()
+    }
+}
+
+/// Gives a book each line that ends in a piece.
+fn take_lines(book: &mut Book, lines: &mut Lines, piece: &[u8]) -> Result<(), BookFault>
+    requires { book.old.lines + length (lines_due lines.old piece.now) ≤ longest_book }
+    ensures taken { OnOk result (AreTaken book.old lines.old book.new lines.new piece.now) }
+    ensures wanting { IfErr result (IsWantingIn book.old lines.old book.new lines.new piece.now) }
+{
+    let mut rest = piece;
+    'pieces: loop {
+        let (taken, complete) = lines.take(rest);
+        if !complete {
+            return Ok(());
+        }
+        give(book, lines.line())?;
+        (_, rest) = rest.split_at(taken);
+    }
+}
+
+/// Gives a book its next line; a fault other than want of memory stays in the book.
+fn give(book: &mut Book, line: &[u8]) -> Result<(), BookFault>
+    requires { book.old.lines < longest_book }
+    ensures given { OnOk result (IsGiven book.old book.new line.now) }
+    ensures kind { IfErr result (λ fault. fault.kind ≡ BookKind.NoMemory) }
+    ensures wanting { IfErr result (IsWanting book.old book.new line.now) }
+{
+    match book.line(line) {
+        Ok(()) => Ok(()),
+        Err(fault) => match fault.kind {
+            BookKind::NoMemory => Err(fault),
+            _ => Ok(()),
+        },
+    }
+}
