@@ -1,10 +1,10 @@
 -- Points and their places: a place is reached just where its point is tied to a benchmark.
-use Rattle.std.proofs.Common.{◌≡◌, ℕ, ◌+◌, inl, inr, Bool, true, false, not, cond, ◌||◌, ℤ, List, [], ◌∷◌, ◌++◌, length, get_or, slice_get, map, Option, Some, None, IsSome, is_some, option_map, All, Contains, bytes_eq, refl, sym, ap, ◌∙◌, subst, arith, one-add}
+use Rattle.std.proofs.Common.{◌≡◌, ◌↔◌, ◌⊎◌, ℕ, ◌+◌, inl, inr, Bool, true, false, not, cond, ◌||◌, ℤ, List, [], ◌∷◌, ◌++◌, length, get_or, slice_get, map, Option, Some, None, IsSome, is_some, option_map, All, Contains, bytes_eq, refl, sym, ap, ◌∙◌, subst, arith, one-add}
 use Rattle.std.specs.List.{IsDistinct}
 use Rattle.std.proofs.lemmas.Cmp.{nat_list_eq_equiv}
-use Rattle.std.proofs.lemmas.Bool.{false≢true, or_right}
+use Rattle.std.proofs.lemmas.Bool.{false≢true, or_left, or_right}
 use Rattle.std.proofs.lemmas.Slice.Eq.{bytes_eq-Decides}
-use Rattle.std.proofs.lemmas.Map.Views.{Contains-from_any}
+use Rattle.std.proofs.lemmas.Map.Views.{Contains-from_any, list_any-from_Contains}
 use Rattle.std.proofs.lemmas.Map.Keys.{IsDistinct-push, apart_from_distinct}
 use Rattle.std.proofs.lemmas.List.Folds.{list_any-append}
 use Rattle.std.proofs.lemmas.List.Sums.{position_or_len_is}
@@ -66,20 +66,25 @@ at_place_of (first ∷ names) name there = by (bytes_eq name first) (bytes_eq-De
     by true same h e = ap Some (sym (same refl))
     by false same h e = at_next first names name (place_of names name) (h e)
 
--- the name of a benchmark is a point
-among_rows : (benchmarks : BenchmarkRows) (name : List ℕ) → IsSome (height_of benchmarks name) → is_among (map (λ row. row.0) benchmarks) name ≡ true
-among_rows [] name listed = absurd (false≢true listed)
-among_rows (row ∷ benchmarks) name listed = by (bytes_eq name row.0) listed (among_rows benchmarks name)
+-- a name is among those of the rows just where it is listed
+among_rows : (benchmarks : BenchmarkRows) (name : List ℕ) → is_among (map (λ row. row.0) benchmarks) name ≡ is_some (height_of benchmarks name)
+among_rows [] name = refl
+among_rows (row ∷ benchmarks) name = by (bytes_eq name row.0) (among_rows benchmarks name)
   where
-    by : (b : Bool) → IsSome (cond b (Some row.1) (height_of benchmarks name)) → (IsSome (height_of benchmarks name) → is_among (map (λ row. row.0) benchmarks) name ≡ true) → (b || is_among (map (λ row. row.0) benchmarks) name) ≡ true
-    by true l h = refl
-    by false l h = h l
+    by : (b : Bool) → is_among (map (λ row. row.0) benchmarks) name ≡ is_some (height_of benchmarks name) → (b || is_among (map (λ row. row.0) benchmarks) name) ≡ is_some (cond b (Some row.1) (height_of benchmarks name))
+    by true h = refl
+    by false h = h
+
+-- a name is a point just where it is an end or a benchmark
+among_points : (observations : List Observed) (benchmarks : BenchmarkRows) (name : List ℕ) → is_among (points observations benchmarks) name ≡ (is_among (ends observations) name || is_some (height_of benchmarks name))
+unfolding points
+among_points observations benchmarks name =
+    let rows = map (λ row. row.0) benchmarks in
+    among_distinct (ends observations ++ rows) name ∙ list_any-append (bytes_eq name) (ends observations) rows ∙ ap (λ b. is_among (ends observations) name || b) (among_rows benchmarks name)
 
 pub benchmark_is_point : (observations : List Observed) (benchmarks : BenchmarkRows) (name : List ℕ) → IsSome (height_of benchmarks name) → is_among (points observations benchmarks) name ≡ true
-unfolding points
 benchmark_is_point observations benchmarks name listed =
-    let rows = map (λ row. row.0) benchmarks in
-    among_distinct (ends observations ++ rows) name ∙ list_any-append (bytes_eq name) (ends observations) rows ∙ or_right (is_among (ends observations) name) (is_among rows name) (among_rows benchmarks name listed)
+    among_points observations benchmarks name ∙ or_right (is_among (ends observations) name) (is_some (height_of benchmarks name)) listed
 
 -- ---- reached places and tied points
 -- the heights of the points that are benchmarks
@@ -159,3 +164,15 @@ ends_contained observations benchmarks =
 
 pub benchmarks_contained : (observations : List Observed) (benchmarks : BenchmarkRows) (name : List ℕ) → IsSome (height_of benchmarks name) → Contains (points observations benchmarks) name
 benchmarks_contained observations benchmarks name listed = among_contained (points observations benchmarks) name (benchmark_is_point observations benchmarks name listed)
+
+-- the points are the ends of the observations and the benchmarks
+pub points_cases : (observations : List Observed) (benchmarks : BenchmarkRows) (name : List ℕ) → Contains (points observations benchmarks) name ↔ (Contains (ends observations) name ⊎ IsSome (height_of benchmarks name))
+points_cases observations benchmarks name = (λ has. there (is_among (ends observations) name) refl (sym (among_points observations benchmarks name) ∙ list_any-from_Contains nat_list_eq_equiv name (points observations benchmarks) has), back)
+  where
+    there : (b : Bool) → is_among (ends observations) name ≡ b → (b || is_some (height_of benchmarks name)) ≡ true → Contains (ends observations) name ⊎ IsSome (height_of benchmarks name)
+    there true e h = inl (among_contained (ends observations) name e)
+    there false e h = inr h
+
+    back : Contains (ends observations) name ⊎ IsSome (height_of benchmarks name) → Contains (points observations benchmarks) name
+    back (inl end) = among_contained (points observations benchmarks) name (among_points observations benchmarks name ∙ or_left (is_among (ends observations) name) (is_some (height_of benchmarks name)) (list_any-from_Contains nat_list_eq_equiv name (ends observations) end))
+    back (inr listed) = benchmarks_contained observations benchmarks name listed

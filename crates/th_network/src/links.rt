@@ -4,7 +4,7 @@ ghost use Rattle.th_network.specs.Inside.Ends.{ArePoints};
 ghost use Rattle.th_network.specs.Inside.Numbered.{AreVertices};
 ghost use Rattle.th_network.specs.Links.{base as base_of, largest_link_difference, link_difference, link_of};
 ghost use Rattle.th_network.specs.Points.{points as points_of};
-ghost use Rattle.th_units.specs.declared.limits.TheConstants.{MAX_LEN};
+ghost use Rattle.th_units.specs.Lengths.{max_len};
 
 use crate::points::Points;
 use crate::vertices::Vertices;
@@ -69,7 +69,7 @@ fn link_between(o: &Observation, benchmarks: &Benchmarks, tail: u32, head: u32) 
 /// The height of a benchmark, and 0 for another name.
 fn base(benchmarks: &Benchmarks, name: &Name) -> i64
     ensures value { result ≡ base_of benchmarks.now name.now }
-    ensures in_range { unsigned_abs result ≤ MAX_LEN }
+    ensures in_range { unsigned_abs result ≤ max_len }
 {
     benchmarks.height_of(name).unwrap_or(0)
 }

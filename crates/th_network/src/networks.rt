@@ -8,7 +8,7 @@ ghost use Rattle.th_network.specs.Networks.{IsBuilt, arcs_of, heights_of, points
 ghost use Rattle.th_network.specs.declared.faults.NetFault.TheVariants.{NoMemory, TooManyObservations};
 ghost use Rattle.th_tables.specs.Limits.{max_weight};
 ghost use Rattle.th_tables.specs.Rows.{height_of};
-ghost use Rattle.th_units.specs.declared.limits.TheConstants.{MAX_LEN};
+ghost use Rattle.th_units.specs.Lengths.{max_len};
 
 use crate::anchors::first_untied;
 use crate::faults::NetFault;
@@ -105,7 +105,7 @@ impl<'a> Network<'a> {
     pub fn fixed(&self, k: usize) -> Option<i64>
         requires { k < length (points_of self.now) }
         ensures height { slice_get (heights_of self.now) k ≡ Some result }
-        ensures in_range { IfSome result (λ height. unsigned_abs height ≤ MAX_LEN) }
+        ensures in_range { IfSome result (λ height. unsigned_abs height ≤ max_len) }
     {
         self.benchmarks.height_of(&self.points[k])
     }

@@ -1,7 +1,7 @@
 ghost use Rattle.std.specs.Prelude.{◌≡◌, ◌⊎◌, ◌<◌, ◌≤◌, ◌^◌, ◌+◌, [], Ok, Err, IfErr, IfOk, IfSome, bytes_eq, length, slice_get, unsigned_abs};
 ghost use Rattle.th_tables.specs.Fields.{benchmark_in};
 ghost use Rattle.th_tables.specs.Rows.{AreBenchmarks, height_of};
-ghost use Rattle.th_units.specs.declared.limits.TheConstants.{MAX_LEN};
+ghost use Rattle.th_units.specs.Lengths.{max_len};
 ghost use Rattle.th_tables.specs.Limits.{max_table};
 ghost use Rattle.th_tables.specs.Tables.{benchmarks_of, no_memory, rows_after, too_long};
 
@@ -34,7 +34,7 @@ impl Benchmarks {
     /// The height of a benchmark, at most `MAX_LEN` in size; none for another name.
     pub fn height_of(&self, name: &Name) -> Option<i64>
         ensures value { result ≡ height_of self.now name.now }
-        ensures range { IfSome result (λ height. unsigned_abs height ≤ MAX_LEN) }
+        ensures range { IfSome result (λ height. unsigned_abs height ≤ max_len) }
     {
         self.heights.get(name).copied()
     }
