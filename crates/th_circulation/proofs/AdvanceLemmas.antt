@@ -1,5 +1,5 @@
 -- What one answer of a search does.
-use Rattle.std.proofs.Common.{◌≡◌, ℕ, ◌≤◌, ◌*◌, ◌+◌, ◌<◌, ℤ, pos, ◌+ℤ◌, ◌≤ℤ◌, ◌<ℤ◌, List, All, length, sym, ◌∙◌, subst, arith}
+use Rattle.std.proofs.Common.{◌≡◌, ℕ, ◌≤◌, ℤ, pos, ◌+ℤ◌, ◌≤ℤ◌, List, All, length, sym, subst, arith}
 use Rattle.std.proofs.lemmas.Int.{ints}
 use Rattle.th_network.specs.declared.links.Link.{Link}
 use Rattle.th_search.specs.Potentials.{value_at}

@@ -1,9 +1,8 @@
 -- The arcs that are handed to a search are lawful, and its potentials are in range.
-use Rattle.std.proofs.Common.{◌≡◌, ℕ, Bool, true, false, ◌<◌, ◌≤◌, ◌+◌, ◌-◌, ◌*◌, ℤ, pos, ◌-ℤ◌, List, [], ◌∷◌, All, length, map, max, fold, if◌then◌else◌, unsigned_abs, refl, ap, sym, ◌∙◌, subst, arith}
+use Rattle.std.proofs.Common.{ℕ, Bool, true, false, ◌<◌, ◌≤◌, ◌-◌, ◌*◌, ℤ, pos, ◌-ℤ◌, List, [], ◌∷◌, All, length, max, fold, if◌then◌else◌, unsigned_abs, sym, subst, arith}
 use Rattle.std.proofs.Math.Nat.{mul-le-mul}
 use Rattle.std.proofs.lemmas.Int.{ints}
-use Rattle.std.proofs.lemmas.List.{length-map}
-use Rattle.std.proofs.lemmas.List.Elements.{All-cons, All-map, recursion_from_All}
+use Rattle.std.proofs.lemmas.List.Elements.{All-map, recursion_from_All}
 use Rattle.std.specs.List.{AllByRecursion}
 use Rattle.std.specs.Prelude.{slice_index_or}
 use Rattle.th_network.specs.declared.links.Link.{Link}

@@ -17,7 +17,7 @@ use Rattle.th_network.specs.Circulation.{total_by}
 use Rattle.th_network.specs.declared.links.Link.{Link}
 use Rattle.th_circulation.specs.Inside.Flows.{IsFlow, arriving, leaving, gain}
 use Rattle.th_circulation.specs.declared.slots.Slot.{Slot}
-use Rattle.th_circulation.specs.Inside.Cycles.{link_at, start_of, finish_of, IsWalk, change, raised, send, sent, HasRoom, HasRooms, slot_cost, walk_cost, IsCycle, leads_to}
+use Rattle.th_circulation.specs.Inside.Cycles.{start_of, finish_of, IsWalk, change, raised, send, sent, HasRoom, HasRooms, slot_cost, walk_cost, IsCycle, leads_to}
 use Rattle.th_circulation.proofs.PhaseLemmas.{gain-cons}
 
 -- the flow of a pair that passes a test

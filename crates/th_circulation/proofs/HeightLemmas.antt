@@ -1,12 +1,9 @@
 -- Numbers of a list that stay within bounds.
-use Rattle.std.proofs.Common.{◌≡◌, ℕ, zero, suc, ◌<◌, ◌≤◌, ◌+◌, ◌-◌, ◌*◌, ℤ, pos, List, [], ◌∷◌, All, length, max, fold, unsigned_abs, refl, ap, sym, subst, take, drop, ◌++◌, arith}
-use Rattle.std.proofs.lemmas.Int.{ints}
+use Rattle.std.proofs.Common.{◌≡◌, ℕ, zero, suc, ◌<◌, ◌≤◌, ◌+◌, ℤ, pos, List, [], ◌∷◌, length, unsigned_abs, refl, ap, sym, subst, take, drop, ◌++◌, arith}
 use Rattle.std.specs.Prelude.{slice_index_or, slice_set}
 use borrow.Author.Count.{below_more}
 use Rattle.std.proofs.lemmas.List.{get_or-set_other}
-use Rattle.th_search.specs.Potentials.{largest_cost, value_at}
-use Rattle.th_search.specs.Walks.{IsArc}
-use Rattle.th_search.specs.declared.arcs.Arc.{Arc}
+use Rattle.th_search.specs.Potentials.{value_at}
 use Rattle.th_circulation.specs.Inside.Graphs.{AreWithin}
 
 set_here : (most : ℕ) (xs : List ℤ) (i : ℕ) (x : ℤ) → unsigned_abs x ≤ most → unsigned_abs (value_at (slice_set xs i x) i) ≤ most

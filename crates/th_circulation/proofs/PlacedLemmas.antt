@@ -1,6 +1,5 @@
 -- Heights listed by points from heights by vertices.
-use Rattle.std.proofs.Common.{◌≡◌, ℕ, zero, suc, Bool, true, false, ◌<◌, ◌≤◌, ◌+◌, ℤ, pos, ◌-ℤ◌, List, [], ◌∷◌, Option, Some, None, is_none, length, map, take, get_or, slice_get, if◌then◌else◌, count_by, unwrap_or, unsigned_abs, refl, ap, sym, ◌∙◌, subst, arith}
-use Rattle.std.proofs.lemmas.Int.{ints}
+use Rattle.std.proofs.Common.{◌≡◌, ℕ, Bool, ◌<◌, ◌≤◌, ◌+◌, ℤ, pos, ◌-ℤ◌, List, [], Option, Some, None, is_none, length, map, slice_get, if◌then◌else◌, unwrap_or, ap, sym, ◌∙◌, subst, arith}
 use borrow.Author.Count.{below_more}
 use Rattle.std.proofs.lemmas.List.{get_or-map, get_or-set_same, get_or-set_other, length-map}
 use Rattle.std.proofs.lemmas.List.Sums.{count_by_more_no, count_by_more_yes, sum_by-take-le}

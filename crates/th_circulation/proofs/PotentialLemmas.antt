@@ -1,5 +1,5 @@
 -- Potentials of all residual arcs raise the heights to heights that the flows show.
-use Rattle.std.proofs.Common.{◌≡◌, ℕ, zero, suc, Bool, true, false, ◌<◌, ◌≤◌, ◌+◌, ◌-◌, ◌*◌, ℤ, pos, ◌+ℤ◌, ◌-ℤ◌, ◌<ℤ◌, ◌≤ℤ◌, List, [], ◌∷◌, All, length, map, max, fold, if◌then◌else◌, unsigned_abs, refl, ap, sym, ◌∙◌, subst, arith}
+use Rattle.std.proofs.Common.{◌≡◌, ℕ, suc, true, false, ◌<◌, ◌≤◌, ℤ, pos, ◌+ℤ◌, ◌-ℤ◌, ◌<ℤ◌, ◌≤ℤ◌, List, [], ◌∷◌, All, length, map, unsigned_abs, refl, ap, sym, ◌∙◌, subst, arith}
 use Rattle.std.proofs.lemmas.Int.{ints}
 use Rattle.std.proofs.lemmas.List.{get_or-map, length-map}
 use Rattle.std.specs.Prelude.{slice_index_or}
@@ -8,8 +8,8 @@ use Rattle.th_network.specs.declared.links.Link.{Link}
 use Rattle.th_search.specs.declared.arcs.Arc.{Arc}
 use Rattle.th_search.specs.Potentials.{IsFeasible, value_at}
 use Rattle.th_circulation.specs.declared.slots.Slot.{Slot}
-use Rattle.th_circulation.specs.Inside.Flows.{AreBounded, IsFlow, ShowsLinks, residual, residuals}
-use Rattle.th_circulation.specs.Inside.Cycles.{HasRoom, SavesNothing, link_at}
+use Rattle.th_circulation.specs.Inside.Flows.{IsFlow, ShowsLinks, residual, residuals}
+use Rattle.th_circulation.specs.Inside.Cycles.{SavesNothing, link_at}
 use Rattle.th_circulation.specs.Inside.Listings.{AreResidual, HasAllBefore, arc_of}
 use Rattle.th_circulation.proofs.CycleLemmas.{bounded_at}
 use Rattle.th_circulation.proofs.GraphLemmas.{flows_long}

@@ -1,11 +1,10 @@
 -- What the graph's flows and heights are of the observations and points.
-use Rattle.std.proofs.Common.{◌≡◌, ℕ, ◌+◌, ◌*◌, ℤ, pos, ◌-ℤ◌, ◌+ℤ◌, ◌*ℤ◌, List, [], ◌∷◌, Option, Some, None, true, map, length, slice_get, unwrap_or, unsigned_abs, refl, ap, sym, ◌∙◌, subst, arith}
+use Rattle.std.proofs.Common.{◌≡◌, ℕ, ◌*◌, ℤ, pos, ◌-ℤ◌, ◌*ℤ◌, List, [], ◌∷◌, Option, true, map, unwrap_or, unsigned_abs, refl, ap, sym, ◌∙◌, subst, arith}
 use Rattle.std.proofs.lemmas.Int.{ints}
 use Rattle.std.specs.Option.{IsSome}
-use Rattle.std.specs.List.{AllByRecursion, AllZip}
-use Rattle.std.specs.Prelude.{slice_index_or}
+use Rattle.std.specs.List.{AllByRecursion}
 use Rattle.th_book.specs.Observed.{Observed}
-use Rattle.th_tables.specs.Rows.{BenchmarkRows, WeightRows, height_of, weight_of}
+use Rattle.th_tables.specs.Rows.{BenchmarkRows, WeightRows, weight_of}
 use Rattle.th_network.specs.Points.{points}
 use Rattle.th_network.specs.Places.{place_of}
 use Rattle.th_network.specs.Circulation.{Circulation, Shows}
@@ -16,7 +15,6 @@ use Rattle.th_network.specs.Vertices.{vertex_of}
 use Rattle.th_network.specs.declared.links.Link.{Link}
 use Rattle.th_network.proofs.PointLemmas.{EndsAmong, ends_are_points, is_among}
 use Rattle.th_network.proofs.TieLemmas.{at_place_of, benchmark_is_point}
-use Rattle.th_search.specs.Potentials.{value_at}
 use Rattle.th_circulation.specs.Inside.Flows.{IsFlow, ShowsLinks, residuals}
 use Rattle.th_circulation.specs.Inside.Phases.{differences_in}
 use Rattle.th_circulation.specs.Inside.Placed.{ArePlaced, placed}

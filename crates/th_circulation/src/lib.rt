@@ -21,6 +21,8 @@ mod listings;
 mod placed;
 mod slots;
 mod steps;
+#[cfg(test)]
+mod tests;
 mod workspaces;
 
 pub use settled::{Flows, Heights, Settled, Spans};

@@ -1,4 +1,4 @@
-use Rattle.std.specs.Prelude.{◌≡◌, ℕ, Bool, ◌≤◌, ℤ, pos, ◌+ℤ◌, ◌-ℤ◌, ◌≤ℤ◌, ◌<ℤ◌, zip, List, [], ◌∷◌, All, fold, map, eqb, if◌then◌else◌, slice_get, slice_index_or, slice_set, unsigned_abs}
+use Rattle.std.specs.Prelude.{◌≡◌, ℕ, ◌≤◌, ℤ, pos, ◌+ℤ◌, ◌-ℤ◌, ◌≤ℤ◌, ◌<ℤ◌, zip, List, [], ◌∷◌, All, fold, map, eqb, if◌then◌else◌, slice_get, slice_index_or, slice_set, unsigned_abs}
 use Rattle.std.specs.Option.{IsSomeAnd}
 use Rattle.std.specs.List.{AllZip, IsDistinct}
 use Rattle.th_network.specs.Circulation.{total_by}

@@ -1,6 +1,5 @@
-use Rattle.std.proofs.Common.{true, false, ◌≤◌, ◌≡◌, ℕ, get_or, pos, arith}
+use Rattle.std.proofs.Common.{false, get_or, arith}
 use Rattle.std.proofs.lemmas.Int.{ints}
-use Rattle.th_circulation.specs.Inside.Listings.{slot_at}
 use Rattle.th_circulation.proofs.GraphLemmas.{least_more, rooms_of_cycle}
 use Rattle.th_circulation.proofs.cancels.least_room.Goals as goal
 use Rattle.th_circulation.proofs.cancels.least_room.Goals.{then-room-least, else-room-least}

@@ -1,6 +1,5 @@
-use Rattle.std.proofs.Common.{pos, ◌+ℤ◌, ◌-ℤ◌, if◌then◌else◌, Bool, ap, arith}
+use Rattle.std.proofs.Common.{pos, ◌-ℤ◌, if◌then◌else◌, Bool, ap, arith}
 use Rattle.std.proofs.lemmas.Int.{ints}
-use Rattle.std.specs.Prelude.{slice_index_or}
 use Rattle.th_circulation.proofs.CycleLemmas.{set_bounded}
 use Rattle.th_circulation.proofs.GraphLemmas.{flows_long, light_at}
 use Rattle.th_circulation.proofs.cancels.raise.Goals as goal

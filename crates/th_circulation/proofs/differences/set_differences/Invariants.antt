@@ -1,4 +1,4 @@
-use Rattle.std.proofs.Common.{◌≡◌, take, length}
+use Rattle.std.proofs.Common.{◌≡◌, take}
 use Rattle.th_circulation.specs.Inside.Phases.{differences_in}
 use Rattle.th_circulation.proofs.differences.set_differences.Given as goal
 

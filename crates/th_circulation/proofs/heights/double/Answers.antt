@@ -1,4 +1,4 @@
-use Rattle.std.proofs.Common.{◌<◌, pos, arith}
+use Rattle.std.proofs.Common.{arith}
 use Rattle.std.proofs.lemmas.Int.{ints}
 use Rattle.th_circulation.proofs.HeightLemmas.{all_within, near_more, set_any}
 use Rattle.th_circulation.proofs.heights.double.Goals as goal

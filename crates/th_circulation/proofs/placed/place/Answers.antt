@@ -1,9 +1,7 @@
-use Rattle.std.proofs.Common.{ℕ, ◌≡◌, ◌<◌, ◌+◌, ◌≤◌, ◌-ℤ◌, pos, ℤ, List, Option, Some, None, length, map, slice_get, slice_index_or, unsigned_abs, ap, sym, ◌∙◌, subst, refl, arith}
+use Rattle.std.proofs.Common.{ℕ, ◌≡◌, ◌<◌, ◌+◌, ◌≤◌, ◌-ℤ◌, pos, ℤ, List, Some, None, length, slice_get, unsigned_abs, ap, ◌∙◌, refl, arith}
 use Rattle.std.proofs.lemmas.Option.{slice_get_within}
 use Rattle.std.proofs.lemmas.Int.{ints}
-use Rattle.th_tables.specs.Rows.{height_of}
 use Rattle.th_network.specs.Networks.{points_of}
-use Rattle.th_network.specs.Points.{points}
 use Rattle.th_search.specs.Potentials.{value_at}
 use Rattle.th_circulation.specs.Inside.Placed.{placed}
 use Rattle.th_circulation.proofs.HeightLemmas.{all_within}

@@ -1,4 +1,4 @@
-use Rattle.std.proofs.Common.{◌≡◌, ◌≤◌, ℕ, List, ◌++◌, ◌∷◌, [], ap, sym, ◌∙◌, length, take, arith, subst}
+use Rattle.std.proofs.Common.{◌≤◌, ℕ, List, ◌++◌, ◌∷◌, [], ap, sym, ◌∙◌, take, arith, subst}
 use Rattle.std.proofs.lemmas.List.{take_more}
 use Rattle.std.proofs.lemmas.List.Elements.{All-append, All-cons, All-nil}
 use Rattle.std.proofs.lemmas.Option.{get_or_from_slice_get, slice_get_within}

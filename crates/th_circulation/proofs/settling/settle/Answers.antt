@@ -1,4 +1,4 @@
-use Rattle.std.proofs.Common.{◌≡◌, ◌<◌, ℕ, ℤ, List, All, length, unsigned_abs, ap, sym, ◌∙◌, subst, refl, arith}
+use Rattle.std.proofs.Common.{◌<◌, ℤ, List, All, length, unsigned_abs, ap, sym, ◌∙◌, subst, refl, arith}
 use Rattle.th_network.specs.Circulation.{Circulation, Shows}
 use Rattle.th_network.specs.Heights.{IsHeights, heights_at}
 use Rattle.th_network.specs.Networks.{arcs_of, points_of, weights_of}

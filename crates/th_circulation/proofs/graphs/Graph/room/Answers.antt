@@ -1,4 +1,4 @@
-use Rattle.std.proofs.Common.{pos, ◌+ℤ◌, ◌-ℤ◌, ◌≡◌, if◌then◌else◌, arith, ap, sym, ◌∙◌, Bool}
+use Rattle.std.proofs.Common.{pos, ◌+ℤ◌, ◌-ℤ◌, if◌then◌else◌, arith, ap, Bool}
 use Rattle.std.proofs.lemmas.Int.{ints}
 use Rattle.std.specs.Prelude.{slice_index_or}
 use Rattle.th_circulation.proofs.GraphLemmas.{flows_long, light_at, room_is}

@@ -1,4 +1,4 @@
-use Rattle.std.proofs.Common.{◌*◌, ◌≤◌, length}
+use Rattle.std.proofs.Common.{◌*◌, ◌≤◌}
 use Rattle.std.specs.Vec.{vec_capacity, vec_len}
 use Rattle.th_circulation.specs.Inside.Listings.{AreResidual, HasAllBefore}
 use Rattle.th_search.specs.Potentials.{value_at}

@@ -1,15 +1,14 @@
-use Rattle.std.proofs.Common.{◌≡◌, List, ℕ, ℤ, All, length, eqb, map, ◌<◌, ◌-ℤ◌, ap, sym, ◌∙◌, subst, arith, refl}
+use Rattle.std.proofs.Common.{List, ℕ, ℤ, All, length, eqb, map, ◌<◌, ◌-ℤ◌, ap, sym, ◌∙◌, subst, arith, refl}
 use Rattle.std.specs.List.{IsDistinct}
 use Rattle.th_search.specs.Answers.{IsAnswer}
-use Rattle.th_search.specs.Potentials.{ArePotentials, IsFeasible, value_at}
+use Rattle.th_search.specs.Potentials.{ArePotentials, value_at}
 use Rattle.th_search.specs.Walks.{IsArc, IsNegativeCycle}
 use Rattle.th_search.specs.declared.arcs.Arc.{Arc}
 use Rattle.th_circulation.specs.declared.slots.Slot.{Slot}
 use Rattle.th_circulation.specs.Inside.Cycles.{leads_to}
-use Rattle.th_circulation.specs.Inside.Flows.{IsFlow, ShowsLinks, gain, residuals}
 use Rattle.th_circulation.specs.Inside.Graphs.{AreWithin}
 use Rattle.th_circulation.specs.Inside.Listings.{HasAllBefore, slots_at}
-use Rattle.th_circulation.proofs.AdvanceLemmas.{IsSent, retold, sent_flow, sent_gain_more, sent_retold}
+use Rattle.th_circulation.proofs.AdvanceLemmas.{retold, sent_flow, sent_gain_more, sent_retold}
 use Rattle.th_circulation.proofs.ArcLemmas.{arcs_are, potentials_within}
 use Rattle.th_circulation.proofs.HeightLemmas.{written}
 use Rattle.th_circulation.proofs.NegativeCycles.{cycle_enters_once, numbers_of_cycle}
@@ -74,7 +73,7 @@ returns-in-Cycle-clause-answer g c =
     let long = c.deref_mut.ensures.len in
     let back = written work.flows.len c.cancel.new.flows work.flows.items (omega arith) (omega arith) in
     let sent = sent_retold graph.weights.now c.list_all.new.self.slots.items _ c.in-Cycle.cycle.items _ work.flows.items _ _ _ c.deref-in-Cycle.ensures.value c.deref-in-Cycle-2.ensures.value c.deref_mut.ensures.value (sym back) c.cancel.ensures in
-    (refl, c.tick.ensures, sent_gain_more graph.links.now graph.weights.now work.differences.items (value_at work.heights.items) work.flows.items _ c.list_all.new.self.arcs.items c.list_all.new.self.slots.items c.in-Cycle.cycle.items c.requires.ready.near_differences.each c.requires.ready.flow residual negative sent)
+    (refl, omega arith, sent_gain_more graph.links.now graph.weights.now work.differences.items (value_at work.heights.items) work.flows.items _ c.list_all.new.self.arcs.items c.list_all.new.self.slots.items c.in-Cycle.cycle.items c.requires.ready.near_differences.each c.requires.ready.flow residual negative sent)
 
 pub returns-in-Potentials-clause-answer : goal.returns-in-Potentials-clause-answer
 returns-in-Potentials-clause-answer g c =

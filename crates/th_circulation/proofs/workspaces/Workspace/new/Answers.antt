@@ -1,4 +1,4 @@
-use Rattle.std.proofs.Common.{List, ℤ, sym, subst}
+use Rattle.std.proofs.Common.{sym, subst}
 use Rattle.th_circulation.specs.Inside.Flows.{IsFlow}
 use Rattle.th_circulation.specs.Inside.Phases.{differences_in}
 use Rattle.th_circulation.specs.Inside.Workspaces.{IsNear}

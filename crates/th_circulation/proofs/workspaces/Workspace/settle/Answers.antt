@@ -1,9 +1,8 @@
-use Rattle.std.proofs.Common.{◌≡◌, ◌<◌, ◌≤◌, ◌+◌, ◌-◌, ◌*◌, ℕ, ℤ, List, length, sum, suc, ap, sym, ◌∙◌, subst, arith}
+use Rattle.std.proofs.Common.{◌≡◌, ◌+◌, ◌-◌, ℕ, ℤ, List, length, sum, suc, ap, sym, subst, arith}
 use Rattle.th_search.specs.Potentials.{value_at}
 use Rattle.th_circulation.specs.Inside.Flows.{IsFlow, ShowsLinks, residuals}
 use Rattle.th_circulation.specs.Inside.Graphs.{AreWithin}
 use Rattle.th_circulation.specs.Inside.Phases.{differences_in}
-use Rattle.th_circulation.specs.Inside.Workspaces.{IsNear}
 use Rattle.th_circulation.proofs.PhaseStarts.{differences_within, next_near, phases_more, phases_most, weights_small}
 use Rattle.th_circulation.proofs.workspaces.Workspace.settle.Goals as goal
 

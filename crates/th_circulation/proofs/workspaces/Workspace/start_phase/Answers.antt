@@ -1,4 +1,4 @@
-use Rattle.std.proofs.Common.{◌≡◌, ℤ, List, length, ap, sym, ◌∙◌, subst, arith}
+use Rattle.std.proofs.Common.{ℤ, List, length, ap, sym, ◌∙◌, subst, arith}
 use Rattle.th_circulation.specs.Inside.Graphs.{AreWithin}
 use Rattle.th_circulation.proofs.HeightLemmas.{written}
 use Rattle.th_circulation.proofs.workspaces.Workspace.start_phase.Goals as goal
