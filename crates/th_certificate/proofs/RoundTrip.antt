@@ -126,8 +126,17 @@ read_version_2 survey heights low high flows certifiable in_range low_in_range h
     let l = map (height_row (codes "L")) (heights_at_points survey low) in
     let u = map (height_row (codes "U")) (heights_at_points survey high) in
     let size : length (h ++ (l ++ (u ++ tail))) ≤ 55000 =
-    omega (arith, length-append h (l ++ (u ++ tail)), length-append l (u ++ tail), length-append u tail, length-heights survey (codes "H") heights, length-heights survey (codes "L") low, length-heights survey (codes "U") high,
-    length-end_rows flows (cost_of survey heights), are.each) in
+    omega (
+      arith,
+      length-append h (l ++ (u ++ tail)),
+      length-append l (u ++ tail),
+      length-append u tail,
+      length-heights survey (codes "H") heights,
+      length-heights survey (codes "L") low,
+      length-heights survey (codes "U") high,
+      length-end_rows flows (cost_of survey heights),
+      are.each,
+    ) in
     let short : AllByRecursion IsShortRow rows = (
       short_header,
       (

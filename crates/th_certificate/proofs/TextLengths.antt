@@ -76,8 +76,12 @@ length-name name h = by (list_all is_data name) (length (reduced name) == 0) (li
 -- a height in metres has at most nineteen bytes
 length-size : (size : ℕ) → size < height_limit → length (size_in_metres size) ≤ 18
 length-size size small =
-    omega (arith, length-append (decimal (size / 100000000)) (46 ∷ last_digits 8 (size % 100000000)), length-last_digits 8 (size % 100000000),
-    length-decimal-le_wide 9 (size / 100000000) (omega arith) (omega arith) (omega arith))
+    omega (
+      arith,
+      length-append (decimal (size / 100000000)) (46 ∷ last_digits 8 (size % 100000000)),
+      length-last_digits 8 (size % 100000000),
+      length-decimal-le_wide 9 (size / 100000000) (omega arith) (omega arith) (omega arith),
+    )
 
 length-metres : (height : ℤ) → unsigned_abs height < height_limit → length (metres height) ≤ 19
 length-metres height small = by (is_negative height)

@@ -1,15 +1,28 @@
-ghost use Rattle.std.specs.Prelude.{◌≡◌, ◌<◌, ◌≤◌, unsigned_abs};
-ghost use Rattle.th_network.specs.Heights.{cost, residual};
+ghost use Rattle.std.specs.Prelude.{◌≡◌, ◌<◌, ◌≤◌, IfOk, unsigned_abs};
+ghost use Rattle.th_network.specs.Heights.{cost, heights_at, residual};
+ghost use Rattle.th_network.specs.Networks.{points_of};
 ghost use Rattle.th_certificate.specs.Certified.{height_limit, stated_height};
 ghost use Rattle.th_certificate.specs.Inside.Costs.{most_residual};
+ghost use Rattle.th_certificate.specs.Texts.{AreAtPoints, cost_of};
 
 use crate::heights::StatedHeights;
 use gsi_word::Name;
+use std::alloc::{AllocError, Global};
 use th_book::Observation;
 use th_network::Network;
 
-/// What heights cost over a network: the sum of the weighted sizes of the residuals.
-pub(crate) fn cost_of(network: &Network, heights: &StatedHeights) -> u128
+/// What heights that are listed in point order cost over a network.
+pub(crate) fn cost_of(alloc: Global, network: &Network, heights: &[i64]) -> Result<u128, AllocError>
+    requires { AreAtPoints network.now heights.now }
+    ensures { IfOk result (λ total. total ≡ cost_of network.now
+        (heights_at (points_of network.now) heights.now)) }
+{
+    let stated = StatedHeights::at_points(alloc, network.points(), heights)?;
+    Ok(sum_over(network, &stated))
+}
+
+/// The sum of the weighted sizes of the residuals of a network.
+fn sum_over(network: &Network, heights: &StatedHeights) -> u128
     ensures { result ≡ cost network.now.observations network.now.weights (stated_height heights.now) }
 {
     let _ = network.points();

@@ -3,7 +3,7 @@ ghost use Rattle.std.specs.List.{enumerate_from};
 ghost use Rattle.th_csv.specs.Texts.{csv_text};
 ghost use Rattle.th_network.specs.Heights.{heights_at};
 ghost use Rattle.th_network.specs.Networks.{points_of};
-ghost use Rattle.th_certificate.specs.Texts.{AreAtPoints, AreOfObservations, cost_row, flow_row, header_row, height_row, text_of_version_2, version_row};
+ghost use Rattle.th_certificate.specs.Texts.{AreAtPoints, AreOfObservations, cost_row, flow_row, header_row, height_row, heights_at_points, text_of_version_2, version_row};
 
 use crate::costs::cost_of;
 use crate::heights::StatedHeights;
@@ -33,17 +33,20 @@ pub fn write_certificate(
         (heights_at (points_of network.now) spans.now.high)
         settled.now.flows) }
 {
-    let points = network.points();
-    let heights = StatedHeights::at_points(alloc, points, settled.heights.as_slice())?;
-    let low = StatedHeights::at_points(alloc, points, spans.low.as_slice())?;
-    let high = StatedHeights::at_points(alloc, points, spans.high.as_slice())?;
+    let cost = cost_of(alloc, network, settled.heights.as_slice())?;
     let mut writer = RowWriter::new(alloc);
     write_front(&mut writer, network.observations().len() as u64)?;
-    write_heights(&mut writer, b"H", &heights)?;
-    write_heights(&mut writer, b"L", &low)?;
-    write_heights(&mut writer, b"U", &high)?;
+    write_heights(
+        alloc,
+        &mut writer,
+        b"H",
+        network,
+        settled.heights.as_slice(),
+    )?;
+    write_heights(alloc, &mut writer, b"L", network, spans.low.as_slice())?;
+    write_heights(alloc, &mut writer, b"U", network, spans.high.as_slice())?;
     write_flows(&mut writer, settled.flows.as_slice())?;
-    write_cost(&mut writer, cost_of(network, &heights))?;
+    write_cost(&mut writer, cost)?;
     writer.into_text()
 }
 
@@ -57,8 +60,24 @@ fn write_front(writer: &mut RowWriter, count: u64) -> Result<(), AllocError>
     writer.write(&[b"V", b"2", digits.format(count).as_bytes()])
 }
 
-/// Writes the rows of heights under the letter of their kind.
+/// Writes the rows of heights that are listed in point order, under the letter of their kind.
 fn write_heights(
+    alloc: Global,
+    writer: &mut RowWriter,
+    letter: &[u8],
+    network: &Network,
+    heights: &[i64],
+) -> Result<(), AllocError>
+    requires { AreAtPoints network.now heights.now }
+    ensures { OnOk result (writer.new.text ≡ writer.old.text ++ csv_text (map (height_row letter.now)
+        (heights_at_points network.now (heights_at (points_of network.now) heights.now)))) }
+{
+    let stated = StatedHeights::at_points(alloc, network.points(), heights)?;
+    write_rows(writer, letter, &stated)
+}
+
+/// Writes rows of heights under the letter of their kind.
+fn write_rows(
     writer: &mut RowWriter,
     letter: &[u8],
     heights: &StatedHeights,

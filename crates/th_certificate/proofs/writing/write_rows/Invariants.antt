@@ -1,7 +1,7 @@
 use Rattle.std.proofs.Common.{◌≡◌, ◌-◌, ◌≤◌, ◌++◌, drop, length, map}
 use Rattle.th_csv.specs.Texts.{csv_text}
 use Rattle.th_certificate.specs.Texts.{height_row}
-use Rattle.th_certificate.proofs.writing.write_heights.Given as goal
+use Rattle.th_certificate.proofs.writing.write_rows.Given as goal
 
 abbrev pub invariant-loop-row : goal.invariant-loop-row
 invariant-loop-row l = record {

@@ -2,7 +2,7 @@ use Rattle.std.proofs.Common.{◌≡◌, ◌*◌, ◌≤◌, take}
 use Rattle.th_network.specs.Heights.{cost}
 use Rattle.th_certificate.specs.Certified.{stated_height}
 use Rattle.th_certificate.specs.Inside.Costs.{most_residual}
-use Rattle.th_certificate.proofs.costs.cost_of.Given as goal
+use Rattle.th_certificate.proofs.costs.sum_over.Given as goal
 
 abbrev pub invariant-loop-i : goal.invariant-loop-i
 invariant-loop-i l = record {
