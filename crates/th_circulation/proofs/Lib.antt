@@ -13,3 +13,4 @@ pub mod AdvanceLemmas
 pub mod PhaseStarts
 pub mod PlacedLemmas
 pub mod SettledLemmas
+pub mod BestLemmas

@@ -1,10 +1,14 @@
 //! Laws over the definitions alone. A law is its contract: it calls nothing and computes nothing.
 
 ghost use Rattle.std.specs.Prelude.{◌≡◌, ℕ, ◌*◌, ℤ, pos, ◌+ℤ◌, ◌-ℤ◌, ◌*ℤ◌, ◌≤ℤ◌, ◌<ℤ◌, List, length, sum};
+ghost use Rattle.th_book.specs.Observed.{Observed};
 ghost use Rattle.th_circulation.specs.Inside.Cycles.{IsCycle, sent, walk_cost};
 ghost use Rattle.th_circulation.specs.Inside.Flows.{IsFlow, Next, ShowsLinks, cost, gain, residuals};
 ghost use Rattle.th_circulation.specs.declared.slots.Slot.{Slot};
+ghost use Rattle.th_network.specs.Circulation.{Circulation, Shows};
+ghost use Rattle.th_network.specs.Heights.{IsHeights, Least};
 ghost use Rattle.th_network.specs.declared.links.Link.{Link};
+ghost use Rattle.th_tables.specs.Rows.{BenchmarkRows, WeightRows};
 
 /// No flow gains more than the cost of any heights; one that shows them gains it.
 pub(crate) fn gain_is_at_most_cost()
@@ -50,4 +54,23 @@ pub(crate) fn cycle_keeps_flow()
         → IsCycle links weights flows amount vertex slots
         → walk_cost diffs slots <ℤ pos 0
         → (gain flows diffs +ℤ pos amount) ≤ℤ gain (sent amount flows slots) diffs }
+{}
+
+/// A circulation that shows some heights shows those that are best, and no others.
+///
+/// The heights that it shows keep the benchmarks. So all best heights are found from one circulation.
+pub fn circulation_shows_all_best()
+    ensures shown { (observations : List Observed) (benchmarks : BenchmarkRows)
+        (weights : WeightRows) (heights best : List ℕ → ℤ) (flows : List ℤ)
+        → IsHeights benchmarks heights
+        → Circulation observations benchmarks weights flows
+        → Shows observations weights flows heights
+        → Least observations benchmarks weights best
+        → Shows observations weights flows best }
+    ensures best { (observations : List Observed) (benchmarks : BenchmarkRows)
+        (weights : WeightRows) (heights : List ℕ → ℤ) (flows : List ℤ)
+        → IsHeights benchmarks heights
+        → Circulation observations benchmarks weights flows
+        → Shows observations weights flows heights
+        → Least observations benchmarks weights heights }
 {}
