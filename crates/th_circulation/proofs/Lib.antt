@@ -14,3 +14,5 @@ pub mod PhaseStarts
 pub mod PlacedLemmas
 pub mod SettledLemmas
 pub mod BestLemmas
+pub mod SideLemmas
+pub mod MisreadLemmas

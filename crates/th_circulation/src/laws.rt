@@ -2,8 +2,10 @@
 
 ghost use Rattle.std.specs.Prelude.{◌≡◌, ℕ, ◌*◌, ℤ, pos, ◌+ℤ◌, ◌-ℤ◌, ◌*ℤ◌, ◌≤ℤ◌, ◌<ℤ◌, List, length, sum};
 ghost use Rattle.th_book.specs.Observed.{Observed};
+ghost use Rattle.th_circulation.specs.Extremes.{Low};
 ghost use Rattle.th_circulation.specs.Inside.Cycles.{IsCycle, sent, walk_cost};
 ghost use Rattle.th_circulation.specs.Inside.Flows.{IsFlow, Next, ShowsLinks, cost, gain, residuals};
+ghost use Rattle.th_circulation.specs.Misreadings.{AreMisread};
 ghost use Rattle.th_circulation.specs.declared.slots.Slot.{Slot};
 ghost use Rattle.th_network.specs.Circulation.{Circulation, Shows};
 ghost use Rattle.th_network.specs.Heights.{IsHeights, Least};
@@ -73,4 +75,19 @@ pub fn circulation_shows_all_best()
         → Circulation observations benchmarks weights flows
         → Shows observations weights flows heights
         → Least observations benchmarks weights heights }
+{}
+
+/// A misreading that shows moves no lowest best height, however large it is.
+///
+/// `heights` are the lowest that cost least, and a circulation shows them. Where each observation that
+/// errs against them errs further to the same side, and each other one stays as it was, they are still
+/// the lowest that cost least: lower ones would be lower for the observations as they were.
+pub fn misreading_keeps_low()
+    ensures { (observations misread : List Observed) (benchmarks : BenchmarkRows)
+        (weights : WeightRows) (heights : List ℕ → ℤ) (flows : List ℤ)
+        → Low observations benchmarks weights heights
+        → Circulation observations benchmarks weights flows
+        → Shows observations weights flows heights
+        → AreMisread heights observations misread
+        → Low misread benchmarks weights heights }
 {}
