@@ -16,3 +16,4 @@ pub mod SettledLemmas
 pub mod BestLemmas
 pub mod SideLemmas
 pub mod MisreadLemmas
+pub mod LeastKept

@@ -99,10 +99,10 @@ further_full weights heights (o ∷ observations) (m ∷ misread) (flow ∷ flow
 abbrev lowered : (List ℕ → ℤ) → (List ℕ → ℤ) → List ℕ → ℤ
 lowered heights others name = if lt_z (others name) (heights name) then heights name -ℤ pos 1 else heights name
 
-lt_z-true : (a b : ℤ) → lt_z a b ≡ true → a <ℤ b
+pub lt_z-true : (a b : ℤ) → lt_z a b ≡ true → a <ℤ b
 lt_z-true a b e = grind (arith, ints)
 
-lt_z-false : (a b : ℤ) → lt_z a b ≡ false → b ≤ℤ a
+pub lt_z-false : (a b : ℤ) → lt_z a b ≡ false → b ≤ℤ a
 lt_z-false a b e = grind (arith, ints)
 
 -- one observation: r is its residual, s the misread one at the others; ht, hs, gt, gs are the heights and the others of its target and station
