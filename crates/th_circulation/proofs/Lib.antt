@@ -17,3 +17,4 @@ pub mod BestLemmas
 pub mod SideLemmas
 pub mod MisreadLemmas
 pub mod LeastKept
+pub mod ExtremeLemmas

@@ -2,15 +2,16 @@
 
 ghost use Rattle.std.specs.Prelude.{◌≡◌, ℕ, ◌*◌, ℤ, pos, ◌+ℤ◌, ◌-ℤ◌, ◌*ℤ◌, ◌≤ℤ◌, ◌<ℤ◌, List, length, sum};
 ghost use Rattle.th_book.specs.Observed.{Observed};
-ghost use Rattle.th_circulation.specs.Extremes.{Low};
+ghost use Rattle.th_circulation.specs.Extremes.{High, Low};
 ghost use Rattle.th_circulation.specs.Inside.Cycles.{IsCycle, sent, walk_cost};
 ghost use Rattle.th_circulation.specs.Inside.Flows.{IsFlow, Next, ShowsLinks, cost, gain, residuals};
 ghost use Rattle.th_circulation.specs.Misreadings.{AreMisread};
 ghost use Rattle.th_circulation.specs.declared.slots.Slot.{Slot};
 ghost use Rattle.th_network.specs.Circulation.{Circulation, Shows};
 ghost use Rattle.th_network.specs.Heights.{IsHeights, Least};
+ghost use Rattle.th_network.specs.Walks.{Anchored};
 ghost use Rattle.th_network.specs.declared.links.Link.{Link};
-ghost use Rattle.th_tables.specs.Rows.{BenchmarkRows, WeightRows};
+ghost use Rattle.th_tables.specs.Rows.{AreWeights, BenchmarkRows, WeightRows};
 
 /// No flow gains more than the cost of any heights; one that shows them gains it.
 pub(crate) fn gain_is_at_most_cost()
@@ -90,4 +91,25 @@ pub fn misreading_keeps_low()
         → Shows observations weights flows heights
         → AreMisread heights observations misread
         → Low misread benchmarks weights heights }
+{}
+
+/// Where observations tie each point to a benchmark, and a circulation shows some heights, there are
+/// lowest and highest best heights.
+pub fn lowest_and_highest_exist()
+    ensures low { (observations : List Observed) (benchmarks : BenchmarkRows)
+        (weights : WeightRows) (heights : List ℕ → ℤ) (flows : List ℤ)
+        → AreWeights weights
+        → Anchored observations benchmarks
+        → IsHeights benchmarks heights
+        → Circulation observations benchmarks weights flows
+        → Shows observations weights flows heights
+        → (low : List ℕ → ℤ) × Low observations benchmarks weights low }
+    ensures high { (observations : List Observed) (benchmarks : BenchmarkRows)
+        (weights : WeightRows) (heights : List ℕ → ℤ) (flows : List ℤ)
+        → AreWeights weights
+        → Anchored observations benchmarks
+        → IsHeights benchmarks heights
+        → Circulation observations benchmarks weights flows
+        → Shows observations weights flows heights
+        → (high : List ℕ → ℤ) × High observations benchmarks weights high }
 {}
