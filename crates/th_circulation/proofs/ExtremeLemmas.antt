@@ -1,5 +1,5 @@
 -- The lowest and the highest best heights exist.
-use Rattle.std.proofs.Common.{◌≡◌, ℕ, Bool, true, false, ◌||◌, ◌+◌, ◌*◌, ◌≤◌, ℤ, pos, ◌+ℤ◌, ◌-ℤ◌, ◌≤ℤ◌, inl, inr, List, [], ◌∷◌, Option, Some, None, IsSome, All, Contains, bytes_eq, if◌then◌else◌, is_none, unwrap_or, unsigned_abs, refl, ap, subst, sym, ◌∙◌, mul-le-mul_right, arith}
+use Rattle.std.proofs.Common.{◌≡◌, ℕ, Bool, true, false, ◌||◌, ◌+◌, ◌*◌, ◌≤◌, ℤ, pos, ◌+ℤ◌, ◌-ℤ◌, ◌≤ℤ◌, inl, inr, List, [], ◌∷◌, Option, Some, None, IsSome, All, Contains, bytes_eq, if◌then◌else◌, is_none, unsigned_abs, refl, ap, sym, ◌∙◌, mul-le-mul_right, arith}
 use Rattle.std.specs.Prelude.{◌<ℤ◌, slice_index_or}
 use Rattle.std.proofs.lemmas.Int.{ints, by_lt_z}
 use Rattle.std.proofs.lemmas.List.Sums.{sum_by-cons}
@@ -11,7 +11,7 @@ use Rattle.th_book.specs.Observed.{Observed}
 use Rattle.th_tables.specs.Rows.{BenchmarkRows, WeightRows, height_of, weight_of}
 use Rattle.th_network.specs.Points.{points}
 use Rattle.th_network.specs.Walks.{Leads, IsTied, Anchored}
-use Rattle.th_network.specs.Heights.{IsHeights, residual, cost, Least}
+use Rattle.th_network.specs.Heights.{IsHeights, residual, cost}
 use Rattle.th_network.specs.Circulation.{Circulation, Shows}
 use Rattle.th_network.specs.Vertices.{is_free}
 use Rattle.th_network.proofs.PointLemmas.{is_among, bytes_eq_same, EndsAmong, ends_are_points}
@@ -19,7 +19,7 @@ use Rattle.th_circulation.specs.Extremes.{Low, High}
 use Rattle.th_circulation.proofs.BestLemmas.{best_is_shown, shown_is_best}
 use Rattle.th_circulation.proofs.SideLemmas.{IsFull, AreFull, full_of_shows, shows_of_full}
 use Rattle.th_circulation.proofs.MisreadLemmas.{lt_z-true, lt_z-false}
-use Rattle.th_circulation.proofs.LeastKept.{Bound, Keeps, KeepsAll, IsBetween, BelowAt, Below, IsLeastKept, least_kept}
+use Rattle.th_circulation.proofs.LeastKept.{Bound, KeepsAll, IsBetween, BelowAt, Below, least_kept}
 
 -- ---- flows show the heights that keep these bounds: the target is so far above the station where the flow can grow, and no further where it can shrink
 abbrev onwards : ℕ → ℤ → Observed → Bound
