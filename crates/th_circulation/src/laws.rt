@@ -1,6 +1,6 @@
 //! Laws over the definitions alone. A law is its contract: it calls nothing and computes nothing.
 
-ghost use Rattle.std.specs.Prelude.{◌≡◌, ℕ, ◌*◌, ℤ, pos, ◌+ℤ◌, ◌-ℤ◌, ◌*ℤ◌, ◌≤ℤ◌, ◌<ℤ◌, List, length, sum};
+ghost use Rattle.std.specs.Prelude.{◌≡◌, ℕ, ◌*◌, ℤ, pos, ◌+ℤ◌, ◌-ℤ◌, ◌*ℤ◌, ◌≤ℤ◌, ◌<ℤ◌, List, All, length, sum};
 ghost use Rattle.th_book.specs.Observed.{Observed};
 ghost use Rattle.th_circulation.specs.Extremes.{High, Low};
 ghost use Rattle.th_circulation.specs.Inside.Cycles.{IsCycle, sent, walk_cost};
@@ -9,6 +9,7 @@ ghost use Rattle.th_circulation.specs.Misreadings.{AreMisread};
 ghost use Rattle.th_circulation.specs.declared.slots.Slot.{Slot};
 ghost use Rattle.th_network.specs.Circulation.{Circulation, Shows};
 ghost use Rattle.th_network.specs.Heights.{IsHeights, Least};
+ghost use Rattle.th_network.specs.Points.{points};
 ghost use Rattle.th_network.specs.Walks.{Anchored};
 ghost use Rattle.th_network.specs.declared.links.Link.{Link};
 ghost use Rattle.th_tables.specs.Rows.{AreWeights, BenchmarkRows, WeightRows};
@@ -112,4 +113,18 @@ pub fn lowest_and_highest_exist()
         → Circulation observations benchmarks weights flows
         → Shows observations weights flows heights
         → (high : List ℕ → ℤ) × High observations benchmarks weights high }
+{}
+
+/// The lowest best heights are one height for each point, and so are the highest.
+pub fn lowest_and_highest_are_one()
+    ensures low { (observations : List Observed) (benchmarks : BenchmarkRows)
+        (weights : WeightRows) (first second : List ℕ → ℤ)
+        → Low observations benchmarks weights first
+        → Low observations benchmarks weights second
+        → All (λ point. first point ≡ second point) (points observations benchmarks) }
+    ensures high { (observations : List Observed) (benchmarks : BenchmarkRows)
+        (weights : WeightRows) (first second : List ℕ → ℤ)
+        → High observations benchmarks weights first
+        → High observations benchmarks weights second
+        → All (λ point. first point ≡ second point) (points observations benchmarks) }
 {}
