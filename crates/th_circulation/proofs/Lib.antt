@@ -13,3 +13,8 @@ pub mod AdvanceLemmas
 pub mod PhaseStarts
 pub mod PlacedLemmas
 pub mod SettledLemmas
+pub mod BestLemmas
+pub mod SideLemmas
+pub mod MisreadLemmas
+pub mod LeastKept
+pub mod ExtremeLemmas

@@ -1,2 +1,4 @@
 pub mod Limits
+pub mod Extremes
+pub mod Misreadings
 pub mod Inside

@@ -1,10 +1,18 @@
 //! Laws over the definitions alone. A law is its contract: it calls nothing and computes nothing.
 
-ghost use Rattle.std.specs.Prelude.{◌≡◌, ℕ, ◌*◌, ℤ, pos, ◌+ℤ◌, ◌-ℤ◌, ◌*ℤ◌, ◌≤ℤ◌, ◌<ℤ◌, List, length, sum};
+ghost use Rattle.std.specs.Prelude.{◌≡◌, ℕ, ◌*◌, ℤ, pos, ◌+ℤ◌, ◌-ℤ◌, ◌*ℤ◌, ◌≤ℤ◌, ◌<ℤ◌, List, All, length, sum};
+ghost use Rattle.th_book.specs.Observed.{Observed};
+ghost use Rattle.th_circulation.specs.Extremes.{High, Low};
 ghost use Rattle.th_circulation.specs.Inside.Cycles.{IsCycle, sent, walk_cost};
 ghost use Rattle.th_circulation.specs.Inside.Flows.{IsFlow, Next, ShowsLinks, cost, gain, residuals};
+ghost use Rattle.th_circulation.specs.Misreadings.{AreMisread};
 ghost use Rattle.th_circulation.specs.declared.slots.Slot.{Slot};
+ghost use Rattle.th_network.specs.Circulation.{Circulation, Shows};
+ghost use Rattle.th_network.specs.Heights.{IsHeights, Least};
+ghost use Rattle.th_network.specs.Points.{points};
+ghost use Rattle.th_network.specs.Walks.{Anchored};
 ghost use Rattle.th_network.specs.declared.links.Link.{Link};
+ghost use Rattle.th_tables.specs.Rows.{AreWeights, BenchmarkRows, WeightRows};
 
 /// No flow gains more than the cost of any heights; one that shows them gains it.
 pub(crate) fn gain_is_at_most_cost()
@@ -50,4 +58,73 @@ pub(crate) fn cycle_keeps_flow()
         → IsCycle links weights flows amount vertex slots
         → walk_cost diffs slots <ℤ pos 0
         → (gain flows diffs +ℤ pos amount) ≤ℤ gain (sent amount flows slots) diffs }
+{}
+
+/// A circulation that shows some heights shows those that are best, and no others.
+///
+/// The heights that it shows keep the benchmarks. So all best heights are found from one circulation.
+pub fn circulation_shows_all_best()
+    ensures shown { (observations : List Observed) (benchmarks : BenchmarkRows)
+        (weights : WeightRows) (heights best : List ℕ → ℤ) (flows : List ℤ)
+        → IsHeights benchmarks heights
+        → Circulation observations benchmarks weights flows
+        → Shows observations weights flows heights
+        → Least observations benchmarks weights best
+        → Shows observations weights flows best }
+    ensures best { (observations : List Observed) (benchmarks : BenchmarkRows)
+        (weights : WeightRows) (heights : List ℕ → ℤ) (flows : List ℤ)
+        → IsHeights benchmarks heights
+        → Circulation observations benchmarks weights flows
+        → Shows observations weights flows heights
+        → Least observations benchmarks weights heights }
+{}
+
+/// A misreading that shows moves no lowest best height, however large it is.
+///
+/// `heights` are the lowest that cost least, and a circulation shows them. Where each observation that
+/// errs against them errs further to the same side, and each other one stays as it was, they are still
+/// the lowest that cost least: lower ones would be lower for the observations as they were.
+pub fn misreading_keeps_low()
+    ensures { (observations misread : List Observed) (benchmarks : BenchmarkRows)
+        (weights : WeightRows) (heights : List ℕ → ℤ) (flows : List ℤ)
+        → Low observations benchmarks weights heights
+        → Circulation observations benchmarks weights flows
+        → Shows observations weights flows heights
+        → AreMisread heights observations misread
+        → Low misread benchmarks weights heights }
+{}
+
+/// Where observations tie each point to a benchmark, and a circulation shows some heights, there are
+/// lowest and highest best heights.
+pub fn lowest_and_highest_exist()
+    ensures low { (observations : List Observed) (benchmarks : BenchmarkRows)
+        (weights : WeightRows) (heights : List ℕ → ℤ) (flows : List ℤ)
+        → AreWeights weights
+        → Anchored observations benchmarks
+        → IsHeights benchmarks heights
+        → Circulation observations benchmarks weights flows
+        → Shows observations weights flows heights
+        → (low : List ℕ → ℤ) × Low observations benchmarks weights low }
+    ensures high { (observations : List Observed) (benchmarks : BenchmarkRows)
+        (weights : WeightRows) (heights : List ℕ → ℤ) (flows : List ℤ)
+        → AreWeights weights
+        → Anchored observations benchmarks
+        → IsHeights benchmarks heights
+        → Circulation observations benchmarks weights flows
+        → Shows observations weights flows heights
+        → (high : List ℕ → ℤ) × High observations benchmarks weights high }
+{}
+
+/// The lowest best heights are one height for each point, and so are the highest.
+pub fn lowest_and_highest_are_one()
+    ensures low { (observations : List Observed) (benchmarks : BenchmarkRows)
+        (weights : WeightRows) (first second : List ℕ → ℤ)
+        → Low observations benchmarks weights first
+        → Low observations benchmarks weights second
+        → All (λ point. first point ≡ second point) (points observations benchmarks) }
+    ensures high { (observations : List Observed) (benchmarks : BenchmarkRows)
+        (weights : WeightRows) (first second : List ℕ → ℤ)
+        → High observations benchmarks weights first
+        → High observations benchmarks weights second
+        → All (λ point. first point ≡ second point) (points observations benchmarks) }
 {}

@@ -15,7 +15,7 @@ mod cancels;
 mod differences;
 mod graphs;
 mod heights;
-mod laws;
+pub mod laws;
 mod limits;
 mod listings;
 mod placed;

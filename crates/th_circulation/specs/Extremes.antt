@@ -1,0 +1,15 @@
+use Rattle.std.specs.Prelude.{ℕ, ℤ, ◌≤ℤ◌, List, All}
+use Rattle.th_book.specs.Observed.{Observed}
+use Rattle.th_tables.specs.Rows.{BenchmarkRows, WeightRows}
+use Rattle.th_network.specs.Points.{points}
+use Rattle.th_network.specs.Heights.{Least}
+
+-- the lowest best heights: they cost least, and at each point none that cost least are lower
+pub record Low (observations : List Observed) (benchmarks : BenchmarkRows) (weights : WeightRows) (heights : List ℕ → ℤ) : Type 0 where
+  pub best : Least observations benchmarks weights heights
+  pub lowest : (others : List ℕ → ℤ) → Least observations benchmarks weights others → All (λ point. heights point ≤ℤ others point) (points observations benchmarks)
+
+-- the highest best heights: they cost least, and at each point none that cost least are higher
+pub record High (observations : List Observed) (benchmarks : BenchmarkRows) (weights : WeightRows) (heights : List ℕ → ℤ) : Type 0 where
+  pub best : Least observations benchmarks weights heights
+  pub highest : (others : List ℕ → ℤ) → Least observations benchmarks weights others → All (λ point. others point ≤ℤ heights point) (points observations benchmarks)
