@@ -1,249 +1,202 @@
-ghost use Rattle.std.specs.Prelude.{◌≡◌, ◌<◌, ◌^◌, All, IfOk, length, unsigned_abs, vec_len};
+ghost use Rattle.std.specs.Prelude.{◌<◌, ◌^◌, All, unsigned_abs};
 
 use crate::*;
-use std::alloc::{AllocError, Global};
+use std::alloc::Global;
 use std::process::Abort;
-use std::test::Fail;
 use th_book::{Observation, read_book};
 use th_network::Network;
 use th_tables::{read_benchmarks, read_weights};
 
-/// A setup at A, and a sight from it to B.
-const SETUP_A: &[u8] = b"110001+0000000A 84..10+00000000 88..10+00001500 \n";
+/// A setup at A, a sight to B, a setup at B, and a sight back to A, which is 10 mm off.
+const THERE_AND_BACK: &[u8] = b"110001+0000000A 84..10+00000000 88..10+00001500
+110002+0000000B 33..00+00002345 87..10+00001300
+110003+0000000B 84..10+00000000 88..10+00001450
+110004+0000000A 33..00-00002705 87..10+00001300
+";
 
-const SIGHT_B: &[u8] = b"110002+0000000B 33..00+00002345 87..10+00001300 \n";
+/// A setup at A, a sight to B, and two more, which are 1 mm and 1 m off.
+const THREE_SIGHTS: &[u8] = b"110001+0000000A 84..10+00000000 88..10+00001500
+110002+0000000B 33..00+00002345 87..10+00001300
+110003+0000000B 33..00+00002346
+110004+0000000B 33..00+00003345
+";
 
-/// A setup at B, and a sight from it back to A.
-const SETUP_B: &[u8] = b"110003+0000000B 84..10+00000000 88..10+00001450 \n";
+/// A sight to B twice, one back to A, and one to B again.
+const TWICE_AND_BACK: &[u8] = b"110001+0000000A 84..10+00000000 88..10+00001500
+110002+0000000B 33..00+00002345 87..10+00001300
+110003+0000000B 33..00+00002345 87..10+00001300
+110004+0000000B 84..10+00000000 88..10+00001450
+110005+0000000A 33..00-00002705 87..10+00001300
+110006+0000000A 84..10+00000000 88..10+00001500
+110007+0000000B 33..00+00002345 87..10+00001300
+";
 
-const SIGHT_A: &[u8] = b"110004+0000000A 33..00-00002705 87..10+00001300 \n";
+/// From A to B and C, and from B to C and twice to A.
+const THREE_POINTS: &[u8] = b"110001+0000000A 84..10+00000000 88..10+00001500
+110002+0000000B 33..00+00002345 87..10+00001300
+110003+0000000C 33..00+00002345
+110004+0000000B 84..10+00000000 88..10+00001450
+110005+0000000C 33..00+00002345 87..10+00001300
+110006+0000000A 33..00-00002705
+110007+0000000A 33..00-00002705
+";
 
-/// The parts of a book, its benchmarks, heights in the order of the points, and the residuals that
-/// they leave, all in units of 10 nm; a limit, and the numbers of the blunders above it.
-type Row = (
-    [&'static [u8]; 4],
-    &'static [u8],
-    &'static [i64],
-    &'static [i64],
-    i64,
-    &'static [u32],
-);
-
-const ROWS: [Row; 6] = [
-    (
-        [
-            SETUP_A,
-            SIGHT_B,
-            b"110003+0000000B 33..00+00002346 \n",
-            b"110004+0000000B 33..00+00003345 \n",
-        ],
-        b"point,height\nA,100\n",
-        &[10_000_000_000, 10_254_600_000],
-        &[-100_000, 0, 99_900_000],
-        99_900_000,
-        &[],
-    ),
-    (
-        [
-            SETUP_A,
-            SIGHT_B,
-            b"110003+0000000B 33..00+00002346 \n",
-            b"110004+0000000B 33..00+00003345 \n",
-        ],
-        b"point,height\nA,100\n",
-        &[10_000_000_000, 10_254_600_000],
-        &[-100_000, 0, 99_900_000],
-        99_899_900,
-        &[3],
-    ),
-    (
-        [
-            SETUP_A,
-            SIGHT_B,
-            b"110003+0000000B 33..00+00002346 \n",
-            b"110004+0000000B 33..00+00003345 \n",
-        ],
-        b"point,height\nA,100\n",
-        &[10_000_000_000, 10_254_600_000],
-        &[-100_000, 0, 99_900_000],
-        0,
-        &[1, 3],
-    ),
-    (
-        [SETUP_A, SIGHT_B, SETUP_B, SIGHT_A],
-        b"point,height\nA,100\n",
-        &[10_000_000_000, 10_254_500_000],
-        &[0, -1_000_000],
-        999_999,
-        &[2],
-    ),
-    (
-        [SETUP_A, SIGHT_B, b"", b""],
-        b"point,height\nA,100\nB,103\n",
-        &[10_000_000_000, 10_300_000_000],
-        &[-45_500_000],
-        45_500_000,
-        &[],
-    ),
-    (
-        [b"", b"", b"", b""],
-        b"point,height\nA,100\n",
-        &[10_000_000_000],
-        &[],
-        0,
-        &[],
-    ),
-];
-
-fn read(rt: &impl Abort, alloc: Global, parts: &[&[u8]]) -> Result<Vec<Observation>, AllocError> {
-    let mut bytes = Vec::new(alloc);
-    for part in parts {
-        bytes.extend_from_slice(part)?;
-    }
-    Ok(read_book(alloc, 1, &bytes).expect(rt, "a book"))
+fn observations_of(rt: &impl Abort, alloc: Global, book: &[u8]) -> Vec<Observation> {
+    read_book(alloc, 1, book).expect(rt, "a book")
 }
 
 /// Heights that are in range.
-fn heights_of(rt: &impl Abort, alloc: Global, units: &[i64]) -> Result<Vec<i64>, AllocError>
-    ensures { IfOk result (λ heights. All (λ height. unsigned_abs height < 10 ^ 17) heights.items) }
+fn heights_of(rt: &impl Abort, alloc: Global, units: &[i64]) -> Vec<i64>
+    ensures { All (λ height. unsigned_abs height < 10 ^ 17) result.items }
 {
     let mut heights = Vec::new(alloc);
     for height in units {
         assert!(rt; height.unsigned_abs() < 100_000_000_000_000_000);
-        heights.push(*height)?;
+        heights.push(*height).expect(rt, "memory");
     }
-    Ok(heights)
+    heights
 }
 
-/// Finds the residuals and the blunders of a row in a network.
-fn finds_in(rt: &impl Abort, alloc: Global, network: &Network, row: &Row) -> Result<(), Fail> {
-    let (_, _, heights, wanted, limit, numbers) = *row;
-    let heights = heights_of(rt, alloc, heights)?;
-    assert_eq!(rt; heights.len(), network.points().len());
-    let found = residuals(alloc, network, &heights)?;
-    assert!(rt; found.as_slice() == wanted, "residuals {found:?}");
-    assert!(rt; found.len() <= 40_000);
-    let above = blunders(alloc, &found, limit)?;
-    assert!(rt; above.as_slice() == numbers, "blunders {above:?}");
-    Ok(())
-}
-
-fn finds(rt: &impl Abort, alloc: Global, row: &Row) -> Result<(), Fail> {
-    let (parts, benchmarks, _, _, _, _) = *row;
-    let observations = read(rt, alloc, &parts)?;
-    let benchmarks = read_benchmarks(alloc, benchmarks).expect(rt, "benchmarks");
+/// The residuals of a book's observations at some heights, in the network in which A is 100 m high.
+fn residuals_at(rt: &impl Abort, alloc: Global, book: &[u8], units: &[i64]) -> Vec<i64>
+    ensures { All (λ residual. unsigned_abs residual < 10 ^ 18) result.items }
+{
+    let heights = heights_of(rt, alloc, units);
+    let observations = observations_of(rt, alloc, book);
+    let benchmarks = read_benchmarks(alloc, b"point,height\nA,100\n").expect(rt, "benchmarks");
     let weights = read_weights(alloc, b"").expect(rt, "weights");
     let network = Network::build(alloc, observations, &benchmarks, &weights).expect(
         rt,
         "a network",
     );
-    finds_in(rt, alloc, &network, row)
+    assert_eq!(rt; heights.len(), network.points().len());
+    residuals(alloc, &network, &heights).expect(rt, "memory")
 }
+
+/// A book, heights in the order of its points, and the residuals that they leave, in units of 10 nm.
+type Left = (&'static [u8], &'static [i64], &'static [i64]);
+
+const LEFT: [Left; 3] = [
+    (
+        THREE_SIGHTS,
+        &[10_000_000_000, 10_254_600_000],
+        &[-100_000, 0, 99_900_000],
+    ),
+    (
+        THERE_AND_BACK,
+        &[10_000_000_000, 10_254_500_000],
+        &[0, -1_000_000],
+    ),
+    (b"", &[10_000_000_000], &[]),
+];
 
 #[test]
-fn residuals_and_blunders(rt: HostRuntime) -> Result<(), Fail> {
-    for row in &ROWS {
-        finds(&rt, rt.alloc(), row)?;
+fn residuals_of_books(rt: HostRuntime) {
+    for (book, heights, wanted) in &LEFT {
+        let found = residuals_at(&rt, rt.alloc(), book, heights);
+        assert!(rt; found.as_slice() == *wanted);
     }
-    Ok(())
 }
 
-/// The parts of a book, and the opposites: number, number of the earlier one, and sum in units of 10 nm.
-type Pairing = ([&'static [u8]; 7], &'static [(u32, u32, i64)]);
+/// A limit in units of 10 nm, and the numbers of the blunders among the residuals of three sights.
+const ABOVE: [(i64, &[u32]); 4] = [
+    (99_900_000, &[]),
+    (99_899_900, &[3]),
+    (0, &[1, 3]),
+    (-1, &[1, 2, 3]),
+];
+
+#[test]
+fn residuals_above_a_limit(rt: HostRuntime) {
+    for (limit, wanted) in &ABOVE {
+        let found = blunders(rt.alloc(), &[-100_000, 0, 99_900_000], *limit).expect(&rt, "memory");
+        assert!(rt; found.as_slice() == *wanted);
+    }
+}
+
+/// A book, and the opposites among its observations.
+type Pairing = (&'static [u8], &'static [Opposite]);
 
 const PAIRINGS: [Pairing; 5] = [
     (
-        [SETUP_A, SIGHT_B, SETUP_B, SIGHT_A, b"", b"", b""],
-        &[(2, 1, -1_000_000)],
+        THERE_AND_BACK,
+        &[Opposite {
+            number: 2,
+            earlier: 1,
+            sum: -1_000_000,
+        }],
     ),
     (
-        [
-            SETUP_A, SIGHT_B, SIGHT_B, SETUP_B, SIGHT_A, SETUP_A, SIGHT_B,
+        TWICE_AND_BACK,
+        &[
+            Opposite {
+                number: 3,
+                earlier: 2,
+                sum: -1_000_000,
+            },
+            Opposite {
+                number: 4,
+                earlier: 3,
+                sum: -1_000_000,
+            },
         ],
-        &[(3, 2, -1_000_000), (4, 3, -1_000_000)],
     ),
-    ([SETUP_A, SIGHT_B, SIGHT_B, SIGHT_B, b"", b"", b""], &[]),
     (
-        [
-            SETUP_A,
-            SIGHT_B,
-            b"110002+0000000C 33..00+00002345 \n",
-            SETUP_B,
-            b"110002+0000000C 33..00+00002345 87..10+00001300 \n",
-            SIGHT_A,
-            SIGHT_A,
+        THREE_POINTS,
+        &[
+            Opposite {
+                number: 4,
+                earlier: 1,
+                sum: -1_000_000,
+            },
+            Opposite {
+                number: 5,
+                earlier: 1,
+                sum: -1_000_000,
+            },
         ],
-        &[(4, 1, -1_000_000), (5, 1, -1_000_000)],
     ),
-    ([b"", b"", b"", b"", b"", b"", b""], &[]),
+    (THREE_SIGHTS, &[]),
+    (b"", &[]),
 ];
 
-fn pairs(rt: &impl Abort, alloc: Global, row: &Pairing) -> Result<(), Fail> {
-    let (parts, wanted) = *row;
-    let observations = read(rt, alloc, &parts)?;
+fn opposites_are(rt: &impl Abort, alloc: Global, book: &[u8], wanted: &[Opposite]) {
+    let observations = observations_of(rt, alloc, book);
     assert!(rt; observations.len() <= 40_000);
-    let found = opposites(alloc, &observations)?;
-    assert_eq!(rt; found.len(), wanted.len());
-    for (opposite, (number, earlier, sum)) in found.iter().zip(wanted) {
-        assert_eq!(rt; opposite.number, *number);
-        assert_eq!(rt; opposite.earlier, *earlier);
-        assert_eq!(rt; opposite.sum, *sum);
-    }
-    Ok(())
+    let found = opposites(alloc, &observations).expect(rt, "memory");
+    assert!(rt; found.as_slice() == wanted);
 }
 
 #[test]
-fn observed_there_and_back(rt: HostRuntime) -> Result<(), Fail> {
-    for row in &PAIRINGS {
-        pairs(&rt, rt.alloc(), row)?;
+fn observed_there_and_back(rt: HostRuntime) {
+    for (book, wanted) in &PAIRINGS {
+        opposites_are(&rt, rt.alloc(), book, wanted);
     }
-    Ok(())
 }
 
 /// As many observations as a network takes: each but the first goes back over the one before it.
-fn there_and_back(rt: &impl Abort, alloc: Global) -> Result<Vec<Observation>, AllocError> {
+fn long_book(rt: &impl Abort, alloc: Global) -> Vec<u8> {
     let mut bytes = Vec::new(alloc);
     for _turn in 0..20_000 {
-        bytes.extend_from_slice(SETUP_A)?;
-        bytes.extend_from_slice(SIGHT_B)?;
-        bytes.extend_from_slice(SETUP_B)?;
-        bytes.extend_from_slice(SIGHT_A)?;
+        bytes.extend_from_slice(THERE_AND_BACK).expect(rt, "memory");
     }
-    Ok(read_book(alloc, 1, &bytes).expect(rt, "a book"))
+    bytes
 }
 
 #[test]
-fn opposites_of_a_large_network(rt: HostRuntime) -> Result<(), Fail> {
-    let observations = there_and_back(&rt, rt.alloc())?;
+fn opposites_of_a_large_network(rt: HostRuntime) {
+    let book = long_book(&rt, rt.alloc());
+    let observations = observations_of(&rt, rt.alloc(), &book);
     assert_eq!(rt; observations.len(), 40_000);
-    let pairs = opposites(rt.alloc(), &observations)?;
-    assert_eq!(rt; pairs.len(), 39_999);
-    let last = pairs.last().expect(&rt, "a last pair");
-    assert_eq!(rt; last.number, 40_000);
-    assert_eq!(rt; last.earlier, 39_999);
-    assert_eq!(rt; last.sum, -1_000_000);
-    Ok(())
-}
-
-/// How many residuals of a network are not zero.
-fn count_off(rt: &impl Abort, alloc: Global, network: &Network) -> Result<usize, AllocError> {
-    let heights = heights_of(rt, alloc, &[10_000_000_000, 10_254_500_000])?;
-    assert_eq!(rt; heights.len(), network.points().len());
-    let found = residuals(alloc, network, &heights)?;
-    assert!(rt; found.len() <= 40_000);
-    Ok(blunders(alloc, &found, 0)?.len())
+    let found = opposites(rt.alloc(), &observations).expect(&rt, "memory");
+    assert_eq!(rt; found.len(), 39_999);
 }
 
 #[test]
-fn residuals_of_a_large_network(rt: HostRuntime) -> Result<(), Fail> {
-    let alloc = rt.alloc();
-    let observations = there_and_back(&rt, alloc)?;
-    let benchmarks = read_benchmarks(alloc, b"point,height\nA,100\n").expect(&rt, "benchmarks");
-    let weights = read_weights(alloc, b"").expect(&rt, "weights");
-    let network = Network::build(alloc, observations, &benchmarks, &weights).expect(
-        &rt,
-        "a network",
-    );
-    assert_eq!(rt; count_off(&rt, alloc, &network)?, 20_000);
-    Ok(())
+fn residuals_of_a_large_network(rt: HostRuntime) {
+    let book = long_book(&rt, rt.alloc());
+    let found = residuals_at(&rt, rt.alloc(), &book, &[10_000_000_000, 10_254_500_000]);
+    assert_eq!(rt; found.len(), 40_000);
+    let above = blunders(rt.alloc(), &found, 0).expect(&rt, "memory");
+    assert_eq!(rt; above.len(), 20_000);
 }

@@ -75,6 +75,11 @@ impl Book {
         if let Some(fault) = self.fault {
             return Err(fault);
         }
+        if line.is_empty() {
+            // A book may have more of these than of all others, and they need no array of words.
+            self.lines += 1;
+            return Ok(());
+        }
         match step_of_line(self.setup, line) {
             Ok(step) => self.take(step),
             Err(kind) => Err(self.refuse(kind)),

@@ -20,24 +20,8 @@ pub struct Step {
 }
 
 /// What a line leaves in a running setup, or the first kind of its faults.
-///
-/// An empty line takes no array for words: books may have more of them than of all others.
-pub fn step_of_line(running: Option<Setup>, line: &[u8]) -> Result<Step, BookKind>
-    ensures fault { result_err result ≡ line_fault running (block_at line.now) }
-    ensures left { IfOk result (IsLeft running (words_in (block_at line.now))) }
-{
-    if line.is_empty() {
-        return Ok(Step {
-            setup: running,
-            sight: None,
-        });
-    }
-    step_of_text(running, line)
-}
-
-/// The same of a line that may have words, which are read into an array.
 #[inline(never)]
-fn step_of_text(running: Option<Setup>, line: &[u8]) -> Result<Step, BookKind>
+pub fn step_of_line(running: Option<Setup>, line: &[u8]) -> Result<Step, BookKind>
     ensures fault { result_err result ≡ line_fault running (block_at line.now) }
     ensures left { IfOk result (IsLeft running (words_in (block_at line.now))) }
 {

@@ -340,6 +340,21 @@ fn line_by_line(
     book.finish()
 }
 
+/// Feeds a book in pieces of this size.
+fn fed(
+    rt: &impl Abort,
+    alloc: Global,
+    bytes: &[u8],
+    piece: usize,
+) -> Result<Vec<Observation>, BookFault> {
+    assert!(rt; piece >= 1);
+    let mut feed = BookFeed::new(alloc, 7);
+    for bytes in bytes.chunks(piece) {
+        let _ = feed.feed(bytes);
+    }
+    feed.finish()
+}
+
 fn joined(alloc: Global, lines: &[&[u8]]) -> Result<Vec<u8>, AllocError> {
     let mut bytes = Vec::new(alloc);
     for line in lines {
@@ -354,6 +369,7 @@ fn gives(rt: &impl Abort, alloc: Global, row: &Row) -> Result<(), AllocError> {
     is_answer(rt, line_by_line(rt, alloc, lines), wanted);
     let bytes = joined(alloc, lines)?;
     is_answer(rt, read_book(alloc, 7, &bytes), wanted);
+    is_answer(rt, fed(rt, alloc, &bytes, 7), wanted);
     Ok(())
 }
 
@@ -404,32 +420,63 @@ fn lines_of_spaces(rt: HostRuntime) {
     );
 }
 
+// S, CR, CR LF, P, CR LF: the second line is empty. Pieces of each size, up to the whole.
 #[test]
 fn ends_of_lines(rt: HostRuntime) -> Result<(), Fail> {
     let mut bytes = Vec::from_slice(rt.alloc(), S)?;
     bytes.extend_from_slice(b"\r\r\n")?;
     bytes.extend_from_slice(P)?;
     bytes.extend_from_slice(b"\r\n")?;
-    is_answer(
-        &rt,
-        read_book(rt.alloc(), 7, &bytes),
-        &Ok(&[(b"A", b"B", 254_500_000, 3)]),
-    );
+    let wanted: Result<&[Seen], (u32, BookKind)> = Ok(&[(b"A", b"B", 254_500_000, 3)]);
+    is_answer(&rt, read_book(rt.alloc(), 7, &bytes), &wanted);
+    for piece in 1..=132 {
+        is_answer(&rt, fed(&rt, rt.alloc(), &bytes, piece), &wanted);
+    }
     Ok(())
+}
+
+/// A book has no observations and no fault.
+fn is_empty(rt: &impl Abort, answer: Result<Vec<Observation>, BookFault>) {
+    match answer {
+        Ok(observations) => assert!(rt; observations.is_empty()),
+        Err(fault) => panic!(rt; "{fault:?}"),
+    }
+}
+
+/// A book is too long.
+fn is_too_long(rt: &impl Abort, answer: Result<Vec<Observation>, BookFault>) {
+    match answer {
+        Ok(_) => panic!(rt; "a book that is too long"),
+        Err(fault) => assert_eq!(rt; fault, fault_at(0, BookKind::BookTooLong)),
+    }
 }
 
 #[test]
 fn longest_book(rt: HostRuntime) -> Result<(), Fail> {
-    let mut bytes = vec![in rt.alloc(); b'\n'; MAX_BOOK]?;
-    match read_book(rt.alloc(), 7, &bytes) {
-        Ok(observations) => assert!(rt; observations.is_empty()),
-        Err(fault) => panic!(rt; "{fault:?}"),
-    }
+    let mut bytes = vec![in rt.alloc(); b'\n'; 67_108_864]?;
+    is_empty(&rt, read_book(rt.alloc(), 7, &bytes));
     bytes.push(b'\n')?;
-    match read_book(rt.alloc(), 7, &bytes) {
-        Ok(_) => panic!(rt; "a book that is too long"),
-        Err(fault) => assert_eq!(rt; fault, fault_at(0, BookKind::BookTooLong)),
+    is_too_long(&rt, read_book(rt.alloc(), 7, &bytes));
+    Ok(())
+}
+
+// 16,384 pieces of 4,096 line ends, and one line end more, also behind a fault.
+#[test]
+fn longest_book_in_pieces(rt: HostRuntime) -> Result<(), Fail> {
+    let piece = [b'\n'; 4_096];
+    let mut feed = BookFeed::new(rt.alloc(), 7);
+    let mut longer = BookFeed::new(rt.alloc(), 7);
+    let mut faulty = BookFeed::new(rt.alloc(), 7);
+    faulty.feed(b"*")?;
+    for _ in 0..16_384 {
+        feed.feed(&piece)?;
+        longer.feed(&piece)?;
+        faulty.feed(&piece)?;
     }
+    longer.feed(b"\n")?;
+    is_empty(&rt, feed.finish());
+    is_too_long(&rt, longer.finish());
+    is_too_long(&rt, faulty.finish());
     Ok(())
 }
 
@@ -440,9 +487,15 @@ fn many_sights(rt: HostRuntime) -> Result<(), Fail> {
         bytes.push(b'\n')?;
         bytes.extend_from_slice(P)?;
     }
-    match read_book(rt.alloc(), 7, &bytes) {
-        Ok(observations) => assert_eq!(rt; observations.len(), 100_000),
-        Err(fault) => panic!(rt; "{fault:?}"),
+    let answers = [
+        read_book(rt.alloc(), 7, &bytes),
+        fed(&rt, rt.alloc(), &bytes, 4_096),
+    ];
+    for answer in answers {
+        match answer {
+            Ok(observations) => assert_eq!(rt; observations.len(), 100_000),
+            Err(fault) => panic!(rt; "{fault:?}"),
+        }
     }
     Ok(())
 }
@@ -493,4 +546,45 @@ fn want_of_memory_is_not_kept(rt: HostRuntime) {
             assert!(rt; 2 <= fault.line && fault.line <= 6);
         }
     }
+}
+
+/// The lines one after the other as pieces, and whether memory was wanting. From then on each call
+/// says so.
+fn fed_until_wanting(rt: &impl Abort, feed: &mut BookFeed) -> bool {
+    let mut wanting = false;
+    for piece in SIX_LINES.chunks(48) {
+        let refused = feed.feed(piece).is_err();
+        assert!(rt; refused || !wanting);
+        wanting = refused;
+    }
+    wanting
+}
+
+// With ample memory, and with each allocation refused in turn.
+#[test]
+fn want_of_memory_is_kept_by_a_feed(rt: HostRuntime) {
+    let mut feed = BookFeed::new(rt.alloc(), 7);
+    let wanting = fed_until_wanting(&rt, &mut feed);
+    assert_eq!(rt; feed.feed(b"").is_err(), wanting);
+    match feed.finish() {
+        Ok(observations) => assert!(rt; !wanting && observations.len() == 5),
+        Err(fault) => {
+            assert!(rt; wanting && fault.kind == BookKind::NoMemory);
+            assert!(rt; 2 <= fault.line && fault.line <= 6);
+        }
+    }
+}
+
+// The last line has no end, so that its observation is made by `finish`.
+#[test]
+fn last_line_without_an_end(rt: HostRuntime) -> Result<(), Fail> {
+    let mut feed = BookFeed::new(rt.alloc(), 7);
+    feed.feed(S)?;
+    feed.feed(b"\n")?;
+    feed.feed(P)?;
+    match feed.finish() {
+        Ok(observations) => are_seen(&rt, &observations, &[SEEN]),
+        Err(fault) => assert_eq!(rt; fault, fault_at(2, BookKind::NoMemory)),
+    }
+    Ok(())
 }

@@ -45,7 +45,7 @@ in_balance observations benchmarks flows heights others kept others_kept name ba
         let g = others_kept name height e in
         inl (omega (arith, ints))
 
-ends_zero : (observations : List Observed) (benchmarks : BenchmarkRows) (u : List ℕ → ℤ) → AllByRecursion (λ o. ZeroUnlessIn (points observations benchmarks) u o.station × ZeroUnlessIn (points observations benchmarks) u o.target) observations
+pub ends_zero : (observations : List Observed) (benchmarks : BenchmarkRows) (u : List ℕ → ℤ) → AllByRecursion (λ o. ZeroUnlessIn (points observations benchmarks) u o.station × ZeroUnlessIn (points observations benchmarks) u o.target) observations
 ends_zero observations benchmarks u = weaker (EndsAmong (points observations benchmarks)) (λ o. ZeroUnlessIn (points observations benchmarks) u o.station × ZeroUnlessIn (points observations benchmarks) u o.target) (λ o h. ((λ absent. clash h.0 absent), (λ absent. clash h.1 absent))) observations (ends_are_points observations benchmarks)
   where
     clash : {P : Type 0} {b : Bool} → b ≡ true → b ≡ false → P

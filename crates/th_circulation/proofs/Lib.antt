@@ -18,3 +18,5 @@ pub mod SideLemmas
 pub mod MisreadLemmas
 pub mod LeastKept
 pub mod ExtremeLemmas
+pub mod WeightLemmas
+pub mod CutLemmas

@@ -6,3 +6,4 @@ pub mod Graphs
 pub mod Listings
 pub mod Phases
 pub mod Workspaces
+pub mod Cuts

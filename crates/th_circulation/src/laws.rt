@@ -1,8 +1,10 @@
 //! Laws over the definitions alone. A law is its contract: it calls nothing and computes nothing.
 
-ghost use Rattle.std.specs.Prelude.{◌≡◌, ℕ, ◌*◌, ℤ, pos, ◌+ℤ◌, ◌-ℤ◌, ◌*ℤ◌, ◌≤ℤ◌, ◌<ℤ◌, List, All, length, sum};
+ghost use Rattle.std.specs.Prelude.{◌≡◌, ℕ, ◌*◌, ℤ, pos, ◌+ℤ◌, ◌-ℤ◌, ◌*ℤ◌, ◌≤ℤ◌, ◌<ℤ◌, Bool, true, false, List, All, IsSome, length, sum};
+ghost use Rattle.std.specs.List.{AllZip};
 ghost use Rattle.th_book.specs.Observed.{Observed};
 ghost use Rattle.th_circulation.specs.Extremes.{High, Low};
+ghost use Rattle.th_circulation.specs.Inside.Cuts.{LeavesFull};
 ghost use Rattle.th_circulation.specs.Inside.Cycles.{IsCycle, sent, walk_cost};
 ghost use Rattle.th_circulation.specs.Inside.Flows.{IsFlow, Next, ShowsLinks, cost, gain, residuals};
 ghost use Rattle.th_circulation.specs.Misreadings.{AreMisread};
@@ -10,9 +12,9 @@ ghost use Rattle.th_circulation.specs.declared.slots.Slot.{Slot};
 ghost use Rattle.th_network.specs.Circulation.{Circulation, Shows};
 ghost use Rattle.th_network.specs.Heights.{IsHeights, Least};
 ghost use Rattle.th_network.specs.Points.{points};
-ghost use Rattle.th_network.specs.Walks.{Anchored};
+ghost use Rattle.th_network.specs.Walks.{Anchored, IsTied};
 ghost use Rattle.th_network.specs.declared.links.Link.{Link};
-ghost use Rattle.th_tables.specs.Rows.{AreWeights, BenchmarkRows, WeightRows};
+ghost use Rattle.th_tables.specs.Rows.{AreWeights, BenchmarkRows, WeightRows, height_of};
 
 /// No flow gains more than the cost of any heights; one that shows them gains it.
 pub(crate) fn gain_is_at_most_cost()
@@ -127,4 +129,16 @@ pub fn lowest_and_highest_are_one()
         → High observations benchmarks weights first
         → High observations benchmarks weights second
         → All (λ point. first point ≡ second point) (points observations benchmarks) }
+{}
+
+/// Where all flows that leave or enter a set of names are full, out of it, and no benchmark is in it,
+/// no point in it is tied to a benchmark.
+pub(crate) fn full_flows_cut_off()
+    ensures { (observations : List Observed) (benchmarks : BenchmarkRows) (weights : WeightRows)
+        (flows : List ℤ) (inside : List ℕ → Bool)
+        → AreWeights weights
+        → Circulation observations benchmarks weights flows
+        → ((name : List ℕ) → IsSome (height_of benchmarks name) → inside name ≡ false)
+        → AllZip (LeavesFull inside weights) observations flows
+        → (point : List ℕ) → inside point ≡ true → ¬ IsTied observations benchmarks point }
 {}
