@@ -8,7 +8,7 @@ ghost use Rattle.std.specs.Prelude.{◌≡◌, ◌≢◌, ◌<◌, ◌≤◌, �
 ghost use Rattle.std.specs.IoError.{error_kind};
 ghost use Rattle.std.specs.declared.io.ErrorKind.TheVariants.{InvalidData};
 ghost use Rattle.th_devices.specs.Limits.{calls_before};
-ghost use Rattle.th_plans.specs.Plans.{AreWrong};
+ghost use Rattle.th_plans.specs.Plans.{AreWrong, book_asked};
 ghost use Rattle.th_runs.specs.Refusals.{IsStatus, IsStatusOfRun, status_of};
 ghost use Rattle.th_runs.specs.Runs.{HasFault, HoldsList};
 
@@ -68,13 +68,44 @@ fn run<R: AllocGlobal + Files + Input + Print + Eprint>(rt: &R, words: &[String]
 {
     let mut out = StandardOutput::new(rt);
     match plan(rt.alloc(), words) {
-        Ok(Plan::Standard) => list(rt, &mut StandardInput::new(rt), &mut out),
-        Ok(Plan::List(name)) => list(rt, &mut FileSource::new(rt, name), &mut out),
+        Ok(plan) => {
+            // A file is opened at its first read, and of no name none is asked for.
+            let mut file = FileSource::new(rt, plan.file_name().unwrap_or(""));
+            list_planned(rt, &plan, &mut StandardInput::new(rt), &mut file, &mut out)
+        }
         Err(PlanFault::Line(error)) => {
             let _ = rt.eprint(&PlanFault::Line(error));
             USAGE
         }
         Err(PlanFault::NoMemory) => refuse(rt, &Refusal::NoMemory),
+    }
+}
+
+/// Lists the book that a plan asks for, the one on standard input or the one in its file, and says
+/// the status to end with.
+fn list_planned<R: AllocGlobal + Eprint, S: Source, F: Source, K: Sink>(
+    rt: &R,
+    plan: &Plan,
+    standard: &mut S,
+    file: &mut F,
+    out: &mut K,
+) -> u8
+    requires standard_calls { S.calls standard.old ≤ calls_before }
+    requires file_calls { F.calls file.old ≤ calls_before }
+    requires out_calls { K.calls out.old ≤ calls_before }
+    ensures listed { result ≡ DONE → HoldsList 1
+        (book_asked plan.now (S.left standard.old) (F.left file.old))
+        (K.held out.old) (K.held out.new) }
+    ensures finished { result ≡ DONE → K.is_finished out.new ≡ true }
+    ensures refused { result ≡ INPUT_REFUSED
+        → HasFault 1 (book_asked plan.now (S.left standard.old) (F.left file.old)) }
+    ensures fails { (result ≡ DEVICE_FAILED) ↔ ((S.failures standard.old < S.failures standard.new)
+        ⊎ (F.failures file.old < F.failures file.new) ⊎ (K.failures out.old < K.failures out.new)) }
+    ensures status { IsStatusOfRun result }
+{
+    match plan {
+        Plan::Standard => list(rt, standard, out),
+        Plan::List(_) => list(rt, file, out),
     }
 }
 

@@ -38,6 +38,16 @@ abbrev pub IsPlanOf : List Text → Plan → Type 0
 IsPlanOf words Standard = length words ≤ 1
 IsPlanOf words (ListBook name) = (1 < length words) × AreTaken words × (book_named words ≡ Some name.now)
 
+-- the name of the file that a plan asks for
+abbrev pub name_asked : Plan → Option Text
+name_asked Standard = None
+name_asked (ListBook name) = Some name.now
+
+-- of what there is of standard input and of the file with the plan's name, that of the one which the plan asks to list
+abbrev pub book_asked : {X : Type 0} → Plan → X → X → X
+book_asked Standard standard file = standard
+book_asked (ListBook name) standard file = file
+
 -- a fault of the words, of which there are more than the program's name: one that `clap` states for them, or `clap` takes them and they name no book. Want of
 -- memory may come for any
 abbrev pub IsFaultOf : List Text → PlanFault → Type 0

@@ -14,6 +14,21 @@ pub enum Plan<'a> {
     List(&'a str),
 }
 
+impl<'a> Plan<'a> {
+    ghost use Rattle.std.specs.Prelude.{option_map};
+    ghost use Rattle.th_plans.specs.Plans.{name_asked};
+
+    /// The name of the file that it asks for; none where it asks for standard input.
+    pub fn file_name(&self) -> Option<&'a str>
+        ensures { option_map (λ name. name.now) result ≡ name_asked self.now }
+    {
+        match self {
+            Plan::Standard => None,
+            Plan::List(name) => Some(*name),
+        }
+    }
+}
+
 /// Why the words give no plan. It shows itself as the text for standard error.
 #[derive(Debug, Drop)]
 pub enum PlanFault {
