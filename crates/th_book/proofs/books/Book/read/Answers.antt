@@ -7,7 +7,7 @@ use Rattle.th_book.specs.Due.{BookState, IsRefused, IsTaken, standing_in}
 use Rattle.th_book.specs.Inside.Steps.{IsLeft, line_fault, state_refusing}
 use Rattle.th_book.specs.declared.faults.BookFault.{BookFault}
 use Rattle.th_book.proofs.Holding.{IsRefused-before, IsRefused-step, IsTaken-empty, kind_lasts, taken_ok, wanting_err}
-use Rattle.th_book.proofs.books.Book.line.Goals as goal
+use Rattle.th_book.proofs.books.Book.read.Goals as goal
 
 pub returns-in-Some-clause-refused : goal.returns-in-Some-clause-refused
 returns-in-Some-clause-refused c =
