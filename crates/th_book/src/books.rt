@@ -4,6 +4,7 @@ ghost use Rattle.gsi_word.specs.Words.{result_map};
 ghost use Rattle.th_book.specs.Books.{lines_answer, book_answer, longest_book, too_long};
 ghost use Rattle.th_book.specs.Faults.{fault_in};
 ghost use Rattle.th_book.specs.Due.{due, empty, EndsWithSight, IsTaken, IsRefused, IsWanting};
+ghost use Rattle.th_book.specs.Inside.Feeds.{IsGiven};
 ghost use Rattle.th_book.specs.Inside.Steps.{state_refusing, state_with};
 
 use crate::faults::{BookFault, BookKind};
@@ -101,6 +102,16 @@ impl Book {
         match step_of_line(self.setup, line, words) {
             Ok(step) => self.take(step),
             Err(kind) => Err(self.refuse(kind)),
+        }
+    }
+
+    /// Counts an empty line, which says nothing, unless a fault came before it.
+    pub(crate) fn pass_empty(&mut self)
+        requires { self.old.lines < longest_book }
+        ensures { IsGiven self.old self.new [] }
+    {
+        if self.fault.is_none() {
+            self.lines += 1;
         }
     }
 

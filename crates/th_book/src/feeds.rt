@@ -144,6 +144,10 @@ fn give<'p>(
     ensures kind { IfErr result (λ fault. fault.kind ≡ BookKind.NoMemory) }
     ensures wanting { IfErr result (IsWanting book.old book.new line.now) }
 {
+    if line.is_empty() {
+        book.pass_empty();
+        return Ok(());
+    }
     match read_line(book, line, rest, words) {
         Ok(()) => Ok(()),
         Err(fault) => match fault.kind {
