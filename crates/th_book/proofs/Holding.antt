@@ -1,18 +1,16 @@
 -- What a book holds after one more line.
-use Rattle.std.proofs.Common.{◌≡◌, ◌≢◌, ◌≤◌, ℕ, ◌+◌, Bool, true, false, cond, List, [], ◌∷◌, ◌++◌, length, map, Option, Some, None, Result, Ok, Err, refl, sym, ap, ◌∙◌, subst, arith}
+use Rattle.std.proofs.Common.{◌≡◌, ◌≢◌, ◌≤◌, ℕ, ◌+◌, Bool, true, false, cond, List, [], ◌∷◌, ◌++◌, length, map, Option, Some, None, Result, Ok, Err, refl, sym, ap, ◌∙◌, subst}
 use Rattle.std.specs.Prelude.{IsSome, is_none, is_some, option_map, option_to_list}
 use Rattle.std.specs.List.{list_all}
 use Rattle.std.proofs.lemmas.Bool.{false≢true, and_parts}
-use Rattle.std.proofs.lemmas.List.{append-nil}
 use Rattle.std.proofs.lemmas.Option.{none-some, same_Some}
 use Rattle.std.specs.Result.{IfErr, OnErr, OnOk}
 use Rattle.gsi_block.specs.Blocks.{block_at}
 use Rattle.th_book.specs.Lines.{ParsedLine, is_sight, point_name, words_in}
 use Rattle.th_book.specs.Faults.{Row, Standing, block_faults, fault_in, first_applying, kind_of, own_faults, sight_faults}
 use Rattle.th_book.specs.Books.{answer}
-use Rattle.th_book.specs.Due.{BookState, EndsWithSight, IsRefused, IsTaken, IsWanting, after, after_parsed, after_unless, after_words, due, due_parsed, setup_after, standing_in}
+use Rattle.th_book.specs.Due.{BookState, EndsWithSight, IsRefused, IsTaken, IsWanting, after, after_parsed, after_unless, after_words, due, due_parsed, standing_in}
 use Rattle.th_book.specs.Inside.Steps.{IsLeft, line_fault, stamped, state_refusing, state_with}
-use Rattle.th_book.specs.declared.setups.Setup.{Setup}
 use Rattle.th_book.specs.declared.setups.Sight.{Sight}
 use Rattle.th_book.specs.declared.steps.Step.{Step}
 use Rattle.th_book.specs.declared.faults.BookFault.{BookFault}
@@ -91,26 +89,6 @@ IsTaken-step state line step room sound none left more = record {
   lines = refl;
   room = more;
 }
-
--- an empty line is counted
-pub IsTaken-empty : (state : BookState) (line : List ℕ) → length line ≡ 0 → state.fault ≡ None → IsTaken state (record state { lines = state.lines + 1 }) line
-IsTaken-empty state (byte ∷ line) none sound = absurd (omega (arith, none))
-IsTaken-empty state [] none sound = record {
-  keeps = λ rest. ap (λ (own : BookState). due own rest) (same ∙ ap (λ (fault : Option BookFault). after_unless fault state (block_at [])) (sym sound));
-  faultless = sound;
-  lines = refl;
-  room = omega arith;
-}
-  where
-    kept : (setup : Option Setup) → setup ≡ setup_after setup []
-    kept None = refl
-    kept (Some setup) = refl
-
-    same : record state { lines = state.lines + 1 } ≡ after_words state [] None
-    same =
-        let setup = kept state.setup in
-        let observations = append-nil state.observations in
-        cc
 
 -- the fault of a line is answered
 pub IsRefused-step : (state : BookState) (line : List ℕ) (kind : BookKind) → state.fault ≡ None → Some kind ≡ line_fault state.setup (block_at line) → IsRefused state (state_refusing state kind) line (fault_in state.lines kind)

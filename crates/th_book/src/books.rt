@@ -4,6 +4,7 @@ ghost use Rattle.gsi_word.specs.Words.{result_map};
 ghost use Rattle.th_book.specs.Books.{lines_answer, book_answer, longest_book, too_long};
 ghost use Rattle.th_book.specs.Faults.{fault_in};
 ghost use Rattle.th_book.specs.Due.{due, empty, EndsWithSight, IsTaken, IsRefused, IsWanting};
+ghost use Rattle.th_book.specs.Inside.Feeds.{IsGiven};
 ghost use Rattle.th_book.specs.Inside.Steps.{state_refusing, state_with};
 
 use crate::faults::{BookFault, BookKind};
@@ -11,7 +12,9 @@ use crate::limits::MAX_BOOK;
 use crate::observations::Observation;
 use crate::setups::Setup;
 use crate::steps::{Step, step_of_line};
-use gsi_block::LineCursor;
+use arrayvec::ArrayVec;
+use gsi_block::{LineCursor, MAX_WORDS};
+use gsi_word::Word;
 use std::alloc::Global;
 use std::marker::Model;
 
@@ -72,17 +75,43 @@ impl Book {
         ensures wanting { IfErr result
             (λ fault. fault.kind ≡ BookKind.NoMemory → IsWanting self.old self.new line.now fault) }
     {
+        self.read(line, &mut ArrayVec::new())
+    }
+
+    /// Takes the next line, whose words are read into an array that is lent: to make one for each line
+    /// would take longer than all else.
+    pub(crate) fn read<'a>(
+        &mut self,
+        line: &'a [u8],
+        words: &mut ArrayVec<Word<'a>, MAX_WORDS>,
+    ) -> Result<(), BookFault>
+        requires { self.old.lines < longest_book }
+        ensures taken { OnOk result (IsTaken self.old self.new line.now) }
+        ensures refused { IfErr result
+            (λ fault. fault.kind ≢ BookKind.NoMemory → IsRefused self.old self.new line.now fault) }
+        ensures wanting { IfErr result
+            (λ fault. fault.kind ≡ BookKind.NoMemory → IsWanting self.old self.new line.now fault) }
+    {
         if let Some(fault) = self.fault {
             return Err(fault);
         }
         if line.is_empty() {
-            // A book may have more of these than of all others, and they need no array of words.
             self.lines += 1;
             return Ok(());
         }
-        match step_of_line(self.setup, line) {
+        match step_of_line(self.setup, line, words) {
             Ok(step) => self.take(step),
             Err(kind) => Err(self.refuse(kind)),
+        }
+    }
+
+    /// Counts an empty line, which says nothing, unless a fault came before it.
+    pub(crate) fn pass_empty(&mut self)
+        requires { self.old.lines < longest_book }
+        ensures { IsGiven self.old self.new [] }
+    {
+        if self.fault.is_none() {
+            self.lines += 1;
         }
     }
 
@@ -174,8 +203,9 @@ pub fn read_book(alloc: Global, book: u32, bytes: &[u8]) -> Result<Vec<Observati
     }
     let mut reader = Book::new(alloc, book);
     let mut cursor = LineCursor::new(bytes);
+    let mut words = ArrayVec::new();
     'lines: while let Some(line) = cursor.next() {
-        reader.line(line)?;
+        reader.read(line, &mut words)?;
     }
     reader.finish()
 }

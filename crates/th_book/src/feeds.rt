@@ -1,7 +1,7 @@
 ghost use Rattle.std.specs.Prelude.{◌≡◌, ◌≢◌, ◌<◌, ◌≤◌, ◌+◌, [], List, ℕ, None, length, IfErr, IfOk, IfSome, IsErr, OnErr, OnOk, OnSome};
 ghost use Rattle.gsi_block.specs.Pieces.{lines_due};
 ghost use Rattle.th_book.specs.Books.{book_answer, longest_book, too_long};
-ghost use Rattle.th_book.specs.Due.{EndsWithSight, IsWanting};
+ghost use Rattle.th_book.specs.Due.{EndsWithSight, IsRefused, IsTaken, IsWanting};
 ghost use Rattle.th_book.specs.Feeds.{feed_due, IsFed, IsWantingIn, StopsAt};
 ghost use Rattle.th_book.specs.Inside.Feeds.{AreTaken, IsGiven};
 
@@ -9,8 +9,10 @@ use crate::books::Book;
 use crate::faults::{BookFault, BookKind};
 use crate::limits::MAX_BOOK;
 use crate::observations::Observation;
-use gsi_block::Lines;
+use arrayvec::ArrayVec;
 use gsi_block::laws::cut_line_is_read_as_its_line;
+use gsi_block::{Lines, MAX_WORDS};
+use gsi_word::Word;
 use std::alloc::{AllocError, Global};
 use std::marker::Model;
 
@@ -118,29 +120,61 @@ fn take_lines(book: &mut Book, lines: &mut Lines, piece: &[u8]) -> Result<(), Bo
     ensures taken { OnOk result (AreTaken book.old lines.old book.new lines.new piece.now) }
     ensures wanting { IfErr result (IsWantingIn book.old lines.old book.new lines.new piece.now) }
 {
+    let mut words = ArrayVec::new();
     let mut rest = piece;
     'pieces: loop {
         let (taken, complete) = lines.take(rest);
         if !complete {
             return Ok(());
         }
-        give(book, lines.line())?;
+        give(book, lines.line(), rest, &mut words)?;
         (_, rest) = rest.split_at(taken);
     }
 }
 
 /// Gives a book its next line; a fault other than want of memory stays in the book.
-fn give(book: &mut Book, line: &[u8]) -> Result<(), BookFault>
+fn give<'p>(
+    book: &mut Book,
+    line: &[u8],
+    rest: &'p [u8],
+    words: &mut ArrayVec<Word<'p>, MAX_WORDS>,
+) -> Result<(), BookFault>
     requires { book.old.lines < longest_book }
     ensures given { OnOk result (IsGiven book.old book.new line.now) }
     ensures kind { IfErr result (λ fault. fault.kind ≡ BookKind.NoMemory) }
     ensures wanting { IfErr result (IsWanting book.old book.new line.now) }
 {
-    match book.line(line) {
+    if line.is_empty() {
+        book.pass_empty();
+        return Ok(());
+    }
+    match read_line(book, line, rest, words) {
         Ok(()) => Ok(()),
         Err(fault) => match fault.kind {
             BookKind::NoMemory => Err(fault),
             _ => Ok(()),
         },
     }
+}
+
+/// Has a book read its next line. Most lines lie whole in the piece that ends them: there the words
+/// lend from the piece, and one array serves for all of them.
+fn read_line<'p>(
+    book: &mut Book,
+    line: &[u8],
+    rest: &'p [u8],
+    words: &mut ArrayVec<Word<'p>, MAX_WORDS>,
+) -> Result<(), BookFault>
+    requires { book.old.lines < longest_book }
+    ensures taken { OnOk result (IsTaken book.old book.new line.now) }
+    ensures refused { IfErr result
+        (λ fault. fault.kind ≢ BookKind.NoMemory → IsRefused book.old book.new line.now fault) }
+    ensures wanting { IfErr result
+        (λ fault. fault.kind ≡ BookKind.NoMemory → IsWanting book.old book.new line.now fault) }
+{
+    let (front, _) = rest.split_at(line.len().min(rest.len()));
+    if front == line {
+        return book.read(front, words);
+    }
+    book.line(line)
 }

@@ -9,7 +9,7 @@ use crate::entries::Entry;
 use crate::faults::BookKind;
 use crate::setups::{Setup, Sight};
 use arrayvec::ArrayVec;
-use gsi_block::read_words;
+use gsi_block::{MAX_WORDS, read_words};
 use gsi_word::Word;
 
 /// What a line without a fault leaves: the running setup, and what is seen where it is a sight.
@@ -19,14 +19,17 @@ pub struct Step {
     pub sight: Option<Sight>,
 }
 
-/// What a line leaves in a running setup, or the first kind of its faults.
-#[inline(never)]
-pub fn step_of_line(running: Option<Setup>, line: &[u8]) -> Result<Step, BookKind>
+/// What a line leaves in a running setup, or the first kind of its faults. Its words are read into an
+/// array that is lent.
+pub fn step_of_line<'a>(
+    running: Option<Setup>,
+    line: &'a [u8],
+    words: &mut ArrayVec<Word<'a>, MAX_WORDS>,
+) -> Result<Step, BookKind>
     ensures fault { result_err result ≡ line_fault running (block_at line.now) }
     ensures left { IfOk result (IsLeft running (words_in (block_at line.now))) }
 {
-    let mut words = ArrayVec::new();
-    match read_words(line, &mut words) {
+    match read_words(line, words) {
         Ok(Some(_)) => step_of_block(running, words.as_slice()),
         Ok(None) => Ok(Step {
             setup: running,

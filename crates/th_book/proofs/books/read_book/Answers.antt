@@ -11,25 +11,25 @@ use Rattle.th_book.proofs.books.read_book.Goals as goal
 within : (book : ℕ) (bytes : List ℕ) → length bytes ≤ longest_book → book_answer book bytes ≡ lines_answer book (lines_of bytes)
 within book bytes short = cond-false (nat_lt longest_book (length bytes)) _ _ (le-ltb longest_book (length bytes) short)
 
-pub line-requires : goal.line-requires
-line-requires c =
+pub read-requires : goal.read-requires
+read-requires c =
     let taken = lines_left c.args.book (lines_of c.args.bytes.now) c.lines.reader (lines_of c.lines.cursor) c.in-Some.line.now (lines_of c.next.new.self) c.lines.invariant c.in-Some.ensures.gives in
     omega (arith, taken, length-lines_of c.args.bytes.now, c.if-size-gt-MAX_BOOK.false)
 
 pub lines-preserved : goal.lines-preserved
 lines-preserved c =
-    IsReading-more c.args.book (lines_of c.args.bytes.now) c.lines.reader c.line.new.self (lines_of c.lines.cursor) c.in-Some.line.now (lines_of c.next.new.self) c.lines.invariant c.in-Some.ensures.gives c.in_ok-line.ensures.taken
+    IsReading-more c.args.book (lines_of c.args.bytes.now) c.lines.reader c.read.new.self (lines_of c.lines.cursor) c.in-Some.line.now (lines_of c.next.new.self) c.lines.invariant c.in-Some.ensures.gives c.in_ok-read.ensures.taken
 
-pub returns-in_err-line-clause-fault : goal.returns-in_err-line-clause-fault
-returns-in_err-line-clause-fault c =
+pub returns-in_err-read-clause-fault : goal.returns-in_err-read-clause-fault
+returns-in_err-read-clause-fault c =
     let p = err_from_is_err_and c.from_residual.result c.from_residual.ensures.1 in
     let whole = within c.args.book c.args.bytes.now c.if-size-gt-MAX_BOOK.false in
-    rw (p.1, p.2) (λ kept. whole ∙ refused_answer c.args.book (lines_of c.args.bytes.now) c.lines.reader c.line.new.self (lines_of c.lines.cursor) c.in-Some.line.now (lines_of c.next.new.self) c.in_err-line.field-0.0 c.lines.invariant c.in-Some.ensures.gives (c.in_err-line.ensures.refused kept))
+    rw (p.1, p.2) (λ kept. whole ∙ refused_answer c.args.book (lines_of c.args.bytes.now) c.lines.reader c.read.new.self (lines_of c.lines.cursor) c.in-Some.line.now (lines_of c.next.new.self) c.in_err-read.field-0.0 c.lines.invariant c.in-Some.ensures.gives (c.in_err-read.ensures.refused kept))
 
-pub returns-in_err-line-clause-wanting : goal.returns-in_err-line-clause-wanting
-returns-in_err-line-clause-wanting c =
+pub returns-in_err-read-clause-wanting : goal.returns-in_err-read-clause-wanting
+returns-in_err-read-clause-wanting c =
     let p = err_from_is_err_and c.from_residual.result c.from_residual.ensures.1 in
-    rw (p.1, p.2) (λ wanting. wanting_answer c.args.book (lines_of c.args.bytes.now) c.lines.reader c.line.new.self (lines_of c.lines.cursor) c.in-Some.line.now (lines_of c.next.new.self) c.in_err-line.field-0.0 c.lines.invariant c.in-Some.ensures.gives (c.in_err-line.ensures.wanting wanting))
+    rw (p.1, p.2) (λ wanting. wanting_answer c.args.book (lines_of c.args.bytes.now) c.lines.reader c.read.new.self (lines_of c.lines.cursor) c.in-Some.line.now (lines_of c.next.new.self) c.in_err-read.field-0.0 c.lines.invariant c.in-Some.ensures.gives (c.in_err-read.ensures.wanting wanting))
 
 pub returns-clause-ok : goal.returns-clause-ok
 returns-clause-ok c =

@@ -2,7 +2,7 @@ use Rattle.std.proofs.Common.{◌≡◌, ◌≤◌, ℕ, ℤ, ◌+ℤ◌, ◌-�
 use Rattle.std.specs.Prelude.{unsigned_abs}
 use Rattle.std.proofs.lemmas.Int.{ints}
 use Rattle.std.proofs.lemmas.Bool.{false≢true}
-use Rattle.gsi_word.proofs.CallerLemmas.{same_name-Decides}
+use Rattle.std.specs.Cmp.Lexicographic.{bytes_decides}
 use Rattle.th_book.specs.Inside.Steps.{observed_from}
 use Rattle.th_book.specs.declared.setups.Setup.{Setup}
 use Rattle.th_book.proofs.setups.Setup.sight.Goals as goal
@@ -26,7 +26,7 @@ observed running setup target sighted instrument reflector given book line runs 
 
 pub invariant_of-result : goal.invariant_of-result
 invariant_of-result c = record {
-  distinct = λ same. false≢true (c.if-eq.ensures ∙ (same_name-Decides c.in_ok-setup.setup.station c.args.target).1 same);
+  distinct = λ same. false≢true (c.if-eq.ensures ∙ (bytes_decides c.in_ok-setup.setup.station c.args.target).1 same);
   in_range = omega (arith, ints, c.get.ensures.in_range, c.get-2.ensures.in_range, c.get-3.ensures.in_range);
 }
 

@@ -1,28 +1,16 @@
-use Rattle.std.proofs.Common.{◌≡◌, ◌+◌, true, length, Some, None, sym, ap, ◌∙◌, subst, arith}
-use Rattle.std.specs.Prelude.{◌==◌}
-use Rattle.std.proofs.lemmas.Bool.Decides.{nat_tests}
+use Rattle.std.proofs.Common.{◌≡◌, Some, None, sym, ap, ◌∙◌, subst}
 use Rattle.gsi_block.specs.Blocks.{block_at}
 use Rattle.th_book.specs.Lines.{words_in}
-use Rattle.th_book.specs.Due.{BookState, IsRefused, IsTaken, standing_in}
+use Rattle.th_book.specs.Due.{BookState, IsRefused, standing_in}
 use Rattle.th_book.specs.Inside.Steps.{IsLeft, line_fault, state_refusing}
 use Rattle.th_book.specs.declared.faults.BookFault.{BookFault}
-use Rattle.th_book.proofs.Holding.{IsRefused-before, IsRefused-step, IsTaken-empty, kind_lasts, taken_ok, wanting_err}
-use Rattle.th_book.proofs.books.Book.line.Goals as goal
+use Rattle.th_book.proofs.Holding.{IsRefused-before, IsRefused-step, kind_lasts, taken_ok, wanting_err}
+use Rattle.th_book.proofs.books.Book.read.Goals as goal
 
 pub returns-in-Some-clause-refused : goal.returns-in-Some-clause-refused
 returns-in-Some-clause-refused c =
     let found : c.args.self.now.fault ≡ Some c.in-Some.fault = ap (λ (state : BookState). state.fault) (sym c.self.view_is) ∙ c.in-Some.is in
     λ kept. IsRefused-before c.args.self.now c.args.line.now c.in-Some.fault found
-
-pub returns-then-is_empty-clause-taken : goal.returns-then-is_empty-clause-taken
-returns-then-is_empty-clause-taken c =
-    let sound : c.args.self.now.fault ≡ None = ap (λ (state : BookState). state.fault) (sym c.self.view_is) ∙ c.in_default.is in
-    let tested : true ≡ (length c.args.line.now == 0) = c.if-is_empty.ensures in
-    let none : length c.args.line.now ≡ 0 = grind (arith, nat_tests) in
-    subst
-    (λ (state : BookState). IsTaken c.args.self.now (record state { lines = state.lines + 1 }) c.args.line.now)
-    (sym c.self.view_is)
-    (IsTaken-empty c.args.self.now c.args.line.now none sound)
 
 pub refuse-requires-clause-lasting : goal.refuse-requires-clause-lasting
 refuse-requires-clause-lasting c =
