@@ -1,0 +1,4 @@
+pub mod PositionLemmas
+pub mod PlaceLemmas
+pub mod YesLemmas
+pub mod AcceptLemmas
