@@ -3,12 +3,14 @@
 PROGRAM := crates/height_office/out/height_office
 PREFIX ?= /usr/local
 BOOK ?= examples/building_site.gsi
+LOG := build.log
 
-.PHONY: help run build test gate examples compare memory bench install clean
+.PHONY: help run build check test gate examples compare memory bench install clean
 
 help:
 	@echo 'make run       prove and build the program, and list a book (BOOK=$(BOOK))'
 	@echo 'make build     prove and build the program: $(PROGRAM)'
+	@echo 'make check     while you work: prove what changed, then the examples and the second reader'
 	@echo 'make test      the gate (every proof from nothing, must-fail edits, tests, program runs), the examples and the second reader'
 	@echo 'make gate      rt ci alone'
 	@echo 'make examples  compare what the built program gives for the books of examples/ with what stands beside them'
@@ -18,24 +20,32 @@ help:
 	@echo 'make install   copy the built program to $(PREFIX)/bin'
 	@echo 'make clean     remove what was built'
 
-run:
-	@cd crates/height_office && rt run < ../../$(BOOK)
+run: build
+	@$(PROGRAM) list $(BOOK)
 
 # `rt run` is what builds; an empty book is listed on the way.
 build:
-	@cd crates/height_office && rt run < /dev/null > /dev/null
+	@echo 'proving and building $(PROGRAM): some minutes at first, seconds where nothing changed; the log is $(LOG)'
+	@cd crates/height_office && rt run < /dev/null > ../../$(LOG) 2>&1 || { tail -n 40 ../../$(LOG); exit 1; }
 
-test: gate build examples compare
+check:
+	@echo 'proving what changed; the log is $(LOG)'
+	@rt all check > $(LOG) 2>&1 || { tail -n 40 $(LOG); exit 1; }
+	@$(MAKE) --no-print-directory build examples compare
+
+# The gate leaves the program that it proved and built, so nothing is proved again after it.
+test: gate examples compare
 
 gate:
 	@rt ci
 
-examples: build
+examples:
 	@tests/examples
 
 BOOKS ?= 10000
 SEED ?= 20240607
-compare: build
+compare:
+	@python3 tests/second_reader/self_test.py
 	@python3 tests/second_reader/compare.py --program $(PROGRAM) --books $(BOOKS) --seed $(SEED)
 
 memory:
@@ -49,4 +59,4 @@ install: build
 	install -D $(PROGRAM) $(DESTDIR)$(PREFIX)/bin/height_office
 
 clean:
-	rm -rf crates/*/out
+	rm -rf crates/*/out $(LOG)

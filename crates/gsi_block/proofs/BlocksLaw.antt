@@ -2,11 +2,11 @@
 use Rattle.std.proofs.Common.{◌≡◌, ◌≢◌, ◌↔◌, ℕ, ◌≤◌, Bool, true, false, cond, nat_lt, ◌⊎◌, inl, inr, List, [], ◌∷◌, ◌++◌, Option, Some, None, Result, Ok, Err, length, slice_index, drop, replicate, refl, ap, ◌∙◌, arith, suc, zero}
 use Rattle.std.proofs.lemmas.Bool.Decides.{nat_tests}
 use Rattle.std.proofs.lemmas.List.{length-replicate}
-use Rattle.th_units.specs.Lens.{is_digit}
+use Rattle.th_units.specs.Lengths.{is_digit}
 use Rattle.gsi_word.specs.Words.{Parts, result_map}
 use Rattle.gsi_word.specs.declared.words.Width.{Width}
 use Rattle.gsi_word.specs.declared.words.Width.TheVariants.{Eight, Sixteen}
-use Rattle.gsi_word.specs.declared.words.WordFault.TheVariants.{Short}
+use Rattle.gsi_word.specs.declared.faults.WordFault.TheVariants.{Short}
 use Rattle.gsi_block.specs.Blocks.{most_bytes, most_words, BlockParts, is_star, is_blank, words_from, block_of, block_at, IsBlankLine, mark, SpellsRow, IsBlock}
 use Rattle.gsi_block.specs.declared.blocks.BlockFault.{BlockFault}
 use Rattle.gsi_block.specs.declared.blocks.BlockFault.TheVariants.{BadWord, LineTooLong}

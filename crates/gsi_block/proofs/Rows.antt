@@ -3,7 +3,7 @@ use Rattle.std.proofs.Common.{◌≡◌, ℕ, ◌+◌, true, false, List, [], �
 use Rattle.gsi_word.specs.Bytes.{is_space}
 use Rattle.gsi_word.specs.Words.{Parts, result_map, spelling_len, word_at}
 use Rattle.gsi_word.specs.declared.words.Width.{Width}
-use Rattle.gsi_word.specs.declared.words.WordFault.{WordFault}
+use Rattle.gsi_word.specs.declared.faults.WordFault.{WordFault}
 use Rattle.gsi_block.specs.Blocks.{most_words, is_blank, words_from, block_of}
 use Rattle.gsi_block.specs.declared.blocks.BlockFault.{BlockFault}
 use Rattle.gsi_block.specs.declared.blocks.BlockFault.TheVariants.{BadWord, TooManyWords, BadSeparator}

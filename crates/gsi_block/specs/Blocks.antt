@@ -5,8 +5,8 @@ use Rattle.gsi_word.specs.Bytes.{is_space}
 use Rattle.gsi_word.specs.Words.{Parts, Spells, fault_text as word_fault_text, parts_of, result_map, spelling_len, word_at}
 use Rattle.gsi_word.specs.declared.words.Width.{Width}
 use Rattle.gsi_word.specs.declared.words.Width.TheVariants.{Eight, Sixteen}
-use Rattle.gsi_word.specs.declared.words.WordFault.TheVariants.{Short}
-use Rattle.gsi_word.specs.declared.words.WordFault.{WordFault}
+use Rattle.gsi_word.specs.declared.faults.WordFault.TheVariants.{Short}
+use Rattle.gsi_word.specs.declared.faults.WordFault.{WordFault}
 use Rattle.gsi_block.specs.declared.blocks.Block.{Block}
 use Rattle.gsi_block.specs.declared.blocks.BlockFault.{BlockFault}
 use Rattle.gsi_block.specs.declared.blocks.BlockFault.TheVariants.{BadWord, TooManyWords, LineTooLong, BadSeparator}

@@ -2,3 +2,4 @@ pub mod CallerLemmas
 pub mod NameLemmas
 pub mod SpellingLaw
 pub mod Spellings
+pub mod WrittenWords

@@ -9,9 +9,9 @@ use Rattle.std.proofs.Math.Seq.{take-append_seam}
 use Rattle.std.proofs.lemmas.List.Folds.{list_all-append, prefix_len-append}
 use Rattle.std.proofs.lemmas.List.Sums.{prefix_len_stops, prefix_len-drop_no, prefix_len-drop_all, suffix_len-take_no}
 use Rattle.gsi_word.specs.Bytes.{is_data, is_padding, is_space, is_zero}
-use Rattle.gsi_word.specs.Names.{longest_name, name_of, reduced, without_leading, without_trailing}
-use Rattle.gsi_word.specs.PaddedNames.{IsPaddedName}
-use Rattle.gsi_word.specs.declared.names.TheConstants.{MAX_NAME}
+use Rattle.gsi_word.specs.Names.{max_name, name_of, reduced, without_leading, without_trailing}
+use Rattle.gsi_word.specs.Inside.PaddedNames.{IsPaddedName}
+use Rattle.gsi_word.specs.declared.limits.TheConstants.{MAX_NAME}
 
 -- a test that each element of a list passes is passed by each of its front and of its rest
 pub list_all-parts : (p : ℕ → Bool) (k : ℕ) (xs : List ℕ) → list_all p xs ≡ true → (list_all p (take k xs) ≡ true) × (list_all p (drop k xs) ≡ true)
@@ -67,25 +67,25 @@ reduced-reduced bytes =
     ap without_trailing (without_leading-none (reduced bytes) front) ∙ without_trailing-none (reduced bytes) end
 
 -- the reduced form of printable bytes is its own name, where it is neither empty nor too long
-pub name_of-reduced : (bytes : List ℕ) → list_all is_data bytes ≡ true → 0 < length (reduced bytes) → length (reduced bytes) ≤ longest_name → name_of (reduced bytes) ≡ Some (reduced bytes)
+pub name_of-reduced : (bytes : List ℕ) → list_all is_data bytes ≡ true → 0 < length (reduced bytes) → length (reduced bytes) ≤ max_name → name_of (reduced bytes) ≡ Some (reduced bytes)
 name_of-reduced bytes printable some fits =
     let front : list_all is_data (without_leading bytes) ≡ true = (list_all-parts is_data _ bytes printable).1 in
     let still : list_all is_data (reduced bytes) ≡ true = (list_all-parts is_data _ (without_leading bytes) front).0 in
     let some_test : (length (reduced bytes) == 0) ≡ false = grind (arith, nat_tests) in
-    let fits_test : nat_lt longest_name (length (reduced bytes)) ≡ false = grind (arith, nat_tests) in
+    let fits_test : nat_lt max_name (length (reduced bytes)) ≡ false = grind (arith, nat_tests) in
     rw (reduced-reduced bytes, still, some_test, fits_test) refl
 
 -- what each name of some data is: its own name, of one byte at least, and of sixteen at most
 record IsName (name : List ℕ) : Type 0 where
   own : name_of name ≡ Some name
   some : 0 < length name
-  within : length name ≤ longest_name
+  within : length name ≤ max_name
 
 IsName-name_of : (bytes name : List ℕ) → name_of bytes ≡ Some name → IsName name
 IsName-name_of bytes name is_name =
-    by_tests (list_all is_data bytes) (length (reduced bytes) == 0) (list_any is_zero bytes) (nat_lt longest_name (length (reduced bytes))) refl refl refl is_name
+    by_tests (list_all is_data bytes) (length (reduced bytes) == 0) (list_any is_zero bytes) (nat_lt max_name (length (reduced bytes))) refl refl refl is_name
   where
-    by_tests : (printable empty zero_there long : Bool) → list_all is_data bytes ≡ printable → (length (reduced bytes) == 0) ≡ empty → nat_lt longest_name (length (reduced bytes)) ≡ long →
+    by_tests : (printable empty zero_there long : Bool) → list_all is_data bytes ≡ printable → (length (reduced bytes) == 0) ≡ empty → nat_lt max_name (length (reduced bytes)) ≡ long →
         (if not printable then None else (if empty then (if zero_there then Some (48 ∷ []) else None) else (if long then None else Some (reduced bytes)))) ≡ Some name → IsName name
     by_tests false empty zero_there long p e l h = absurd (cc)
     by_tests true true true long p e l h =
@@ -96,7 +96,7 @@ IsName-name_of bytes name is_name =
     by_tests true false zero_there false p e l h =
         let is_reduced : reduced bytes ≡ name = cc in
         let some : 0 < length (reduced bytes) = grind (arith, nat_tests) in
-        let fits : length (reduced bytes) ≤ longest_name = grind (arith, nat_tests) in
+        let fits : length (reduced bytes) ≤ max_name = grind (arith, nat_tests) in
         subst IsName is_reduced (record { own = name_of-reduced bytes p some fits; some = some; within = fits })
 
 -- a name's name is itself
@@ -104,7 +104,7 @@ pub name_of-name : (bytes name : List ℕ) → name_of bytes ≡ Some name → n
 name_of-name bytes name is_name = (IsName-name_of bytes name is_name).own
 
 -- a name has one byte at least, and sixteen at most
-pub length-name : (bytes name : List ℕ) → name_of bytes ≡ Some name → (0 < length name) × (length name ≤ longest_name)
+pub length-name : (bytes name : List ℕ) → name_of bytes ≡ Some name → (0 < length name) × (length name ≤ max_name)
 length-name bytes name is_name =
     let facts : IsName name = IsName-name_of bytes name is_name in
     (facts.some, facts.within)

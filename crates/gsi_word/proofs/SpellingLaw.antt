@@ -3,12 +3,12 @@ use Rattle.std.proofs.Common.{◌≡◌, ℕ, ◌≤◌, Bool, true, false, not,
 use Rattle.std.specs.List.{list_all, slice_range}
 use Rattle.std.proofs.lemmas.Bool.Decides.{nat_tests}
 use Rattle.std.proofs.lemmas.List.{length-take, length-take-le}
-use Rattle.th_units.specs.Lens.{is_digit}
+use Rattle.th_units.specs.Lengths.{is_digit}
 use Rattle.gsi_word.specs.Bytes.{is_info, is_sign, is_data}
 use Rattle.gsi_word.specs.Words.{Parts, Spells, parts_in, spelling_len, word_at}
 use Rattle.gsi_word.specs.declared.words.Width.{Width}
-use Rattle.gsi_word.specs.declared.words.WordFault.{WordFault}
-use Rattle.gsi_word.specs.declared.words.WordFault.TheVariants.{Short, BadIndex, BadInfo, BadSign, BadData}
+use Rattle.gsi_word.specs.declared.faults.WordFault.{WordFault}
+use Rattle.gsi_word.specs.declared.faults.WordFault.TheVariants.{Short, BadIndex, BadInfo, BadSign, BadData}
 
 -- the tests in their order, with what the word is where all are passed
 by_tests : (short index info sign body : Bool) → Parts → Result Parts WordFault

@@ -5,13 +5,13 @@ use Rattle.std.proofs.lemmas.Bool.Decides.{nat_tests}
 use Rattle.std.specs.Char.{digit_value}
 use Rattle.std.proofs.lemmas.Str.{digit_value_digit}
 use Rattle.th_units.proofs.Digits.{digit_bounds}
-use Rattle.th_units.specs.Lens.{is_digit, number}
+use Rattle.th_units.specs.Lengths.{is_digit, number}
 use Rattle.gsi_word.specs.Bytes.{is_info, is_sign, is_data}
 use Rattle.gsi_word.specs.Words.{Parts, spelling_len, word_at}
 use Rattle.gsi_word.specs.declared.words.Width.{Width}
 use Rattle.gsi_word.specs.declared.words.Width.TheVariants.{Eight, Sixteen}
-use Rattle.gsi_word.specs.declared.words.WordFault.{WordFault}
-use Rattle.gsi_word.specs.declared.words.WordFault.TheVariants.{BadIndex, BadInfo, BadSign, BadData}
+use Rattle.gsi_word.specs.declared.faults.WordFault.{WordFault}
+use Rattle.gsi_word.specs.declared.faults.WordFault.TheVariants.{BadIndex, BadInfo, BadSign, BadData}
 
 -- the word of seven bytes and some data, or the first part that holds a byte not allowed there
 abbrev pub word_of : List ℕ → List ℕ → ℕ → List ℕ → Result Parts WordFault
@@ -34,7 +34,7 @@ word_at_places Sixteen (a ∷ b ∷ c ∷ d ∷ e ∷ f ∷ g ∷ rest) long =
 word_at_places _ _ long = absurd (omega arith)
 
 -- two digits write ten times the first and the second
-number_two : (tens ones : ℕ) → is_digit tens ≡ true → is_digit ones ≡ true → number (tens ∷ ones ∷ []) ≡ 10 * (tens - 48) + (ones - 48)
+pub number_two : (tens ones : ℕ) → is_digit tens ≡ true → is_digit ones ≡ true → number (tens ∷ ones ∷ []) ≡ 10 * (tens - 48) + (ones - 48)
 number_two tens ones tens_digit ones_digit =
     let tens_value : digit_value tens + 48 ≡ tens = digit_value_digit tens (digit_bounds tens tens_digit) in
     let ones_value : digit_value ones + 48 ≡ ones = digit_value_digit ones (digit_bounds ones ones_digit) in

@@ -1,5 +1,5 @@
 use Rattle.std.specs.Prelude.{ℕ, ◌==◌, ◌&&◌, ◌||◌, Bool, nat_le}
-use Rattle.th_units.specs.Lens.{is_digit}
+use Rattle.th_units.specs.Lengths.{is_digit}
 
 -- a dot or a digit
 abbrev pub is_info : ℕ → Bool

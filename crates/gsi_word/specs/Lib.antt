@@ -1,5 +1,5 @@
 pub mod Bytes
 pub mod Words
 pub mod Names
-pub mod PaddedNames
-pub mod Data
+pub mod Values
+pub mod Inside

@@ -16,8 +16,8 @@ abbrev pub reduced : List ℕ → List ℕ
 reduced bytes = without_trailing (without_leading bytes)
 
 -- the most bytes that a name has
-abbrev pub longest_name : ℕ
-longest_name = 16
+abbrev pub max_name : ℕ
+max_name = 16
 
 -- The name of some data is its reduced form, or `0` where only zeros and spaces were there, at least one zero.
 -- There is none where there is no byte or only spaces, a byte that is not printable, or more than sixteen bytes are left,
@@ -27,7 +27,7 @@ name_of bytes =
     let name = reduced bytes in
     if not (list_all is_data bytes) then None
     else (if length name == 0 then (if list_any is_zero bytes then Some (48 ∷ []) else None)
-    else (if nat_lt longest_name (length name) then None
+    else (if nat_lt max_name (length name) then None
     else Some name))
 
 -- whether two names have the same bytes, `a` and `A` being two: what `==` of names computes, and a map with names as keys goes by

@@ -1,13 +1,13 @@
-use Rattle.std.specs.Prelude.{◌≡◌, ℕ, ◌+◌, ◌==◌, not, Bool, true, false, List, length, Result, Ok, Err, if◌then◌else◌, nat_lt, slice_index, slice_range, take, drop, replicate, codes}
+use Rattle.std.specs.Prelude.{◌≡◌, ℕ, ◌+◌, ◌/◌, ◌%◌, ◌==◌, not, Bool, true, false, List, [], ◌∷◌, ◌++◌, length, Result, Ok, Err, if◌then◌else◌, nat_lt, slice_index, slice_range, take, drop, replicate, codes}
 use Rattle.std.specs.List.{list_all}
 use Rattle.std.specs.Result.{result_map_both}
-use Rattle.th_units.specs.Lens.{is_digit, number}
+use Rattle.th_units.specs.Lengths.{is_digit, number}
 use Rattle.gsi_word.specs.Bytes.{is_info, is_sign, is_data}
 use Rattle.gsi_word.specs.declared.words.Width.{Width}
 use Rattle.gsi_word.specs.declared.words.Width.TheVariants.{Eight, Sixteen}
 use Rattle.gsi_word.specs.declared.words.Word.{Word}
-use Rattle.gsi_word.specs.declared.words.WordFault.{WordFault}
-use Rattle.gsi_word.specs.declared.words.WordFault.TheVariants.{Short, BadIndex, BadInfo, BadSign, BadData}
+use Rattle.gsi_word.specs.declared.faults.WordFault.{WordFault}
+use Rattle.gsi_word.specs.declared.faults.WordFault.TheVariants.{Short, BadIndex, BadInfo, BadSign, BadData}
 
 -- a word's parts: the index, the information of positions 3 to 6, whether the sign is a minus, and the data
 pub record Parts : Type 0 where
@@ -15,6 +15,10 @@ pub record Parts : Type 0 where
   pub info : List ℕ
   pub negative : Bool
   pub body : List ℕ
+
+-- the word with these parts
+abbrev pub parts : ℕ → List ℕ → Bool → List ℕ → Parts
+parts index info negative body = record { index = index; info = info; negative = negative; body = body }
 
 -- the parts of a word of the code
 abbrev pub parts_of : Word → Parts
@@ -49,6 +53,19 @@ pub record Spells (word : Parts) (bytes : List ℕ) (width : Width) : Type 0 whe
   pub negative : word.negative ≡ (slice_index bytes 6 == 45)
   pub body_bytes : list_all is_data word.body ≡ true
   pub body : word.body ≡ drop 7 bytes
+
+-- some bytes spell the word, in one of the two widths
+abbrev pub HasSpelling : Parts → Type 0
+HasSpelling word = (width : Width) × (bytes : List ℕ) × Spells word bytes width
+
+-- The one spelling of a word that has one: two digits of its index, its information, a minus or a plus, and its data.
+abbrev pub spelling_of : Parts → List ℕ
+spelling_of word =
+    (48 + word.index / 10) ∷ (48 + word.index % 10) ∷ word.info ++ (if word.negative then 45 else 43) ∷ word.body
+
+-- a word as it stands in its block: its spelling, and the space that closes it
+abbrev pub closed : Parts → List ℕ
+closed word = spelling_of word ++ 32 ∷ []
 
 -- the parts that stand in a spelling's places
 abbrev pub parts_in : List ℕ → Parts

@@ -4,15 +4,31 @@
 //! copied. A `Name` is a point's name in reduced form, with a value of its own.
 #![tactic(auto)]
 
-mod data;
-pub mod laws;
-mod names;
-mod readings;
-#[cfg(test)]
-mod tests;
+// how long a name and a word are at most, and why there is none
+mod faults;
+mod limits;
+
+// words, of bytes that are allowed in their places
+mod bytes;
 mod words;
 
-pub use data::{LengthFault, length_of, two_digit};
-pub use names::{MAX_NAME, Name, name_of};
-pub use readings::read_word;
-pub use words::{Width, Word, WordFault};
+// how they are read and written
+mod parsing;
+mod writing;
+
+// what they hold
+mod names;
+mod values;
+
+// what holds of the definitions alone
+pub mod laws;
+#[cfg(test)]
+mod tests;
+
+pub use faults::{LengthFault, WordFault};
+pub use limits::{MAX_NAME, MAX_WORD};
+pub use names::{Name, name_of};
+pub use parsing::read_word;
+pub use values::{length_of, two_digit};
+pub use words::{Width, Word};
+pub use writing::write_word;

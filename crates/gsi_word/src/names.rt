@@ -6,14 +6,12 @@ ghost use Rattle.std.specs.Ordering.{nat_cmp};
 ghost use Rattle.gsi_word.specs.Bytes.{is_padding};
 ghost use Rattle.gsi_word.specs.Names.{name_of, without_leading, without_trailing};
 
-use crate::readings::are_data;
+use crate::bytes::are_data;
+use crate::limits::MAX_NAME;
 use std::cmp::Ordering;
 use std::hash::{Hash, Hasher};
 use std::marker::Model;
 use std::{fmt, str};
-
-/// The most bytes that a name has.
-pub const MAX_NAME: usize = 16;
 
 /// A point's name in reduced form: 1 to 16 printable bytes, compared and hashed as bytes.
 #[derive(Clone, Copy)]
@@ -24,7 +22,7 @@ pub struct Name {
 
 impl Model for Name {
     ghost use Rattle.std.specs.Prelude.{◌≡◌, List, ℕ, length, take};
-    ghost use Rattle.gsi_word.specs.PaddedNames.{padded, IsPaddedName};
+    ghost use Rattle.gsi_word.specs.Inside.PaddedNames.{padded, IsPaddedName};
 
     ghost Value = { List ℕ };
 
@@ -55,6 +53,16 @@ impl Name {
         ensures reduced { name_of self.now ≡ Some self.now }
     {
         &self.bytes[..usize::from(self.len)]
+    }
+
+    /// The name as text: printable ASCII is text, so that the other arm is never taken.
+    fn text(&self) -> &str
+        ensures { result.now ≡ self.now }
+    {
+        match str::from_utf8(self.as_bytes()) {
+            Ok(text) => text,
+            Err(_) => "",
+        }
     }
 }
 
@@ -106,16 +114,25 @@ impl Hash for Name {
     }
 }
 
+/// A name is shown as it is.
+impl fmt::Display for Name {
+    ghost use Rattle.std.specs.Prelude.{Some};
+
+    ghost output = { λ name. Some name };
+
+    fn fmt<W: fmt::Write>(&self, f: &mut fmt::Formatter<W>) -> fmt::Result {
+        f.write_str(self.text())
+    }
+}
+
+/// A name is shown in quotation marks, as text is.
 impl fmt::Debug for Name {
     ghost use Rattle.std.specs.Fmt.{debug_str};
 
     ghost debug_output = { debug_str };
 
     fn fmt<W: fmt::Write>(&self, f: &mut fmt::Formatter<W>) -> fmt::Result {
-        match str::from_utf8(self.as_bytes()) {
-            Ok(text) => fmt::Debug::fmt(text, f),
-            Err(_) => fmt::Debug::fmt(self.as_bytes(), f),
-        }
+        fmt::Debug::fmt(self.text(), f)
     }
 }
 

@@ -1,4 +1,5 @@
 use crate::*;
+use arrayvec::ArrayVec;
 use std::alloc::AllocError;
 use std::collections::HashMap;
 use std::process::Abort;
@@ -72,6 +73,8 @@ fn a_name_printed_for_debugging(rt: HostRuntime) -> Result<(), AllocError> {
     let name = name_of(b"00A B ").expect(&rt, "a name");
     let text = format!(in rt.alloc(); "{name:?}")?;
     assert_eq!(rt; text.as_str(), "\"A B\"");
+    let plain = format!(in rt.alloc(); "{name}")?;
+    assert_eq!(rt; plain.as_str(), "A B");
     Ok(())
 }
 
@@ -215,4 +218,73 @@ fn a_word_to_fill_an_array_with(rt: HostRuntime) {
     assert_eq!(rt; word.width(), Width::Eight);
     assert_eq!(rt; two_digit(&word), Some(0));
     assert_eq!(rt; Width::Sixteen.spelling_len(), 23);
+}
+
+/// The parts of a word, and the bytes that it is written as, or none where no spelling has them.
+type Writing = (
+    u8,
+    &'static [u8; 4],
+    bool,
+    &'static [u8],
+    Option<&'static [u8]>,
+);
+
+const WRITINGS: [Writing; 12] = [
+    (11, b"0001", false, b"0000000A", Some(b"110001+0000000A ")),
+    (
+        83,
+        b"..48",
+        true,
+        b"0000000010254500",
+        Some(b"83..48-0000000010254500 "),
+    ),
+    (0, b"....", false, b"        ", Some(b"00....+         ")),
+    (99, b"9999", true, b"!~!~!~!~", Some(b"999999-!~!~!~!~ ")),
+    (100, b"0001", false, b"0000000A", None),
+    (255, b"0001", false, b"0000000A", None),
+    (11, b"00 1", false, b"0000000A", None),
+    (11, b"000:", false, b"0000000A", None),
+    (11, b"0001", false, b"000000A", None),
+    (11, b"0001", false, b"", None),
+    (11, b"0001", false, b"00000000000000A", None),
+    (11, b"0001", false, b"0000000\x7f", None),
+];
+
+fn writes(rt: &impl Abort, row: &Writing) {
+    let (index, info, negative, body, wanted) = *row;
+    match (Word::new(index, *info, negative, body), wanted) {
+        (Some(word), Some(bytes)) => {
+            let mut out = ArrayVec::new();
+            assert!(rt; write_word(&word, &mut out));
+            assert!(rt; out.as_slice() == bytes, "the bytes of {word:?}");
+            let again = read_word(bytes, word.width()).expect(rt, "a word");
+            assert_eq!(rt; again.index(), index);
+            assert_eq!(rt; again.info(), *info);
+            assert_eq!(rt; again.negative(), negative);
+            assert!(rt; again.body() == body, "the data of {bytes:?}");
+        }
+        (None, None) => {}
+        _ => panic!(rt; "the word of {index}, {info:?} and {body:?}"),
+    }
+}
+
+#[test]
+fn words_written(rt: HostRuntime) {
+    for row in &WRITINGS {
+        writes(&rt, row);
+    }
+}
+
+#[test]
+fn words_written_without_room(rt: HostRuntime) {
+    let short = Word::new(11, *b"0001", false, b"0000000A").expect(&rt, "a word");
+    let long = Word::new(11, *b"0001", false, b"000000000000000A").expect(&rt, "a word");
+    let mut out = ArrayVec::new();
+    assert!(rt; write_word(&short, &mut out));
+    assert!(rt; !write_word(&long, &mut out));
+    assert!(rt; !write_word(&short, &mut out));
+    assert!(rt;
+        out.as_slice() == b"110001+0000000A ".as_slice(),
+        "the first word alone"
+    );
 }

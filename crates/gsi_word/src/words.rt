@@ -2,9 +2,8 @@ ghost use Rattle.std.specs.Prelude.{◌≡◌, ◌<◌, ◌==◌, ◌||◌, IsTr
 ghost use Rattle.std.specs.List.{list_all};
 ghost use Rattle.gsi_word.specs.Bytes.{is_info, is_sign, is_data};
 
+use crate::bytes::{are_data, are_info};
 use std::default::Default;
-use std::error::Error;
-use std::fmt;
 
 /// How many bytes of data a word has: 8 in GSI-8, 16 in GSI-16 (Leica GSI Online manual, word format).
 #[derive(Clone, Copy, Debug, PartialEq, Eq)]
@@ -27,40 +26,6 @@ impl Width {
     }
 }
 
-/// Why the front of some bytes spells no word: the first part that holds a byte not allowed there.
-#[derive(Clone, Copy, Debug, PartialEq, Eq)]
-pub enum WordFault {
-    /// There are fewer bytes than a spelling has.
-    Short,
-    /// Positions 1 and 2 are not two digits.
-    BadIndex,
-    /// Positions 3 to 6 hold another byte than a digit or a dot.
-    BadInfo,
-    /// Position 7 is neither `+` nor `-`.
-    BadSign,
-    /// The data hold a byte that is not printable ASCII.
-    BadData,
-}
-
-impl fmt::Display for WordFault {
-    ghost use Rattle.std.specs.Prelude.{Some};
-    ghost use Rattle.gsi_word.specs.Words.{fault_text};
-
-    ghost output = { λ fault. Some (fault_text fault) };
-
-    fn fmt<W: fmt::Write>(&self, f: &mut fmt::Formatter<W>) -> fmt::Result {
-        f.write_str(match self {
-            WordFault::Short => "short",
-            WordFault::BadIndex => "bad index",
-            WordFault::BadInfo => "bad information",
-            WordFault::BadSign => "bad sign",
-            WordFault::BadData => "bad data",
-        })
-    }
-}
-
-impl Error for WordFault {}
-
 /// A word of a block, with its data lent from the line that it was read from.
 #[derive(Clone, Copy, Debug)]
 pub struct Word<'a> {
@@ -75,7 +40,26 @@ pub struct Word<'a> {
 }
 
 impl<'a> Word<'a> {
-    ghost use Rattle.gsi_word.specs.Words.{parts_of, data_len};
+    ghost use Rattle.std.specs.Prelude.{option_map};
+    ghost use Rattle.std.specs.Option.{SomeIff};
+    ghost use Rattle.gsi_word.specs.Words.{HasSpelling, Spells, parts, parts_of, data_len, spelling_of};
+
+    /// The word with this index, information, sign and data; none where no spelling has these parts.
+    ///
+    /// The index is below 100, the information digits and dots, and the data 8 or 16 printable bytes.
+    pub fn new(index: u8, info: [u8; 4], negative: bool, body: &'a [u8]) -> Option<Word<'a>>
+        ensures { let word = parts index info negative body.now in SomeIff (option_map parts_of result) (HasSpelling word) word }
+    {
+        if index >= 100 || !are_info(info) || !has_data_len(body) || !are_data(body) {
+            return None;
+        }
+        Some(Word {
+            index,
+            info,
+            negative,
+            body,
+        })
+    }
 
     /// The word index of positions 1 and 2.
     pub fn index(&self) -> u8
@@ -107,7 +91,8 @@ impl<'a> Word<'a> {
 
     /// The width whose data these are.
     pub fn width(&self) -> Width
-        ensures { data_len result ≡ length (parts_of self.now).body }
+        ensures data { data_len result ≡ length (parts_of self.now).body }
+        ensures spelled { Spells (parts_of self.now) (spelling_of (parts_of self.now)) result }
     {
         if self.body.len() == 8 {
             Width::Eight
@@ -115,6 +100,13 @@ impl<'a> Word<'a> {
             Width::Sixteen
         }
     }
+}
+
+/// Whether there are as many bytes as the data of a word have, in one of the two widths.
+fn has_data_len(body: &[u8]) -> bool
+    ensures { result ≡ ((length body.now == 8) || (length body.now == 16)) }
+{
+    body.len() == 8 || body.len() == 16
 }
 
 /// The word that fills an array before words are read: index 0, four dots, a plus and eight zeros.

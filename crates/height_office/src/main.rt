@@ -7,33 +7,18 @@
 ghost use Rattle.std.specs.Prelude.{◌≡◌, ◌≢◌, ◌<◌, ◌≤◌, ◌↔◌, ◌⊎◌, IfOk, IfErr, true, map, string_bytes};
 ghost use Rattle.std.specs.IoError.{error_kind};
 ghost use Rattle.std.specs.declared.io.ErrorKind.TheVariants.{InvalidData};
-ghost use Rattle.height_office.specs.Plans.{AreWrong};
-ghost use Rattle.height_office.specs.Refusals.{IsStatus, IsStatusOfRun, status_of};
-ghost use Rattle.height_office.specs.Runs.{HasFault, HoldsList};
+ghost use Rattle.th_devices.specs.Limits.{calls_before};
+ghost use Rattle.th_plans.specs.Plans.{AreWrong};
+ghost use Rattle.th_runs.specs.Refusals.{IsStatus, IsStatusOfRun, status_of};
+ghost use Rattle.th_runs.specs.Runs.{HasFault, HoldsList};
 
-mod command_lines;
-mod devices;
-mod files;
-mod lists;
-mod memory;
-mod plans;
-mod refusals;
-mod runs;
-mod streams;
-mod transfer;
-
-use command_lines::plan;
-use devices::{Sink, Source};
-use files::FileSource;
-use plans::{Plan, PlanFault};
-use refusals::{DEVICE_FAILED, DONE, INPUT_REFUSED, NO_MEMORY, Refusal, USAGE, status_of};
-use runs::run_list;
 use std::io::ErrorKind;
 use std::process::ExitCode;
 use std::rt::{Env, Files};
 use std::{env, io};
-use streams::{StandardInput, StandardOutput};
-use transfer::CALLS_BEFORE;
+use th_devices::{FileSource, Sink, Source, StandardInput, StandardOutput};
+use th_plans::{Plan, PlanFault, plan};
+use th_runs::{DEVICE_FAILED, DONE, INPUT_REFUSED, NO_MEMORY, Refusal, USAGE, run_list, status_of};
 
 fn main(rt: HostRuntime) -> ExitCode {
     ExitCode::from(run_words(&rt))
@@ -95,8 +80,8 @@ fn run<R: AllocGlobal + Files + Input + Print + Eprint>(rt: &R, words: &[String]
 
 /// Lists a book, and says the status to end with.
 fn list<R: AllocGlobal + Eprint, S: Source, K: Sink>(rt: &R, book: &mut S, out: &mut K) -> u8
-    requires book_calls { S.calls book.old ≤ CALLS_BEFORE }
-    requires out_calls { K.calls out.old ≤ CALLS_BEFORE }
+    requires book_calls { S.calls book.old ≤ calls_before }
+    requires out_calls { K.calls out.old ≤ calls_before }
     ensures listed { result ≡ DONE
         → HoldsList 1 (S.left book.old) (K.held out.old) (K.held out.new) }
     ensures finished { result ≡ DONE → K.is_finished out.new ≡ true }
@@ -120,6 +105,3 @@ fn refuse<R: Eprint>(rt: &R, refusal: &Refusal) -> u8
     let _ = rt.eprintln(refusal);
     status_of(refusal)
 }
-
-#[cfg(test)]
-mod tests;

@@ -7,7 +7,7 @@ use Rattle.std.proofs.lemmas.List.Folds.{find-append, list_any-append}
 use Rattle.std.proofs.lemmas.List.Sums.{sum_by-append, sum_by-cons}
 use Rattle.std.proofs.lemmas.Bool.Decides.{nat_tests}
 use Rattle.gsi_word.specs.Words.{Parts}
-use Rattle.gsi_word.specs.Data.{length_of}
+use Rattle.gsi_word.specs.Values.{length_of}
 use Rattle.th_book.specs.Lines.{counts_for, holds}
 use Rattle.th_book.specs.Faults.{repeats_word, single_indexes}
 use Rattle.th_book.specs.Steps.{counted_in, counted_with, first_kept, first_length, repeats}

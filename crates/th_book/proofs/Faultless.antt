@@ -3,16 +3,16 @@ use Rattle.std.proofs.Common.{◌≡◌, ℕ, ℤ, Bool, true, false, not, cond,
 use Rattle.std.specs.Prelude.{is_some, is_none, find, option_and_then, nat_le, slice_index, ◌*◌}
 use Rattle.std.specs.Result.{result_map_both, result_ok}
 use Rattle.std.proofs.lemmas.Bool.{false≢true, true≢false, or_parts, not-false, cond-false}
-use Rattle.th_units.specs.Lens.{are_digits, number, signed}
+use Rattle.th_units.specs.Lengths.{are_digits, number, signed}
 use Rattle.th_units.specs.Units.{step, unit_of}
 use Rattle.th_units.specs.declared.units.Unit.{Unit}
-use Rattle.th_units.specs.declared.lens.LenFault.TheVariants as len_fault
-use Rattle.th_units.specs.declared.lens.TheConstants.{MAX_LEN}
+use Rattle.th_units.specs.declared.faults.LenFault.TheVariants as len_fault
+use Rattle.th_units.specs.declared.limits.TheConstants.{MAX_LEN}
 use Rattle.gsi_word.specs.Words.{Parts}
-use Rattle.gsi_word.specs.Data as word_data
-use Rattle.gsi_word.specs.Data.{in_unit, length_of}
-use Rattle.gsi_word.specs.declared.data.LengthFault.{LengthFault}
-use Rattle.gsi_word.specs.declared.data.LengthFault.TheVariants as length_fault
+use Rattle.gsi_word.specs.Values as word_data
+use Rattle.gsi_word.specs.Values.{in_unit, length_of}
+use Rattle.gsi_word.specs.declared.faults.LengthFault.{LengthFault}
+use Rattle.gsi_word.specs.declared.faults.LengthFault.TheVariants as length_fault
 use Rattle.th_book.specs.Lines.{Said, counts_for, holds, is_setup, is_sight, length_in, point_name, words_in}
 use Rattle.th_book.specs.Faults.{Standing, begins_with_point, block_faults, first_applying, has_bad_number, has_bad_unit, is_length, is_refused, is_too_large, kind_of, repeats_word, are_one, some_length}
 use Rattle.th_book.specs.declared.faults.BookKind.{BookKind}

@@ -7,16 +7,16 @@ use Rattle.std.specs.Result.{result_map_both}
 use Rattle.std.proofs.lemmas.Bool.{false≢true, true≢false, not-false, or_parts, cond-false}
 use Rattle.std.proofs.lemmas.Bool.Decides.{nat_tests}
 use Rattle.std.proofs.lemmas.List.Sums.{sum_by-cons}
-use Rattle.th_units.specs.Lens.{are_digits, number, signed}
+use Rattle.th_units.specs.Lengths.{are_digits, number, signed}
 use Rattle.th_units.specs.Units.{step, unit_of}
 use Rattle.th_units.specs.declared.units.Unit.{Unit}
-use Rattle.th_units.specs.declared.lens.LenFault.TheVariants as len_fault
-use Rattle.th_units.specs.declared.lens.TheConstants.{MAX_LEN}
+use Rattle.th_units.specs.declared.faults.LenFault.TheVariants as len_fault
+use Rattle.th_units.specs.declared.limits.TheConstants.{MAX_LEN}
 use Rattle.gsi_word.specs.Words.{Parts}
-use Rattle.gsi_word.specs.Data as word_data
-use Rattle.gsi_word.specs.Data.{in_unit, length_of}
-use Rattle.gsi_word.specs.declared.data.LengthFault.{LengthFault}
-use Rattle.gsi_word.specs.declared.data.LengthFault.TheVariants as length_fault
+use Rattle.gsi_word.specs.Values as word_data
+use Rattle.gsi_word.specs.Values.{in_unit, length_of}
+use Rattle.gsi_word.specs.declared.faults.LengthFault.{LengthFault}
+use Rattle.gsi_word.specs.declared.faults.LengthFault.TheVariants as length_fault
 use Rattle.th_book.specs.Lines.{counts_for, holds}
 use Rattle.th_book.specs.Faults.{has_bad_number, has_bad_unit, is_length, is_refused, is_too_large, repeats_word, some_length}
 use Rattle.th_book.specs.Steps.{counted_in, first_length, is_refused_in, some_refused}

@@ -6,8 +6,8 @@ use Rattle.std.specs.Result.{result_ok}
 use Rattle.std.proofs.lemmas.Bool.{false≢true, true≢false, or_left, or_right}
 use Rattle.gsi_word.specs.Words.{Parts, result_map}
 use Rattle.gsi_word.specs.Names.{same_name}
-use Rattle.gsi_word.specs.Data.{length_of}
-use Rattle.gsi_word.specs.declared.data.LengthFault.{LengthFault}
+use Rattle.gsi_word.specs.Values.{length_of}
+use Rattle.gsi_word.specs.declared.faults.LengthFault.{LengthFault}
 use Rattle.th_book.specs.Observed.{Observed}
 use Rattle.th_book.specs.Lines.{counts_for, holds, is_setup, is_sight, length_in, point_name}
 use Rattle.th_book.specs.Faults.{Standing, are_one, begins_with_point, block_faults, first_applying, repeats_word}

@@ -1,12 +1,12 @@
 use Rattle.std.specs.Prelude.{ℕ, ℤ, ◌+◌, ◌==◌, ◌&&◌, ◌||◌, not, Bool, true, false, List, [], ◌∷◌, Option, Some, None, Result, Ok, Err, if◌then◌else◌, count_by, nat_lt, option_map, is_none, is_some, slice_get, slice_index, length}
 use Rattle.std.specs.List.{list_any, filter_map, range_with_len}
-use Rattle.th_units.specs.Lens.{are_digits}
+use Rattle.th_units.specs.Lengths.{are_digits}
 use Rattle.th_units.specs.Units.{unit_of}
 use Rattle.gsi_word.specs.Words.{Parts}
 use Rattle.gsi_word.specs.Names.{same_name}
-use Rattle.gsi_word.specs.Data.{length_of}
-use Rattle.gsi_word.specs.declared.data.LengthFault.{LengthFault}
-use Rattle.gsi_word.specs.declared.data.LengthFault.TheVariants as length_fault
+use Rattle.gsi_word.specs.Values.{length_of}
+use Rattle.gsi_word.specs.declared.faults.LengthFault.{LengthFault}
+use Rattle.gsi_word.specs.declared.faults.LengthFault.TheVariants as length_fault
 use Rattle.th_book.specs.Lines.{Said, counts_for, is_setup, is_sight, point_name}
 use Rattle.th_book.specs.Places.{last_with, said_at, setup_of, station_at}
 use Rattle.th_book.specs.declared.faults.BookKind.{BookKind}

@@ -4,7 +4,7 @@ use Rattle.std.specs.Option.{option_map_or}
 use Rattle.std.specs.Result.{result_ok}
 use Rattle.gsi_word.specs.Words.{Parts}
 use Rattle.gsi_word.specs.Names.{name_of}
-use Rattle.gsi_word.specs.Data.{length_of, two_digit}
+use Rattle.gsi_word.specs.Values.{length_of, two_digit}
 use Rattle.gsi_block.specs.Blocks.{BlockParts}
 use Rattle.gsi_block.specs.declared.blocks.BlockFault.{BlockFault}
 use Rattle.th_book.specs.Indexes.{height_difference, station_easting, station_northing, station_height}

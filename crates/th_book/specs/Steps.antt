@@ -4,9 +4,9 @@ use Rattle.std.specs.Option.{option_map_or, option_or}
 use Rattle.std.specs.Result.{result_ok}
 use Rattle.gsi_word.specs.Words.{Parts, result_map}
 use Rattle.gsi_word.specs.Names.{same_name}
-use Rattle.gsi_word.specs.Data.{length_of}
-use Rattle.gsi_word.specs.declared.data.LengthFault.{LengthFault}
-use Rattle.gsi_word.specs.declared.data.LengthFault.TheVariants as length_fault
+use Rattle.gsi_word.specs.Values.{length_of}
+use Rattle.gsi_word.specs.declared.faults.LengthFault.{LengthFault}
+use Rattle.gsi_word.specs.declared.faults.LengthFault.TheVariants as length_fault
 use Rattle.th_book.specs.Observed.{Observed}
 use Rattle.th_book.specs.Lines.{Said, counts_for, holds, is_sight, point_name, words_in}
 use Rattle.th_book.specs.Faults.{begins_with_point, fault_in, is_refused, kind_of, repeats_word}

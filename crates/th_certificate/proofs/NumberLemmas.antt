@@ -6,10 +6,10 @@ use Rattle.std.proofs.lemmas.Nat.{pow-add}
 use Rattle.std.specs.List.{list_all}
 use Rattle.std.specs.Option.{option_map_or}
 use Rattle.std.specs.Result.{result_map_both}
-use Rattle.th_units.specs.Lens.{are_digits, is_digit, number, signed}
+use Rattle.th_units.specs.Lengths.{are_digits, is_digit, number, signed}
 use Rattle.th_units.specs.Metres.{are_decimals, decimals, has_minus, is_in_metres, size_value, units_of, whole, without_sign}
-use Rattle.th_units.specs.declared.lens.LenFault.{LenFault}
-use Rattle.th_units.specs.declared.lens.LenFault.TheVariants.{NotDigits, TooLarge as LongMetres}
+use Rattle.th_units.specs.declared.faults.LenFault.{LenFault}
+use Rattle.th_units.specs.declared.faults.LenFault.TheVariants.{NotDigits, TooLarge as LongMetres}
 use Rattle.th_units.proofs.Digits.{all_digits, number-lt, number_below}
 use Rattle.th_certificate.specs.Certified.{cost_limit, flow_limit, height_limit}
 use Rattle.th_certificate.specs.Numbers.{cost_in, flow_in, height_from, height_in, writes}

@@ -6,7 +6,7 @@ use Rattle.std.specs.Str.Parse.{AllDigits}
 use Rattle.std.proofs.lemmas.Bool.Decides.{nat_tests}
 use Rattle.std.proofs.lemmas.Fmt.{decimal_is_IsNumeral_wide, length-decimal-le_wide}
 use Rattle.std.proofs.lemmas.Str.Parse.{digit_from_value}
-use Rattle.th_units.specs.Lens.{are_digits, is_digit, number, signed}
+use Rattle.th_units.specs.Lengths.{are_digits, is_digit, number, signed}
 use Rattle.th_units.specs.Metres.{has_minus, has_sign, metres, value, without_sign}
 use Rattle.th_units.proofs.Digits.{digit_bounds, list_all-get_or}
 use Rattle.th_units.proofs.MetreTexts.{value-metres}

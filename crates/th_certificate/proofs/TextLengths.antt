@@ -8,7 +8,7 @@ use Rattle.std.proofs.lemmas.Fmt.{length-decimal-le_wide}
 use Rattle.std.proofs.lemmas.List.Concat.{flat_map-cons}
 use Rattle.csv.specs.Writing.{default_writer, escaped, field_text, fields_text, is_blank, needs_quotes, quoted}
 use Rattle.gsi_word.specs.Bytes.{is_data, is_zero}
-use Rattle.gsi_word.specs.Names.{longest_name, name_of, reduced}
+use Rattle.gsi_word.specs.Names.{max_name, name_of, reduced}
 use Rattle.th_units.specs.Metres.{last_digits, metres, size_in_metres}
 use Rattle.th_units.proofs.Digits.{length-last_digits}
 use Rattle.th_csv.specs.Records.{Fields}
@@ -60,9 +60,9 @@ length-csv_text (row ∷ rows) each =
 
 -- a name has at most sixteen bytes
 length-name : (name : List ℕ) → name_of name ≡ Some name → length name ≤ 16
-length-name name h = by (list_all is_data name) (length (reduced name) == 0) (list_any is_zero name) (nat_lt longest_name (length (reduced name))) refl h
+length-name name h = by (list_all is_data name) (length (reduced name) == 0) (list_any is_zero name) (nat_lt max_name (length (reduced name))) refl h
   where
-    by : (printable empty zero long : Bool) → nat_lt longest_name (length (reduced name)) ≡ long
+    by : (printable empty zero long : Bool) → nat_lt max_name (length (reduced name)) ≡ long
         → (if not printable then None else (if empty then (if zero then Some (48 ∷ []) else None) else (if long then None else Some (reduced name)))) ≡ Some name → length name ≤ 16
     by false empty zero long is h = cc h
     by true true true long is h = let same : 48 ∷ [] ≡ name = cc in omega (arith, ap length same)

@@ -1,9 +1,9 @@
 -- The numbers of a certificate. Digits are counted as they stand, zeros in front among them.
 use Rattle.std.specs.Prelude.{ℕ, ℤ, ◌&&◌, ◌==◌, Bool, List, length, Result, Ok, Err, if◌then◌else◌, nat_le}
-use Rattle.th_units.specs.Lens.{are_digits, number, signed}
+use Rattle.th_units.specs.Lengths.{are_digits, number, signed}
 use Rattle.th_units.specs.Metres.{has_minus, value, without_sign}
-use Rattle.th_units.specs.declared.lens.LenFault.{LenFault}
-use Rattle.th_units.specs.declared.lens.LenFault.TheVariants.{NotDigits, TooLarge as LongMetres}
+use Rattle.th_units.specs.declared.faults.LenFault.{LenFault}
+use Rattle.th_units.specs.declared.faults.LenFault.TheVariants.{NotDigits, TooLarge as LongMetres}
 use Rattle.th_certificate.specs.declared.faults.CertKind.{CertKind}
 use Rattle.th_certificate.specs.declared.faults.CertKind.TheVariants.{BadNumber, TooLarge}
 

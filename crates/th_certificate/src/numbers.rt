@@ -1,6 +1,6 @@
 ghost use Rattle.std.specs.Prelude.{◌≡◌, ◌<◌, ◌≤◌, ◌^◌, true, length, min};
 ghost use Rattle.std.specs.List.{list_all};
-ghost use Rattle.th_units.specs.Lens.{is_digit, number};
+ghost use Rattle.th_units.specs.Lengths.{is_digit, number};
 ghost use Rattle.th_units.specs.Metres.{has_minus, without_sign};
 ghost use Rattle.th_certificate.specs.Certified.{cost_limit};
 ghost use Rattle.th_certificate.specs.Numbers.{cost_in, count_in, flow_in, height_in, writes};

@@ -4,7 +4,7 @@ ghost use Rattle.th_network.specs.Inside.Ends.{ArePoints};
 ghost use Rattle.th_network.specs.Inside.Numbered.{AreVertices};
 ghost use Rattle.th_network.specs.Links.{base as base_of, largest_link_difference, link_difference, link_of};
 ghost use Rattle.th_network.specs.Points.{points as points_of};
-ghost use Rattle.th_units.specs.declared.lens.TheConstants.{MAX_LEN};
+ghost use Rattle.th_units.specs.declared.limits.TheConstants.{MAX_LEN};
 
 use crate::points::Points;
 use crate::vertices::Vertices;

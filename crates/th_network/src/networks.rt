@@ -8,7 +8,7 @@ ghost use Rattle.th_network.specs.Networks.{IsBuilt, arcs_of, heights_of, points
 ghost use Rattle.th_network.specs.declared.faults.NetFault.TheVariants.{NoMemory, TooManyObservations};
 ghost use Rattle.th_tables.specs.Limits.{max_weight};
 ghost use Rattle.th_tables.specs.Rows.{height_of};
-ghost use Rattle.th_units.specs.declared.lens.TheConstants.{MAX_LEN};
+ghost use Rattle.th_units.specs.declared.limits.TheConstants.{MAX_LEN};
 
 use crate::anchors::first_untied;
 use crate::faults::NetFault;

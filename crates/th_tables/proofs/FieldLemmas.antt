@@ -1,9 +1,9 @@
 -- What the rows that records say are within.
 use Rattle.std.proofs.Common.{◌≡◌, ◌≤◌, ℕ, ℤ, ◌&&◌, Bool, true, false, if◌then◌else◌, List, [], ◌∷◌, length, Option, Some, None, Result, Ok, Err, nat_le, unsigned_abs, refl, ap, subst, arith}
 use Rattle.std.proofs.lemmas.Bool.Decides.{nat_tests}
-use Rattle.th_units.specs.Lens.{longest, short_number}
+use Rattle.th_units.specs.Lengths.{max_len, short_number}
 use Rattle.th_units.specs.Metres.{value}
-use Rattle.th_units.specs.declared.lens.LenFault.{LenFault}
+use Rattle.th_units.specs.declared.faults.LenFault.{LenFault}
 use Rattle.th_tables.specs.Fields.{allowed_weight, benchmark_in, both, height_in, name_in, weight_in, weighted_in, within_limit}
 use Rattle.th_csv.specs.Records.{Fields}
 use Rattle.th_tables.specs.declared.faults.TableKind.{TableKind}
@@ -19,19 +19,19 @@ both_second (Ok first) (Ok second) row h =
     ap (λ r. Ok r.1) same
 
 -- a length that is allowed is within the limit
-limit_of_height : (read : Result ℤ LenFault) (height : ℤ) → within_limit read ≡ Ok height → unsigned_abs height ≤ longest
+limit_of_height : (read : Result ℤ LenFault) (height : ℤ) → within_limit read ≡ Ok height → unsigned_abs height ≤ max_len
 limit_of_height (Err fault) height h = cc h
-limit_of_height (Ok length) height h = by (nat_le (unsigned_abs length) longest) refl h
+limit_of_height (Ok length) height h = by (nat_le (unsigned_abs length) max_len) refl h
   where
-    by : (within : Bool) → nat_le (unsigned_abs length) longest ≡ within → (if within then Ok length else Err BadHeight) ≡ Ok height → unsigned_abs height ≤ longest
+    by : (within : Bool) → nat_le (unsigned_abs length) max_len ≡ within → (if within then Ok length else Err BadHeight) ≡ Ok height → unsigned_abs height ≤ max_len
     by true is h =
         let same : length ≡ height = cc in
-        let limit : unsigned_abs length ≤ longest = grind (arith, nat_tests) in
-        subst (λ z. unsigned_abs z ≤ longest) same limit
+        let limit : unsigned_abs length ≤ max_len = grind (arith, nat_tests) in
+        subst (λ z. unsigned_abs z ≤ max_len) same limit
     by false is h = cc h
 
 -- the height of a benchmark is within the limit
-pub benchmark_limit : (fields : Fields) (row : List ℕ × ℤ) → benchmark_in fields ≡ Ok row → unsigned_abs row.1 ≤ longest
+pub benchmark_limit : (fields : Fields) (row : List ℕ × ℤ) → benchmark_in fields ≡ Ok row → unsigned_abs row.1 ≤ max_len
 benchmark_limit [] row h = cc h
 benchmark_limit (name ∷ []) row h = cc h
 benchmark_limit (name ∷ height ∷ []) row h = limit_of_height (value height) row.1 (both_second (name_in name) (height_in height) row h)

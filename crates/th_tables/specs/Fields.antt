@@ -1,9 +1,9 @@
 use Rattle.std.specs.Prelude.{ℕ, ℤ, ◌&&◌, Bool, false, List, [], ◌∷◌, length, Option, Some, None, Result, Ok, Err, if◌then◌else◌, bytes_eq, codes, nat_le, unsigned_abs}
 use Rattle.std.specs.Option.{ok_or}
 use Rattle.gsi_word.specs.Names.{name_of}
-use Rattle.th_units.specs.Lens.{longest, short_number}
+use Rattle.th_units.specs.Lengths.{max_len, short_number}
 use Rattle.th_units.specs.Metres.{value}
-use Rattle.th_units.specs.declared.lens.LenFault.{LenFault}
+use Rattle.th_units.specs.declared.faults.LenFault.{LenFault}
 use Rattle.th_csv.specs.Records.{Fields}
 use Rattle.th_tables.specs.declared.faults.TableKind.{TableKind}
 use Rattle.th_tables.specs.declared.faults.TableKind.TheVariants.{FieldCount, BadName, BadHeight, BadWeight}
@@ -15,7 +15,7 @@ name_in field = ok_or (name_of field) BadName
 
 -- a length that is read, if it is at most 10 km in size
 abbrev pub within_limit : Result ℤ LenFault → Result ℤ TableKind
-within_limit (Ok height) = if nat_le (unsigned_abs height) longest then Ok height else Err BadHeight
+within_limit (Ok height) = if nat_le (unsigned_abs height) max_len then Ok height else Err BadHeight
 within_limit (Err fault) = Err BadHeight
 
 -- the height of a field in metres

@@ -1,7 +1,7 @@
 use Rattle.std.specs.Prelude.{◌≤◌, ℕ, ℤ, ◌&&◌, Bool, All, List, Option, unwrap_or, bytes_eq, unsigned_abs}
 use Rattle.std.specs.List.{IsDistinct}
 use Rattle.std.specs.Map.{keys_of, lookup}
-use Rattle.th_units.specs.Lens.{longest}
+use Rattle.th_units.specs.Lengths.{max_len}
 use Rattle.th_tables.specs.Limits.{max_weight}
 
 -- the rows of the benchmarks: each name and its height in units of 10 nm
@@ -27,7 +27,7 @@ weight_of weights station target = unwrap_or (lookup (same_ends (station, target
 -- the rows of a table of benchmarks: a name has one row, and a height is at most 10 km in size
 pub record AreBenchmarks (rows : BenchmarkRows) : Type 0 where
   pub distinct : IsDistinct bytes_eq (keys_of rows)
-  pub heights : All (λ row. unsigned_abs row.1 ≤ longest) rows
+  pub heights : All (λ row. unsigned_abs row.1 ≤ max_len) rows
 
 -- the rows of a table of weights: a station and a target have one row, and a weight is 1 to 1,000
 pub record AreWeights (rows : WeightRows) : Type 0 where

@@ -1,7 +1,7 @@
 ghost use Rattle.std.specs.Prelude.{◌≡◌, ◌⊎◌, ◌<◌, ◌≤◌, ◌^◌, ◌+◌, [], Ok, Err, IfErr, IfOk, IfSome, bytes_eq, length, slice_get, unsigned_abs};
 ghost use Rattle.th_tables.specs.Fields.{benchmark_in};
 ghost use Rattle.th_tables.specs.Rows.{AreBenchmarks, height_of};
-ghost use Rattle.th_units.specs.declared.lens.TheConstants.{MAX_LEN};
+ghost use Rattle.th_units.specs.declared.limits.TheConstants.{MAX_LEN};
 ghost use Rattle.th_tables.specs.Limits.{max_table};
 ghost use Rattle.th_tables.specs.Tables.{benchmarks_of, no_memory, rows_after, too_long};
 

@@ -11,7 +11,7 @@ use Rattle.std.proofs.lemmas.Bool.{false≢true}
 use Rattle.std.proofs.lemmas.Bool.Decides.{nat_tests}
 use Rattle.std.proofs.lemmas.List.{take-append-drop, map-append}
 use Rattle.std.proofs.lemmas.List.Folds.{list_all_at}
-use Rattle.th_units.specs.Lens.{is_digit, are_digits, number}
+use Rattle.th_units.specs.Lengths.{is_digit, are_digits, number}
 use Rattle.th_units.specs.Metres.{last_digits}
 
 -- a test that each element passes is passed at each place

@@ -14,7 +14,7 @@ use Rattle.std.proofs.lemmas.List.{get_or_append_left}
 use Rattle.std.proofs.lemmas.List.Folds.{list_all-append}
 use Rattle.std.proofs.lemmas.Str.{digit_value_digit}
 use Rattle.std.proofs.lemmas.Str.Parse.{digit_from_value}
-use Rattle.th_units.specs.Lens.{is_digit, are_digits, number, signed}
+use Rattle.th_units.specs.Lengths.{is_digit, are_digits, number, signed}
 use Rattle.th_units.specs.Metres.{last_digits, metres, size_in_metres, is_dot, whole, decimals, are_decimals, units_of, size_value, value, has_minus, has_sign, without_sign}
 use Rattle.th_units.proofs.Digits.{length-last_digits, list_all-get_or, digit_bounds}
 

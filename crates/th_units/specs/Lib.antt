@@ -1,3 +1,4 @@
+pub mod Faults
 pub mod Units
-pub mod Lens
+pub mod Lengths
 pub mod Metres

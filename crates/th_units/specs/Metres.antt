@@ -3,9 +3,9 @@ use Rattle.std.specs.Int.{is_negative}
 use Rattle.std.specs.List.{before_first, after_first}
 use Rattle.std.specs.Option.{option_map_or}
 use Rattle.std.specs.Result.{result_map_both}
-use Rattle.th_units.specs.Lens.{are_digits, number, signed}
-use Rattle.th_units.specs.declared.lens.LenFault.{LenFault}
-use Rattle.th_units.specs.declared.lens.LenFault.TheVariants.{NotDigits, TooLarge}
+use Rattle.th_units.specs.Lengths.{are_digits, number, signed}
+use Rattle.th_units.specs.declared.faults.LenFault.{LenFault}
+use Rattle.th_units.specs.declared.faults.LenFault.TheVariants.{NotDigits, TooLarge}
 
 -- the last digits of a number, so many of them, with zeros before a shorter number
 unfoldable pub last_digits : ℕ → ℕ → List ℕ

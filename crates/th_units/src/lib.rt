@@ -5,15 +5,28 @@
 //! within 10 km of zero.
 #![tactic(auto)]
 
-pub mod laws;
-mod lens;
-mod metres;
-mod short_numbers;
-#[cfg(test)]
-mod tests;
+// what a length is at most, and why there is none
+mod faults;
+mod limits;
+
+// the units that a book's lengths have
 mod units;
 
-pub use lens::{Len, LenFault, MAX_LEN, are_digits, is_digit, to_len};
+// what digits write: lengths, and short numbers
+mod lengths;
+mod short_numbers;
+
+// texts in metres
+mod metres;
+
+// what holds of the definitions alone
+pub mod laws;
+#[cfg(test)]
+mod tests;
+
+pub use faults::LenFault;
+pub use lengths::{Len, are_digits, is_digit, to_len};
+pub use limits::{MAX_LEN, MAX_SHORT};
 pub use metres::{MetreText, metre_text, parse_metres};
-pub use short_numbers::{MAX_SHORT, short_number};
+pub use short_numbers::short_number;
 pub use units::{Unit, step, unit_of};

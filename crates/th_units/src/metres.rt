@@ -1,21 +1,17 @@
 ghost use Rattle.std.specs.Prelude.{◌≡◌, ◌+◌, ◌<◌, ◌≤◌, ◌^◌, IfOk, true, [], ◌∷◌, ◌++◌, length, decimal};
 ghost use Rattle.std.specs.List.{list_all};
 ghost use Rattle.std.specs.Option.{option_copied};
-ghost use Rattle.th_units.specs.Lens.{is_digit, number};
+ghost use Rattle.th_units.specs.Lengths.{is_digit, number};
 ghost use Rattle.th_units.specs.Metres.{metres, last_digits, are_decimals, decimals, has_minus, size_value, units_of, value, whole, without_sign};
 
-use crate::lens::{LenFault, are_digits};
-use crate::short_numbers::{MAX_SHORT, number};
+use crate::faults::LenFault;
+use crate::lengths::are_digits;
+use crate::limits::{MAX_DECIMALS, MAX_WHOLE_DIGITS};
+use crate::short_numbers::number;
 use std::marker::Model;
 
 /// How many units of 10 nm a metre has.
 pub const UNITS_PER_METRE: u64 = 100_000_000;
-
-/// How many decimals a text in metres has at most: the last one counts units of 10 nm.
-const MAX_DECIMALS: usize = 8;
-
-/// How many digits a text in metres has at most before its dot.
-const MAX_WHOLE_DIGITS: usize = MAX_SHORT;
 
 /// The most bytes that the text of a length in metres has.
 const CAPACITY: usize = 24;

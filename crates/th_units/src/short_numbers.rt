@@ -1,11 +1,9 @@
 ghost use Rattle.std.specs.Prelude.{◌≡◌, ◌<◌, ◌≤◌, ◌^◌, true, length};
 ghost use Rattle.std.specs.List.{list_all};
-ghost use Rattle.th_units.specs.Lens.{is_digit, number, short_number};
+ghost use Rattle.th_units.specs.Lengths.{is_digit, number, short_number};
 
-use crate::lens::are_digits;
-
-/// How many digits a short number has at most.
-pub const MAX_SHORT: usize = 9;
+use crate::lengths::are_digits;
+use crate::limits::MAX_SHORT;
 
 /// The number that one to nine digits write; none for another text.
 pub fn short_number(bytes: &[u8]) -> Option<u32>

@@ -1,6 +1,6 @@
 use Rattle.std.proofs.Common.{◌≡◌, ◌<◌, ◌≤◌, length, arith, ◌∙◌, ap}
 use Rattle.std.proofs.lemmas.Bool.Decides.{nat_tests}
-use Rattle.gsi_word.specs.Names.{longest_name, reduced, without_trailing}
+use Rattle.gsi_word.specs.Names.{max_name, reduced, without_trailing}
 use Rattle.gsi_word.proofs.NameLemmas.{name_of-reduced}
 use Rattle.gsi_word.proofs.names.name_of.Goals as goal
 
@@ -9,5 +9,5 @@ of-requires-2 c =
     let is_reduced : c.without_trailing-name.result.now ≡ reduced c.args.bytes.now =
     c.without_trailing-name.ensures ∙ ap without_trailing c.without_leading.ensures in
     let some : 0 < length c.without_trailing-name.result.now = grind (arith, nat_tests) in
-    let fits : length c.without_trailing-name.result.now ≤ longest_name = omega arith in
+    let fits : length c.without_trailing-name.result.now ≤ max_name = omega arith in
     rw is_reduced (name_of-reduced c.args.bytes.now (cc) (rw (← is_reduced) some) (rw (← is_reduced) fits))

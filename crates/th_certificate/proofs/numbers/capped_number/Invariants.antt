@@ -1,5 +1,5 @@
 use Rattle.std.proofs.Common.{◌≡◌, min, take}
-use Rattle.th_units.specs.Lens.{number}
+use Rattle.th_units.specs.Lengths.{number}
 use Rattle.th_certificate.specs.Certified.{cost_limit}
 use Rattle.th_certificate.proofs.numbers.capped_number.Given as goal
 

@@ -1,5 +1,5 @@
 use Rattle.std.proofs.Common.{◌≡◌, true, arith, rules}
-use Rattle.th_units.specs.Lens.{are_digits}
+use Rattle.th_units.specs.Lengths.{are_digits}
 use Rattle.th_certificate.proofs.NumberLemmas.{cost_read}
 use Rattle.th_certificate.proofs.numbers.cost_in.Goals as goal
 

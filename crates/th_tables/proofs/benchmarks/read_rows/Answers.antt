@@ -3,7 +3,7 @@ use Rattle.std.proofs.lemmas.Int.{fits_signed_from_abs, to_z-of_z}
 use Rattle.std.proofs.lemmas.List.Elements.{All-push}
 use Rattle.std.specs.Map.{lookup}
 use Rattle.indexmap.specs.IndexMap.{insert_entry}
-use Rattle.th_units.specs.Lens.{longest}
+use Rattle.th_units.specs.Lengths.{max_len}
 use Rattle.th_tables.specs.Fields.{benchmark_in}
 use Rattle.th_tables.proofs.FieldLemmas.{benchmark_limit}
 use Rattle.th_tables.proofs.TableLemmas.{ReadUpTo, inserted_last, read_repeated, read_row}
@@ -21,7 +21,7 @@ records-preserved c =
     let row = c.in-Ok.benchmark in
     let rows = c.records.heights.entries in
     let first = rw c.if-branch.true at c.in_ok-next.ensures.next in
-    let limit : unsigned_abs row.1 ≤ longest = benchmark_limit c.next.new.into row (sym c.in-Ok.ensures) in
+    let limit : unsigned_abs row.1 ≤ max_len = benchmark_limit c.next.new.into row (sym c.in-Ok.ensures) in
     let fits = fits_signed_from_abs w64 row.1 (omega arith) in
     let absent : is_some (lookup (bytes_eq row.0) rows) ≡ false = ap is_some (sym c.in_ok-insert.ensures.old) ∙ sym c.if-is_some.ensures in
     let entries : c.insert.new.self.entries ≡ rows ++ row ∷ [] =
@@ -29,8 +29,8 @@ records-preserved c =
     (c.in_ok-insert.ensures.entries ∙ ap (λ height. insert_entry bytes_eq rows row.0 height) (to_z-of_z w64 row.1 fits)) absent in
     let read = read_row bytes_eq benchmark_in c.args.reader.records c.records.reader.records _ c.next.new.into rows c.records.row row c.records.invariant.read first
     (sym c.in-Ok.ensures) absent in
-    let heights = All-push (λ row. unsigned_abs row.1 ≤ longest) rows row c.records.invariant.valid.heights limit in
+    let heights = All-push (λ row. unsigned_abs row.1 ≤ max_len) rows row c.records.invariant.valid.heights limit in
     record {
       read = subst (λ rows. ReadUpTo bytes_eq benchmark_in c.args.reader.records c.next.new.self.records rows (c.records.row + 1)) (sym entries) read;
-      valid = record { distinct = c.in_ok-insert.ensures.unique; heights = subst (All (λ row. unsigned_abs row.1 ≤ longest)) (sym entries) heights };
+      valid = record { distinct = c.in_ok-insert.ensures.unique; heights = subst (All (λ row. unsigned_abs row.1 ≤ max_len)) (sym entries) heights };
     }

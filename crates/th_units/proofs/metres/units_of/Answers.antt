@@ -1,7 +1,7 @@
 use Rattle.std.proofs.Common.{ℕ, ◌+◌, ◌-◌, ◌*◌, ◌<◌, ◌≤◌, ◌^◌, length, arith, ap, sym, subst, ◌∙◌, ◌≡◌}
 use Rattle.std.proofs.Math.Nat.{one-le-pow, mul-lt-mul_of_pos_right}
 use Rattle.std.proofs.lemmas.Nat.{pow-add}
-use Rattle.th_units.specs.Lens.{number}
+use Rattle.th_units.specs.Lengths.{number}
 use Rattle.th_units.proofs.Digits.{number-lt, number_below}
 use Rattle.th_units.proofs.metres.units_of.Goals as goal
 

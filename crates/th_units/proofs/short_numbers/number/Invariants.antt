@@ -1,5 +1,5 @@
 use Rattle.std.proofs.Common.{◌≡◌, take}
-use Rattle.th_units.specs.Lens.{number}
+use Rattle.th_units.specs.Lengths.{number}
 use Rattle.th_units.proofs.short_numbers.number.Given as goal
 
 abbrev pub invariant-loop-digit : goal.invariant-loop-digit

@@ -1,0 +1,64 @@
+use std::error::Error;
+use std::fmt;
+
+/// Why the front of some bytes spells no word: the first part that holds a byte not allowed there.
+#[derive(Clone, Copy, Debug, PartialEq, Eq)]
+pub enum WordFault {
+    /// There are fewer bytes than a spelling has.
+    Short,
+    /// Positions 1 and 2 are not two digits.
+    BadIndex,
+    /// Positions 3 to 6 hold another byte than a digit or a dot.
+    BadInfo,
+    /// Position 7 is neither `+` nor `-`.
+    BadSign,
+    /// The data hold a byte that is not printable ASCII.
+    BadData,
+}
+
+impl fmt::Display for WordFault {
+    ghost use Rattle.std.specs.Prelude.{Some};
+    ghost use Rattle.gsi_word.specs.Words.{fault_text};
+
+    ghost output = { λ fault. Some (fault_text fault) };
+
+    fn fmt<W: fmt::Write>(&self, f: &mut fmt::Formatter<W>) -> fmt::Result {
+        f.write_str(match self {
+            WordFault::Short => "short",
+            WordFault::BadIndex => "bad index",
+            WordFault::BadInfo => "bad information",
+            WordFault::BadSign => "bad sign",
+            WordFault::BadData => "bad data",
+        })
+    }
+}
+
+impl Error for WordFault {}
+
+/// Why a word's data give no length.
+#[derive(Clone, Copy, Debug, PartialEq, Eq)]
+pub enum LengthFault {
+    /// The data are not all digits.
+    BadNumber,
+    /// Position 6 holds no unit that a book's lengths have.
+    BadUnit,
+    /// The length is more than 10 km in size.
+    TooLarge,
+}
+
+impl fmt::Display for LengthFault {
+    ghost use Rattle.std.specs.Prelude.{Some};
+    ghost use Rattle.gsi_word.specs.Values.{length_fault_text};
+
+    ghost output = { λ fault. Some (length_fault_text fault) };
+
+    fn fmt<W: fmt::Write>(&self, f: &mut fmt::Formatter<W>) -> fmt::Result {
+        f.write_str(match self {
+            LengthFault::BadNumber => "bad number",
+            LengthFault::BadUnit => "bad unit",
+            LengthFault::TooLarge => "too large",
+        })
+    }
+}
+
+impl Error for LengthFault {}

@@ -1,0 +1,36 @@
+ghost use Rattle.std.specs.Prelude.{◌≡◌};
+ghost use Rattle.gsi_word.specs.Values.{two_digit, length_of};
+ghost use Rattle.gsi_word.specs.Words.{parts_of};
+
+use crate::faults::LengthFault;
+use crate::words::Word;
+use th_units::{Len, LenFault, are_digits, to_len, unit_of};
+
+/// The index of a word whose position 3 is a dot; other words have an index of three digits.
+pub fn two_digit(word: &Word) -> Option<u8>
+    ensures { result ≡ two_digit (parts_of word.now) }
+{
+    let [first, ..] = word.info();
+    if first == b'.' {
+        Some(word.index())
+    } else {
+        None
+    }
+}
+
+/// The length that a word writes, in units of 10 nm: its sign and data, in the unit of position 6.
+///
+/// The data are asked before the unit, and the unit before the size (Leica GSI Online manual, units).
+pub fn length_of(word: &Word) -> Result<Len, LengthFault>
+    ensures { result ≡ length_of (parts_of word.now) }
+{
+    let [_, _, _, code] = word.info();
+    match unit_of(code) {
+        Some(unit) => to_len(word.negative(), word.body(), unit).map_err(|fault| match fault {
+            LenFault::NotDigits => LengthFault::BadNumber,
+            LenFault::TooLarge => LengthFault::TooLarge,
+        }),
+        None if are_digits(word.body()) => Err(LengthFault::BadUnit),
+        None => Err(LengthFault::BadNumber),
+    }
+}

@@ -1,4 +1,0 @@
-pub mod TransferLemmas
-pub mod PlanLemmas
-pub mod ListLemmas
-pub mod BookFronts

@@ -1,9 +1,0 @@
-pub mod Devices
-pub mod Memory
-pub mod Transfer
-pub mod Plans
-pub mod Files
-pub mod Lists
-pub mod CsvWriters
-pub mod Refusals
-pub mod Runs

@@ -1,0 +1,21 @@
+//! What an adjusted network shows of its observations: the residuals, which of them are blunders,
+//! and which observations were repeated with the ends exchanged.
+//!
+//! Each list is a function of the observations in their order and, for residuals, of the heights of
+//! the points. Observations are numbered from 1. The time of each call is near the size of its input.
+#![tactic(auto)]
+
+// what heights leave of the observations
+mod residual;
+
+// which of that is above a limit
+mod blunder;
+
+// what was observed there and back
+mod pairs;
+#[cfg(test)]
+mod tests;
+
+pub use blunder::blunders;
+pub use pairs::{Opposite, opposites};
+pub use residual::residuals;

@@ -1,0 +1,5 @@
+pub mod Limits
+pub mod Devices
+pub mod Files
+pub mod Memory
+pub mod Transfer

@@ -1,0 +1,31 @@
+//! What a program reads from and writes to: sources and sinks, over files, standard streams and
+//! memory, and whole texts read from them and written to them.
+//!
+//! Contracts see of a device the bytes that are left in it or held by it, where it tells them, how
+//! often it was called, and how many of these calls failed. Real files and streams tell nothing of
+//! their bytes, so what is proved of a run over any devices holds of those that tell.
+#![tactic(auto)]
+
+// Limits, and the calls of devices.
+mod devices;
+mod limits;
+
+// Devices.
+mod files;
+mod memory;
+mod streams;
+
+// Whole texts.
+mod transfer;
+
+// What holds of the definitions.
+pub mod laws;
+#[cfg(test)]
+mod tests;
+
+pub use devices::{Counts, Failed, Sink, Source};
+pub use files::{FileSink, FileSource};
+pub use limits::{CALL_LIMIT, CALLS_BEFORE};
+pub use memory::{TextSink, TextSource};
+pub use streams::{StandardInput, StandardOutput};
+pub use transfer::{ReadFault, read_all, write_all};

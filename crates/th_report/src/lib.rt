@@ -1,0 +1,9 @@
+//! The texts that runs print, made in memory from observations and networks.
+#![tactic(auto)]
+
+// The list of a book's observations.
+mod lists;
+#[cfg(test)]
+mod tests;
+
+pub use lists::list_text;

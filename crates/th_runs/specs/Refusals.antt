@@ -1,0 +1,31 @@
+use Rattle.std.specs.Prelude.{◌≡◌, ◌⊎◌, ◌++◌, ℕ, List, codes}
+use Rattle.std.specs.Fmt.{decimal}
+use Rattle.th_runs.specs.declared.refusals.Input.{Input}
+use Rattle.th_runs.specs.declared.refusals.Input.TheVariants as input
+use Rattle.th_runs.specs.declared.refusals.Output.{Output}
+use Rattle.th_runs.specs.declared.refusals.Output.TheVariants as output
+use Rattle.th_runs.specs.declared.refusals.Refusal.{Refusal}
+use Rattle.th_runs.specs.declared.refusals.Refusal.TheVariants.{Book, Read, Write, NoMemory}
+
+-- how an input is said
+abbrev pub input_text : Input → List ℕ
+input_text (input.Book number) = codes "book " ++ decimal number
+
+-- how an output is said
+abbrev pub output_text : Output → List ℕ
+output_text output.List = codes "list"
+
+-- the status after a refusal: 2 for an input that was refused, 4 for want of memory, 5 for a device that failed
+abbrev pub status_of : Refusal → ℕ
+status_of (Book number fault) = 2
+status_of (Read input) = 5
+status_of (Write output) = 5
+status_of NoMemory = 4
+
+-- a status that a run may end with: 0 where it is done, or one of those after a refusal
+abbrev pub IsStatusOfRun : ℕ → Type 0
+IsStatusOfRun status = (status ≡ 0) ⊎ (status ≡ 2) ⊎ (status ≡ 4) ⊎ (status ≡ 5)
+
+-- a status that the program may end with: 3 for words that are wrong, or that of a run
+abbrev pub IsStatus : ℕ → Type 0
+IsStatus status = (status ≡ 3) ⊎ IsStatusOfRun status

@@ -1,0 +1,11 @@
+/// The size that no length of a book exceeds: 10 km, in units of 10 nm.
+pub const MAX_LEN: u64 = 1_000_000_000_000;
+
+/// How many digits a short number has at most.
+pub const MAX_SHORT: usize = 9;
+
+/// How many digits a text in metres has at most before its dot.
+pub(crate) const MAX_WHOLE_DIGITS: usize = MAX_SHORT;
+
+/// How many decimals a text in metres has at most: the last one counts units of 10 nm.
+pub(crate) const MAX_DECIMALS: usize = 8;
