@@ -74,6 +74,17 @@ cost_by_places weights heights (o ∷ observations) =
     ∙ ap (λ n. g o + n) (cost_by_places weights heights observations)
     ∙ sym (sum_by-cons g o observations)
 
+-- tests of places
+not_next : (n : ℕ) → (0 == suc n) ≡ false
+not_next n = grind (arith, nat_tests)
+
+shifted : (m n : ℕ) → (1 + m == suc n) ≡ (m == n)
+shifted m n = by (m == n) refl
+  where
+    by : (same : Bool) → (m == n) ≡ same → (1 + m == suc n) ≡ same
+    by true is = grind (arith, nat_tests)
+    by false is = grind (arith, nat_tests)
+
 -- whether a name stands at a place
 place_test : (names : List (List ℕ)) (name : List ℕ) (place : ℕ) (d : List ℕ) → IsDistinct bytes_eq names → place < length names → (place_of names name == place) ≡ bytes_eq name (get_or names place d)
 place_test [] name place d distinct within = absurd (omega arith)
@@ -91,15 +102,8 @@ place_test (first ∷ names) name (suc place) d distinct within =
     apart (next ∷ names) (suc place) each within = apart names place each.1 (omega arith)
     by : (same : Bool) → (same ≡ true → name ≡ first) → (place_of names name == place) ≡ bytes_eq name (get_or names place d) → bytes_eq first (get_or names place d) ≡ false
         → ((if not same then 1 + place_of names name else 0) == suc place) ≡ bytes_eq name (get_or names place d)
-    by true equal more other = (let differs : (0 == suc place) ≡ false = grind (arith, nat_tests) in differs) ∙ sym (ap (λ n. bytes_eq n (get_or names place d)) (equal refl) ∙ other)
+    by true equal more other = not_next place ∙ sym (ap (λ n. bytes_eq n (get_or names place d)) (equal refl) ∙ other)
     by false equal more other = shifted (place_of names name) place ∙ more
-      where
-        shifted : (m n : ℕ) → (1 + m == suc n) ≡ (m == n)
-        shifted m n = by (m == n) refl
-          where
-            by : (same : Bool) → (m == n) ≡ same → (1 + m == suc n) ≡ same
-            by true is = grind (arith, nat_tests)
-            by false is = grind (arith, nat_tests)
 
 -- the balance at a place is that at its name
 pub balance_by_places : (names : List (List ℕ)) (observations : List Observed) (flows : List ℤ) (place : ℕ) (d : List ℕ) → IsDistinct bytes_eq names → place < length names
@@ -117,7 +121,8 @@ balance_by_places names (o ∷ observations) (flow ∷ flows) place d distinct w
     let a = total_by-cons (added_at place) (ends_in names o, flow) (zip (map (ends_in names) observations) flows) in
     let b = total_by-cons f (o, flow) (zip observations flows) in
     let c = total_by-cons g (o, flow) (zip observations flows) in
-    joined _ _ _ _ _ _ _ _ _ a b c rest one
+    joined (total_by (added_at place) (zip (map (ends_in names) (o ∷ observations)) (flow ∷ flows))) (added_at place (ends_in names o, flow)) (total_by (added_at place) (zip (map (ends_in names) observations) flows))
+    (arriving (o ∷ observations) (flow ∷ flows) point) (f (o, flow)) (arriving observations flows point) (leaving (o ∷ observations) (flow ∷ flows) point) (g (o, flow)) (leaving observations flows point) a b c rest one
   where
     joined : (all first rest arriving arriving_first arriving_rest leaving leaving_first leaving_rest : ℤ) → all ≡ first +ℤ rest → arriving ≡ arriving_first +ℤ arriving_rest → leaving ≡ leaving_first +ℤ leaving_rest
         → rest ≡ arriving_rest -ℤ leaving_rest → first ≡ arriving_first -ℤ leaving_first → all ≡ arriving -ℤ leaving

@@ -1,8 +1,17 @@
 -- The first of some elements that passes a test, as a loop looks for it.
-use Rattle.std.proofs.Common.{◌≡◌, ◌<◌, ◌≤◌, ◌+◌, ◌&&◌, ℕ, Bool, true, false, cond, List, [], ◌∷◌, length, get_or, drop, take, Option, Some, None, suc, refl, sym, ap, ◌∙◌, arith}
+use Rattle.std.proofs.Common.{◌≡◌, ◌<◌, ◌≤◌, ◌+◌, ◌&&◌, ℕ, Bool, true, false, cond, List, [], ◌∷◌, ◌++◌, map, length, get_or, drop, take, Option, Some, None, slice_get, ◌⊎◌, inl, inr, suc, refl, sym, ap, ◌∙◌, arith}
 use Rattle.std.specs.List.{list_all, position_from}
-use Rattle.std.proofs.lemmas.List.{drop_all, drop_more, take_all, take_more}
+use Rattle.std.proofs.lemmas.List.{drop_all, drop_more, map-append, take_all, take_more}
+use Rattle.std.proofs.lemmas.Option.{slice_get_cases}
 use Rattle.std.proofs.lemmas.List.Folds.{list_all-append, list_all_at}
+
+-- a place where nothing is found is past the end
+pub past_end : {X : Type 0} (xs : List X) (k : ℕ) → None ≡ slice_get xs k → length xs ≤ k
+past_end {X} xs k none = by (slice_get_cases xs k).1
+  where
+    by : ((x : X) × (k < length xs) × (slice_get xs k ≡ Some x) × (get_or xs k x ≡ x)) ⊎ ((length xs ≤ k) × (slice_get xs k ≡ None)) → length xs ≤ k
+    by (inl some) = absurd (cc (none ∙ some.2))
+    by (inr past) = past.0
 
 module _ {X : Type 0} (test : X → Bool) where
   -- the element at a place fails
@@ -34,3 +43,8 @@ module _ {X : Type 0} (test : X → Bool) where
   -- all of them pass
   pub all_pass : (xs : List X) (k : ℕ) → length xs ≤ k → list_all test (take k xs) ≡ true → list_all test xs ≡ true
   all_pass xs k past so_far = ap (list_all test) (sym (take_all k xs past)) ∙ so_far
+
+-- one more element of a list that is made from another, element by element
+pub map_more : {X Y : Type 0} (f : X → Y) (xs : List X) (k : ℕ) (x : X) (ys : List Y) (y : Y) → k < length xs → ys ≡ map f (take k xs) → y ≡ f (get_or xs k x) → ys ++ y ∷ [] ≡ map f (take (k + 1) xs)
+map_more f xs k x ys y within so_far is =
+    ap (λ front. front ++ y ∷ []) so_far ∙ ap (λ last. map f (take k xs) ++ last ∷ []) is ∙ sym (map-append f (take k xs) (get_or xs k x ∷ [])) ∙ ap (map f) (sym (take_more xs k x within))
