@@ -6,3 +6,4 @@ pub mod NumberLemmas
 pub mod MapLemmas
 pub mod ZipLemmas
 pub mod BalanceLemmas
+pub mod CheckLemmas

@@ -15,8 +15,10 @@ mod maps;
 // What is tested of each observation and at each point.
 mod observations;
 mod balances;
+mod checking;
 
 // What holds of the definitions alone.
 pub mod laws;
 
+pub use checking::check;
 pub use verdicts::{Reason, Verdict};

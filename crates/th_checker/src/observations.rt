@@ -40,6 +40,7 @@ pub(crate) fn residuals_of(
     ensures value { IfOk result (λ found. found.items
         ≡ map (residual_at heights.now) (zip observations.now ends.now)) }
     ensures in_range { IfOk result (λ found. All (λ r. unsigned_abs r ≤ most_residual) found.items) }
+    ensures each { IfOk result (λ found. length found.items ≡ length observations.now) }
 {
     let mut found = Vec::with_capacity(alloc, observations.len())?;
     for (i, o) in observations.iter().enumerate() {

@@ -1,9 +1,9 @@
-use Rattle.std.proofs.Common.{◌≡◌, ◌<◌, ◌++◌, ◌∷◌, ◌&&◌, [], Bool, true, false, ℕ, ℤ, pos, List, Some, None, bytes_eq, length, get_or, map, take, to_z, of_z, unwrap_or, w64, sym, ap, ◌∙◌, arith}
+use Rattle.std.proofs.Common.{◌≡◌, ◌<◌, ◌++◌, ◌∷◌, ◌&&◌, [], Bool, true, false, ℕ, ℤ, pos, List, Some, None, bytes_eq, length, get_or, to_z, of_z, All, unsigned_abs, w64, subst, sym, ap, ◌∙◌, arith}
 use Rattle.std.specs.List.{list_all, list_any}
 use Rattle.std.specs.Map.{keys_of, lookup}
 use Rattle.std.proofs.lemmas.Int.{fits_signed_from_abs, to_z-of_z}
-use Rattle.std.proofs.lemmas.List.{map-append, take_more}
-use Rattle.th_certificate.specs.Certified.{HeightRows, stated_height}
+use Rattle.std.proofs.lemmas.List.Elements.{All-push}
+use Rattle.th_certificate.specs.Certified.{height_limit}
 use Rattle.th_checker.proofs.MapLemmas.{a_row, listed_more, no_row}
 use Rattle.th_checker.proofs.PositionLemmas.{all_fails, all_more}
 use Rattle.th_checker.proofs.maps.heights_at.Goals as goal
@@ -35,5 +35,7 @@ loop-name-preserved c =
       value = c.in_ok-push-in-Some.ensures.items
           ∙ ap (λ z. c.loop-name.heights.items ++ z ∷ []) plain
           ∙ listed_more stated names i name height c.loop-name.heights.items within is found c.loop-name.invariant.value;
+      in_range = subst (All (λ height. unsigned_abs height < height_limit)) (sym (c.in_ok-push-in-Some.ensures.items ∙ ap (λ z. c.loop-name.heights.items ++ z ∷ []) plain))
+          (All-push (λ height. unsigned_abs height < height_limit) c.loop-name.heights.items height c.loop-name.invariant.in_range c.in-Some.ensures.in_range);
       all = all_more (λ name. list_any (bytes_eq name) (keys_of stated)) names i name within passes c.loop-name.invariant.all;
     }

@@ -1,7 +1,7 @@
 use Rattle.std.proofs.Common.{◌≡◌, ◌<◌, ◌≤◌, ◌++◌, ◌∷◌, [], ℕ, ℤ, pos, ◌-ℤ◌, All, List, length, get_or, map, take, to_z, of_z, unsigned_abs, w64, subst, sym, ap, ◌∙◌, arith}
 use Rattle.std.specs.List.{zip}
 use Rattle.std.proofs.lemmas.Int.{fits_signed_from_abs, to_z-of_z}
-use Rattle.std.proofs.lemmas.List.{take_all}
+use Rattle.std.proofs.lemmas.List.{length-map, take_all}
 use Rattle.std.proofs.lemmas.List.Elements.{All-get_or, All-push}
 use Rattle.std.proofs.lemmas.Slice.Zip.{get_or-zip, length-zip}
 use Rattle.th_book.specs.Observed.{Observed}
@@ -44,3 +44,9 @@ pub returns-clause-value : goal.returns-clause-value
 returns-clause-value c =
     let pairs = zip c.args.observations.now c.args.ends.now in
     c.loop-i.invariant.value ∙ ap (map (residual_at c.args.heights.now)) (take_all c.loop-i.i pairs (omega (arith, length-zip c.args.observations.now c.args.ends.now, c.loop-i-test.false)))
+
+pub returns-clause-each : goal.returns-clause-each
+returns-clause-each c =
+    let pairs = zip c.args.observations.now c.args.ends.now in
+    omega (arith, ap length c.loop-i.invariant.value, length-map (take c.loop-i.i pairs) (residual_at c.args.heights.now), ap length (take_all c.loop-i.i pairs (omega (arith, length-zip c.args.observations.now c.args.ends.now, c.loop-i-test.false))),
+    length-zip c.args.observations.now c.args.ends.now, c.requires.each)
