@@ -1,19 +1,17 @@
 -- A certificate of heights that a circulation shows is accepted.
-use Rattle.std.proofs.Common.{◌≡◌, ◌<◌, ◌≤◌, ◌+◌, ◌*◌, ◌==◌, ◌&&◌, ◌||◌, ℕ, ℤ, pos, ◌-ℤ◌, ◌*ℤ◌, not, Bool, true, false, cond, if◌then◌else◌, List, [], ◌∷◌, length, map, Option, Some, None, All, find, bytes_eq, get_or, is_none, nat_lt, slice_get, unsigned_abs, suc, refl, sym, ap, subst, ◌∙◌, arith}
+use Rattle.std.proofs.Common.{◌≡◌, ◌≤◌, ◌+◌, ◌*◌, ◌&&◌, ◌||◌, ℕ, ℤ, pos, ◌-ℤ◌, ◌*ℤ◌, not, Bool, true, false, cond, if◌then◌else◌, List, [], ◌∷◌, Option, Some, None, find, bytes_eq, is_none, nat_lt, unsigned_abs, refl, sym, ap, ◌∙◌, arith}
 use Rattle.std.specs.Cmp.Lexicographic.{nat_list_eq_equiv}
 use Rattle.std.specs.List.{AllByRecursion, AllZip, IsDistinct, list_all, list_any, position_from, zip}
-use Rattle.std.specs.Map.{keys_of, lookup}
+use Rattle.std.specs.Map.{keys_of}
 use Rattle.std.specs.Ordering.{int_eq}
 use Rattle.std.proofs.lemmas.Bool.Decides.{Decides-int_eq, nat_tests}
-use Rattle.std.proofs.lemmas.List.Elements.{recursion_from_All}
 use Rattle.std.proofs.lemmas.List.Sums.{sum_by-cons}
 use Rattle.std.proofs.lemmas.Map.Keys.{IsDistinct-head, IsDistinct-tail}
 use Rattle.std.proofs.lemmas.Slice.Eq.{bytes_eq-Decides}
 use Rattle.th_book.specs.Observed.{Observed}
-use Rattle.th_tables.specs.Rows.{AreBenchmarks, BenchmarkRows, WeightRows, height_of, weight_of}
-use Rattle.th_network.specs.Circulation.{Circulation, Shows, arriving, leaving}
+use Rattle.th_tables.specs.Rows.{BenchmarkRows, WeightRows, height_of, weight_of}
+use Rattle.th_network.specs.Circulation.{Shows, arriving, leaving}
 use Rattle.th_network.specs.Heights.{IsHeights, cost, residual}
-use Rattle.th_network.specs.Points.{ends, points}
 use Rattle.th_network.proofs.PointLemmas.{EndsAmong}
 use Rattle.th_certificate.specs.Certified.{HeightRows, rows_at, stated_height}
 use Rattle.th_certificate.proofs.PointLemmas.{stated_height-rows_at}
@@ -78,6 +76,7 @@ keep_each (row ∷ benchmarks) heights distinct are = (
         by : (same : Bool) → (same ≡ true → name ≡ next.0) → (height_of rows name ≡ Some height → bytes_eq row.0 name ≡ false) → (if same then Some next.1 else height_of rows name) ≡ Some height → bytes_eq row.0 name ≡ false
         by true equal more found = ap (bytes_eq row.0) (equal refl) ∙ each.0
         by false equal more found = more found
+
     further : (name : List ℕ) (height : ℤ) → height_of benchmarks name ≡ Some height → height_of (row ∷ benchmarks) name ≡ Some height
     further name height found =
         ap (λ same. if same then Some row.1 else height_of benchmarks name) (nat_list_eq_equiv.symm name row.0 ∙ apart benchmarks name height (IsDistinct-head bytes_eq row.0 (keys_of benchmarks) distinct) found) ∙ found

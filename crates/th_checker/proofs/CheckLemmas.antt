@@ -1,28 +1,27 @@
 -- The tests over places give the verdict.
-use Rattle.std.proofs.Common.{◌≡◌, ◌<◌, ◌≤◌, ◌+◌, ◌*◌, ◌==◌, ◌&&◌, ℕ, ℤ, pos, ◌-ℤ◌, not, Bool, true, false, if◌then◌else◌, List, [], ◌∷◌, length, get_or, map, Option, Some, None, Result, IfOk, IfSome, All, find, bytes_eq, is_none, nat_lt, sum_by, unsigned_abs, suc, zero, refl, sym, ap, subst, ◌∙◌, arith}
-use Rattle.std.specs.List.{AllByRecursion, IsDistinct, position_from, zip}
+use Rattle.std.proofs.Common.{◌≡◌, ◌<◌, ◌*◌, ◌==◌, ◌&&◌, ℕ, ℤ, pos, ◌-ℤ◌, not, Bool, true, false, if◌then◌else◌, List, [], ◌∷◌, length, get_or, map, Option, Some, None, Result, IfOk, IfSome, All, find, is_none, nat_lt, sum_by, unsigned_abs, suc, refl, sym, ap, subst, ◌∙◌, arith}
+use Rattle.std.specs.List.{position_from, zip}
 use Rattle.std.specs.declared.alloc.AllocError.{AllocError}
 use Rattle.std.specs.Ordering.{int_eq}
 use Rattle.std.proofs.lemmas.Bool.Decides.{Decides-int_eq}
 use Rattle.std.proofs.lemmas.Int.{ints}
 use Rattle.std.proofs.lemmas.List.{length-map}
 use Rattle.th_book.specs.Observed.{Observed}
-use Rattle.th_tables.specs.Rows.{BenchmarkRows, WeightRows, height_of, weight_of}
+use Rattle.th_tables.specs.Rows.{BenchmarkRows, WeightRows, height_of}
 use Rattle.th_network.specs.Circulation.{arriving, leaving, total_by}
 use Rattle.th_network.specs.Heights.{cost, residual}
 use Rattle.th_network.specs.Inside.Ends.{ArePoints, ends_in}
 use Rattle.th_network.specs.Points.{points}
 use Rattle.th_network.proofs.NetworkLemmas.{ends_within}
-use Rattle.th_network.proofs.PointLemmas.{EndsAmong, ends_are_points}
-use Rattle.th_certificate.specs.Certified.{Certified, HeightRows, height_limit, stated_height}
+use Rattle.th_network.proofs.PointLemmas.{ends_are_points}
+use Rattle.th_certificate.specs.Certified.{Certified, HeightRows, stated_height}
 use Rattle.th_certificate.proofs.SurveyLemmas.{IsDistinct-points}
 use Rattle.th_checker.specs.Inside.Tests.{added_at, AreBalances, AreBelow, AreHeightsAt, AreListed, AreMaps, AreStated, cost_at, first_place, is_slack_at, listed_in, not_slack_at, residual_at, slack_verdict_at, span_not_slack_at}
 use Rattle.th_checker.specs.Verdicts.{first_not_slack, first_too_large, first_unbalanced, flow_verdict, if_found, not_slack_in, slack_verdict, unless}
 use Rattle.th_checker.specs.declared.maps.Maps.{Maps}
-use Rattle.th_checker.specs.declared.verdicts.Reason.{Reason}
 use Rattle.th_checker.specs.declared.verdicts.Reason.TheVariants.{FlowTooLarge, Unbalanced, NotSlack, WrongCost, LowNotSlack, HighNotSlack}
 use Rattle.th_checker.specs.declared.verdicts.Verdict.{Verdict}
-use Rattle.th_checker.specs.declared.verdicts.Verdict.TheVariants.{Yes, No}
+use Rattle.th_checker.specs.declared.verdicts.Verdict.TheVariants.{Yes}
 use Rattle.th_checker.proofs.PlaceLemmas.{balance_by_places, cost_by_places, not_slack_same, residuals_by_places, too_large_same, weight_by}
 
 -- the first flow that is too large
@@ -77,10 +76,10 @@ unbalanced_found observations benchmarks flows fs names ends balances found are 
     h
     ∙ ap (λ (ns : List (List ℕ)). first_place benchmarks ns balances) are.all
     ∙ first_place_is benchmarks (arriving observations flows) (leaving observations flows) all balances size (λ k within.
-        sums.sums k (omega (arith, ap length are.all, within))
-        ∙ ap (λ (fs : List ℤ). total_by (added_at k) (zip ends fs)) same
-        ∙ ap (λ (es : List (ℕ × ℕ)). total_by (added_at k) (zip es flows)) placed
-        ∙ balance_by_places all observations flows k [] (IsDistinct-points observations benchmarks) within)
+    sums.sums k (omega (arith, ap length are.all, within))
+    ∙ ap (λ (fs : List ℤ). total_by (added_at k) (zip ends fs)) same
+    ∙ ap (λ (es : List (ℕ × ℕ)). total_by (added_at k) (zip es flows)) placed
+    ∙ balance_by_places all observations flows k [] (IsDistinct-points observations benchmarks) within)
 
 -- the heights of a map at the places of the ends
 pub heights_at_ends : (observations : List Observed) (benchmarks : BenchmarkRows) (names : List (List ℕ)) (ends : List (ℕ × ℕ)) (rows : HeightRows) (heights : List ℤ) → ArePoints observations benchmarks names ends → AreStated names rows heights

@@ -7,3 +7,4 @@ pub mod MapLemmas
 pub mod ZipLemmas
 pub mod BalanceLemmas
 pub mod CheckLemmas
+pub mod AcceptLaws

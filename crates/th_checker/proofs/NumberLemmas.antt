@@ -1,5 +1,5 @@
 -- Numbers of the machine that are compared.
-use Rattle.std.proofs.Common.{◌≡◌, ◌<◌, ◌≤◌, ◌+◌, ◌*◌, ◌^◌, ◌==◌, ℕ, ℤ, pos, ◌*ℤ◌, Bool, true, false, w64, to_z, of_z, Option, Some, None, IfSome, unsigned_abs, refl, sym, ap, subst, ◌∙◌, arith, eq-eqb, mul-le-mul, All, List, length, get_or}
+use Rattle.std.proofs.Common.{◌≡◌, ◌<◌, ◌≤◌, ◌*◌, ◌^◌, ◌==◌, ℕ, ℤ, pos, ◌*ℤ◌, Bool, true, false, w64, to_z, of_z, Option, Some, None, IfSome, unsigned_abs, refl, sym, ap, ◌∙◌, arith, eq-eqb, mul-le-mul, All, List, length, get_or}
 use Rattle.std.specs.Int.{w128}
 use Rattle.std.specs.Option.{unwrap_or}
 use Rattle.std.specs.Ordering.{int_eq}
@@ -30,6 +30,7 @@ test_z x y a b = by (int_eq x y) refl (of_z w128 x == of_z w128 y) refl
   where
     back : of_z w128 x ≡ of_z w128 y → x ≡ y
     back same = sym (to_z-of_z w128 x (fits_signed_from_abs w128 x a)) ∙ ap (to_z w128) same ∙ to_z-of_z w128 y (fits_signed_from_abs w128 y b)
+
     by : (same : Bool) → int_eq x y ≡ same → (test : Bool) → (of_z w128 x == of_z w128 y) ≡ test → test ≡ same
     by true equal test is = sym is ∙ eq-eqb (of_z w128 x) (of_z w128 y) (ap (of_z w128) ((Decides-int_eq x y).0 equal))
     by false equal false is = refl

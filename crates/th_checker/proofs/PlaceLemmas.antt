@@ -1,15 +1,13 @@
 -- What stands at the places of the ends is what holds at the names.
-use Rattle.std.proofs.Common.{◌≡◌, ◌<◌, ◌≤◌, ◌+◌, ◌*◌, ◌==◌, ◌&&◌, ◌||◌, ℕ, ℤ, pos, ◌+ℤ◌, ◌-ℤ◌, ◌*ℤ◌, not, Bool, true, false, cond, if◌then◌else◌, List, [], ◌∷◌, length, get_or, map, Option, Some, None, find, bytes_eq, is_none, nat_lt, sum_by, unsigned_abs, suc, zero, refl, sym, ap, subst, ◌∙◌, arith}
-use Rattle.std.specs.List.{AllByRecursion, IsDistinct, list_any, position_from, position_or_len, zip}
-use Rattle.std.specs.Ordering.{int_eq}
-use Rattle.std.specs.Cmp.Lexicographic.{nat_list_eq_equiv}
+use Rattle.std.proofs.Common.{◌≡◌, ◌<◌, ◌+◌, ◌*◌, ◌==◌, ◌||◌, ℕ, ℤ, pos, ◌+ℤ◌, ◌-ℤ◌, not, Bool, true, false, cond, if◌then◌else◌, List, [], ◌∷◌, length, get_or, map, Some, bytes_eq, nat_lt, sum_by, unsigned_abs, suc, zero, refl, sym, ap, ◌∙◌, arith}
+use Rattle.std.specs.List.{AllByRecursion, IsDistinct, list_any, position_from, zip}
 use Rattle.std.proofs.lemmas.Bool.Decides.{nat_tests}
 use Rattle.std.proofs.lemmas.Int.{ints}
 use Rattle.std.proofs.lemmas.List.Sums.{sum_by-cons}
 use Rattle.std.proofs.lemmas.Map.Keys.{IsDistinct-head, IsDistinct-tail}
 use Rattle.std.proofs.lemmas.Slice.Eq.{bytes_eq-Decides}
 use Rattle.th_book.specs.Observed.{Observed}
-use Rattle.th_tables.specs.Rows.{BenchmarkRows, WeightRows, height_of, weight_of}
+use Rattle.th_tables.specs.Rows.{WeightRows, weight_of}
 use Rattle.th_network.specs.Circulation.{arriving, leaving, total_by}
 use Rattle.th_network.specs.Heights.{cost, residual}
 use Rattle.th_network.specs.Inside.Ends.{ends_in}
@@ -17,7 +15,7 @@ use Rattle.th_network.specs.Places.{place_of}
 use Rattle.th_network.proofs.Balance.{total_by-cons}
 use Rattle.th_network.proofs.PointLemmas.{EndsAmong}
 use Rattle.th_checker.specs.Verdicts.{is_slack}
-use Rattle.th_checker.specs.Inside.Tests.{added_at, first_place, is_slack_at, residual_at}
+use Rattle.th_checker.specs.Inside.Tests.{added_at, is_slack_at, residual_at}
 
 -- what is listed in the order of names, at the place of one
 at_place : (names : List (List ℕ)) (heights : List ℕ → ℤ) (name : List ℕ) → list_any (bytes_eq name) names ≡ true → get_or (map heights names) (place_of names name) (pos 0) ≡ heights name
@@ -100,6 +98,7 @@ place_test (first ∷ names) name (suc place) d distinct within =
     apart [] place each within = absurd (omega arith)
     apart (next ∷ names) zero each within = each.0
     apart (next ∷ names) (suc place) each within = apart names place each.1 (omega arith)
+
     by : (same : Bool) → (same ≡ true → name ≡ first) → (place_of names name == place) ≡ bytes_eq name (get_or names place d) → bytes_eq first (get_or names place d) ≡ false
         → ((if not same then 1 + place_of names name else 0) == suc place) ≡ bytes_eq name (get_or names place d)
     by true equal more other = not_next place ∙ sym (ap (λ n. bytes_eq n (get_or names place d)) (equal refl) ∙ other)

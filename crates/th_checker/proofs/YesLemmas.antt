@@ -1,10 +1,9 @@
 -- What a yes says, and when it is said.
-use Rattle.std.proofs.Common.{◌≡◌, ◌≢◌, ◌<◌, ◌≤◌, ◌+◌, ◌*◌, ◌==◌, ◌&&◌, ◌||◌, ℕ, ℤ, pos, ◌*ℤ◌, not, Bool, true, false, cond, if◌then◌else◌, List, [], ◌∷◌, length, map, Option, Some, None, All, find, bytes_eq, is_none, nat_lt, unsigned_abs, suc, refl, sym, ap, subst, ◌∙◌, arith}
-use Rattle.std.specs.List.{AllByRecursion, AllZip, list_all, list_any, position_from, zip}
-use Rattle.std.specs.Map.{keys_of, lookup}
+use Rattle.std.proofs.Common.{◌≡◌, ◌≤◌, ◌+◌, ◌*◌, ◌==◌, ◌&&◌, ℕ, ℤ, pos, ◌*ℤ◌, not, Bool, true, false, cond, if◌then◌else◌, List, [], ◌∷◌, length, Option, Some, None, find, bytes_eq, is_none, nat_lt, unsigned_abs, refl, sym, ap, ◌∙◌, arith}
+use Rattle.std.specs.List.{AllByRecursion, AllZip, position_from, zip}
 use Rattle.std.specs.Ordering.{int_eq}
 use Rattle.std.proofs.lemmas.Bool.Decides.{Decides-int_eq, nat_tests}
-use Rattle.std.proofs.lemmas.List.Elements.{All-from_recursion, recursion_from_All}
+use Rattle.std.proofs.lemmas.List.Elements.{All-from_recursion}
 use Rattle.std.proofs.lemmas.Slice.Eq.{bytes_eq-Decides}
 use Rattle.th_book.specs.Observed.{Observed}
 use Rattle.th_tables.specs.Rows.{BenchmarkRows, WeightRows, height_of, weight_of}
@@ -17,7 +16,7 @@ use Rattle.th_checker.specs.Verdicts.{first_not_slack, first_too_large, first_un
 use Rattle.th_checker.specs.declared.verdicts.Reason.{Reason}
 use Rattle.th_checker.specs.declared.verdicts.Reason.TheVariants.{PointsDiffer, BenchmarkMoved, FlowCount, FlowTooLarge, Unbalanced, NotSlack, WrongCost, LowNotSlack, HighNotSlack}
 use Rattle.th_checker.specs.declared.verdicts.Verdict.{Verdict}
-use Rattle.th_checker.specs.declared.verdicts.Verdict.TheVariants.{Yes, No}
+use Rattle.th_checker.specs.declared.verdicts.Verdict.TheVariants.{Yes}
 
 -- a test that has to hold for a yes, and what comes after
 unless_yes : (holds : Bool) (reason : Reason) (later : Verdict) → unless holds reason later ≡ Yes → (holds ≡ true) × (later ≡ Yes)
@@ -48,6 +47,7 @@ keeps_heights (row ∷ benchmarks) rows h name height found =
   where
     kept : stated_height rows row.0 ≡ row.1
     kept = (Decides-int_eq (stated_height rows row.0) row.1).0 (first_of (int_eq (stated_height rows row.0) row.1) (keeps benchmarks rows) h)
+
     by : (same : Bool) → (same ≡ true → name ≡ row.0) → (height_of benchmarks name ≡ Some height → stated_height rows name ≡ height) → (if same then Some row.1 else height_of benchmarks name) ≡ Some height → stated_height rows name ≡ height
     by true equal more found =
         let value : row.1 ≡ height = cc in

@@ -9,16 +9,18 @@
 mod verdicts;
 
 // The points, and what the certificate says at them.
-mod points;
 mod maps;
+mod points;
 
 // What is tested of each observation and at each point.
-mod observations;
 mod balances;
 mod checking;
+mod observations;
 
 // What holds of the definitions alone.
 pub mod laws;
+#[cfg(test)]
+mod tests;
 
 pub use checking::check;
 pub use verdicts::{Reason, Verdict};

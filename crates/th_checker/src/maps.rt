@@ -1,7 +1,6 @@
 ghost use Rattle.std.specs.Prelude.{◌≡◌, IfOk, MatchOption, bytes_eq, true, false};
 ghost use Rattle.std.specs.List.{list_all, list_any};
 ghost use Rattle.std.specs.Option.{option_copied};
-
 ghost use Rattle.th_checker.specs.Inside.Tests.{AreListed, AreMaps, AreStated, listed_in};
 ghost use Rattle.th_checker.specs.Verdicts.{if_there, keeps, names_are, of_all_maps};
 

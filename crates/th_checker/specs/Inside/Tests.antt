@@ -1,5 +1,5 @@
 -- What is tested of observations by the places of their ends among the points.
-use Rattle.std.specs.Prelude.{◌≡◌, ◌<◌, ◌==◌, ◌&&◌, ℕ, ℤ, ◌*◌, pos, ◌+ℤ◌, ◌-ℤ◌, ◌*ℤ◌, not, Bool, List, [], ◌∷◌, ◌≤◌, All, Option, Some, None, Vec, ⊤, map, sum_by, length, get_or, if◌then◌else◌, is_none, unsigned_abs}
+use Rattle.std.specs.Prelude.{◌≡◌, ◌<◌, ◌==◌, ◌&&◌, ℕ, ℤ, ◌*◌, pos, ◌-ℤ◌, ◌*ℤ◌, not, Bool, List, [], ◌∷◌, All, Option, Some, None, Vec, ⊤, map, sum_by, length, get_or, if◌then◌else◌, is_none, unsigned_abs}
 use Rattle.std.specs.Ordering.{int_eq}
 use Rattle.th_book.specs.Observed.{Observed}
 use Rattle.th_tables.specs.Rows.{BenchmarkRows, height_of}

@@ -1,4 +1,4 @@
-use Rattle.std.proofs.Common.{◌≡◌, ◌<◌, ◌≤◌, ◌*◌, ℕ, pos, get_or, length, take, unsigned_abs}
+use Rattle.std.proofs.Common.{◌≤◌, ◌*◌, ℕ, pos, get_or, length, take, unsigned_abs}
 use Rattle.std.specs.List.{zip}
 use Rattle.th_checker.specs.Inside.Tests.{AreBalances}
 use Rattle.th_checker.proofs.balances.add_all.Given as goal

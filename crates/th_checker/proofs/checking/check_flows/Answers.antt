@@ -1,11 +1,9 @@
-use Rattle.std.proofs.Common.{◌≡◌, ◌<◌, List, ℕ, ℤ, Option, Some, None, Result, Ok, Err, All, IfOk, IfSome, length, map, refl, subst, sym, ap, ◌∙◌, arith}
+use Rattle.std.proofs.Common.{List, ℕ, Option, Some, None, All, IfSome, length, subst, sym, ap, ◌∙◌}
 use Rattle.std.specs.List.{zip}
-use Rattle.th_book.specs.Observed.{Observed}
 use Rattle.th_network.proofs.NetworkLemmas.{ends_within}
 use Rattle.th_checker.specs.Inside.Tests.{AreBalances, AreBelow, AreHeightsAt, first_place, listed_in, slack_verdict_at}
-use Rattle.th_checker.specs.Verdicts.{first_too_large, first_unbalanced, flow_verdict, if_found, slack_verdict}
+use Rattle.th_checker.specs.Verdicts.{first_unbalanced, if_found, slack_verdict}
 use Rattle.th_checker.specs.declared.verdicts.Reason.TheVariants.{FlowTooLarge, Unbalanced}
-use Rattle.th_checker.specs.declared.verdicts.Verdict.{Verdict}
 use Rattle.th_checker.proofs.CheckLemmas.{flow_is, heights_at_ends, slack_is, span_at_ends, too_large_found, unbalanced_found}
 use Rattle.th_checker.proofs.checking.check_flows.Goals as goal
 

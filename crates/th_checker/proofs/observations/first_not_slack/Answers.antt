@@ -1,4 +1,4 @@
-use Rattle.std.proofs.Common.{◌≡◌, ◌<◌, ◌≤◌, Bool, true, false, not, ℕ, ℤ, pos, unsigned_abs, length, get_or, w64, to_z, of_z, sym, ap, ◌∙◌, arith}
+use Rattle.std.proofs.Common.{◌≡◌, ◌<◌, Bool, not, ℕ, ℤ, pos, length, get_or, w64, to_z, of_z, sym, ap, ◌∙◌, arith}
 use Rattle.std.specs.List.{zip}
 use Rattle.th_checker.specs.Inside.Tests.{is_slack_at}
 use Rattle.th_checker.proofs.NumberLemmas.{plain, plain_flow}

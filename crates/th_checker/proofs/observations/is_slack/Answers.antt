@@ -1,6 +1,5 @@
-use Rattle.std.proofs.Common.{◌≡◌, ◌<◌, ◌*◌, ◌^◌, ◌==◌, ℕ, ℤ, pos, ◌*ℤ◌, w64, to_z, of_z, unsigned_abs, sym, ap, subst, ◌∙◌, arith}
+use Rattle.std.proofs.Common.{◌≡◌, ◌*◌, ◌==◌, pos, ◌*ℤ◌, w64, to_z, of_z, unsigned_abs, ap, ◌∙◌, arith}
 use Rattle.std.specs.Int.{w128}
-use Rattle.std.specs.Ordering.{int_eq}
 use Rattle.std.proofs.lemmas.Int.{fits_signed_from_abs, to_z-of_z}
 use Rattle.th_checker.proofs.NumberLemmas.{product_small, test_z, whole_small}
 use Rattle.th_checker.proofs.observations.is_slack.Goals as goal

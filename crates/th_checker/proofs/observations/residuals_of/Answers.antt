@@ -1,4 +1,4 @@
-use Rattle.std.proofs.Common.{◌≡◌, ◌<◌, ◌≤◌, ◌++◌, ◌∷◌, [], ℕ, ℤ, pos, ◌-ℤ◌, All, List, length, get_or, map, take, to_z, of_z, unsigned_abs, w64, subst, sym, ap, ◌∙◌, arith}
+use Rattle.std.proofs.Common.{◌≡◌, ◌<◌, ◌≤◌, ◌++◌, ◌∷◌, [], pos, ◌-ℤ◌, All, length, get_or, map, take, to_z, of_z, unsigned_abs, w64, subst, sym, ap, ◌∙◌, arith}
 use Rattle.std.specs.List.{zip}
 use Rattle.std.proofs.lemmas.Int.{fits_signed_from_abs, to_z-of_z}
 use Rattle.std.proofs.lemmas.List.{length-map, take_all}
@@ -48,5 +48,11 @@ returns-clause-value c =
 pub returns-clause-each : goal.returns-clause-each
 returns-clause-each c =
     let pairs = zip c.args.observations.now c.args.ends.now in
-    omega (arith, ap length c.loop-i.invariant.value, length-map (take c.loop-i.i pairs) (residual_at c.args.heights.now), ap length (take_all c.loop-i.i pairs (omega (arith, length-zip c.args.observations.now c.args.ends.now, c.loop-i-test.false))),
-    length-zip c.args.observations.now c.args.ends.now, c.requires.each)
+    omega (
+      arith,
+      ap length c.loop-i.invariant.value,
+      length-map (take c.loop-i.i pairs) (residual_at c.args.heights.now),
+      ap length (take_all c.loop-i.i pairs (omega (arith, length-zip c.args.observations.now c.args.ends.now, c.loop-i-test.false))),
+      length-zip c.args.observations.now c.args.ends.now,
+      c.requires.each,
+    )
