@@ -1,0 +1,22 @@
+-- Lists that are gone over together, by their places.
+use Rattle.std.proofs.Common.{◌≡◌, ◌<◌, ℕ, ℤ, pos, List, length, get_or, ap, ◌∙◌, arith}
+use Rattle.std.specs.List.{zip}
+use Rattle.std.proofs.lemmas.Slice.Zip.{get_or-zip, length-zip}
+
+-- as many pairs as elements
+pub length_zip : {A B : Type 0} (xs : List A) (ys : List B) → length ys ≡ length xs → length (zip xs ys) ≡ length ys
+length_zip xs ys same = omega (arith, length-zip xs ys)
+
+-- a weight and a flow
+pub pair_at : (weights : List ℕ) (flows : List ℤ) (i : ℕ) → length flows ≡ length weights → i < length flows → get_or (zip weights flows) i (0, pos 0) ≡ (get_or weights i 0, get_or flows i (pos 0))
+pair_at weights flows i same within = get_or-zip weights flows i (0, pos 0) (omega arith) within
+
+-- a weight, a residual and a flow
+pub length_triples : (weights : List ℕ) (residuals flows : List ℤ) → length flows ≡ length weights → length residuals ≡ length weights → length (zip weights (zip residuals flows)) ≡ length flows
+length_triples weights residuals flows a b = omega (arith, length-zip weights (zip residuals flows), length-zip residuals flows)
+
+pub triple_at : (weights : List ℕ) (residuals flows : List ℤ) (i : ℕ) → length flows ≡ length weights → length residuals ≡ length weights → i < length flows
+    → get_or (zip weights (zip residuals flows)) i (0, (pos 0, pos 0)) ≡ (get_or weights i 0, (get_or residuals i (pos 0), get_or flows i (pos 0)))
+triple_at weights residuals flows i a b within =
+    get_or-zip weights (zip residuals flows) i (0, (pos 0, pos 0)) (omega arith) (omega (arith, length-zip residuals flows))
+    ∙ ap (λ (p : ℤ × ℤ). (get_or weights i 0, p)) (get_or-zip residuals flows i (pos 0, pos 0) (omega arith) within)

@@ -1,0 +1,96 @@
+-- What is tested of observations by the places of their ends among the points.
+use Rattle.std.specs.Prelude.{◌≡◌, ◌<◌, ◌==◌, ◌&&◌, ℕ, ℤ, ◌*◌, pos, ◌-ℤ◌, ◌*ℤ◌, not, Bool, List, [], ◌∷◌, All, Option, Some, None, Vec, ⊤, map, sum_by, length, get_or, if◌then◌else◌, is_none, unsigned_abs}
+use Rattle.std.specs.Ordering.{int_eq}
+use Rattle.th_book.specs.Observed.{Observed}
+use Rattle.th_tables.specs.Rows.{BenchmarkRows, height_of}
+use Rattle.std.specs.declared.alloc.Global.{Global}
+use Rattle.th_network.specs.Circulation.{total_by}
+use Rattle.std.specs.List.{position_from, zip}
+use Rattle.th_certificate.specs.Certified.{Certified, HeightRows, height_limit, stated_height}
+use Rattle.th_checker.specs.Verdicts.{if_found, unless}
+use Rattle.th_checker.specs.declared.maps.Maps.{Maps}
+use Rattle.th_checker.specs.declared.verdicts.Reason.TheVariants.{NotSlack, WrongCost, LowNotSlack, HighNotSlack}
+use Rattle.th_checker.specs.declared.verdicts.Verdict.{Verdict}
+use Rattle.th_checker.specs.declared.verdicts.Verdict.TheVariants.{Yes}
+
+-- the size that no residual exceeds
+abbrev pub most_residual : ℕ
+most_residual = 203000000000000000
+
+-- both places of a pair are below the limit
+abbrev pub AreBelow : ℕ → ℕ × ℕ → Type 0
+AreBelow limit pair = (pair.0 < limit) × (pair.1 < limit)
+
+-- the residual of an observation over listed heights, by the places of its station and its target
+abbrev pub residual_at : List ℤ → Observed × (ℕ × ℕ) → ℤ
+residual_at heights (o, (station, target)) = o.difference -ℤ (get_or heights target (pos 0) -ℤ get_or heights station (pos 0))
+
+-- a weight, a residual and a flow: whether the flow is the whole weight with the sign of the residual, or the residual is zero
+abbrev pub is_slack_at : ℕ × (ℤ × ℤ) → Bool
+is_slack_at (weight, (residual, flow)) = int_eq (flow *ℤ residual) (pos (weight * unsigned_abs residual))
+
+-- what one flow adds to the balance of a place: it leaves its station and arrives at its target
+abbrev pub added_at : ℕ → (ℕ × ℕ) × ℤ → ℤ
+added_at place pair = (if pair.0.1 == place then pair.1 else pos 0) -ℤ (if pair.0.0 == place then pair.1 else pos 0)
+
+-- for each place the sum of what is added there
+pub record AreBalances (points : ℕ) (pairs : List ((ℕ × ℕ) × ℤ)) (balances : List ℤ) : Type 0 where
+  pub each : length balances ≡ points
+  pub sums : (place : ℕ) → place < points → get_or balances place (pos 0) ≡ total_by (added_at place) pairs
+
+-- the first name that is no benchmark, beside a balance that is not zero
+abbrev pub first_place : BenchmarkRows → List (List ℕ) → List ℤ → Option (List ℕ)
+first_place benchmarks [] balances = None
+first_place benchmarks (name ∷ names) [] = None
+first_place benchmarks (name ∷ names) (balance ∷ balances) =
+    if not (int_eq balance (pos 0)) && is_none (height_of benchmarks name) then Some name else first_place benchmarks names balances
+
+-- heights in their range that are listed in the order of the points, among which both ends of each observation have a place
+pub record AreHeightsAt (ends : List (ℕ × ℕ)) (heights : List ℤ) : Type 0 where
+  pub within : All (AreBelow (length heights)) ends
+  pub in_range : All (λ height. unsigned_abs height < height_limit) heights
+
+-- the heights that rows state for some names, in their order, and each in its range
+pub record AreStated (names : List (List ℕ)) (rows : HeightRows) (heights : List ℤ) : Type 0 where
+  pub value : heights ≡ map (stated_height rows) names
+  pub in_range : All (λ height. unsigned_abs height < height_limit) heights
+
+-- the same where there are rows, and nothing where there are none
+abbrev pub AreListed : List (List ℕ) → Option HeightRows → Option (List ℤ) → Type 0
+AreListed names None None = ⊤
+AreListed names None (Some heights) = ⊥
+AreListed names (Some rows) None = ⊥
+AreListed names (Some rows) (Some heights) = AreStated names rows heights
+
+-- what is listed of a map that may be there
+abbrev pub listed_in : Option (Vec ℤ Global) → Option (List ℤ)
+listed_in None = None
+listed_in (Some heights) = Some heights.items
+
+-- the heights of a certificate at the points
+pub record AreMaps (names : List (List ℕ)) (certificate : Certified) (maps : Maps) : Type 0 where
+  pub heights : AreStated names certificate.heights maps.heights.items
+  pub low : AreListed names certificate.low (listed_in maps.low)
+  pub high : AreListed names certificate.high (listed_in maps.high)
+
+-- the number of the first observation that is not slack, over listed heights
+abbrev pub not_slack_at : List ℕ → List (Observed × (ℕ × ℕ)) → List ℤ → List ℤ → Option ℕ
+not_slack_at weights ended flows heights = position_from (λ it. not (is_slack_at it)) 1 (zip weights (zip (map (residual_at heights) ended) flows))
+
+-- the same of a map that may be there
+abbrev pub span_not_slack_at : List ℕ → List (Observed × (ℕ × ℕ)) → List ℤ → Option (List ℤ) → Option ℕ
+span_not_slack_at weights ended flows (Some heights) = not_slack_at weights ended flows heights
+span_not_slack_at weights ended flows None = None
+
+-- what listed heights cost
+abbrev pub cost_at : List ℕ → List (Observed × (ℕ × ℕ)) → List ℤ → ℕ
+cost_at weights ended heights = sum_by (λ pair. pair.0 * unsigned_abs pair.1) (zip weights (map (residual_at heights) ended))
+
+-- the reasons of slackness and of the cost, over listed heights
+abbrev pub slack_verdict_at : List ℕ → List (Observed × (ℕ × ℕ)) → Certified → List ℤ → Option (List ℤ) → Option (List ℤ) → Verdict
+slack_verdict_at weights ended certificate heights low high =
+    if_found (not_slack_at weights ended certificate.flows heights) NotSlack
+    (unless (certificate.cost == cost_at weights ended heights) WrongCost
+    (if_found (span_not_slack_at weights ended certificate.flows low) LowNotSlack
+    (if_found (span_not_slack_at weights ended certificate.flows high) HighNotSlack
+    Yes)))

@@ -1,0 +1,60 @@
+//! Laws of the definitions: what they say of one another. They compute nothing.
+
+ghost use Rattle.std.specs.Prelude.{◌≡◌, ℕ, ℤ, List, Ok, Some};
+ghost use Rattle.th_book.specs.Observed.{Observed};
+ghost use Rattle.th_tables.specs.Rows.{AreBenchmarks, BenchmarkRows, WeightRows};
+ghost use Rattle.th_network.specs.Heights.{LeastFine};
+ghost use Rattle.th_network.specs.Networks.{Survey};
+ghost use Rattle.th_certificate.specs.Certified.{Certified, HeightRows, stated_height};
+ghost use Rattle.th_certificate.specs.Reading.{certificate_of};
+ghost use Rattle.th_certificate.specs.Texts.{AreOfObservations, IsCertifiable, text_of_version_1, text_of_version_2};
+ghost use Rattle.th_checker.specs.Shown.{Shown};
+ghost use Rattle.th_checker.specs.Verdicts.{verdict_of};
+ghost use Rattle.th_checker.specs.declared.verdicts.Verdict.TheVariants.{Yes};
+
+/// A yes implies that no heights cost less than those of the certificate, in whole units or in any
+/// finer one, and the same of the lowest and of the highest heights, where it has these.
+pub fn yes_implies_least()
+    ensures heights { (observations : List Observed) (benchmarks : BenchmarkRows)
+        (weights : WeightRows) (certificate : Certified)
+        → verdict_of observations benchmarks weights certificate ≡ Yes
+        → LeastFine observations benchmarks weights (stated_height certificate.heights) }
+    ensures low { (observations : List Observed) (benchmarks : BenchmarkRows)
+        (weights : WeightRows) (certificate : Certified) (rows : HeightRows)
+        → verdict_of observations benchmarks weights certificate ≡ Yes
+        → certificate.low ≡ Some rows
+        → LeastFine observations benchmarks weights (stated_height rows) }
+    ensures high { (observations : List Observed) (benchmarks : BenchmarkRows)
+        (weights : WeightRows) (certificate : Certified) (rows : HeightRows)
+        → verdict_of observations benchmarks weights certificate ≡ Yes
+        → certificate.high ≡ Some rows
+        → LeastFine observations benchmarks weights (stated_height rows) }
+{}
+
+/// What is written is accepted: for what makes a network, and maps of heights that keep the
+/// benchmarks and that one circulation shows, the verdict on the certificate that the text of version
+/// 1 is read as is yes.
+pub fn text_of_version_1_is_accepted()
+    ensures { (survey : Survey) (heights : List ℕ → ℤ) (flows : List ℤ) (certificate : Certified)
+        → IsCertifiable survey
+        → AreBenchmarks survey.benchmarks
+        → Shown survey heights flows
+        → AreOfObservations survey flows
+        → certificate_of (text_of_version_1 survey heights flows) ≡ Ok certificate
+        → verdict_of survey.observations survey.benchmarks survey.weights certificate ≡ Yes }
+{}
+
+/// The same of the text of version 2, for heights, lowest and highest heights that one circulation
+/// shows.
+pub fn text_of_version_2_is_accepted()
+    ensures { (survey : Survey) (heights low high : List ℕ → ℤ) (flows : List ℤ)
+        (certificate : Certified)
+        → IsCertifiable survey
+        → AreBenchmarks survey.benchmarks
+        → Shown survey heights flows
+        → Shown survey low flows
+        → Shown survey high flows
+        → AreOfObservations survey flows
+        → certificate_of (text_of_version_2 survey heights low high flows) ≡ Ok certificate
+        → verdict_of survey.observations survey.benchmarks survey.weights certificate ≡ Yes }
+{}

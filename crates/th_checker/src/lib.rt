@@ -1,0 +1,26 @@
+//! The verdict on a certificate of least heights, by whoever made it.
+//!
+//! The checker goes over observations, tables and certificate once, and says yes only where the
+//! heights, and in version 2 the lowest and the highest heights, are shown least by the flows. It
+//! finds points, balances and residuals by itself, and knows nothing of how heights are found.
+#![tactic(auto)]
+
+// What is answered.
+mod verdicts;
+
+// The points, and what the certificate says at them.
+mod maps;
+mod points;
+
+// What is tested of each observation and at each point.
+mod balances;
+mod checking;
+mod observations;
+
+// What holds of the definitions alone.
+pub mod laws;
+#[cfg(test)]
+mod tests;
+
+pub use checking::check;
+pub use verdicts::{Reason, Verdict};

@@ -1,0 +1,79 @@
+ghost use Rattle.std.specs.Prelude.{◌≡◌, [], ◌∷◌, ◌++◌, IfOk, OnOk, bytes_eq, map};
+ghost use Rattle.indexmap.specs.IndexSet.{insert_all, insert_key};
+ghost use Rattle.th_network.specs.Inside.Ends.{ArePoints};
+ghost use Rattle.th_network.specs.Places.{place_of};
+
+use gsi_word::Name;
+use indexmap::IndexSet;
+use std::alloc::{AllocError, Global};
+use th_book::Observation;
+use th_tables::Benchmarks;
+
+/// The points of a network in order of first sight, and where among them each observation ends.
+#[derive(Drop)]
+pub(crate) struct Points {
+    /// The points' names: the ends of the observations, then the benchmarks that are no end.
+    pub names: IndexSet<Name>,
+    /// For each observation the places of its station and its target among the names, from 0.
+    pub ends: Vec<(usize, usize)>,
+}
+
+impl Points {
+    /// Finds the points of some observations and benchmarks.
+    pub fn of(
+        alloc: Global,
+        observations: &[Observation],
+        benchmarks: &Benchmarks,
+    ) -> Result<Points, AllocError>
+        ensures { IfOk result (λ points. ArePoints observations.now benchmarks.now
+            points.names.keys points.ends.items) }
+    {
+        let mut points = Points {
+            names: IndexSet::new(alloc),
+            ends: Vec::with_capacity(alloc, observations.len())?,
+        };
+        for o in observations {
+            points.add(o)?;
+        }
+        add_benchmarks(&mut points.names, benchmarks)?;
+        Ok(points)
+    }
+
+    /// Adds the ends of one more observation, the station before the target.
+    fn add(&mut self, o: &Observation) -> Result<(), AllocError>
+        ensures names { OnOk result (self.new.names.keys
+            ≡ insert_all bytes_eq self.old.names.keys (o.now.station ∷ o.now.target ∷ [])) }
+        ensures ends { OnOk result (self.new.ends.items ≡ self.old.ends.items
+            ++ (
+              place_of self.old.names.keys o.now.station,
+              place_of (insert_key bytes_eq self.old.names.keys o.now.station) o.now.target,
+            ) ∷ []) }
+    {
+        let station = place_in(&mut self.names, o.station)?;
+        let target = place_in(&mut self.names, o.target)?;
+        self.ends.push((station, target))?;
+        Ok(())
+    }
+}
+
+/// The place of a name, which goes last where it is not there yet.
+fn place_in(names: &mut IndexSet<Name>, name: Name) -> Result<usize, AllocError>
+    ensures keys { OnOk result (names.new.keys ≡ insert_key bytes_eq names.old.keys name) }
+    ensures place { IfOk result (λ place. place ≡ place_of names.old.keys name) }
+{
+    let (place, _) = names.insert_full(name)?;
+    Ok(place)
+}
+
+/// Adds the names of the benchmarks that are not there yet, in table order.
+fn add_benchmarks(names: &mut IndexSet<Name>, benchmarks: &Benchmarks) -> Result<(), AllocError>
+    ensures { OnOk result (names.new.keys
+        ≡ insert_all bytes_eq names.old.keys (map (λ row. row.0) benchmarks.now)) }
+{
+    let mut k = 0;
+    while let Some(row) = benchmarks.entry(k) {
+        place_in(names, row.0)?;
+        k += 1;
+    }
+    Ok(())
+}
