@@ -26,8 +26,6 @@ mod writing;
 
 // What holds of the definitions alone.
 pub mod laws;
-#[cfg(test)]
-mod tests;
 
 pub use certificates::Certificate;
 pub use faults::{CertFault, CertKind};

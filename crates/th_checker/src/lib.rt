@@ -19,8 +19,6 @@ mod observations;
 
 // What holds of the definitions alone.
 pub mod laws;
-#[cfg(test)]
-mod tests;
 
 pub use checking::check;
 pub use verdicts::{Reason, Verdict};
