@@ -5,7 +5,8 @@ use Rattle.std.proofs.lemmas.List.Elements.{All-get_or, All-push}
 use Rattle.std.proofs.lemmas.Option.{get_or_from_slice_get, slice_get_within}
 use Rattle.indexmap.specs.IndexMap.{IndexMap, insert_entry}
 use Rattle.indexmap.proofs.CallerLemmas.{insert_entry-new}
-use Rattle.th_certificate.specs.Certified.{AreHeightRows, HeightRows, height_limit}
+use Rattle.th_certificate.specs.Certified.{AreHeightRows, HeightRows}
+use Rattle.th_network.specs.Limits.{height_limit}
 
 -- a row of a new name goes last
 pub added_last : {S : Type 0} (rows : IndexMap (List ℕ) ℤ S) (name : List ℕ) (height : ℤ) → lookup (bytes_eq name) rows.entries ≡ None → insert_entry bytes_eq rows.entries name height ≡ rows.entries ++ (name, height) ∷ []

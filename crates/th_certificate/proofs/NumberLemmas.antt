@@ -11,7 +11,8 @@ use Rattle.th_units.specs.Metres.{are_decimals, decimals, has_minus, is_in_metre
 use Rattle.th_units.specs.declared.faults.LenFault.{LenFault}
 use Rattle.th_units.specs.declared.faults.LenFault.TheVariants.{NotDigits, TooLarge as LongMetres}
 use Rattle.th_units.proofs.Digits.{all_digits, number-lt, number_below}
-use Rattle.th_certificate.specs.Certified.{cost_limit, flow_limit, height_limit}
+use Rattle.th_certificate.specs.Certified.{cost_limit, flow_limit}
+use Rattle.th_network.specs.Limits.{height_limit}
 use Rattle.th_certificate.specs.Numbers.{cost_in, flow_in, height_from, height_in, writes}
 use Rattle.th_certificate.specs.declared.faults.CertKind.{CertKind}
 use Rattle.th_certificate.specs.declared.faults.CertKind.TheVariants.{BadNumber, TooLarge}

@@ -10,7 +10,8 @@ use Rattle.th_units.specs.Lengths.{are_digits, is_digit, number, signed}
 use Rattle.th_units.specs.Metres.{has_minus, has_sign, metres, value, without_sign}
 use Rattle.th_units.proofs.Digits.{digit_bounds, list_all-get_or}
 use Rattle.th_units.proofs.MetreTexts.{value-metres}
-use Rattle.th_certificate.specs.Certified.{cost_limit, height_limit}
+use Rattle.th_certificate.specs.Certified.{cost_limit}
+use Rattle.th_network.specs.Limits.{height_limit}
 use Rattle.th_certificate.specs.Numbers.{cost_in, count_in, flow_in, height_from, height_in, most_flows, writes}
 use Rattle.th_certificate.specs.declared.faults.CertKind.{CertKind}
 use Rattle.th_certificate.specs.declared.faults.CertKind.TheVariants.{BadNumber, TooLarge}

@@ -9,7 +9,8 @@ use Rattle.std.proofs.lemmas.List.{append-nil, map-append}
 use Rattle.gsi_word.specs.Names.{name_of}
 use Rattle.th_units.specs.Metres.{metres}
 use Rattle.th_csv.specs.Records.{Fields}
-use Rattle.th_certificate.specs.Certified.{Certified, HeightRows, height_limit, rows_at}
+use Rattle.th_certificate.specs.Certified.{Certified, HeightRows, rows_at}
+use Rattle.th_network.specs.Limits.{height_limit}
 use Rattle.th_certificate.specs.Numbers.{cost_in, flow_in, height_in, most_flows}
 use Rattle.th_certificate.specs.Reading.{after, certificate_after, ended}
 use Rattle.th_certificate.specs.Statements.{Draft, may_have_flow, may_have_cost, new_name, row_in, row_of, row_with, said, states, with_statement}

@@ -9,13 +9,14 @@ use Rattle.gsi_word.specs.Names.{name_of}
 use Rattle.th_csv.specs.Records.{Fields, records_of}
 use Rattle.th_csv.specs.Texts.{HasField, IsUnmarked, csv_text}
 use Rattle.th_csv.proofs.RoundTripLemmas.{records_of_csv_text, unmarked_text}
-use Rattle.th_network.specs.Networks.{Survey, points_of}
-use Rattle.th_certificate.specs.Certified.{Certified, HeightRows, height_limit, rows_at}
+use Rattle.th_network.specs.Networks.{AreInRange, Survey, points_of}
+use Rattle.th_certificate.specs.Certified.{Certified, HeightRows, rows_at}
+use Rattle.th_network.specs.Limits.{height_limit}
 use Rattle.th_certificate.specs.Faults.{too_long}
 use Rattle.th_certificate.specs.Numbers.{count_in}
 use Rattle.th_certificate.specs.Reading.{after, certificate_after, certificate_in, certificate_of, longest_certificate}
 use Rattle.th_certificate.specs.Statements.{Draft, begun, counted, empty_draft}
-use Rattle.th_certificate.specs.Texts.{AreInRange, AreOfObservations, IsCertifiable, cost_of, cost_row, end_rows, flow_row, header_row, height_row, heights_at_points, rows_of_version_1, rows_of_version_2, text_of_version_1, text_of_version_2, version_row}
+use Rattle.th_certificate.specs.Texts.{AreOfObservations, IsCertifiable, cost_of, cost_row, end_rows, flow_row, header_row, height_row, heights_at_points, rows_of_version_1, rows_of_version_2, text_of_version_1, text_of_version_2, version_row}
 use Rattle.th_certificate.specs.declared.faults.CertFault.{CertFault}
 use Rattle.th_certificate.specs.declared.statements.Statement.TheVariants.{Height, Low, High}
 use Rattle.th_certificate.proofs.ReadNumbers.{cost_in-decimal, count_in-decimal}

@@ -12,11 +12,12 @@ use Rattle.std.proofs.lemmas.Slice.Eq.{bytes_eq-Decides}
 use Rattle.th_book.specs.Observed.{IsBetweenPoints, Observed}
 use Rattle.th_tables.specs.Rows.{AreWeights, BenchmarkRows, WeightRows, same_ends, weight_of}
 use Rattle.th_network.specs.Heights.{cost, residual}
-use Rattle.th_network.specs.Networks.{Survey, points_of}
+use Rattle.th_network.specs.Networks.{AreInRange, Survey, points_of}
 use Rattle.th_network.specs.Points.{distinct, ends, points}
 use Rattle.th_network.proofs.PointLemmas.{EndsAmong, ends_are_points}
-use Rattle.th_certificate.specs.Certified.{cost_limit, height_limit}
-use Rattle.th_certificate.specs.Texts.{AreInRange, IsCertifiable, cost_of}
+use Rattle.th_certificate.specs.Certified.{cost_limit}
+use Rattle.th_network.specs.Limits.{height_limit}
+use Rattle.th_certificate.specs.Texts.{IsCertifiable, cost_of}
 use Rattle.th_certificate.specs.Inside.Costs.{most_residual}
 use Rattle.th_certificate.proofs.CostLemmas.{weighted}
 

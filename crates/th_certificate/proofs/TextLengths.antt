@@ -13,7 +13,8 @@ use Rattle.th_units.specs.Metres.{last_digits, metres, size_in_metres}
 use Rattle.th_units.proofs.Digits.{length-last_digits}
 use Rattle.th_csv.specs.Records.{Fields}
 use Rattle.th_csv.specs.Texts.{csv_text, row_text}
-use Rattle.th_certificate.specs.Certified.{HeightRows, cost_limit, height_limit, rows_at}
+use Rattle.th_certificate.specs.Certified.{HeightRows, cost_limit, rows_at}
+use Rattle.th_network.specs.Limits.{height_limit}
 use Rattle.th_certificate.specs.Numbers.{most_flows}
 use Rattle.th_certificate.specs.Texts.{cost_row, flow_row, header_row, height_row, version_row}
 use Rattle.th_certificate.proofs.ReadRows.{IsReadable}

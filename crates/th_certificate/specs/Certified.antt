@@ -2,6 +2,7 @@
 use Rattle.std.specs.Prelude.{◌<◌, ℕ, ℤ, pos, List, All, Option, bytes_eq, unsigned_abs, unwrap_or, map}
 use Rattle.std.specs.List.{IsDistinct}
 use Rattle.std.specs.Map.{keys_of, lookup}
+use Rattle.th_network.specs.Limits.{height_limit}
 
 -- rows of heights: names, and a height of each in units of 10 nm
 abbrev pub HeightRows : Type 0
@@ -14,10 +15,6 @@ rows_at names heights = map (λ name. (name, heights name)) names
 -- the height that rows state for a name, and zero for another name
 abbrev pub stated_height : HeightRows → List ℕ → ℤ
 stated_height rows name = unwrap_or (lookup (bytes_eq name) rows) (pos 0)
-
--- the size that each height stays below: 10^17 units, a million kilometres
-abbrev pub height_limit : ℕ
-height_limit = 100000000000000000
 
 -- the size that each flow stays below
 abbrev pub flow_limit : ℕ

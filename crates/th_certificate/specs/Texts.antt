@@ -1,5 +1,5 @@
 -- The text of a certificate, in each of its versions.
-use Rattle.std.specs.Prelude.{◌≡◌, ◌≤◌, ◌<◌, ℕ, ℤ, List, Some, [], ◌∷◌, ◌++◌, All, codes, decimal, length, map, unsigned_abs}
+use Rattle.std.specs.Prelude.{◌≡◌, ◌≤◌, ℕ, ℤ, List, Some, [], ◌∷◌, ◌++◌, All, codes, decimal, length, map, unsigned_abs}
 use Rattle.std.specs.Fmt.{signed_decimal}
 use Rattle.std.specs.List.{enumerate_from}
 use Rattle.gsi_word.specs.Names.{name_of}
@@ -11,7 +11,7 @@ use Rattle.th_csv.specs.Texts.{csv_text}
 use Rattle.th_network.specs.Faults.{IsNetwork}
 use Rattle.th_network.specs.Heights.{cost}
 use Rattle.th_network.specs.Networks.{Survey, points_of}
-use Rattle.th_certificate.specs.Certified.{HeightRows, height_limit, rows_at}
+use Rattle.th_certificate.specs.Certified.{HeightRows, rows_at}
 
 -- the row of a name and its height in metres, under the letter of its kind
 abbrev pub height_row : List ℕ → List ℕ × ℤ → Fields
@@ -66,11 +66,6 @@ text_of_version_1 survey heights flows = csv_text (rows_of_version_1 survey heig
 abbrev pub text_of_version_2 : Survey → (List ℕ → ℤ) → (List ℕ → ℤ) → (List ℕ → ℤ) → List ℤ → List ℕ
 text_of_version_2 survey heights low high flows = csv_text (rows_of_version_2 survey heights low high flows)
 
--- a height for each point, below 10^17 units in size
-pub record AreAtPoints (survey : Survey) (heights : List ℤ) : Type 0 where
-  pub each : length heights ≡ length (points_of survey)
-  pub in_range : All (λ height. unsigned_abs height < height_limit) heights
-
 -- a flow for each observation, at most 1,000 in size
 pub record AreOfObservations (survey : Survey) (flows : List ℤ) : Type 0 where
   pub each : length flows ≡ length survey.observations
@@ -82,7 +77,3 @@ pub record IsCertifiable (survey : Survey) : Type 0 where
   pub between : All IsBetweenPoints survey.observations
   pub weights : AreWeights survey.weights
   pub names : All (λ name. name_of name ≡ Some name) (points_of survey)
-
--- a map of heights below 10^17 in size at the points
-abbrev pub AreInRange : Survey → (List ℕ → ℤ) → Type 0
-AreInRange survey heights = All (λ name. unsigned_abs (heights name) < height_limit) (points_of survey)

@@ -1,9 +1,10 @@
 ghost use Rattle.std.specs.Prelude.{◌≡◌, ◌<◌, ◌≤◌, IfOk, unsigned_abs};
 ghost use Rattle.th_network.specs.Heights.{cost, heights_at, residual};
-ghost use Rattle.th_network.specs.Networks.{points_of};
-ghost use Rattle.th_certificate.specs.Certified.{height_limit, stated_height};
+ghost use Rattle.th_network.specs.Networks.{AreAtPoints, points_of};
+ghost use Rattle.th_certificate.specs.Certified.{stated_height};
+ghost use Rattle.th_network.specs.Limits.{height_limit};
 ghost use Rattle.th_certificate.specs.Inside.Costs.{most_residual};
-ghost use Rattle.th_certificate.specs.Texts.{AreAtPoints, cost_of};
+ghost use Rattle.th_certificate.specs.Texts.{cost_of};
 
 use crate::heights::StatedHeights;
 use gsi_word::Name;

@@ -2,7 +2,8 @@ ghost use Rattle.std.specs.Prelude.{◌≡◌, ◌<◌, ◌^◌, ◌++◌, ◌�
 ghost use Rattle.std.specs.List.{IsDistinct};
 ghost use Rattle.std.specs.Map.{lookup};
 ghost use Rattle.th_network.specs.Heights.{heights_at};
-ghost use Rattle.th_certificate.specs.Certified.{AreHeightRows, height_limit, rows_at};
+ghost use Rattle.th_certificate.specs.Certified.{AreHeightRows, rows_at};
+ghost use Rattle.th_network.specs.Limits.{height_limit};
 
 use gsi_word::Name;
 use indexmap::IndexMap;

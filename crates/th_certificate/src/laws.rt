@@ -1,9 +1,9 @@
 //! Laws of the definitions: what they say of one another. They compute nothing.
 
 ghost use Rattle.std.specs.Prelude.{◌≡◌, ℕ, ℤ, List, None, Ok, Some};
-ghost use Rattle.th_network.specs.Networks.{Survey};
+ghost use Rattle.th_network.specs.Networks.{AreInRange, Survey};
 ghost use Rattle.th_certificate.specs.Reading.{certificate_of};
-ghost use Rattle.th_certificate.specs.Texts.{AreInRange, AreOfObservations, IsCertifiable, cost_of, heights_at_points, text_of_version_1, text_of_version_2};
+ghost use Rattle.th_certificate.specs.Texts.{AreOfObservations, IsCertifiable, cost_of, heights_at_points, text_of_version_1, text_of_version_2};
 
 /// The text of version 1 is read as the certificate with just these heights, flows and their cost.
 pub fn text_of_version_1_is_read_back()

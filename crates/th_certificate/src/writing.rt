@@ -2,8 +2,8 @@ ghost use Rattle.std.specs.Prelude.{◌≡◌, ◌++◌, ◌∷◌, [], IfOk, On
 ghost use Rattle.std.specs.List.{enumerate_from};
 ghost use Rattle.th_csv.specs.Texts.{csv_text};
 ghost use Rattle.th_network.specs.Heights.{heights_at};
-ghost use Rattle.th_network.specs.Networks.{points_of};
-ghost use Rattle.th_certificate.specs.Texts.{AreAtPoints, AreOfObservations, cost_row, flow_row, header_row, height_row, heights_at_points, text_of_version_2, version_row};
+ghost use Rattle.th_network.specs.Networks.{AreAtPoints, points_of};
+ghost use Rattle.th_certificate.specs.Texts.{AreOfObservations, cost_row, flow_row, header_row, height_row, heights_at_points, text_of_version_2, version_row};
 
 use crate::costs::cost_of;
 use crate::heights::StatedHeights;

@@ -1,8 +1,7 @@
 use Rattle.std.specs.Prelude.{List, ℕ, ℤ}
 use Rattle.th_network.specs.Circulation.{Circulation, Shows}
 use Rattle.th_network.specs.Heights.{IsHeights}
-use Rattle.th_network.specs.Networks.{Survey}
-use Rattle.th_certificate.specs.Texts.{AreInRange}
+use Rattle.th_network.specs.Networks.{AreInRange, Survey}
 
 -- heights below 10^17 in size that keep the benchmarks of a survey, and that a circulation shows
 pub record Shown (survey : Survey) (heights : List ℕ → ℤ) (flows : List ℤ) : Type 0 where

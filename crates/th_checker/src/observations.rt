@@ -3,7 +3,8 @@ ghost use Rattle.std.specs.List.{position_from, zip};
 ghost use Rattle.std.specs.Ordering.{int_eq};
 ghost use Rattle.th_book.specs.Observed.{largest_difference};
 ghost use Rattle.th_tables.specs.Rows.{weight_of};
-ghost use Rattle.th_certificate.specs.Certified.{AreFlows, flow_limit, height_limit};
+ghost use Rattle.th_certificate.specs.Certified.{AreFlows, flow_limit};
+ghost use Rattle.th_network.specs.Limits.{height_limit};
 ghost use Rattle.th_checker.specs.Inside.Tests.{AreBelow, is_slack_at, most_residual, residual_at};
 
 use std::alloc::{AllocError, Global};

@@ -1,7 +1,7 @@
 ghost use Rattle.std.specs.Prelude.{◌≡◌, ◌<◌, All, length, unsigned_abs};
 ghost use Rattle.th_circulation.specs.Inside.Graphs.{AreWithin};
 ghost use Rattle.th_circulation.specs.Inside.Placed.{ArePlaced};
-ghost use Rattle.th_circulation.specs.Limits.{height_limit};
+ghost use Rattle.th_network.specs.Limits.{height_limit};
 ghost use Rattle.th_network.specs.Networks.{points_of, vertices_of};
 ghost use Rattle.th_search.specs.Potentials.{value_at};
 

@@ -2,7 +2,8 @@ ghost use Rattle.std.specs.Prelude.{◌≡◌, ◌⊎◌, ◌+◌, ◌*◌, ◌<
 ghost use Rattle.th_circulation.specs.Inside.Flows.{IsFlow, ShowsLinks, residuals};
 ghost use Rattle.th_circulation.specs.Inside.Graphs.{AreWithin};
 ghost use Rattle.th_circulation.specs.Inside.Phases.{differences_in};
-ghost use Rattle.th_circulation.specs.Limits.{height_limit, max_counted};
+ghost use Rattle.th_circulation.specs.Limits.{max_counted};
+ghost use Rattle.th_network.specs.Limits.{height_limit};
 ghost use Rattle.th_network.specs.Circulation.{Circulation, Shows};
 ghost use Rattle.th_network.specs.Faults.{IsNetwork};
 ghost use Rattle.th_network.specs.Heights.{IsHeights, heights_at};

@@ -1,9 +1,10 @@
-use Rattle.std.specs.Prelude.{◌≡◌, ◌≤◌, ℕ, ℤ, List, Option, All, map, unsigned_abs}
+use Rattle.std.specs.Prelude.{◌≡◌, ◌<◌, ◌≤◌, ℕ, ℤ, List, Option, All, length, map, unsigned_abs}
 use Rattle.th_book.specs.Observed.{Observed, IsBetweenPoints}
 use Rattle.th_tables.specs.Rows.{BenchmarkRows, WeightRows, height_of, weight_of}
 use Rattle.th_network.specs.Points.{points}
 use Rattle.th_network.specs.Faults.{IsNetwork}
 use Rattle.th_network.specs.Vertices.{vertex_count}
+use Rattle.th_network.specs.Limits.{height_limit}
 use Rattle.th_network.specs.Links.{largest_link_difference, link_of}
 use Rattle.th_network.specs.declared.links.Link.{Link}
 
@@ -32,6 +33,15 @@ vertices_of survey = vertex_count survey.observations survey.benchmarks
 -- for each observation its link
 abbrev pub arcs_of : Survey → List Link
 arcs_of survey = map (link_of survey.observations survey.benchmarks) survey.observations
+
+-- a height for each point of a survey, in point order, below 10^17 units in size
+pub record AreAtPoints (survey : Survey) (heights : List ℤ) : Type 0 where
+  pub each : length heights ≡ length (points_of survey)
+  pub in_range : All (λ height. unsigned_abs height < height_limit) heights
+
+-- a map of heights that are below 10^17 units in size at the points of a survey
+abbrev pub AreInRange : Survey → (List ℕ → ℤ) → Type 0
+AreInRange survey heights = All (λ name. unsigned_abs (heights name) < height_limit) (points_of survey)
 
 -- observations and benchmarks make a network, with these points, so many vertices, and these arcs
 pub record IsBuilt (observations : List Observed) (benchmarks : BenchmarkRows) (names : List (List ℕ)) (count : ℕ) (arcs : List Link) : Type 0 where

@@ -1,6 +1,7 @@
 use Rattle.std.specs.Prelude.{◌≡◌, ◌≤◌, ◌<◌, ℕ, ℤ, List, None, IfSome, bytes_eq, length, unsigned_abs}
 use Rattle.std.specs.Map.{lookup}
-use Rattle.th_certificate.specs.Certified.{AreFlows, HeightRows, cost_limit, flow_limit, height_limit}
+use Rattle.th_certificate.specs.Certified.{AreFlows, HeightRows, cost_limit, flow_limit}
+use Rattle.th_network.specs.Limits.{height_limit}
 use Rattle.th_certificate.specs.Numbers.{most_flows}
 use Rattle.th_certificate.specs.Statements.{Draft}
 use Rattle.th_certificate.specs.declared.statements.Statement.{Statement}

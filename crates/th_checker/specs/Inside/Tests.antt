@@ -6,7 +6,8 @@ use Rattle.th_tables.specs.Rows.{BenchmarkRows, height_of}
 use Rattle.std.specs.declared.alloc.Global.{Global}
 use Rattle.th_network.specs.Circulation.{total_by}
 use Rattle.std.specs.List.{position_from, zip}
-use Rattle.th_certificate.specs.Certified.{Certified, HeightRows, height_limit, stated_height}
+use Rattle.th_certificate.specs.Certified.{Certified, HeightRows, stated_height}
+use Rattle.th_network.specs.Limits.{height_limit}
 use Rattle.th_checker.specs.Verdicts.{if_found, unless}
 use Rattle.th_checker.specs.declared.maps.Maps.{Maps}
 use Rattle.th_checker.specs.declared.verdicts.Reason.TheVariants.{NotSlack, WrongCost, LowNotSlack, HighNotSlack}

@@ -3,7 +3,7 @@ use Rattle.std.specs.List.{list_all, list_any}
 use Rattle.std.specs.Map.{keys_of}
 use Rattle.std.proofs.lemmas.Int.{fits_signed_from_abs, to_z-of_z}
 use Rattle.std.proofs.lemmas.List.Elements.{All-push}
-use Rattle.th_certificate.specs.Certified.{height_limit}
+use Rattle.th_network.specs.Limits.{height_limit}
 use Rattle.th_checker.proofs.MapLemmas.{a_row, listed_more, no_row}
 use Rattle.th_checker.proofs.PositionLemmas.{all_fails, all_more}
 use Rattle.th_checker.proofs.maps.heights_at.Goals as goal

@@ -1,7 +1,8 @@
 use Rattle.std.proofs.Common.{◌≡◌, ◌<◌, All, unsigned_abs, bytes_eq, map, take, true}
 use Rattle.std.specs.List.{list_all, list_any}
 use Rattle.std.specs.Map.{keys_of}
-use Rattle.th_certificate.specs.Certified.{height_limit, stated_height}
+use Rattle.th_certificate.specs.Certified.{stated_height}
+use Rattle.th_network.specs.Limits.{height_limit}
 use Rattle.th_checker.proofs.maps.heights_at.Given as goal
 
 abbrev pub invariant-loop-name : goal.invariant-loop-name

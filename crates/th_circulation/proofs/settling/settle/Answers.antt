@@ -4,7 +4,7 @@ use Rattle.th_network.specs.Heights.{IsHeights, heights_at}
 use Rattle.th_network.specs.Networks.{arcs_of, points_of, weights_of}
 use Rattle.th_search.specs.Potentials.{value_at}
 use Rattle.th_circulation.specs.Inside.Placed.{ArePlaced}
-use Rattle.th_circulation.specs.Limits.{height_limit}
+use Rattle.th_network.specs.Limits.{height_limit}
 use Rattle.th_circulation.proofs.HeightLemmas.{written}
 use Rattle.th_circulation.proofs.SettledLemmas.{settled_circulates, settled_keeps, settled_shows}
 use Rattle.th_circulation.proofs.settling.settle.Goals as goal

@@ -2,7 +2,7 @@ use Rattle.std.proofs.Common.{◌≡◌, ◌++◌, ◌∷◌, [], None, All, Lis
 use Rattle.std.proofs.lemmas.Int.{fits_signed_from_abs, to_z-of_z}
 use Rattle.std.specs.Map.{lookup}
 use Rattle.indexmap.specs.IndexMap.{insert_entry}
-use Rattle.th_certificate.specs.Certified.{height_limit}
+use Rattle.th_network.specs.Limits.{height_limit}
 use Rattle.th_certificate.proofs.HeightLemmas.{added_in_range, added_last}
 use Rattle.th_certificate.proofs.heights.StatedHeights.add.Goals as goal
 

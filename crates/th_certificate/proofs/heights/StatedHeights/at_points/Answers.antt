@@ -3,7 +3,8 @@ use Rattle.std.proofs.lemmas.Int.{fits_signed_from_abs, to_z-of_z}
 use Rattle.std.proofs.lemmas.List.Elements.{All-get_or}
 use Rattle.std.specs.Map.{lookup}
 use Rattle.th_network.specs.Heights.{heights_at}
-use Rattle.th_certificate.specs.Certified.{HeightRows, height_limit, rows_at}
+use Rattle.th_certificate.specs.Certified.{HeightRows, rows_at}
+use Rattle.th_network.specs.Limits.{height_limit}
 use Rattle.th_certificate.proofs.PointLemmas.{heights_at-get_or, lookup-rows_before, rows_at-more}
 use Rattle.th_certificate.proofs.heights.StatedHeights.at_points.Goals as goal
 

@@ -1,7 +1,7 @@
 use Rattle.std.proofs.Common.{◌≡◌, ◌<◌, IfSome, bytes_eq, unsigned_abs, subst, sym, rules}
 use Rattle.std.specs.Map.{lookup}
 use Rattle.std.proofs.lemmas.Map.Entries.{All-lookup}
-use Rattle.th_certificate.specs.Certified.{height_limit}
+use Rattle.th_network.specs.Limits.{height_limit}
 use Rattle.th_certificate.proofs.heights.StatedHeights.height_of.Goals as goal
 
 pub returns-clause-in_range : goal.returns-clause-in_range
