@@ -8,7 +8,7 @@ use Rattle.std.proofs.lemmas.List.Sums.{position_or_len_is}
 use Rattle.std.proofs.lemmas.Map.Keys.{IsDistinct-tail, apart_from_distinct}
 use Rattle.std.proofs.lemmas.Slice.Eq.{bytes_eq-Decides}
 use Rattle.th_network.specs.Heights.{heights_at}
-use Rattle.th_network.specs.Places.{place_of}
+use Rattle.th_points.specs.Places.{place_of}
 use Rattle.th_certificate.specs.Certified.{rows_at, stated_height}
 
 -- names are compared either way round

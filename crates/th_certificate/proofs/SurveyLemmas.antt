@@ -13,8 +13,8 @@ use Rattle.th_book.specs.Observed.{IsBetweenPoints, Observed}
 use Rattle.th_tables.specs.Rows.{AreWeights, BenchmarkRows, WeightRows, same_ends, weight_of}
 use Rattle.th_network.specs.Heights.{cost, residual}
 use Rattle.th_network.specs.Networks.{AreInRange, Survey, points_of}
-use Rattle.th_network.specs.Points.{distinct, ends, points}
-use Rattle.th_network.proofs.PointLemmas.{EndsAmong, ends_are_points}
+use Rattle.th_points.specs.Points.{distinct, ends, points}
+use Rattle.th_points.proofs.PointLemmas.{EndsAmong, ends_are_points}
 use Rattle.th_certificate.specs.Certified.{cost_limit}
 use Rattle.th_network.specs.Limits.{height_limit}
 use Rattle.th_certificate.specs.Texts.{IsCertifiable, cost_of}

@@ -9,8 +9,8 @@ use Rattle.th_tables.specs.Rows.{AreBenchmarks, BenchmarkRows}
 use Rattle.th_network.specs.Circulation.{Circulation, Shows}
 use Rattle.th_network.specs.Heights.{IsHeights, cost}
 use Rattle.th_network.specs.Networks.{Survey, points_of}
-use Rattle.th_network.specs.Points.{ends, points}
-use Rattle.th_network.proofs.PointLemmas.{among_distinct, ends_are_points, is_among}
+use Rattle.th_points.specs.Points.{ends, points}
+use Rattle.th_points.proofs.PointLemmas.{among_distinct, ends_are_points, is_among}
 use Rattle.th_certificate.specs.Certified.{Certified, stated_height}
 use Rattle.th_certificate.specs.Reading.{certificate_of}
 use Rattle.th_certificate.specs.declared.faults.CertFault.{CertFault}

@@ -12,7 +12,7 @@ use Rattle.th_book.specs.Observed.{Observed}
 use Rattle.th_tables.specs.Rows.{BenchmarkRows, WeightRows, height_of, weight_of}
 use Rattle.th_network.specs.Circulation.{Shows, arriving, leaving}
 use Rattle.th_network.specs.Heights.{IsHeights, cost, residual}
-use Rattle.th_network.proofs.PointLemmas.{EndsAmong}
+use Rattle.th_points.proofs.PointLemmas.{EndsAmong}
 use Rattle.th_certificate.specs.Certified.{HeightRows, rows_at, stated_height}
 use Rattle.th_certificate.proofs.PointLemmas.{stated_height-rows_at}
 use Rattle.th_checker.specs.Verdicts.{is_slack, keeps, names_are}

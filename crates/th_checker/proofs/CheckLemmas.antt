@@ -10,10 +10,10 @@ use Rattle.th_book.specs.Observed.{Observed}
 use Rattle.th_tables.specs.Rows.{BenchmarkRows, WeightRows, height_of}
 use Rattle.th_network.specs.Circulation.{arriving, leaving, total_by}
 use Rattle.th_network.specs.Heights.{cost, residual}
-use Rattle.th_network.specs.Inside.Ends.{ArePoints, ends_in}
-use Rattle.th_network.specs.Points.{points}
+use Rattle.th_points.specs.Ends.{ArePoints, ends_in}
+use Rattle.th_points.specs.Points.{points}
 use Rattle.th_network.proofs.NetworkLemmas.{ends_within}
-use Rattle.th_network.proofs.PointLemmas.{ends_are_points}
+use Rattle.th_points.proofs.PointLemmas.{ends_are_points}
 use Rattle.th_certificate.specs.Certified.{Certified, HeightRows, stated_height}
 use Rattle.th_certificate.proofs.SurveyLemmas.{IsDistinct-points}
 use Rattle.th_checker.specs.Inside.Tests.{added_at, AreBalances, AreBelow, AreHeightsAt, AreListed, AreMaps, AreStated, cost_at, first_place, is_slack_at, listed_in, not_slack_at, residual_at, slack_verdict_at, span_not_slack_at}

@@ -10,10 +10,10 @@ use Rattle.th_book.specs.Observed.{Observed}
 use Rattle.th_tables.specs.Rows.{WeightRows, weight_of}
 use Rattle.th_network.specs.Circulation.{arriving, leaving, total_by}
 use Rattle.th_network.specs.Heights.{cost, residual}
-use Rattle.th_network.specs.Inside.Ends.{ends_in}
-use Rattle.th_network.specs.Places.{place_of}
+use Rattle.th_points.specs.Ends.{ends_in}
+use Rattle.th_points.specs.Places.{place_of}
 use Rattle.th_network.proofs.Balance.{total_by-cons}
-use Rattle.th_network.proofs.PointLemmas.{EndsAmong}
+use Rattle.th_points.proofs.PointLemmas.{EndsAmong}
 use Rattle.th_checker.specs.Verdicts.{is_slack}
 use Rattle.th_checker.specs.Inside.Tests.{added_at, is_slack_at, residual_at}
 

@@ -9,7 +9,7 @@ use Rattle.th_book.specs.Observed.{Observed}
 use Rattle.th_tables.specs.Rows.{BenchmarkRows, WeightRows, height_of, weight_of}
 use Rattle.th_network.specs.Circulation.{Circulation, Shows, arriving, leaving}
 use Rattle.th_network.specs.Heights.{IsHeights, LeastFine, cost, residual}
-use Rattle.th_network.specs.Points.{points}
+use Rattle.th_points.specs.Points.{points}
 use Rattle.th_network.proofs.Slackness.{slackness}
 use Rattle.th_certificate.specs.Certified.{Certified, HeightRows, stated_height}
 use Rattle.th_checker.specs.Verdicts.{first_not_slack, first_too_large, first_unbalanced, flow_verdict, if_found, if_there, is_slack, keeps, map_verdict, names_are, not_slack_in, of_all_maps, slack_verdict, unless, verdict_of}

@@ -7,7 +7,7 @@ use Rattle.th_book.specs.Observed.{Observed}
 use Rattle.th_tables.specs.Rows.{BenchmarkRows, WeightRows, height_of, weight_of}
 use Rattle.th_network.specs.Circulation.{arriving, leaving}
 use Rattle.th_network.specs.Heights.{cost, residual}
-use Rattle.th_network.specs.Points.{points}
+use Rattle.th_points.specs.Points.{points}
 use Rattle.th_certificate.specs.Certified.{Certified, HeightRows, stated_height}
 use Rattle.th_checker.specs.declared.verdicts.Reason.{Reason}
 use Rattle.th_checker.specs.declared.verdicts.Reason.TheVariants.{PointsDiffer, BenchmarkMoved, FlowCount, FlowTooLarge, Unbalanced, NotSlack, WrongCost, LowNotSlack, HighNotSlack}

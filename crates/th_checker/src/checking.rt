@@ -1,6 +1,6 @@
 ghost use Rattle.std.specs.Prelude.{◌≡◌, ◌≤◌, All, IfOk, IfSome, length};
 ghost use Rattle.std.specs.List.{zip};
-ghost use Rattle.th_network.specs.Inside.Ends.{ArePoints};
+ghost use Rattle.th_points.specs.Ends.{ArePoints};
 ghost use Rattle.th_certificate.specs.Certified.{AreFlows};
 ghost use Rattle.th_checker.specs.Inside.Tests.{AreHeightsAt, AreMaps, listed_in, slack_verdict_at, span_not_slack_at};
 ghost use Rattle.th_checker.specs.Verdicts.{flow_verdict, map_verdict, verdict_of};
@@ -8,11 +8,11 @@ ghost use Rattle.th_checker.specs.Verdicts.{flow_verdict, map_verdict, verdict_o
 use crate::balances::{balances_of, first_unbalanced};
 use crate::maps::{Maps, all_keep, maps_at};
 use crate::observations::{cost_of, first_not_slack, first_too_large, residuals_of, weights_of};
-use crate::points::Points;
 use crate::verdicts::{Reason, Verdict};
 use std::alloc::{AllocError, Global};
 use th_book::Observation;
 use th_certificate::Certificate;
+use th_points::Points;
 use th_tables::{Benchmarks, Weights};
 
 /// The verdict on a certificate for observations, benchmarks and weights: yes, or the first reason

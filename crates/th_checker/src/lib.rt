@@ -2,15 +2,14 @@
 //!
 //! The checker goes over observations, tables and certificate once, and says yes only where the
 //! heights, and in version 2 the lowest and the highest heights, are shown least by the flows. It
-//! finds points, balances and residuals by itself, and knows nothing of how heights are found.
+//! finds balances and residuals by itself, and knows nothing of how heights are found.
 #![tactic(auto)]
 
 // What is answered.
 mod verdicts;
 
-// The points, and what the certificate says at them.
+// What the certificate says at the points.
 mod maps;
-mod points;
 
 // What is tested of each observation and at each point.
 mod balances;

@@ -6,7 +6,7 @@ use Rattle.std.proofs.Math.IntN.{*ℤ-zero}
 use Rattle.std.specs.List.{AllZip, AllByRecursion}
 use Rattle.th_book.specs.Observed.{Observed}
 use Rattle.th_tables.specs.Rows.{BenchmarkRows, WeightRows, height_of, weight_of}
-use Rattle.th_network.specs.Points.{points}
+use Rattle.th_points.specs.Points.{points}
 use Rattle.th_network.specs.Circulation.{Circulation, arriving, leaving}
 use Rattle.th_network.specs.Walks.{IsTied}
 use Rattle.th_network.proofs.Products.{times-minus}

@@ -9,12 +9,12 @@ use Rattle.std.specs.List.{AllZip, AllByRecursion}
 use lib.Signed.{lt_z}
 use Rattle.th_book.specs.Observed.{Observed}
 use Rattle.th_tables.specs.Rows.{BenchmarkRows, WeightRows, height_of, weight_of}
-use Rattle.th_network.specs.Points.{points}
+use Rattle.th_points.specs.Points.{points}
 use Rattle.th_network.specs.Walks.{Leads, IsTied, Anchored}
 use Rattle.th_network.specs.Heights.{IsHeights, residual, cost}
 use Rattle.th_network.specs.Circulation.{Circulation, Shows}
 use Rattle.th_network.specs.Vertices.{is_free}
-use Rattle.th_network.proofs.PointLemmas.{is_among, bytes_eq_same, EndsAmong, ends_are_points}
+use Rattle.th_points.proofs.PointLemmas.{is_among, bytes_eq_same, EndsAmong, ends_are_points}
 use Rattle.th_circulation.specs.Extremes.{Low, High}
 use Rattle.th_circulation.proofs.BestLemmas.{best_is_shown, shown_is_best}
 use Rattle.th_circulation.proofs.SideLemmas.{IsFull, AreFull, full_of_shows, shows_of_full}

@@ -5,7 +5,7 @@ use Rattle.std.proofs.lemmas.Int.{ints, by_lt_z}
 use Rattle.std.proofs.lemmas.List.Sums.{sum_by-cons}
 use Rattle.std.proofs.lemmas.Slice.Eq.{bytes_eq-Decides}
 use Rattle.std.specs.List.{AllByRecursion}
-use Rattle.th_network.proofs.PointLemmas.{is_among, bytes_eq_same}
+use Rattle.th_points.proofs.PointLemmas.{is_among, bytes_eq_same}
 
 -- a bound: where it applies, one name is at least so far above another
 pub record Bound : Type 0 where

@@ -6,7 +6,7 @@ use Rattle.std.proofs.lemmas.Int.{ints, by_lt_z}
 use lib.Signed.{lt_z}
 use Rattle.th_book.specs.Observed.{Observed}
 use Rattle.th_tables.specs.Rows.{BenchmarkRows, WeightRows, height_of, weight_of}
-use Rattle.th_network.specs.Points.{distinct, ends, points}
+use Rattle.th_points.specs.Points.{distinct, ends, points}
 use Rattle.th_network.specs.Heights.{IsHeights, residual}
 use Rattle.th_network.specs.Circulation.{Circulation, Shows, arriving, leaving}
 use Rattle.th_network.proofs.Balance.{total_by-cons}

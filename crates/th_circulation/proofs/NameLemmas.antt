@@ -8,16 +8,16 @@ use Rattle.std.specs.Prelude.{slice_index_or}
 use Rattle.std.specs.List.{AllZip, AllByRecursion}
 use Rattle.th_book.specs.Observed.{Observed}
 use Rattle.th_tables.specs.Rows.{BenchmarkRows, WeightRows, height_of, weight_of}
-use Rattle.th_network.specs.Points.{points}
-use Rattle.th_network.specs.Places.{place_of}
+use Rattle.th_points.specs.Points.{points}
+use Rattle.th_points.specs.Places.{place_of}
 use Rattle.th_network.specs.Vertices.{free_before, vertex_of}
 use Rattle.th_network.specs.Links.{link_of}
 use Rattle.th_network.specs.Circulation.{Circulation, arriving as arriving_at, leaving as leaving_at}
 use Rattle.th_network.specs.declared.links.Link.{Link}
 use Rattle.th_network.proofs.Balance.{total_by-cons, weaker}
-use Rattle.th_network.proofs.PointLemmas.{is_among, bytes_eq_same, EndsAmong, ends_are_points}
+use Rattle.th_points.proofs.PointLemmas.{is_among, bytes_eq_same, EndsAmong, ends_are_points}
 use Rattle.th_network.proofs.NetworkLemmas.{vertices_apart}
-use Rattle.th_network.proofs.TieLemmas.{at_place_of}
+use Rattle.th_points.proofs.PlaceLemmas.{at_place_of}
 use Rattle.std.proofs.Common.{◌-ℤ◌, ◌*ℤ◌, ◌*◌, subst, unwrap_or}
 use Rattle.th_network.specs.Heights.{residual, LeastFine}
 use Rattle.th_network.specs.Circulation.{Shows}

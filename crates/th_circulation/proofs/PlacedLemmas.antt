@@ -7,7 +7,7 @@ use Rattle.std.proofs.lemmas.Option.{get_or_from_slice_get, slice_get_within}
 use Rattle.std.specs.Prelude.{slice_set}
 use Rattle.th_book.specs.Observed.{Observed}
 use Rattle.th_tables.specs.Rows.{BenchmarkRows, height_of}
-use Rattle.th_network.specs.Points.{points}
+use Rattle.th_points.specs.Points.{points}
 use Rattle.th_network.specs.Vertices.{free_before, is_free, vertex_count, vertex_of}
 use Rattle.th_network.proofs.NetworkLemmas.{vertex_by_place}
 use Rattle.th_search.specs.Potentials.{value_at}

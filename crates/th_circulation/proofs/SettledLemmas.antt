@@ -5,16 +5,16 @@ use Rattle.std.specs.Option.{IsSome}
 use Rattle.std.specs.List.{AllByRecursion}
 use Rattle.th_book.specs.Observed.{Observed}
 use Rattle.th_tables.specs.Rows.{BenchmarkRows, WeightRows, weight_of}
-use Rattle.th_network.specs.Points.{points}
-use Rattle.th_network.specs.Places.{place_of}
+use Rattle.th_points.specs.Points.{points}
+use Rattle.th_points.specs.Places.{place_of}
 use Rattle.th_network.specs.Circulation.{Circulation, Shows}
 use Rattle.th_network.specs.Heights.{IsHeights, heights_at, residual}
 use Rattle.th_network.specs.Links.{link_difference, link_of}
 use Rattle.th_network.specs.Networks.{Survey, arcs_of, points_of, weights_of}
 use Rattle.th_network.specs.Vertices.{vertex_of}
 use Rattle.th_network.specs.declared.links.Link.{Link}
-use Rattle.th_network.proofs.PointLemmas.{EndsAmong, ends_are_points, is_among}
-use Rattle.th_network.proofs.TieLemmas.{at_place_of, benchmark_is_point}
+use Rattle.th_points.proofs.PointLemmas.{EndsAmong, ends_are_points, is_among}
+use Rattle.th_points.proofs.PlaceLemmas.{at_place_of, benchmark_is_point}
 use Rattle.th_circulation.specs.Inside.Flows.{IsFlow, ShowsLinks, residuals}
 use Rattle.th_circulation.specs.Inside.Phases.{differences_in}
 use Rattle.th_circulation.specs.Inside.Placed.{ArePlaced, placed}

@@ -11,7 +11,7 @@ ghost use Rattle.th_circulation.specs.Misreadings.{AreMisread};
 ghost use Rattle.th_circulation.specs.declared.slots.Slot.{Slot};
 ghost use Rattle.th_network.specs.Circulation.{Circulation, Shows};
 ghost use Rattle.th_network.specs.Heights.{IsHeights, Least};
-ghost use Rattle.th_network.specs.Points.{points};
+ghost use Rattle.th_points.specs.Points.{points};
 ghost use Rattle.th_network.specs.Walks.{Anchored, IsTied};
 ghost use Rattle.th_network.specs.declared.links.Link.{Link};
 ghost use Rattle.th_tables.specs.Rows.{AreWeights, BenchmarkRows, WeightRows, height_of};

@@ -4,7 +4,7 @@ use Rattle.std.proofs.lemmas.List.Elements.{All-from_recursion, All-nil}
 use Rattle.std.proofs.lemmas.Slice.Eq.{bytes_eq-Decides}
 use Rattle.th_book.specs.Observed.{Observed}
 use Rattle.th_tables.specs.Rows.{BenchmarkRows, height_of, weight_of}
-use Rattle.th_network.specs.Points.{points}
+use Rattle.th_points.specs.Points.{points}
 use Rattle.th_network.specs.Walks.{Walk, IsTied}
 use Rattle.th_network.specs.declared.faults.NetFault.TheVariants.{NoBenchmark}
 use Rattle.th_network.specs.Faults.{HasFault}

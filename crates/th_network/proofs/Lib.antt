@@ -1,7 +1,5 @@
 pub mod Products
 pub mod Balance
-pub mod PointLemmas
-pub mod PointOrder
 pub mod Gets
 pub mod NeighbourLemmas
 pub mod MarkLemmas

@@ -5,14 +5,14 @@ use Rattle.std.proofs.lemmas.List.Elements.{All-push}
 use Rattle.std.proofs.lemmas.Option.{slice_get_within, get_or_from_slice_get}
 use Rattle.th_book.specs.Observed.{Observed, IsBetweenPoints}
 use Rattle.th_tables.specs.Rows.{BenchmarkRows}
-use Rattle.th_network.specs.Points.{points}
-use Rattle.th_network.specs.Places.{place_of}
+use Rattle.th_points.specs.Points.{points}
+use Rattle.th_points.specs.Places.{place_of}
 use Rattle.th_network.specs.Vertices.{vertex_of}
-use Rattle.th_network.specs.Inside.Ends.{ends_in, ArePoints}
+use Rattle.th_points.specs.Ends.{ArePoints, ends_in}
 use Rattle.th_network.specs.Inside.Numbered.{AreVertices}
 use Rattle.th_network.specs.Links.{largest_link_difference, link_difference, link_of}
 use Rattle.th_network.specs.declared.links.Link.{Link}
-use Rattle.th_network.proofs.TieLemmas.{ends_at_places}
+use Rattle.th_points.proofs.PlaceLemmas.{ends_at_places}
 
 -- the place is within the vertices, and what is read there is this
 abbrev pub Reads : List ℕ → ℕ → ℕ → Type 0

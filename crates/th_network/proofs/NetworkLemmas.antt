@@ -6,9 +6,10 @@ use Rattle.std.proofs.lemmas.List.Sums.{sum_by-take-le, count_by_more_yes}
 use Rattle.std.proofs.lemmas.Option.{slice_get_within, slice_get-get_or, get_or_from_slice_get}
 use Rattle.th_book.specs.Observed.{Observed}
 use Rattle.th_tables.specs.Rows.{BenchmarkRows, height_of}
-use Rattle.th_network.specs.Points.{points}
-use Rattle.th_network.specs.Places.{place_of}
-use Rattle.th_network.specs.Inside.Ends.{AreBelow, ends_in, ends_of, ArePoints}
+use Rattle.th_points.specs.Points.{points}
+use Rattle.th_points.specs.Places.{place_of}
+use Rattle.th_network.specs.Inside.Pairs.{AreBelow}
+use Rattle.th_points.specs.Ends.{ArePoints, ends_in, ends_of}
 use Rattle.th_network.specs.Inside.Reached.{IsFirstUnreached}
 use Rattle.th_network.specs.Walks.{IsTied, Anchored}
 use Rattle.th_network.specs.Faults.{IsFirstUntied}
@@ -16,8 +17,9 @@ use Rattle.th_network.specs.Vertices.{is_free, free_before, vertex_at, vertex_of
 use Rattle.th_network.specs.Links.{link_of}
 use Rattle.th_network.specs.declared.links.Link.{Link}
 use Rattle.th_network.proofs.Balance.{weaker}
-use Rattle.th_network.proofs.PointLemmas.{is_among, EndsAmong, ends_are_points}
-use Rattle.th_network.proofs.TieLemmas.{at_place_of, place_of_at, points_distinct, point_heights, IsPointReached, tied_from_reached, reached_from_tied}
+use Rattle.th_points.proofs.PointLemmas.{is_among, EndsAmong, ends_are_points}
+use Rattle.th_points.proofs.PlaceLemmas.{at_place_of, place_of_at, points_distinct}
+use Rattle.th_network.proofs.TieLemmas.{point_heights, IsPointReached, tied_from_reached, reached_from_tied}
 
 -- ---- the places of the ends are places of points
 place_within : (names : List (List ℕ)) (name : List ℕ) → is_among names name ≡ true → place_of names name < length names

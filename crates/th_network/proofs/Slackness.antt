@@ -6,12 +6,12 @@ use Rattle.std.proofs.lemmas.List.Elements.{recursion_from_All}
 use Rattle.std.specs.List.{AllZip, AllByRecursion}
 use Rattle.th_book.specs.Observed.{Observed}
 use Rattle.th_tables.specs.Rows.{BenchmarkRows, WeightRows, height_of, weight_of}
-use Rattle.th_network.specs.Points.{points}
+use Rattle.th_points.specs.Points.{points}
 use Rattle.th_network.specs.Heights.{IsHeights, residual, cost, IsFineHeights, fine_cost, LeastFine}
 use Rattle.th_network.specs.Circulation.{Circulation, Shows, arriving, leaving}
 use Rattle.th_network.proofs.Products.{times-plus, times-minus, times_swap, times-le}
 use Rattle.th_network.proofs.Balance.{carried, InBalance, ZeroUnlessIn, weaker, nothing_carried}
-use Rattle.th_network.proofs.PointLemmas.{EndsAmong, ends_are_points}
+use Rattle.th_points.proofs.PointLemmas.{EndsAmong, ends_are_points}
 
 -- how far other heights, in a unit k times finer, are above the heights at a point
 abbrev rise : ℕ → (List ℕ → ℤ) → (List ℕ → ℤ) → List ℕ → ℤ

@@ -1,4 +1,4 @@
-pub mod Ends
+pub mod Pairs
 pub mod Neighbours
 pub mod Marks
 pub mod Reached

@@ -1,6 +1,4 @@
 pub mod Limits
-pub mod Points
-pub mod Places
 pub mod Walks
 pub mod Faults
 pub mod Texts

@@ -1,7 +1,7 @@
 use Rattle.std.specs.Prelude.{◌≡◌, ◌<◌, ◌≤◌, ℕ, ℤ, List, Option, All, length, map, unsigned_abs}
 use Rattle.th_book.specs.Observed.{Observed, IsBetweenPoints}
 use Rattle.th_tables.specs.Rows.{BenchmarkRows, WeightRows, height_of, weight_of}
-use Rattle.th_network.specs.Points.{points}
+use Rattle.th_points.specs.Points.{points}
 use Rattle.th_network.specs.Faults.{IsNetwork}
 use Rattle.th_network.specs.Vertices.{vertex_count}
 use Rattle.th_network.specs.Limits.{height_limit}

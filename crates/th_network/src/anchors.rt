@@ -1,14 +1,14 @@
 ghost use Rattle.std.specs.Prelude.{◌≡◌, ◌↔◌, ℕ, All, IfOk, length, map};
-ghost use Rattle.th_network.specs.Inside.Ends.{AreBelow};
+ghost use Rattle.th_network.specs.Inside.Pairs.{AreBelow};
 ghost use Rattle.th_network.specs.Inside.Marks.{IsMarked};
 ghost use Rattle.th_network.specs.Inside.Reached.{IsFirstUnreached, IsReached};
 ghost use Rattle.th_tables.specs.Rows.{height_of};
 
 use crate::marks::Marks;
 use crate::neighbours::Neighbours;
-use crate::points::Points;
 use gsi_word::Name;
 use std::alloc::{AllocError, Global};
+use th_points::Points;
 use th_tables::Benchmarks;
 
 /// The first point from which no chain of observations leads to a benchmark.

@@ -9,17 +9,8 @@ ghost use Rattle.th_network.specs.declared.faults.NetFault.{NetFault};
 ghost use Rattle.th_network.specs.Heights.{IsHeights, residual, Least, LeastFine};
 ghost use Rattle.th_network.specs.Circulation.{Circulation, Shows};
 ghost use Rattle.th_network.specs.Links.{IsRelative, link_difference};
-ghost use Rattle.th_network.specs.Points.{ends, points};
+ghost use Rattle.th_points.specs.Points.{ends, points};
 ghost use Rattle.th_network.specs.Vertices.{vertex_at, vertex_of};
-
-/// The points are the ends of the observations and the benchmarks, each once.
-pub fn points_are_ends_and_benchmarks()
-    ensures each { (observations : List Observed) (benchmarks : BenchmarkRows) (name : List ℕ)
-        → Contains (points observations benchmarks) name
-        ↔ (Contains (ends observations) name ⊎ IsSome (height_of benchmarks name)) }
-    ensures once { (observations : List Observed) (benchmarks : BenchmarkRows)
-        → IsDistinct bytes_eq (points observations benchmarks) }
-{}
 
 /// Observations and benchmarks have one fault at most, and where they make a network they have none.
 pub fn faults_exclude_each_other()

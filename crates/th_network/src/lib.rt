@@ -3,11 +3,11 @@
 //!
 //! A network has at most `MAX_OBSERVATIONS` observations and `MAX_POINTS` points, and from each
 //! point a chain of observations leads to a benchmark. `Network::build` makes it, or names the first
-//! fault: it finds the points in order of first sight (`points`), walks from the benchmarks to all
+//! fault: it takes the points in order of first sight (`th_points`), walks from the benchmarks to all
 //! that they reach (`anchors`, over `neighbours` and `marks`), numbers the vertices (`vertices`) and
 //! takes the benchmarks' heights out of the observations (`links`).
 //!
-//! The definitions stand in `specs/`: points, walks and faults, heights and their cost, circulations,
+//! The definitions stand in `specs/`: walks and faults, heights and their cost, circulations,
 //! vertices and links. `laws` proves what they are for: heights that a circulation shows are least.
 #![tactic(auto)]
 
@@ -15,9 +15,8 @@
 mod faults;
 mod limits;
 
-// The points, and which of them a chain of observations ties to a benchmark.
-mod points;
-// They are found in two steps: what joins the points, and what is marked as the walk goes on.
+// Which points a chain of observations ties to a benchmark: what joins the points, and what is marked
+// as the walk goes on.
 mod marks;
 mod neighbours;
 // The walk itself.

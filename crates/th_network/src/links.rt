@@ -1,16 +1,16 @@
 ghost use Rattle.std.specs.Prelude.{◌≡◌, ◌≤◌, All, IfOk, OnOk, map, unsigned_abs};
 ghost use Rattle.th_book.specs.Observed.{IsBetweenPoints};
-ghost use Rattle.th_network.specs.Inside.Ends.{ArePoints};
+ghost use Rattle.th_points.specs.Ends.{ArePoints};
 ghost use Rattle.th_network.specs.Inside.Numbered.{AreVertices};
 ghost use Rattle.th_network.specs.Links.{base as base_of, largest_link_difference, link_difference, link_of};
-ghost use Rattle.th_network.specs.Points.{points as points_of};
+ghost use Rattle.th_points.specs.Points.{points as points_of};
 ghost use Rattle.th_units.specs.Lengths.{max_len};
 
-use crate::points::Points;
 use crate::vertices::Vertices;
 use gsi_word::Name;
 use std::alloc::{AllocError, Global};
 use th_book::Observation;
+use th_points::Points;
 use th_tables::Benchmarks;
 
 /// An observation between two vertices of its network.

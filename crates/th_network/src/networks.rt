@@ -14,13 +14,13 @@ use crate::anchors::first_untied;
 use crate::faults::NetFault;
 use crate::limits::{MAX_OBSERVATIONS, MAX_POINTS};
 use crate::links::{Link, links_of};
-use crate::points::Points;
 use crate::vertices::Vertices;
 use gsi_word::Name;
 use indexmap::IndexSet;
 use std::alloc::Global;
 use std::marker::Model;
 use th_book::Observation;
+use th_points::Points;
 use th_tables::{Benchmarks, Weights};
 
 /// The height network of some observations, over the tables of its benchmarks and weights, which it

@@ -1,8 +1,8 @@
 use Rattle.std.proofs.Common.{ℕ, List, All, Contains, IsSome, sym, ap, ◌∙◌, subst}
 use Rattle.th_tables.specs.Rows.{height_of}
 use Rattle.th_network.specs.Networks.{Survey}
-use Rattle.th_network.specs.Points.{points}
-use Rattle.th_network.proofs.TieLemmas.{ends_contained, benchmarks_contained}
+use Rattle.th_points.specs.Points.{points}
+use Rattle.th_points.proofs.PlaceLemmas.{ends_contained, benchmarks_contained}
 use Rattle.th_network.proofs.networks.Network.points.Goals as goal
 
 pub returns-clause-ends : goal.returns-clause-ends

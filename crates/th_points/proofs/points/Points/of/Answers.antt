@@ -1,6 +1,6 @@
 use Rattle.std.proofs.Common.{arith}
-use Rattle.th_network.proofs.PointOrder.{found_more, found_all}
-use Rattle.th_network.proofs.points.Points.of.Goals as goal
+use Rattle.th_points.proofs.PointOrder.{found_more, found_all}
+use Rattle.th_points.proofs.points.Points.of.Goals as goal
 
 pub loop-o-preserved : goal.loop-o-preserved
 loop-o-preserved c =

@@ -1,7 +1,7 @@
 ghost use Rattle.std.specs.Prelude.{◌≡◌, [], ◌∷◌, ◌++◌, IfOk, OnOk, bytes_eq, map};
 ghost use Rattle.indexmap.specs.IndexSet.{insert_all, insert_key};
-ghost use Rattle.th_network.specs.Inside.Ends.{ArePoints};
-ghost use Rattle.th_network.specs.Places.{place_of};
+ghost use Rattle.th_points.specs.Ends.{ArePoints};
+ghost use Rattle.th_points.specs.Places.{place_of};
 
 use gsi_word::Name;
 use indexmap::IndexSet;
@@ -10,8 +10,8 @@ use th_book::Observation;
 use th_tables::Benchmarks;
 
 /// The points of a network in order of first sight, and where among them each observation ends.
-#[derive(Drop)]
-pub(crate) struct Points {
+#[derive(Debug, Drop)]
+pub struct Points {
     /// The points' names: the ends of the observations, then the benchmarks that are no end.
     pub names: IndexSet<Name>,
     /// For each observation the places of its station and its target among the names, from 0.
@@ -19,7 +19,7 @@ pub(crate) struct Points {
 }
 
 impl Points {
-    /// Finds the points of some observations and benchmarks.
+    /// Finds the points of some observations and benchmarks. It refuses only for want of memory.
     pub fn of(
         alloc: Global,
         observations: &[Observation],

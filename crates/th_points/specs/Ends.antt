@@ -1,9 +1,9 @@
 -- Where the ends of the observations stand among the points.
-use Rattle.std.specs.Prelude.{◌≡◌, ◌<◌, ℕ, List, map}
+use Rattle.std.specs.Prelude.{◌≡◌, ℕ, List, map}
 use Rattle.th_book.specs.Observed.{Observed}
 use Rattle.th_tables.specs.Rows.{BenchmarkRows}
-use Rattle.th_network.specs.Points.{points}
-use Rattle.th_network.specs.Places.{place_of}
+use Rattle.th_points.specs.Points.{points}
+use Rattle.th_points.specs.Places.{place_of}
 
 -- the places of an observation's station and of its target
 abbrev pub ends_in : List (List ℕ) → Observed → ℕ × ℕ
@@ -17,7 +17,3 @@ ends_of observations benchmarks = map (ends_in (points observations benchmarks))
 pub record ArePoints (observations : List Observed) (benchmarks : BenchmarkRows) (names : List (List ℕ)) (ends : List (ℕ × ℕ)) : Type 0 where
   pub all : names ≡ points observations benchmarks
   pub placed : ends ≡ ends_of observations benchmarks
-
--- both places of a pair are below the limit
-abbrev pub AreBelow : ℕ → ℕ × ℕ → Type 0
-AreBelow limit pair = (pair.0 < limit) × (pair.1 < limit)

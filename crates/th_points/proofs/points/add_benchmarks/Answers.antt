@@ -1,7 +1,7 @@
 use Rattle.std.proofs.Common.{sym, arith}
 use Rattle.std.proofs.lemmas.Option.{slice_get_within}
-use Rattle.th_network.proofs.PointOrder.{row_more, no_row_more}
-use Rattle.th_checker.proofs.points.add_benchmarks.Goals as goal
+use Rattle.th_points.proofs.PointOrder.{row_more, no_row_more}
+use Rattle.th_points.proofs.points.add_benchmarks.Goals as goal
 
 pub loop-row-preserved : goal.loop-row-preserved
 loop-row-preserved c =

@@ -8,10 +8,10 @@ use Rattle.std.proofs.lemmas.Grind.{flat_map-append}
 use Rattle.indexmap.specs.IndexSet.{insert_key, insert_all}
 use Rattle.th_book.specs.Observed.{Observed}
 use Rattle.th_tables.specs.Rows.{BenchmarkRows}
-use Rattle.th_network.specs.Points.{distinct, ends, points}
-use Rattle.th_network.specs.Places.{place_of}
-use Rattle.th_network.specs.Inside.Ends.{ends_in, ArePoints}
-use Rattle.th_network.proofs.PointLemmas.{is_among, among_filter, among_distinct}
+use Rattle.th_points.specs.Points.{distinct, ends, points}
+use Rattle.th_points.specs.Places.{place_of}
+use Rattle.th_points.specs.Ends.{ArePoints, ends_in}
+use Rattle.th_points.proofs.PointLemmas.{is_among, among_filter, among_distinct}
 
 -- another name than this one
 abbrev is_other : List ℕ → List ℕ → Bool

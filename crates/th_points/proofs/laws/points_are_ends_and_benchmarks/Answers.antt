@@ -1,5 +1,5 @@
-use Rattle.th_network.proofs.TieLemmas.{points_cases, points_distinct}
-use Rattle.th_network.proofs.laws.points_are_ends_and_benchmarks.Goals as goal
+use Rattle.th_points.proofs.PlaceLemmas.{points_cases, points_distinct}
+use Rattle.th_points.proofs.laws.points_are_ends_and_benchmarks.Goals as goal
 
 pub returns-clause-each : goal.returns-clause-each
 returns-clause-each c = points_cases

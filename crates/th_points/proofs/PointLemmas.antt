@@ -5,7 +5,7 @@ use Rattle.std.proofs.lemmas.Slice.Eq.{bytes_eq-Decides}
 use Rattle.std.specs.List.{list_any, AllByRecursion}
 use Rattle.th_book.specs.Observed.{Observed}
 use Rattle.th_tables.specs.Rows.{BenchmarkRows}
-use Rattle.th_network.specs.Points.{distinct, ends, points}
+use Rattle.th_points.specs.Points.{distinct, ends, points}
 
 -- whether a list has a name
 abbrev pub is_among : List (List ℕ) → List ℕ → Bool

@@ -1,0 +1,3 @@
+pub mod Points
+pub mod Places
+pub mod Ends

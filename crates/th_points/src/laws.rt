@@ -1,0 +1,16 @@
+//! Laws over the definitions alone. A law is its contract: it calls nothing and computes nothing.
+
+ghost use Rattle.std.specs.Prelude.{◌↔◌, ◌⊎◌, bytes_eq, Contains, IsSome, ℕ, List};
+ghost use Rattle.std.specs.List.{IsDistinct};
+ghost use Rattle.th_book.specs.Observed.{Observed};
+ghost use Rattle.th_points.specs.Points.{ends, points};
+ghost use Rattle.th_tables.specs.Rows.{BenchmarkRows, height_of};
+
+/// The points are the ends of the observations and the benchmarks, each once.
+pub fn points_are_ends_and_benchmarks()
+    ensures each { (observations : List Observed) (benchmarks : BenchmarkRows) (name : List ℕ)
+        → Contains (points observations benchmarks) name
+        ↔ (Contains (ends observations) name ⊎ IsSome (height_of benchmarks name)) }
+    ensures once { (observations : List Observed) (benchmarks : BenchmarkRows)
+        → IsDistinct bytes_eq (points observations benchmarks) }
+{}
