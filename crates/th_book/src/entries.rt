@@ -22,7 +22,20 @@ pub struct Entry {
 }
 
 impl Entry {
-    ghost use Rattle.th_book.specs.Inside.Entries.{entry_of};
+    ghost use Rattle.th_book.specs.Inside.Entries.{entry_of, nothing};
+
+    /// The entry of a line that says nothing.
+    pub fn empty() -> Entry
+        ensures { result ≡ nothing }
+    {
+        Entry {
+            station: None,
+            target: None,
+            sighted: None,
+            reflector: None,
+            instrument: None,
+        }
+    }
 
     /// The entry of a block, or the first kind of fault that its own words have.
     pub fn of(words: &[Word<'_>]) -> Result<Entry, BookKind>
