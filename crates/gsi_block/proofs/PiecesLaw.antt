@@ -87,6 +87,11 @@ cut_line-append line more room fits =
     let all : max_kept ≡ length line + room = omega arith in
     rw all (take-append-add line more room) ∙ ap (λ part. line ++ part) (sym (take_min room more) ∙ ap (λ n. take n more) (min_comm room (length more)))
 
+-- what is kept of a line stays the same where nothing comes behind it
+pub cut_line-none : (line none : List ℕ) → length line ≤ max_kept → length none ≡ 0 → cut_line (line ++ none) ≡ line
+cut_line-none line [] fits e = ap cut_line (append-nil line) ∙ take_all max_kept line fits
+cut_line-none line (byte ∷ bytes) fits e = absurd (omega arith)
+
 -- a text that goes on with a line is cut into the same lines where only what is kept of that line stands there
 pub lines_due-kept : (line text : List ℕ) → IsTrue (list_all is_in_line line) → cut_lines (lines_of (line ++ text)) ≡ cut_lines (lines_of (cut_line line ++ text))
 lines_due-kept line text h =

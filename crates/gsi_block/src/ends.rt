@@ -5,12 +5,16 @@ ghost use Rattle.gsi_block.specs.Inside.Ends.{end_len, is_lone_return, feed_len}
 
 use memchr::memchr2;
 
-/// How many bytes stand before the first one of an end.
+/// How many bytes stand before the first one of an end. Where an end stands at the front, as behind
+/// an empty line, nothing is searched.
 pub(crate) fn line_len(text: &[u8]) -> usize
     ensures place { result ≡ prefix_len is_in_line text.now }
     ensures within { result ≤ length text.now }
 {
-    memchr2(b'\n', b'\r', text).unwrap_or(text.len())
+    match text {
+        [b'\n' | b'\r', ..] => 0,
+        _ => memchr2(b'\n', b'\r', text).unwrap_or(text.len()),
+    }
 }
 
 /// How many bytes the end has that stands at the front, none where nothing stands there.

@@ -111,6 +111,9 @@ impl Lines {
         ensures { self.new ≡ record self.old { line = cut_line (self.old.line ++ bytes.now) } }
     {
         let room = self.line.remaining_capacity();
+        if bytes.is_empty() {
+            return;
+        }
         let kept = &bytes[..bytes.len().min(room)];
         let _ = self.line.try_extend_from_slice(kept);
     }

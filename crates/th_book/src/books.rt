@@ -99,8 +99,8 @@ impl Book {
             self.lines += 1;
             return Ok(());
         }
-        match step_of_line(self.setup, line, words) {
-            Ok(step) => self.take(step),
+        match step_of_line(&self.setup, line, words) {
+            Ok(step) => self.take(&step),
             Err(kind) => Err(self.refuse(kind)),
         }
     }
@@ -139,13 +139,13 @@ impl Book {
     }
 
     /// Takes what a line without a fault leaves.
-    fn take(&mut self, step: Step) -> Result<(), BookFault>
+    fn take(&mut self, step: &Step) -> Result<(), BookFault>
         requires { self.old.lines < longest_book }
-        ensures taken { OnOk result (self.new ≡ state_with self.old step self.new.room) }
+        ensures taken { OnOk result (self.new ≡ state_with self.old step.now self.new.room) }
         ensures room { OnOk result (self.old.room ≤ self.new.room) }
         ensures wanting { IfErr result
             (λ fault. (self.new ≡ self.old) × (fault ≡ fault_in self.old.lines BookKind.NoMemory)) }
-        ensures sight { OnErr result (IsSome step.sight) }
+        ensures sight { OnErr result (IsSome step.now.sight) }
         ensures full { OnErr result (self.old.room ≤ length self.old.observations) }
     {
         if let Some(sight) = &step.sight {
@@ -158,7 +158,7 @@ impl Book {
             }
             self.observations.push_reserved(sight.at(self.number, line));
         }
-        self.setup = step.setup;
+        Setup::enter(&mut self.setup, &step.entry);
         self.lines += 1;
         Ok(())
     }

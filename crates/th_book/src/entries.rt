@@ -22,7 +22,20 @@ pub struct Entry {
 }
 
 impl Entry {
-    ghost use Rattle.th_book.specs.Inside.Entries.{entry_of};
+    ghost use Rattle.th_book.specs.Inside.Entries.{entry_of, nothing};
+
+    /// The entry of a line that says nothing.
+    pub fn empty() -> Entry
+        ensures { result ≡ nothing }
+    {
+        Entry {
+            station: None,
+            target: None,
+            sighted: None,
+            reflector: None,
+            instrument: None,
+        }
+    }
 
     /// The entry of a block, or the first kind of fault that its own words have.
     pub fn of(words: &[Word<'_>]) -> Result<Entry, BookKind>
@@ -35,7 +48,9 @@ impl Entry {
         }
         let is_sight = counted.is_sight();
         let is_setup = counted.is_setup();
-        let point = point_of(is_sight | is_setup, words)?;
+        let named = is_sight | is_setup;
+        let point = if named { point_name(words) } else { None };
+        check_point(named, &point, words)?;
         counted.check_lengths()?;
         Ok(Entry {
             station: if is_setup { point } else { None },
@@ -47,19 +62,30 @@ impl Entry {
     }
 }
 
-/// The name of the point that a block begins with, where it has to begin with one.
-fn point_of(named: bool, words: &[Word<'_>]) -> Result<Option<Name>, BookKind>
-    ensures fault { result_err result ≡ first_applying (point_faults named (map parts_of words.now)) }
-    ensures point { IfOk result (λ point. point ≡ (if named then point_name (map parts_of words.now) else None)) }
+/// The name of the point that a block begins with, where its first word gives one.
+fn point_name(words: &[Word<'_>]) -> Option<Name>
+    ensures { result ≡ point_name (map parts_of words.now) }
+{
+    match words.first() {
+        Some(word) => name_of(word.body()),
+        None => None,
+    }
+}
+
+/// Refuses a block that has to begin with a named point, and does not.
+fn check_point(named: bool, point: &Option<Name>, words: &[Word<'_>]) -> Result<(), BookKind>
+    requires { point.now ≡ (if named then point_name (map parts_of words.now) else None) }
+    ensures { result_err result ≡ first_applying (point_faults named (map parts_of words.now)) }
 {
     if !named {
-        return Ok(None);
+        return Ok(());
     }
     match words.first() {
-        Some(word) if word.index() == POINT_NUMBER => match name_of(word.body()) {
-            Some(name) => Ok(Some(name)),
-            None => Err(BookKind::BadName),
-        },
-        _ => Err(BookKind::NoPointNumber),
+        Some(word) if word.index() == POINT_NUMBER => {}
+        _ => return Err(BookKind::NoPointNumber),
     }
+    if point.is_none() {
+        return Err(BookKind::BadName);
+    }
+    Ok(())
 }

@@ -30,15 +30,17 @@ impl Setup {
     ghost use Rattle.th_book.specs.Inside.Entries.{setup_at, setup_by, with_entry};
     ghost use Rattle.th_book.specs.Inside.Steps.{IsSeen, sight_fault};
 
-    /// The running setup after an entry: the one that it begins, or the one before, with its heights.
-    pub fn after(running: Option<Setup>, entry: &Entry) -> Option<Setup>
-        ensures { result ≡ setup_by entry.now running }
+    /// Enters an entry into the running setup: the one that it begins, or the one before, takes its
+    /// heights.
+    pub fn enter(running: &mut Option<Setup>, entry: &Entry)
+        ensures { running.new ≡ setup_by entry.now running.old }
     {
-        let setup = match entry.station {
-            Some(station) => Some(Setup::at(station)),
-            None => running,
-        };
-        setup.map(|setup| setup.with(entry))
+        if let Some(station) = entry.station {
+            *running = Some(Setup::at(station));
+        }
+        if let Some(setup) = running {
+            setup.take_heights(entry);
+        }
     }
 
     /// A setup that begins, with no height yet.
@@ -52,14 +54,15 @@ impl Setup {
         }
     }
 
-    /// The setup with the heights of an entry.
-    fn with(self, entry: &Entry) -> Setup
-        ensures { result ≡ with_entry entry.now self }
+    /// Takes the heights of an entry.
+    fn take_heights(&mut self, entry: &Entry)
+        ensures { self.new ≡ with_entry entry.now self.old }
     {
-        Setup {
-            station: self.station,
-            instrument: entry.instrument.or(self.instrument),
-            reflector: entry.reflector.or(self.reflector),
+        if entry.instrument.is_some() {
+            self.instrument = entry.instrument;
+        }
+        if entry.reflector.is_some() {
+            self.reflector = entry.reflector;
         }
     }
 

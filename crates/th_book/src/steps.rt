@@ -3,6 +3,7 @@ ghost use Rattle.std.specs.Result.{result_err};
 ghost use Rattle.gsi_word.specs.Words.{parts_of};
 ghost use Rattle.gsi_block.specs.Blocks.{block_at};
 ghost use Rattle.th_book.specs.Lines.{words_in};
+ghost use Rattle.th_book.specs.Inside.Entries.{setup_by};
 ghost use Rattle.th_book.specs.Inside.Steps.{AreSeen, IsLeft, block_fault, entry_fault, line_fault};
 
 use crate::entries::Entry;
@@ -12,27 +13,27 @@ use arrayvec::ArrayVec;
 use gsi_block::{MAX_WORDS, read_words};
 use gsi_word::Word;
 
-/// What a line without a fault leaves: the running setup, and what is seen where it is a sight.
+/// What a line without a fault leaves: its entry, and what is seen where it is a sight.
 #[derive(Clone, Copy, Debug)]
 pub struct Step {
-    pub setup: Option<Setup>,
+    pub entry: Entry,
     pub sight: Option<Sight>,
 }
 
 /// What a line leaves in a running setup, or the first kind of its faults. Its words are read into an
 /// array that is lent.
 pub fn step_of_line<'a>(
-    running: Option<Setup>,
+    running: &Option<Setup>,
     line: &'a [u8],
     words: &mut ArrayVec<Word<'a>, MAX_WORDS>,
 ) -> Result<Step, BookKind>
-    ensures fault { result_err result ≡ line_fault running (block_at line.now) }
-    ensures left { IfOk result (IsLeft running (words_in (block_at line.now))) }
+    ensures fault { result_err result ≡ line_fault running.now (block_at line.now) }
+    ensures left { IfOk result (IsLeft running.now (words_in (block_at line.now))) }
 {
     match read_words(line, words) {
         Ok(Some(_)) => step_of_block(running, words.as_slice()),
         Ok(None) => Ok(Step {
-            setup: running,
+            entry: Entry::empty(),
             sight: None,
         }),
         Err(fault) => Err(BookKind::Block(fault)),
@@ -40,23 +41,27 @@ pub fn step_of_line<'a>(
 }
 
 /// What the words of a block leave in a running setup, or the first kind of their faults.
-fn step_of_block(running: Option<Setup>, words: &[Word<'_>]) -> Result<Step, BookKind>
-    ensures fault { result_err result ≡ block_fault running (map parts_of words.now) }
-    ensures left { IfOk result (IsLeft running (map parts_of words.now)) }
+fn step_of_block(running: &Option<Setup>, words: &[Word<'_>]) -> Result<Step, BookKind>
+    ensures fault { result_err result ≡ block_fault running.now (map parts_of words.now) }
+    ensures left { IfOk result (IsLeft running.now (map parts_of words.now)) }
 {
     let entry = Entry::of(words)?;
-    let setup = Setup::after(running, &entry);
-    let sight = sight_in(&setup, &entry)?;
-    Ok(Step { setup, sight })
+    let sight = sight_in(running, &entry)?;
+    Ok(Step { entry, sight })
 }
 
-/// The sight of an entry that has a target and a height difference, or the first kind of its faults.
-fn sight_in(setup: &Option<Setup>, entry: &Entry) -> Result<Option<Sight>, BookKind>
-    ensures fault { result_err result ≡ entry_fault setup.now entry.now }
-    ensures seen { IfOk result (AreSeen setup.now entry.now) }
+/// The sight of an entry that has a target and a height difference, from the running setup with the
+/// entry's heights, or the first kind of its faults.
+fn sight_in(running: &Option<Setup>, entry: &Entry) -> Result<Option<Sight>, BookKind>
+    ensures fault { result_err result ≡ entry_fault (setup_by entry.now running.now) entry.now }
+    ensures seen { IfOk result (AreSeen (setup_by entry.now running.now) entry.now) }
 {
     match (entry.target, entry.sighted) {
-        (Some(target), Some(sighted)) => Ok(Some(Setup::sight(*setup, target, sighted)?)),
+        (Some(target), Some(sighted)) => {
+            let mut setup = *running;
+            Setup::enter(&mut setup, entry);
+            Ok(Some(Setup::sight(setup, target, sighted)?))
+        }
         _ => Ok(None),
     }
 }

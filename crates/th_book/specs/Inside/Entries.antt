@@ -17,6 +17,10 @@ entry_of words = record {
   instrument = length_in instrument_height words;
 }
 
+-- the entry of a line that says nothing
+abbrev pub nothing : Entry
+nothing = record { station = None; target = None; sighted = None; reflector = None; instrument = None }
+
 -- a setup with the heights of an entry
 abbrev pub with_entry : Entry → Setup → Setup
 with_entry entry setup = record setup {

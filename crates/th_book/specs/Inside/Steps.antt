@@ -6,6 +6,7 @@ use Rattle.th_book.specs.Lines.{ParsedLine, words_in}
 use Rattle.th_book.specs.Faults.{Standing, block_faults, fault_in, first_applying, kind_of, sight_faults}
 use Rattle.th_book.specs.Books.{difference, known, known_name}
 use Rattle.th_book.specs.Due.{BookState, observation_in, setup_after, standing_in}
+use Rattle.th_book.specs.Inside.Entries.{setup_by}
 use Rattle.th_book.specs.declared.entries.Entry.{Entry}
 use Rattle.th_book.specs.declared.setups.Setup.{Setup}
 use Rattle.th_book.specs.declared.setups.Sight.{Sight}
@@ -70,16 +71,16 @@ block_fault running words = first_applying (block_faults (standing_in running wo
 abbrev pub line_fault : Option Setup → ParsedLine → Option BookKind
 line_fault running parsed = kind_of (standing_in running (words_in parsed)) parsed
 
--- this is what words without a fault leave: the running setup after them, and the sight where they are one
+-- this is what words without a fault leave: an entry that makes the running setup after them, and the sight where they are one
 pub record IsLeft (running : Option Setup) (words : List Parts) (step : Step) : Type 0 where
-  pub setup : step.setup ≡ setup_after running words
+  pub setup : setup_by step.entry running ≡ setup_after running words
   pub sight : (book line : ℕ) → option_map (stamped book line) step.sight ≡ observation_in book line running words
 
 -- what a book holds after a line without a fault, with the room that there is then
 abbrev pub state_with : BookState → Step → ℕ → BookState
 state_with state step room = record state {
   lines = state.lines + 1;
-  setup = step.setup;
+  setup = setup_by step.entry state.setup;
   observations = state.observations ++ option_to_list (option_map (stamped state.book (state.lines + 1)) step.sight);
   room = room;
 }

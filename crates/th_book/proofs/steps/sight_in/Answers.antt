@@ -2,6 +2,7 @@ use Rattle.std.proofs.Common.{◌≡◌, ℕ, ℤ, ◌&&◌, cond, List, Option,
 use Rattle.std.specs.Prelude.{is_some}
 use Rattle.th_book.specs.Observed.{Observed}
 use Rattle.th_book.specs.Books.{known, known_name}
+use Rattle.th_book.specs.Inside.Entries.{setup_by}
 use Rattle.th_book.specs.Inside.Steps.{observed_from}
 use Rattle.th_book.specs.declared.setups.Setup.{Setup}
 use Rattle.th_book.proofs.steps.sight_in.Goals as goal
@@ -15,8 +16,11 @@ both setup own length target sighted book line named read =
 pub returns-in_ok-sight-in-Some-Some-clause-seen : goal.returns-in_ok-sight-in-Some-Some-clause-seen
 returns-in_ok-sight-in-Some-Some-clause-seen c =
     let entry = c.args.entry.now in
+    let target = c.in-Some-Some.target in
+    let sighted = c.in-Some-Some.sighted in
     record {
       seen = λ book line.
           ap (λ (own : Observed). Some own) (c.in_ok-sight-in-Some-Some.ensures.seen.seen book line)
-          ∙ both c.args.setup.now entry.target entry.sighted c.in-Some-Some.target c.in-Some-Some.sighted book line c.in-Some-Some.is-0 c.in-Some-Some.is-1;
+          ∙ ap (λ (own : Option Setup). Some (observed_from own target sighted book line)) c.enter.ensures
+          ∙ both (setup_by entry c.args.running.now) entry.target entry.sighted target sighted book line c.in-Some-Some.is-0 c.in-Some-Some.is-1;
     }
