@@ -1,0 +1,91 @@
+use std::alloc::Global;
+use std::process::Abort;
+use th_book::{Observation, read_book};
+use th_certificate::read_certificate;
+use th_checker::check;
+use th_tables::{read_benchmarks, read_weights};
+
+/// A book, and the tables of its benchmarks and its weights.
+#[derive(Drop)]
+pub struct Survey {
+    pub book: &'static [u8],
+    pub benchmarks: &'static [u8],
+    pub weights: &'static [u8],
+}
+
+/// The benchmark A at 100 m.
+pub const A_AT_100: &[u8] = b"point,height\nA,100\n";
+
+/// A to B 1 m, B to C 1 m, C to A -2 m, and A to C 2.5 m.
+pub const ROUND_BOOK: &[u8] = b"110001+0000000A 84..10+00000000 88..10+00001500 
+110002+0000000B 33..00+00001000 87..10+00001500 
+110003+0000000B 84..10+00000000 88..10+00001500 
+110004+0000000C 33..00+00001000 87..10+00001500 
+110005+0000000C 84..10+00000000 88..10+00001500 
+110006+0000000A 33..00-00002000 87..10+00001500 
+110007+0000000A 84..10+00000000 88..10+00001500 
+110008+0000000C 33..00+00002500 87..10+00001500 
+";
+
+/// That book with the benchmark A.
+pub const ROUND: Survey = Survey {
+    book: ROUND_BOOK,
+    benchmarks: A_AT_100,
+    weights: b"",
+};
+
+/// Two sights from A to B, 2.545 m and 2.547 m.
+pub const PAIR: Survey = Survey {
+    book: b"110001+0000000A 84..10+00000000 85..10+00000000 86..10+00100000 88..10+00001500 
+110002+0000000B 33..00+00002345 87..10+00001300 
+110003+0000000B 33..00+00002347 
+",
+    benchmarks: A_AT_100,
+    weights: b"",
+};
+
+/// One sight of 2.545 m between two benchmarks that are 3 m apart.
+pub const FIXED: Survey = Survey {
+    book: b"110001+0000000A 84..10+00000000 85..10+00000000 86..10+00100000 88..10+00001500 
+110002+0000000B 33..00+00002345 87..10+00001300 
+",
+    benchmarks: b"point,height\nA,100\nB,103\n",
+    weights: b"",
+};
+
+/// No observations and no benchmarks.
+pub const NOTHING: Survey = Survey {
+    book: b"",
+    benchmarks: b"point,height\n",
+    weights: b"",
+};
+
+/// What is answered for the text of a certificate of a survey.
+pub fn answer(rt: &impl Abort, alloc: Global, survey: &Survey, text: &[u8]) -> String {
+    let observations = read_book(alloc, 1, survey.book).expect(rt, "observations");
+    verdict_on(rt, alloc, &observations, survey, text)
+}
+
+/// What is answered for the text of a certificate of some observations and a survey's tables: how its
+/// fault is said, or else how the verdict is.
+pub fn verdict_on(
+    rt: &impl Abort,
+    alloc: Global,
+    observations: &[Observation],
+    tables: &Survey,
+    text: &[u8],
+) -> String {
+    let benchmarks = read_benchmarks(alloc, tables.benchmarks).expect(rt, "benchmarks");
+    let weights = read_weights(alloc, tables.weights).expect(rt, "weights");
+    assert!(rt; observations.len() <= 40_000);
+    match read_certificate(alloc, text) {
+        Ok(certificate) => {
+            let verdict = check(alloc, observations, &benchmarks, &weights, &certificate);
+            verdict
+                .expect(rt, "memory")
+                .to_string(alloc)
+                .expect(rt, "memory")
+        }
+        Err(fault) => fault.to_string(alloc).expect(rt, "memory"),
+    }
+}
