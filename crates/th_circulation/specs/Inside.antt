@@ -7,3 +7,4 @@ pub mod Listings
 pub mod Phases
 pub mod Workspaces
 pub mod Cuts
+pub mod Proposals

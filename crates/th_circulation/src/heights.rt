@@ -2,6 +2,8 @@ ghost use Rattle.std.specs.Prelude.{◌≡◌, ◌≤◌, ℕ, ◌-ℤ◌};
 ghost use Rattle.th_circulation.specs.Inside.Graphs.{AreWithin};
 ghost use Rattle.th_search.specs.Potentials.{value_at};
 
+use crate::guide::Guide;
+
 /// Raises the height of each vertex by as much as its potential is below 0.
 pub(crate) fn raise(heights: &mut [i64], potentials: &[i64], vertices: u32)
     requires heights { AreWithin vertices 2500000000000 heights.old }
@@ -23,5 +25,17 @@ pub(crate) fn double(heights: &mut [i64], vertices: u32)
     let level = heights[0];
     for height in heights.iter_mut() {
         *height = (2 * (*height - level)).clamp(-2_500_000_000_000, 2_500_000_000_000);
+    }
+}
+
+/// Takes the heights of a guide, as far as costs that they reduce stay in range.
+pub(crate) fn take(heights: &mut [i64], guide: &Guide, vertices: u32)
+    requires heights { AreWithin vertices 2500000000000 heights.old }
+    ensures within { AreWithin vertices 2500000000000 heights.new }
+{
+    for (vertex, height) in heights.iter_mut().enumerate() {
+        *height = guide
+            .height(vertex as u32)
+            .clamp(-2_500_000_000_000, 2_500_000_000_000);
     }
 }

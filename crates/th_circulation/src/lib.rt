@@ -19,11 +19,18 @@ pub mod laws;
 mod limits;
 mod listings;
 mod placed;
+mod proposals;
 mod slots;
 mod steps;
 #[cfg(test)]
 mod tests;
 mod workspaces;
+
+// What proposes cycles to cancel.
+mod guide;
+mod prices;
+mod trees;
+mod views;
 
 pub use settled::{Flows, Heights, Settled, Spans};
 pub use settling::settle;

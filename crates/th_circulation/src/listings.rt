@@ -106,4 +106,35 @@ impl Listing {
             self.list(graph, differences, heights, flows, against);
         }
     }
+
+    /// Lists the residual arcs of these slots, in their order, at costs that the heights reduce; those
+    /// that are none of the graph's or have no room are left out.
+    pub fn list_these(
+        &mut self,
+        graph: &Graph,
+        differences: &[i64],
+        heights: &[i64],
+        flows: &[i64],
+        slots: &[Slot],
+    )
+        requires differences { AreWithin (length graph.now.links.now) 5000000000000 differences.now }
+        requires heights { AreWithin graph.now.vertices 2500000000000 heights.now }
+        requires flows { AreBounded graph.now.weights.now flows.now }
+        requires arcs { 2 * length graph.now.links.now ≤ vec_capacity self.old.arcs }
+        requires slots { 2 * length graph.now.links.now ≤ vec_capacity self.old.slots }
+        ensures few { length self.new.slots.items ≤ 2 * length graph.now.links.now }
+        ensures room_for_arcs { vec_capacity self.old.arcs ≤ vec_capacity self.new.arcs }
+        ensures room_for_slots { vec_capacity self.old.slots ≤ vec_capacity self.new.slots }
+        ensures residual { AreResidual graph.now.links.now graph.now.weights.now differences.now
+            (value_at heights.now) flows.now self.new.arcs.items self.new.slots.items }
+    {
+        self.arcs.clear();
+        self.slots.clear();
+        let most = 2 * graph.links.len();
+        'slots: for &slot in slots {
+            if (slot.place as usize) < graph.links.len() && self.slots.len() < most {
+                self.list(graph, differences, heights, flows, slot);
+            }
+        }
+    }
 }

@@ -1,8 +1,11 @@
-ghost use Rattle.std.specs.Prelude.{◌≡◌, ◌+◌, ◌<◌, ◌≤◌, ◌≤ℤ◌, ◌+ℤ◌, ◌-◌, ◌*◌, pos, IfOk, MatchBool, OnErr, OnOk, length, sum};
+ghost use Rattle.std.specs.Prelude.{◌≡◌, ◌+◌, ◌<◌, ◌≤◌, ◌≤ℤ◌, ◌+ℤ◌, ◌-◌, ◌*◌, ◌⊎◌, pos, IfOk, MatchBool, OnErr, OnOk, length, sum};
+ghost use Rattle.std.specs.Bool.{OnTrue};
 ghost use Rattle.std.specs.Vec.{vec_capacity};
 ghost use Rattle.th_circulation.specs.Inside.Flows.{IsFlow, ShowsLinks, gain, residuals};
 ghost use Rattle.th_circulation.specs.Inside.Graphs.{AreWithin};
+ghost use Rattle.th_circulation.specs.Inside.Listings.{AreResidual, HasAllBefore};
 ghost use Rattle.th_circulation.specs.Inside.Phases.{differences_in};
+ghost use Rattle.th_circulation.specs.Inside.Proposals.{HasNoPotentials};
 ghost use Rattle.th_circulation.specs.Inside.Workspaces.{IsNear, IsReady};
 ghost use Rattle.th_circulation.specs.Limits.{max_counted};
 ghost use Rattle.th_search.specs.Answers.{refusals_in};
@@ -11,10 +14,13 @@ ghost use Rattle.th_search.specs.Potentials.{value_at};
 use crate::cancels::cancel;
 use crate::differences::set_differences;
 use crate::graphs::Graph;
-use crate::heights::{double, raise};
+use crate::guide::Guide;
+use crate::heights::{double, raise, take};
 use crate::limits::PHASES;
 use crate::listings::Listing;
+use crate::proposals::closes_below_zero;
 use crate::steps::Steps;
+use crate::views::View;
 use std::alloc::{AllocError, Global};
 use th_search::{Found, Search};
 
@@ -29,6 +35,8 @@ pub(crate) struct Workspace {
     pub flows: Vec<i64>,
     /// The residual arcs.
     pub listing: Listing,
+    /// What proposes cycles.
+    pub guide: Guide,
 }
 
 impl Workspace {
@@ -51,11 +59,13 @@ impl Workspace {
         let heights = vec![in alloc; 0i64; graph.vertices as usize]?;
         let flows = vec![in alloc; 0i64; graph.links.len()]?;
         let listing = Listing::new(alloc, graph.links.len())?;
+        let guide = Guide::new(alloc, graph.vertices, graph.links.len())?;
         Ok(Workspace {
             differences,
             heights,
             flows,
             listing,
+            guide,
         })
     }
 
@@ -118,7 +128,7 @@ impl Workspace {
         ensures calls { S.calls search.new ≡ S.calls search.old + 1 }
         ensures refusals { S.refusals search.new ≡ S.refusals search.old + refusals_in result }
         ensures answer { IfOk result (λ cancelled. MatchBool cancelled
-            ((self.new.heights.items ≡ self.old.heights.items)
+            (AreWithin graph.now.vertices 2500000000000 self.new.heights.items
             × (steps.new ≡ steps.old + 1)
             × ((gain self.old.flows.items self.old.differences.items +ℤ pos 1)
             ≤ℤ gain self.new.flows.items self.old.differences.items))
@@ -128,11 +138,9 @@ impl Workspace {
             × ShowsLinks graph.now.weights.now self.new.flows.items (residuals graph.now.links.now
             self.old.differences.items (value_at self.new.heights.items)))) }
         ensures refused { OnErr result ((steps.new ≡ steps.old)
-            × (self.new.heights.items ≡ self.old.heights.items)
             × (self.new.flows.items ≡ self.old.flows.items)) }
     {
-        self.listing
-            .list_all(graph, &self.differences, &self.heights, &self.flows);
+        self.list_next(graph);
         match search.search(alloc, graph.vertices, &self.listing.arcs)? {
             Found::Cycle(cycle) => {
                 cancel(graph, &self.listing.slots, &cycle, &mut self.flows);
@@ -144,6 +152,71 @@ impl Workspace {
                 Ok(false)
             }
         }
+    }
+
+    /// Lists what is searched next: the arcs round a cycle that the guide proposes, where that is one
+    /// which costs less than 0; else all residual arcs, at costs that the guide's heights reduce.
+    fn list_next(&mut self, graph: &Graph)
+        requires ready { IsReady graph.now.vertices graph.now.links.now graph.now.weights.now
+            self.old.differences.items self.old.heights.items self.old.flows.items
+            (vec_capacity self.old.listing.arcs) (vec_capacity self.old.listing.slots) }
+        ensures differences { self.new.differences.items ≡ self.old.differences.items }
+        ensures heights { AreWithin graph.now.vertices 2500000000000 self.new.heights.items }
+        ensures flows { self.new.flows.items ≡ self.old.flows.items }
+        ensures arcs { vec_capacity self.old.listing.arcs ≤ vec_capacity self.new.listing.arcs }
+        ensures slots { vec_capacity self.old.listing.slots ≤ vec_capacity self.new.listing.slots }
+        ensures few { length self.new.listing.slots.items ≤ 2 * length graph.now.links.now }
+        ensures residual { AreResidual graph.now.links.now graph.now.weights.now
+            self.old.differences.items (value_at self.new.heights.items) self.old.flows.items
+            self.new.listing.arcs.items self.new.listing.slots.items }
+        ensures next { HasNoPotentials self.new.listing.arcs.items
+            ⊎ HasAllBefore graph.now.weights.now self.old.flows.items self.new.listing.slots.items
+            (length graph.now.links.now) }
+    {
+        if self.guide.is_at_work() {
+            if self.list_proposal(graph) {
+                return;
+            }
+            self.guide.stop();
+            take(&mut self.heights, &self.guide, graph.vertices);
+        }
+        self.listing
+            .list_all(graph, &self.differences, &self.heights, &self.flows);
+    }
+
+    /// Lists the arcs round a cycle that the guide proposes; true where they cost less than 0.
+    fn list_proposal(&mut self, graph: &Graph) -> bool
+        requires ready { IsReady graph.now.vertices graph.now.links.now graph.now.weights.now
+            self.old.differences.items self.old.heights.items self.old.flows.items
+            (vec_capacity self.old.listing.arcs) (vec_capacity self.old.listing.slots) }
+        ensures differences { self.new.differences.items ≡ self.old.differences.items }
+        ensures heights { self.new.heights.items ≡ self.old.heights.items }
+        ensures flows { self.new.flows.items ≡ self.old.flows.items }
+        ensures arcs { vec_capacity self.old.listing.arcs ≤ vec_capacity self.new.listing.arcs }
+        ensures slots { vec_capacity self.old.listing.slots ≤ vec_capacity self.new.listing.slots }
+        ensures few { OnTrue result (length self.new.listing.slots.items
+            ≤ 2 * length graph.now.links.now) }
+        ensures residual { OnTrue result (AreResidual graph.now.links.now graph.now.weights.now
+            self.old.differences.items (value_at self.old.heights.items) self.old.flows.items
+            self.new.listing.arcs.items self.new.listing.slots.items) }
+        ensures cycle { OnTrue result (HasNoPotentials self.new.listing.arcs.items) }
+    {
+        let view = View {
+            graph: *graph,
+            differences: &self.differences,
+            flows: &self.flows,
+        };
+        if !self.guide.propose(view) {
+            return false;
+        }
+        self.listing.list_these(
+            graph,
+            &self.differences,
+            &self.heights,
+            &self.flows,
+            &self.guide.cycle,
+        );
+        closes_below_zero(&self.listing.arcs)
     }
 
     /// Takes the differences of a phase, and the heights doubled.
@@ -159,6 +232,11 @@ impl Workspace {
     {
         set_differences(graph.links, phase, &mut self.differences);
         double(&mut self.heights, graph.vertices);
+        self.guide.start(View {
+            graph: *graph,
+            differences: &self.differences,
+            flows: &self.flows,
+        });
     }
 
     /// Cancels cycles until the search answers potentials: then the flows show the heights for these
