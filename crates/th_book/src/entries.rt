@@ -14,11 +14,11 @@ use th_units::Len;
 /// that it writes.
 #[derive(Clone, Copy, Debug)]
 pub struct Entry {
-    pub station: Option<Name>,
-    pub target: Option<Name>,
     pub sighted: Option<Len>,
     pub reflector: Option<Len>,
     pub instrument: Option<Len>,
+    pub station: Option<Name>,
+    pub target: Option<Name>,
 }
 
 impl Entry {
