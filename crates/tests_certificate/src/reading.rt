@@ -1,7 +1,7 @@
 use gsi_word::name_of;
 use std::alloc::Global;
 use std::process::Abort;
-use th_certificate::{StatedHeights, read_certificate};
+use th_certificate::{Certificate, StatedHeights, read_certificate};
 
 /// Names and their heights in units of 10 nm.
 type Heights = &'static [(&'static [u8], i64)];
@@ -95,50 +95,48 @@ const SAID: [Said; 8] = [
     },
 ];
 
-fn states(rt: &impl Abort, stated: &StatedHeights, wanted: Heights, text: &[u8]) {
-    assert_eq!(rt; stated.len(), wanted.len(), "{text:?}");
-    assert_eq!(rt; stated.is_empty(), wanted.is_empty(), "{text:?}");
-    assert_eq!(rt; stated.entry(wanted.len()), None, "{text:?}");
+/// Whether these heights are stated and no others.
+fn states(rt: &impl Abort, stated: &StatedHeights, wanted: Heights) -> bool {
     for (k, (name, height)) in wanted.iter().enumerate() {
         let name = name_of(name).expect(rt, "a name");
-        assert_eq!(rt; stated.entry(k), Some((name, *height)), "{text:?}");
-        assert_eq!(rt; stated.height_of(&name), Some(*height), "{text:?}");
+        if stated.entry(k) != Some((name, *height)) || stated.height_of(&name) != Some(*height) {
+            return false;
+        }
     }
     let other = name_of(b"Z").expect(rt, "a name");
-    assert_eq!(rt; stated.height_of(&other), None, "{text:?}");
+    stated.len() == wanted.len()
+        && stated.is_empty() == wanted.is_empty()
+        && stated.entry(wanted.len()).is_none()
+        && stated.height_of(&other).is_none()
 }
 
-fn is_read(rt: &impl Abort, alloc: Global, said: &Said) {
-    let text = said.text;
-    let certificate = read_certificate(alloc, text).expect(rt, "a certificate");
-    assert_eq!(rt; certificate.version(), said.version, "{text:?}");
-    states(rt, certificate.heights(), said.heights, text);
-    assert_eq!(rt;
-        certificate.low().is_some(),
-        said.spans.is_some(),
-        "{text:?}"
-    );
-    assert_eq!(rt;
-        certificate.high().is_some(),
-        said.spans.is_some(),
-        "{text:?}"
-    );
-    if let (Some(low), Some(high), Some(wanted)) = (
-        certificate.low(),
-        certificate.high(),
-        said.spans,
-    ) {
-        states(rt, low, wanted.0, text);
-        states(rt, high, wanted.1, text);
+/// Whether the lowest and the highest heights are these, or there are none.
+fn has_spans(
+    rt: &impl Abort,
+    certificate: &Certificate,
+    wanted: Option<(Heights, Heights)>,
+) -> bool {
+    match (certificate.low(), certificate.high(), wanted) {
+        (Some(low), Some(high), Some(wanted)) => states(rt, low, wanted.0)
+            && states(rt, high, wanted.1),
+        (None, None, None) => true,
+        _ => false,
     }
-    assert!(rt; certificate.flows() == said.flows, "{text:?}");
-    assert_eq!(rt; certificate.cost(), said.cost, "{text:?}");
 }
 
 #[test]
 fn certificates_are_read(rt: HostRuntime) {
     for said in &SAID {
-        is_read(&rt, rt.alloc(), said);
+        let text = said.text;
+        let certificate = read_certificate(rt.alloc(), text).expect(&rt, "a certificate");
+        assert_eq!(rt; certificate.version(), said.version, "{text:?}");
+        assert!(rt;
+            states(&rt, certificate.heights(), said.heights),
+            "{text:?}"
+        );
+        assert!(rt; has_spans(&rt, &certificate, said.spans), "{text:?}");
+        assert!(rt; certificate.flows() == said.flows, "{text:?}");
+        assert_eq!(rt; certificate.cost(), said.cost, "{text:?}");
     }
 }
 

@@ -1,7 +1,7 @@
 use std::alloc::Global;
 use std::process::Abort;
 use th_book::{Observation, read_book};
-use th_certificate::read_certificate;
+use th_certificate::{Certificate, read_certificate};
 use th_checker::check;
 use th_tables::{read_benchmarks, read_weights};
 
@@ -75,17 +75,26 @@ pub fn verdict_on(
     tables: &Survey,
     text: &[u8],
 ) -> String {
+    match read_certificate(alloc, text) {
+        Ok(certificate) => verdict_of(rt, alloc, observations, tables, &certificate),
+        Err(fault) => fault.to_string(alloc).expect(rt, "memory"),
+    }
+}
+
+/// How the verdict on a certificate is said.
+fn verdict_of(
+    rt: &impl Abort,
+    alloc: Global,
+    observations: &[Observation],
+    tables: &Survey,
+    certificate: &Certificate,
+) -> String {
     let benchmarks = read_benchmarks(alloc, tables.benchmarks).expect(rt, "benchmarks");
     let weights = read_weights(alloc, tables.weights).expect(rt, "weights");
     assert!(rt; observations.len() <= 40_000);
-    match read_certificate(alloc, text) {
-        Ok(certificate) => {
-            let verdict = check(alloc, observations, &benchmarks, &weights, &certificate);
-            verdict
-                .expect(rt, "memory")
-                .to_string(alloc)
-                .expect(rt, "memory")
-        }
-        Err(fault) => fault.to_string(alloc).expect(rt, "memory"),
-    }
+    let verdict = check(alloc, observations, &benchmarks, &weights, certificate);
+    verdict
+        .expect(rt, "memory")
+        .to_string(alloc)
+        .expect(rt, "memory")
 }

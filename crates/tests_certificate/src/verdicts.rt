@@ -2,8 +2,6 @@ use crate::certificates::{Changes, OF_FIXED, OF_NOTHING, OF_PAIR, OF_ROUND, chan
 use crate::surveys::{
     A_AT_100, FIXED, NOTHING, PAIR, ROUND, ROUND_BOOK, Survey, answer, verdict_on,
 };
-use std::alloc::Global;
-use std::process::Abort;
 use th_book::read_book;
 
 /// What is changed in a certificate, and what is answered then.
@@ -157,28 +155,27 @@ const APART_ROWS: [Row; 2] = [
     (&[(5, b"H,C,102\nH,Z,5\n")], "yes"),
 ];
 
-fn answers(
-    rt: &impl Abort,
-    alloc: Global,
-    survey: &Survey,
-    records: &[&'static [u8]],
-    rows: &[Row],
-) {
-    for (changes, wanted) in rows {
-        let text = changed(rt, alloc, records, changes);
-        let given = answer(rt, alloc, survey, &text);
-        assert_eq!(rt; given.as_str(), *wanted, "{changes:?}");
-    }
-}
+/// A survey, the records of its certificate, and the rows of what is changed in it.
+type Case = (&'static Survey, &'static [&'static [u8]], &'static [Row]);
+
+const CASES: [Case; 6] = [
+    (&ROUND, &OF_ROUND, &ROUND_ROWS),
+    (&WEIGHED, &OF_ROUND, &WEIGHED_ROWS),
+    (&APART, &OF_ROUND, &APART_ROWS),
+    (&PAIR, &OF_PAIR, &PAIR_ROWS),
+    (&FIXED, &OF_FIXED, &FIXED_ROWS),
+    (&NOTHING, &OF_NOTHING, &NOTHING_ROWS),
+];
 
 #[test]
 fn certificates_are_answered(rt: HostRuntime) {
-    answers(&rt, rt.alloc(), &ROUND, &OF_ROUND, &ROUND_ROWS);
-    answers(&rt, rt.alloc(), &WEIGHED, &OF_ROUND, &WEIGHED_ROWS);
-    answers(&rt, rt.alloc(), &APART, &OF_ROUND, &APART_ROWS);
-    answers(&rt, rt.alloc(), &PAIR, &OF_PAIR, &PAIR_ROWS);
-    answers(&rt, rt.alloc(), &FIXED, &OF_FIXED, &FIXED_ROWS);
-    answers(&rt, rt.alloc(), &NOTHING, &OF_NOTHING, &NOTHING_ROWS);
+    for (survey, records, rows) in &CASES {
+        for (changes, wanted) in *rows {
+            let text = changed(&rt, rt.alloc(), records, changes);
+            let given = answer(&rt, rt.alloc(), survey, &text);
+            assert_eq!(rt; given.as_str(), *wanted, "{changes:?}");
+        }
+    }
 }
 
 /// What the beginnings of 96 bytes and more of the certificate of the round are, which has 112 bytes.
