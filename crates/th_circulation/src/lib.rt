@@ -27,6 +27,7 @@ mod tests;
 mod workspaces;
 
 // What proposes cycles to cancel.
+mod families;
 mod guide;
 mod prices;
 mod trees;

@@ -42,25 +42,28 @@ impl Prices {
 
 /// The slot with room that saves most for a unit, of the observations of a block.
 fn best_of_block(view: View, tree: &Tree, block: usize) -> Option<Slot> {
+    let links = view.graph.links;
     let start = block.wrapping_mul(BLOCK);
-    let end = start.wrapping_add(BLOCK).min(view.graph.links.len());
+    let end = start
+        .wrapping_add(BLOCK)
+        .min(links.len())
+        .min(view.differences.len())
+        .min(view.flows.len());
     let mut best = None;
-    let mut most = 0i64;
+    let mut most = 0u64;
     for place in start..end {
-        let along = Slot {
-            place: place as u32,
-            is_forward: true,
-        };
-        let (tail, head) = view.ends(along);
-        let rise = tree.height(head).wrapping_sub(tree.height(tail));
-        let saved = view.cost(along).wrapping_add(rise).wrapping_neg();
-        if saved > most && view.room(along) > 0 {
-            most = saved;
-            best = Some(along);
-        }
-        if saved < most.wrapping_neg() && view.room(along.reversed()) > 0 {
-            most = saved.wrapping_neg();
-            best = Some(along.reversed());
+        let link = links[place];
+        let rise = tree.height(link.head).wrapping_sub(tree.height(link.tail));
+        let saved = view.differences[place].wrapping_sub(rise);
+        if saved.unsigned_abs() > most {
+            let slot = Slot {
+                place: place as u32,
+                is_forward: saved > 0,
+            };
+            if view.room(slot) > 0 {
+                most = saved.unsigned_abs();
+                best = Some(slot);
+            }
         }
     }
     best
