@@ -20,3 +20,4 @@ pub mod LeastKept
 pub mod ExtremeLemmas
 pub mod WeightLemmas
 pub mod CutLemmas
+pub mod DistanceLemmas

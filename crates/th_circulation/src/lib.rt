@@ -13,12 +13,14 @@ mod settling;
 // How flows change.
 mod cancels;
 mod differences;
+mod distances;
 mod graphs;
 mod heights;
 pub mod laws;
 mod limits;
 mod listings;
 mod placed;
+mod residuals;
 mod slots;
 mod steps;
 #[cfg(test)]
