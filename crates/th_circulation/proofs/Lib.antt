@@ -21,3 +21,8 @@ pub mod ExtremeLemmas
 pub mod WeightLemmas
 pub mod CutLemmas
 pub mod DistanceLemmas
+pub mod NearLemmas
+pub mod ResidualLemmas
+pub mod VertexNumbers
+pub mod TiedLemmas
+pub mod SpanLemmas

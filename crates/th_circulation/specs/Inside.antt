@@ -9,3 +9,4 @@ pub mod Workspaces
 pub mod Cuts
 pub mod Residuals
 pub mod Distances
+pub mod Spans

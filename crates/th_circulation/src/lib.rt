@@ -22,6 +22,7 @@ mod listings;
 mod placed;
 mod residuals;
 mod slots;
+mod spanning;
 mod steps;
 #[cfg(test)]
 mod tests;
@@ -29,4 +30,5 @@ mod workspaces;
 
 pub use settled::{Flows, Heights, Settled, Spans};
 pub use settling::settle;
+pub use spanning::spans;
 pub use steps::Steps;

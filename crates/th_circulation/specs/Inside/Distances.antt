@@ -1,4 +1,4 @@
-use Rattle.std.specs.Prelude.{◌≡◌, ℕ, ◌-◌, ◌<◌, ◌≤◌, ℤ, pos, ◌+ℤ◌, ◌≤ℤ◌, Bool, if◌then◌else◌, List, All, sum_by, unsigned_abs}
+use Rattle.std.specs.Prelude.{◌≡◌, ℕ, ◌-◌, ◌<◌, ◌≤◌, ℤ, pos, ◌+ℤ◌, ◌-ℤ◌, ◌≤ℤ◌, Bool, if◌then◌else◌, List, All, sum_by, unsigned_abs}
 use Rattle.th_search.specs.declared.arcs.Arc.{Arc}
 use Rattle.th_search.specs.Potentials.{value_at}
 use Rattle.th_search.specs.Walks.{IsArc}
@@ -16,6 +16,10 @@ IsKept numbers arc = numbers arc.head ≤ℤ (numbers arc.tail +ℤ arc.cost)
 pub record KeepCosts (arcs : List Arc) (numbers : ℕ → ℤ) : Type 0 where
   pub start : numbers 0 ≡ pos 0
   pub along : All (IsKept numbers) arcs
+
+-- the numbers with the other sign
+abbrev pub opposite : (ℕ → ℤ) → ℕ → ℤ
+opposite numbers vertex = pos 0 -ℤ numbers vertex
 
 -- arcs between so many vertices; some numbers keep their costs, and none that do are larger in size than the farthest
 pub record AreTight (vertices : ℕ) (arcs : List Arc) : Type 0 where
