@@ -1,14 +1,12 @@
 -- Labels that fall along arcs stay at or above all numbers that keep the costs; where no arc is shorter than they say, they keep the costs too.
-use Rattle.std.proofs.Common.{◌≡◌, ℕ, zero, suc, Bool, true, false, ◌+◌, ◌-◌, ◌<◌, ◌≤◌, ℤ, pos, ◌+ℤ◌, ◌-ℤ◌, ◌≤ℤ◌, List, [], ◌∷◌, All, length, replicate, sum_by, unsigned_abs, refl, ap, sym, ◌∙◌, subst, arith, length-set}
-use Rattle.std.specs.Prelude.{◌<ℤ◌, slice_index_or, slice_set}
+use Rattle.std.proofs.Common.{◌≡◌, ℕ, zero, suc, Bool, true, false, ◌-◌, ◌<◌, ◌≤◌, ℤ, pos, ◌+ℤ◌, ◌-ℤ◌, ◌≤ℤ◌, List, [], ◌∷◌, All, length, replicate, unsigned_abs, refl, ap, ◌∙◌, subst, arith, length-set}
+use Rattle.std.specs.Prelude.{◌<ℤ◌, slice_set}
 use Rattle.std.proofs.lemmas.Int.{ints, by_lt_z}
 use Rattle.std.proofs.lemmas.List.{get_or_default, get_or-replicate, length-replicate}
-use Rattle.std.proofs.lemmas.List.Elements.{All-replicate}
 use Rattle.std.proofs.lemmas.List.Sums.{sum_by-set}
 use Rattle.th_search.specs.declared.arcs.Arc.{Arc}
 use Rattle.th_search.specs.Potentials.{value_at}
 use Rattle.th_search.specs.Walks.{IsArc, arc_at}
-use Rattle.th_circulation.specs.Inside.Graphs.{AreWithin}
 use Rattle.th_circulation.specs.Inside.Distances.{AreDistances, AreLabels, AreTight, IsKept, KeepCosts, farthest, place_at, room}
 use Rattle.th_circulation.proofs.HeightLemmas.{all_within, set_any}
 
@@ -40,9 +38,9 @@ in_range vertices arcs labels number label tight are within is less =
     let inside = ends.head in
     let high = are.within.small arc.head (pos 0) (omega arith) in
     by_lt_z label (pos 0 -ℤ pos farthest) (λ low. absurd (tight.known (λ numbers keep.
-        let below = below_arc vertices arcs labels number label tight are within is numbers keep in
-        let near = tight.near numbers keep arc.head inside in
-        omega (arith, ints)))) (λ fits. omega (arith, ints))
+    let below = below_arc vertices arcs labels number label tight are within is numbers keep in
+    let near = tight.near numbers keep arc.head inside in
+    omega (arith, ints)))) (λ fits. omega (arith, ints))
 
 pub lowered_labels : (vertices : ℕ) (arcs : List Arc) (labels : List ℤ) (number : ℕ) (label : ℤ) → AreTight vertices arcs → AreLabels vertices arcs labels → number < length arcs → label ≡ value_at labels (arc_at arcs number).tail +ℤ (arc_at arcs number).cost → label <ℤ value_at labels (arc_at arcs number).head → AreLabels vertices arcs (slice_set labels (arc_at arcs number).head label)
 lowered_labels vertices arcs labels number label tight are within is less =

@@ -1,17 +1,15 @@
 -- Distances of the residual arcs are how far the lowest and the highest best heights are from the benchmarks.
-use Rattle.std.proofs.Common.{◌≡◌, ℕ, Bool, true, ◌<◌, ◌≤◌, ◌+◌, ℤ, pos, ◌-ℤ◌, ◌≤ℤ◌, List, [], Option, Some, None, All, if◌then◌else◌, is_none, option_map, map, slice_get, slice_index_or, unwrap_or, refl, ap, sym, ◌∙◌, subst, arith}
+use Rattle.std.proofs.Common.{◌≡◌, ℕ, Bool, true, ◌<◌, ◌≤◌, ◌+◌, ℤ, pos, List, Option, Some, None, All, if◌then◌else◌, is_none, option_map, map, slice_get, slice_index_or, refl, ap, sym, ◌∙◌, subst, arith}
 use Rattle.std.proofs.lemmas.Int.{ints}
 use Rattle.std.proofs.lemmas.List.Elements.{All-from_recursion, recursion_from_All}
 use Rattle.std.proofs.lemmas.Option.{slice_get-map}
-use Rattle.th_book.specs.Observed.{Observed}
-use Rattle.th_tables.specs.Rows.{BenchmarkRows, height_of}
+use Rattle.th_tables.specs.Rows.{height_of}
 use Rattle.th_network.specs.Circulation.{Circulation, Shows}
 use Rattle.th_network.specs.Faults.{IsNetwork}
 use Rattle.th_network.specs.Heights.{IsHeights, Least, heights_at}
 use Rattle.th_network.specs.Networks.{Survey, points_of, vertices_of, weights_of}
 use Rattle.th_network.specs.Places.{place_of}
-use Rattle.th_network.specs.Points.{points}
-use Rattle.th_network.specs.Vertices.{free_before, vertex_count, vertex_of}
+use Rattle.th_network.specs.Vertices.{free_before, vertex_of}
 use Rattle.th_network.proofs.NetworkLemmas.{vertex_by_place}
 use Rattle.th_network.proofs.PointLemmas.{ends_are_points, is_among}
 use Rattle.th_network.proofs.TieLemmas.{at_place_of}
@@ -20,7 +18,7 @@ use Rattle.th_search.specs.Potentials.{value_at}
 use Rattle.th_search.specs.Walks.{IsArc}
 use Rattle.th_circulation.specs.Extremes.{High, Low}
 use Rattle.th_circulation.specs.Inside.Distances.{AreTight, IsKept, KeepCosts, opposite}
-use Rattle.th_circulation.specs.Inside.Placed.{ArePlaced, placed}
+use Rattle.th_circulation.specs.Inside.Placed.{ArePlaced}
 use Rattle.th_circulation.specs.Inside.Residuals.{turned}
 use Rattle.th_circulation.specs.Inside.Spans.{AreAbove, AreBelow}
 use Rattle.th_circulation.proofs.BestLemmas.{best_is_shown, shown_is_best}

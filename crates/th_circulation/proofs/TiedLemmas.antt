@@ -1,5 +1,5 @@
 -- The residual arcs of a circulation lead from vertex 0 to each vertex, and back.
-use Rattle.std.proofs.Common.{◌≡◌, ℕ, zero, suc, Bool, true, false, ◌<◌, ◌≤◌, ◌+◌, ℤ, pos, ◌+ℤ◌, ◌-ℤ◌, List, [], ◌∷◌, Option, Some, None, IsSome, All, bytes_eq, if◌then◌else◌, map, unsigned_abs, zip, refl, ap, sym, ◌∙◌, subst, slice_get, arith}
+use Rattle.std.proofs.Common.{◌≡◌, ℕ, zero, suc, Bool, true, false, ◌<◌, ◌≤◌, ℤ, pos, ◌+ℤ◌, ◌-ℤ◌, List, [], ◌∷◌, Option, Some, None, IsSome, All, bytes_eq, if◌then◌else◌, map, unsigned_abs, zip, refl, ap, sym, ◌∙◌, subst, arith}
 use Rattle.std.proofs.lemmas.Int.{ints}
 use Rattle.std.proofs.lemmas.List.Elements.{recursion_from_All}
 use Rattle.std.proofs.lemmas.List.Sums.{count_by-le-length}
@@ -7,7 +7,7 @@ use Rattle.std.proofs.lemmas.Option.{get_or_from_slice_get, slice_get_within}
 use Rattle.std.specs.List.{AllZip, AllByRecursion}
 use Rattle.th_book.specs.Observed.{Observed}
 use Rattle.th_tables.specs.Rows.{BenchmarkRows, WeightRows, height_of, weight_of}
-use Rattle.th_network.specs.Circulation.{Circulation, arriving, leaving, total_by}
+use Rattle.th_network.specs.Circulation.{Circulation, total_by}
 use Rattle.th_network.specs.Faults.{IsNetwork}
 use Rattle.th_network.specs.Networks.{Survey, arcs_of, vertices_of, weights_of}
 use Rattle.th_network.specs.Points.{points}
@@ -17,12 +17,12 @@ use Rattle.th_network.proofs.Balance.{total_by-cons}
 use Rattle.th_search.specs.declared.arcs.Arc.{Arc}
 use Rattle.th_search.specs.Walks.{IsArc}
 use Rattle.th_circulation.specs.Inside.Cuts.{LeavesFull}
-use Rattle.th_circulation.specs.Inside.Residuals.{residual_arcs, turned}
+use Rattle.th_circulation.specs.Inside.Residuals.{residual_arcs}
 use Rattle.th_circulation.proofs.CutLemmas.{AreHeavy, untied_where_full}
 use Rattle.th_circulation.proofs.NameLemmas.{fixed_vertex}
-use Rattle.th_circulation.proofs.NearLemmas.{AllEntered, AreTied, EntersNot}
+use Rattle.th_circulation.proofs.NearLemmas.{AreTied}
 use Rattle.th_circulation.proofs.ResidualLemmas.{entered_full, inside_at, left_full, opposites}
-use Rattle.th_circulation.proofs.VertexNumbers.{IsNamed, named}
+use Rattle.th_circulation.proofs.VertexNumbers.{named}
 
 -- ---- the flows with the other sign are a circulation too
 picked_opposite : (b : Bool) (flow sum rest : ℤ) → sum ≡ pos 0 -ℤ rest → (if b then (pos 0 -ℤ flow) else pos 0) +ℤ sum ≡ pos 0 -ℤ ((if b then flow else pos 0) +ℤ rest)

@@ -1,4 +1,4 @@
-use Rattle.std.proofs.Common.{◌≤◌, ◌<◌, ◌≡◌, ℕ, ℤ, pos, Some, List, All, length, get_or, slice_get, take, ap, sym, ◌∙◌, subst, below_more, arith}
+use Rattle.std.proofs.Common.{◌≤◌, pos, Some, List, All, length, get_or, slice_get, take, ap, sym, ◌∙◌, subst, below_more, arith}
 use Rattle.std.proofs.lemmas.Int.{ints}
 use Rattle.std.proofs.lemmas.List.{get_or_default, length-map}
 use Rattle.std.proofs.lemmas.List.Elements.{All-from_recursion, All-take, recursion_from_All}
@@ -8,7 +8,6 @@ use Rattle.th_tables.specs.Rows.{weight_of}
 use Rattle.th_network.specs.Links.{link_of}
 use Rattle.th_network.specs.Networks.{arcs_of, vertices_of, weights_of}
 use Rattle.th_network.specs.declared.links.Link.{Link}
-use Rattle.th_search.specs.declared.arcs.Arc.{Arc}
 use Rattle.th_search.specs.Walks.{IsArc}
 use Rattle.th_circulation.proofs.ResidualLemmas.{IsLink, arcs_more, arcs_within, links_within}
 use Rattle.th_circulation.proofs.residuals.residual_arcs.Goals as goal

@@ -1,4 +1,4 @@
-use Rattle.std.proofs.Common.{List, ℤ, sym, subst, ◌∙◌, arith, length, ap}
+use Rattle.std.proofs.Common.{List, ℤ, sym, subst, arith, length, ap}
 use Rattle.th_circulation.specs.Inside.Distances.{AreDistances, AreLabels}
 use Rattle.th_circulation.proofs.DistanceLemmas.{distances_found, first_labels}
 use Rattle.th_circulation.proofs.HeightLemmas.{written}

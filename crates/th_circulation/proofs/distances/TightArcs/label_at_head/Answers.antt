@@ -1,6 +1,5 @@
-use Rattle.std.proofs.Common.{pos, ◌≤◌, unsigned_abs, arith}
+use Rattle.std.proofs.Common.{pos, arith}
 use Rattle.std.proofs.lemmas.Int.{ints}
-use Rattle.th_search.specs.Potentials.{value_at}
 use Rattle.th_search.specs.Walks.{arc_at}
 use Rattle.th_circulation.proofs.DistanceLemmas.{arc_within}
 use Rattle.th_circulation.proofs.distances.TightArcs.label_at_head.Goals as goal

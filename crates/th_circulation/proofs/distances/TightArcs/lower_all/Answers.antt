@@ -1,6 +1,4 @@
-use Rattle.std.proofs.Common.{◌≡◌, ◌<◌, Bool, true, false, All, MatchBool, refl, arith}
-use Rattle.th_search.specs.Potentials.{value_at}
-use Rattle.th_circulation.specs.Inside.Distances.{IsKept, room}
+use Rattle.std.proofs.Common.{◌≡◌, Bool, true, false, MatchBool, refl, arith}
 use Rattle.th_circulation.proofs.DistanceLemmas.{kept_from_steps}
 use Rattle.th_circulation.proofs.distances.TightArcs.lower_all.Goals as goal
 
