@@ -8,3 +8,6 @@ pub mod Phases
 pub mod Workspaces
 pub mod Cuts
 pub mod Proposals
+pub mod Residuals
+pub mod Distances
+pub mod Spans

@@ -1,29 +1,28 @@
 //! Circulations of a height network, and the heights that they show.
 //!
-//! `Settled` has heights that cost least and the circulation that shows it; `Spans` the lowest and
-//! the highest of all heights that cost as little.
+//! `settle` finds heights that cost least and the circulation that shows it (`Settled`), over any
+//! search; `spans` the lowest and the highest of all heights that cost as little (`Spans`). A guide
+//! proposes cycles to `settle`, which believes only what it has checked: without the guide it is slow,
+//! and as right.
 #![tactic(auto)]
 
 // What is settled.
 mod settled;
+mod steps;
 
-// How a network is settled.
-mod settling;
-
-// How flows change.
-mod cancels;
+// The links of a network, the slots of their residual arcs, and lists of these.
 mod differences;
 mod graphs;
-mod heights;
-pub mod laws;
 mod limits;
 mod listings;
+mod slots;
+
+// How flows change, phase by phase.
+mod cancels;
+mod heights;
 mod placed;
 mod proposals;
-mod slots;
-mod steps;
-#[cfg(test)]
-mod tests;
+mod settling;
 mod workspaces;
 
 // What proposes cycles to cancel.
@@ -33,6 +32,17 @@ mod prices;
 mod trees;
 mod views;
 
+// The lowest and the highest best heights.
+mod distances;
+mod residuals;
+mod spanning;
+
+// What holds of the definitions alone.
+pub mod laws;
+#[cfg(test)]
+mod tests;
+
 pub use settled::{Flows, Heights, Settled, Spans};
 pub use settling::settle;
+pub use spanning::spans;
 pub use steps::Steps;
