@@ -7,10 +7,10 @@ use lib.Signed.{lt_z}
 use Rattle.th_book.specs.Observed.{Observed}
 use Rattle.th_tables.specs.Rows.{BenchmarkRows, WeightRows, weight_of}
 use Rattle.th_network.specs.Links.{base, link_of}
-use Rattle.th_network.specs.Points.{points}
+use Rattle.th_points.specs.Points.{points}
 use Rattle.th_network.specs.Vertices.{vertex_of}
 use Rattle.th_network.specs.declared.links.Link.{Link}
-use Rattle.th_network.proofs.PointLemmas.{EndsAmong, is_among}
+use Rattle.th_points.proofs.PointLemmas.{EndsAmong, is_among}
 use Rattle.th_search.specs.declared.arcs.Arc.{Arc}
 use Rattle.th_search.specs.Walks.{IsArc}
 use Rattle.th_circulation.specs.Inside.Cuts.{LeavesFull}

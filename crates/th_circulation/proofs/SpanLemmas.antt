@@ -8,10 +8,10 @@ use Rattle.th_network.specs.Circulation.{Circulation, Shows}
 use Rattle.th_network.specs.Faults.{IsNetwork}
 use Rattle.th_network.specs.Heights.{IsHeights, Least, heights_at}
 use Rattle.th_network.specs.Networks.{Survey, points_of, vertices_of, weights_of}
-use Rattle.th_network.specs.Places.{place_of}
+use Rattle.th_points.specs.Places.{place_of}
 use Rattle.th_network.specs.Vertices.{free_before, vertex_of}
 use Rattle.th_network.proofs.NetworkLemmas.{vertex_by_place}
-use Rattle.th_network.proofs.PointLemmas.{ends_are_points, is_among}
+use Rattle.th_points.proofs.PointLemmas.{ends_are_points, is_among}
 use Rattle.th_network.proofs.TieLemmas.{at_place_of}
 use Rattle.th_search.specs.declared.arcs.Arc.{Arc}
 use Rattle.th_search.specs.Potentials.{value_at}

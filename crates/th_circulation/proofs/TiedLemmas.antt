@@ -10,7 +10,7 @@ use Rattle.th_tables.specs.Rows.{BenchmarkRows, WeightRows, height_of, weight_of
 use Rattle.th_network.specs.Circulation.{Circulation, total_by}
 use Rattle.th_network.specs.Faults.{IsNetwork}
 use Rattle.th_network.specs.Networks.{Survey, arcs_of, vertices_of, weights_of}
-use Rattle.th_network.specs.Points.{points}
+use Rattle.th_points.specs.Points.{points}
 use Rattle.th_network.specs.Vertices.{is_free}
 use Rattle.th_network.specs.Walks.{Anchored, IsTied}
 use Rattle.th_network.proofs.Balance.{total_by-cons}

@@ -9,11 +9,11 @@ use Rattle.th_book.specs.Observed.{Observed}
 use Rattle.th_tables.specs.Rows.{BenchmarkRows, height_of}
 use Rattle.th_network.specs.Heights.{IsHeights}
 use Rattle.th_network.specs.Links.{base}
-use Rattle.th_network.specs.Places.{place_of}
-use Rattle.th_network.specs.Points.{points}
+use Rattle.th_points.specs.Places.{place_of}
+use Rattle.th_points.specs.Points.{points}
 use Rattle.th_network.specs.Vertices.{free_before, is_free, vertex_count, vertex_of}
 use Rattle.th_network.proofs.NetworkLemmas.{vertex_by_place}
-use Rattle.th_network.proofs.PointLemmas.{is_among}
+use Rattle.th_points.proofs.PointLemmas.{is_among}
 use Rattle.th_network.proofs.TieLemmas.{at_place_of}
 use Rattle.th_circulation.proofs.ExtremeLemmas.{all_among}
 use Rattle.th_circulation.proofs.NameLemmas.{fixed_vertex, free_vertex, same_name}
