@@ -12,7 +12,7 @@ use Rattle.th_points.specs.Places.{place_of}
 use Rattle.th_network.specs.Vertices.{free_before, vertex_of}
 use Rattle.th_network.proofs.NetworkLemmas.{vertex_by_place}
 use Rattle.th_points.proofs.PointLemmas.{ends_are_points, is_among}
-use Rattle.th_network.proofs.TieLemmas.{at_place_of}
+use Rattle.th_points.proofs.PlaceLemmas.{at_place_of}
 use Rattle.th_search.specs.declared.arcs.Arc.{Arc}
 use Rattle.th_search.specs.Potentials.{value_at}
 use Rattle.th_search.specs.Walks.{IsArc}

@@ -14,7 +14,7 @@ use Rattle.th_points.specs.Points.{points}
 use Rattle.th_network.specs.Vertices.{free_before, is_free, vertex_count, vertex_of}
 use Rattle.th_network.proofs.NetworkLemmas.{vertex_by_place}
 use Rattle.th_points.proofs.PointLemmas.{is_among}
-use Rattle.th_network.proofs.TieLemmas.{at_place_of}
+use Rattle.th_points.proofs.PlaceLemmas.{at_place_of}
 use Rattle.th_circulation.proofs.ExtremeLemmas.{all_among}
 use Rattle.th_circulation.proofs.NameLemmas.{fixed_vertex, free_vertex, same_name}
 use Rattle.th_circulation.proofs.ResidualLemmas.{AreMatched}
