@@ -37,8 +37,12 @@ mod feeds;
 
 // What holds of the definitions alone.
 pub mod laws;
+
+// Rows.
 #[cfg(test)]
-mod tests;
+mod book_tests;
+#[cfg(test)]
+mod feed_tests;
 
 pub use books::{Book, read_book};
 pub use faults::{BookFault, BookKind};

@@ -1,33 +1,34 @@
+//! Books given line by line and whole: worked rows, faults, and what stands after a fault or want of
+//! memory.
 use crate::*;
 use gsi_block::{BlockFault, LineCursor};
 use gsi_word::WordFault;
-use std::alloc::{AllocError, Global};
+use std::alloc::Global;
 use std::process::Abort;
-use std::test::Fail;
 
 /// A setup at A with an instrument height of 1.500 m.
-const S: &[u8] =
+pub(crate) const S: &[u8] =
     b"110001+0000000A 84..10+00000000 85..10+00000000 86..10+00100000 88..10+00001500 ";
 
 /// The same without its instrument height.
 const S_WITHOUT_HEIGHT: &[u8] = b"110001+0000000A 84..10+00000000 85..10+00000000 86..10+00100000 ";
 
 /// A sight to B with a reflector height of 1.300 m.
-const P: &[u8] = b"110002+0000000B 33..00+00002345 87..10+00001300 ";
+pub(crate) const P: &[u8] = b"110002+0000000B 33..00+00002345 87..10+00001300 ";
 
 /// An observation's ends and difference, and its line.
-type Seen = (&'static [u8], &'static [u8], i64, u32);
+pub(crate) type Seen = (&'static [u8], &'static [u8], i64, u32);
 
 /// The lines of a book, and its observations or the line and kind of its fault.
-type Row = (
+pub(crate) type Row = (
     &'static [&'static [u8]],
     Result<&'static [Seen], (u32, BookKind)>,
 );
 
 /// What S and P give.
-const SEEN: Seen = (b"A", b"B", 254_500_000, 2);
+pub(crate) const SEEN: Seen = (b"A", b"B", 254_500_000, 2);
 
-const DIFFERENCES: [Row; 15] = [
+pub(crate) const DIFFERENCES: [Row; 15] = [
     (&[], Ok(&[])),
     (&[S, P], Ok(&[SEEN])),
     (
@@ -185,7 +186,7 @@ const LINES: [(&[u8], BlockFault); 5] = [
     ),
 ];
 
-const FAULTS: [Row; 24] = [
+pub(crate) const FAULTS: [Row; 24] = [
     (
         &[S, P, b"87..10+00001300 87..10+00001300 "],
         Err((3, BookKind::RepeatedWord)),
@@ -283,12 +284,12 @@ const FAULTS: [Row; 24] = [
     ),
 ];
 
-fn fault_at(line: u32, kind: BookKind) -> BookFault {
+pub(crate) fn fault_at(line: u32, kind: BookKind) -> BookFault {
     BookFault { line, kind }
 }
 
 /// The observations are those wanted, of book 7.
-fn are_seen(rt: &impl Abort, observations: &[Observation], wanted: &[Seen]) {
+pub(crate) fn are_seen(rt: &impl Abort, observations: &[Observation], wanted: &[Seen]) {
     assert_eq!(rt; observations.len(), wanted.len());
     for (observation, seen) in observations.iter().zip(wanted) {
         let (station, target) = observation.ends();
@@ -303,7 +304,7 @@ fn are_seen(rt: &impl Abort, observations: &[Observation], wanted: &[Seen]) {
     }
 }
 
-fn is_answer(
+pub(crate) fn is_answer(
     rt: &impl Abort,
     answer: Result<Vec<Observation>, BookFault>,
     wanted: &Result<&[Seen], (u32, BookKind)>,
@@ -340,61 +341,43 @@ fn line_by_line(
     book.finish()
 }
 
-/// Feeds a book in pieces of this size.
-fn fed(
-    rt: &impl Abort,
-    alloc: Global,
-    bytes: &[u8],
-    piece: usize,
-) -> Result<Vec<Observation>, BookFault> {
-    assert!(rt; piece >= 1);
-    let mut feed = BookFeed::new(alloc, 7);
-    for bytes in bytes.chunks(piece) {
-        let _ = feed.feed(bytes);
-    }
-    feed.finish()
-}
-
-fn joined(alloc: Global, lines: &[&[u8]]) -> Result<Vec<u8>, AllocError> {
+/// The bytes of some lines, each ended by a line feed.
+pub(crate) fn joined(rt: &impl Abort, alloc: Global, lines: &[&[u8]]) -> Vec<u8> {
     let mut bytes = Vec::new(alloc);
     for line in lines {
-        bytes.extend_from_slice(line)?;
-        bytes.push(b'\n')?;
+        bytes.extend_from_slice(line).expect(rt, "memory");
+        bytes.push(b'\n').expect(rt, "memory");
     }
-    Ok(bytes)
+    bytes
 }
 
-fn gives(rt: &impl Abort, alloc: Global, row: &Row) -> Result<(), AllocError> {
+/// A book gives what is wanted, line by line and whole.
+fn gives(rt: &impl Abort, alloc: Global, row: &Row) {
     let (lines, wanted) = row;
     is_answer(rt, line_by_line(rt, alloc, lines), wanted);
-    let bytes = joined(alloc, lines)?;
+    let bytes = joined(rt, alloc, lines);
     is_answer(rt, read_book(alloc, 7, &bytes), wanted);
-    is_answer(rt, fed(rt, alloc, &bytes, 7), wanted);
-    Ok(())
 }
 
 #[test]
-fn books_and_their_differences(rt: HostRuntime) -> Result<(), Fail> {
+fn books_and_their_differences(rt: HostRuntime) {
     for row in &DIFFERENCES {
-        gives(&rt, rt.alloc(), row)?;
+        gives(&rt, rt.alloc(), row);
     }
-    Ok(())
 }
 
 #[test]
-fn names_in_sights(rt: HostRuntime) -> Result<(), Fail> {
+fn names_in_sights(rt: HostRuntime) {
     for row in &NAMES {
-        gives(&rt, rt.alloc(), row)?;
+        gives(&rt, rt.alloc(), row);
     }
-    Ok(())
 }
 
 #[test]
-fn books_and_their_faults(rt: HostRuntime) -> Result<(), Fail> {
+fn books_and_their_faults(rt: HostRuntime) {
     for row in &FAULTS {
-        gives(&rt, rt.alloc(), row)?;
+        gives(&rt, rt.alloc(), row);
     }
-    Ok(())
 }
 
 #[test]
@@ -420,23 +403,8 @@ fn lines_of_spaces(rt: HostRuntime) {
     );
 }
 
-// S, CR, CR LF, P, CR LF: the second line is empty. Pieces of each size, up to the whole.
-#[test]
-fn ends_of_lines(rt: HostRuntime) -> Result<(), Fail> {
-    let mut bytes = Vec::from_slice(rt.alloc(), S)?;
-    bytes.extend_from_slice(b"\r\r\n")?;
-    bytes.extend_from_slice(P)?;
-    bytes.extend_from_slice(b"\r\n")?;
-    let wanted: Result<&[Seen], (u32, BookKind)> = Ok(&[(b"A", b"B", 254_500_000, 3)]);
-    is_answer(&rt, read_book(rt.alloc(), 7, &bytes), &wanted);
-    for piece in 1..=132 {
-        is_answer(&rt, fed(&rt, rt.alloc(), &bytes, piece), &wanted);
-    }
-    Ok(())
-}
-
 /// A book has no observations and no fault.
-fn is_empty(rt: &impl Abort, answer: Result<Vec<Observation>, BookFault>) {
+pub(crate) fn is_empty(rt: &impl Abort, answer: Result<Vec<Observation>, BookFault>) {
     match answer {
         Ok(observations) => assert!(rt; observations.is_empty()),
         Err(fault) => panic!(rt; "{fault:?}"),
@@ -444,7 +412,7 @@ fn is_empty(rt: &impl Abort, answer: Result<Vec<Observation>, BookFault>) {
 }
 
 /// A book is too long.
-fn is_too_long(rt: &impl Abort, answer: Result<Vec<Observation>, BookFault>) {
+pub(crate) fn is_too_long(rt: &impl Abort, answer: Result<Vec<Observation>, BookFault>) {
     match answer {
         Ok(_) => panic!(rt; "a book that is too long"),
         Err(fault) => assert_eq!(rt; fault, fault_at(0, BookKind::BookTooLong)),
@@ -452,52 +420,11 @@ fn is_too_long(rt: &impl Abort, answer: Result<Vec<Observation>, BookFault>) {
 }
 
 #[test]
-fn longest_book(rt: HostRuntime) -> Result<(), Fail> {
-    let mut bytes = vec![in rt.alloc(); b'\n'; 67_108_864]?;
+fn longest_book(rt: HostRuntime) {
+    let mut bytes = vec![in rt.alloc(); b'\n'; 67_108_864].expect(&rt, "memory");
     is_empty(&rt, read_book(rt.alloc(), 7, &bytes));
-    bytes.push(b'\n')?;
+    bytes.push(b'\n').expect(&rt, "memory");
     is_too_long(&rt, read_book(rt.alloc(), 7, &bytes));
-    Ok(())
-}
-
-// 16,384 pieces of 4,096 line ends, and one line end more, also behind a fault.
-#[test]
-fn longest_book_in_pieces(rt: HostRuntime) -> Result<(), Fail> {
-    let piece = [b'\n'; 4_096];
-    let mut feed = BookFeed::new(rt.alloc(), 7);
-    let mut longer = BookFeed::new(rt.alloc(), 7);
-    let mut faulty = BookFeed::new(rt.alloc(), 7);
-    faulty.feed(b"*")?;
-    for _ in 0..16_384 {
-        feed.feed(&piece)?;
-        longer.feed(&piece)?;
-        faulty.feed(&piece)?;
-    }
-    longer.feed(b"\n")?;
-    is_empty(&rt, feed.finish());
-    is_too_long(&rt, longer.finish());
-    is_too_long(&rt, faulty.finish());
-    Ok(())
-}
-
-#[test]
-fn many_sights(rt: HostRuntime) -> Result<(), Fail> {
-    let mut bytes = Vec::from_slice(rt.alloc(), S)?;
-    for _ in 0..100_000 {
-        bytes.push(b'\n')?;
-        bytes.extend_from_slice(P)?;
-    }
-    let answers = [
-        read_book(rt.alloc(), 7, &bytes),
-        fed(&rt, rt.alloc(), &bytes, 4_096),
-    ];
-    for answer in answers {
-        match answer {
-            Ok(observations) => assert_eq!(rt; observations.len(), 100_000),
-            Err(fault) => panic!(rt; "{fault:?}"),
-        }
-    }
-    Ok(())
 }
 
 #[test]
@@ -517,7 +444,7 @@ fn fault_is_kept(rt: HostRuntime) {
 }
 
 /// A setup and five sights.
-const SIX_LINES: &[u8] = b"110001+0000000A 84..10+00000000 88..10+00001500
+pub(crate) const SIX_LINES: &[u8] = b"110001+0000000A 84..10+00000000 88..10+00001500
 110002+0000000B 33..00+00002345 87..10+00001300
 110003+0000000B 33..00+00002345
 110004+0000000B 33..00+00002345
@@ -546,45 +473,4 @@ fn want_of_memory_is_not_kept(rt: HostRuntime) {
             assert!(rt; 2 <= fault.line && fault.line <= 6);
         }
     }
-}
-
-/// The lines one after the other as pieces, and whether memory was wanting. From then on each call
-/// says so.
-fn fed_until_wanting(rt: &impl Abort, feed: &mut BookFeed) -> bool {
-    let mut wanting = false;
-    for piece in SIX_LINES.chunks(48) {
-        let refused = feed.feed(piece).is_err();
-        assert!(rt; refused || !wanting);
-        wanting = refused;
-    }
-    wanting
-}
-
-// With ample memory, and with each allocation refused in turn.
-#[test]
-fn want_of_memory_is_kept_by_a_feed(rt: HostRuntime) {
-    let mut feed = BookFeed::new(rt.alloc(), 7);
-    let wanting = fed_until_wanting(&rt, &mut feed);
-    assert_eq!(rt; feed.feed(b"").is_err(), wanting);
-    match feed.finish() {
-        Ok(observations) => assert!(rt; !wanting && observations.len() == 5),
-        Err(fault) => {
-            assert!(rt; wanting && fault.kind == BookKind::NoMemory);
-            assert!(rt; 2 <= fault.line && fault.line <= 6);
-        }
-    }
-}
-
-// The last line has no end, so that its observation is made by `finish`.
-#[test]
-fn last_line_without_an_end(rt: HostRuntime) -> Result<(), Fail> {
-    let mut feed = BookFeed::new(rt.alloc(), 7);
-    feed.feed(S)?;
-    feed.feed(b"\n")?;
-    feed.feed(P)?;
-    match feed.finish() {
-        Ok(observations) => are_seen(&rt, &observations, &[SEEN]),
-        Err(fault) => assert_eq!(rt; fault, fault_at(2, BookKind::NoMemory)),
-    }
-    Ok(())
 }
