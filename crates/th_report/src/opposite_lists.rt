@@ -1,0 +1,61 @@
+//! The list of opposites.
+ghost use Rattle.std.specs.Prelude.{◌≡◌, ◌≤◌, ◌++◌, OnOk, length};
+ghost use Rattle.th_network.specs.Limits.{max_observations};
+ghost use Rattle.th_report.specs.Reports.{opposite_columns, opposite_line, opposite_lines};
+
+use crate::columns::Page;
+use crate::heads::write_count;
+use crate::residual_tables::write_ends;
+use std::alloc::{AllocError, Global};
+use th_blunders::{Opposite, opposites};
+use th_book::Observation;
+
+/// Writes the count of the opposites among some observations, and a line for each.
+pub(crate) fn write_opposites(
+    alloc: Global,
+    page: &mut Page,
+    observations: &[Observation],
+) -> Result<(), AllocError>
+    requires { length observations.now ≤ max_observations }
+    ensures { OnOk result (page.new ≡ page.old ++ opposite_lines observations.now) }
+{
+    let opposites = opposites(alloc, observations)?;
+    write_count(page, b"opposites", opposites.len())?;
+    for opposite in &opposites {
+        write_opposite(page, observations, opposite)?;
+    }
+    Ok(())
+}
+
+/// Writes the line of an opposite, with the ends of the later observation.
+#[tactic(auto, unfolding(crate::specs::Reports::opposite_line))]
+fn write_opposite(
+    page: &mut Page,
+    observations: &[Observation],
+    opposite: &Opposite,
+) -> Result<(), AllocError>
+    ensures { OnOk result (page.new ≡ page.old ++ opposite_line observations.now opposite.now) }
+{
+    match observations.get(opposite.number.saturating_sub(1) as usize) {
+        Some(later) => write_columns(page, opposite, later),
+        None => Ok(()),
+    }
+}
+
+/// Writes the columns of opposites.
+#[tactic(auto, unfolding(crate::specs::Reports::opposite_columns))]
+fn write_columns(
+    page: &mut Page,
+    opposite: &Opposite,
+    later: &Observation,
+) -> Result<(), AllocError>
+    ensures { OnOk result (page.new ≡ page.old ++ opposite_columns opposite.now later.now) }
+{
+    page.right_number(5, u64::from(opposite.number))?;
+    page.gap()?;
+    page.right_number(5, u64::from(opposite.earlier))?;
+    page.gap()?;
+    write_ends(page, later.station.as_bytes(), later.target.as_bytes())?;
+    page.right_metres(20, opposite.sum)?;
+    page.end_line()
+}
