@@ -82,12 +82,12 @@ fn word_of<'a>(index: u8, info: [u8; 4], negative: bool, body: &'a [u8]) -> Word
     }
 }
 
-/// The word 11 of a point's number and of data that hold its name.
-fn number_word<'a>(number: u64, data: &'a [u8; 16]) -> Word<'a>
-    requires { list_all is_data data.now ≡ true }
-    ensures { parts_of result ≡ parts 11 (last_digits 4 number) false data.now }
+/// The word 11 of a point's number and of its name in 16 bytes.
+fn number_word<'a>(number: u64, name: &'a [u8; 16]) -> Word<'a>
+    requires { list_all is_data name.now ≡ true }
+    ensures { parts_of result ≡ parts 11 (last_digits 4 number) false name.now }
 {
-    word_of(11, last_digits(number), false, data)
+    word_of(11, last_digits(number), false, name)
 }
 
 /// The word 83 of a height in 1/100 mm.

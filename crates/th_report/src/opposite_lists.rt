@@ -1,7 +1,7 @@
 //! The list of opposites.
 ghost use Rattle.std.specs.Prelude.{◌≡◌, ◌≤◌, ◌++◌, OnOk, length};
 ghost use Rattle.th_network.specs.Limits.{max_observations};
-ghost use Rattle.th_report.specs.Reports.{opposite_columns, opposite_line, opposite_lines};
+ghost use Rattle.th_report.specs.Reports.{number_columns, opposite_columns, opposite_line, opposite_lines};
 
 use crate::columns::Page;
 use crate::heads::write_count;
@@ -42,7 +42,7 @@ fn write_opposite(
     }
 }
 
-/// Writes the columns of opposites.
+/// Writes the numbers of the two observations, the ends of the later one, and the sum.
 #[tactic(auto, unfolding(crate::specs::Reports::opposite_columns))]
 fn write_columns(
     page: &mut Page,
@@ -51,11 +51,19 @@ fn write_columns(
 ) -> Result<(), AllocError>
     ensures { OnOk result (page.new ≡ page.old ++ opposite_columns opposite.now later.now) }
 {
+    write_numbers(page, opposite)?;
+    write_ends(page, later)?;
+    page.right_metres(20, opposite.sum)?;
+    page.end_line()
+}
+
+/// Writes the numbers of the two observations.
+#[tactic(auto, unfolding(crate::specs::Reports::number_columns))]
+fn write_numbers(page: &mut Page, opposite: &Opposite) -> Result<(), AllocError>
+    ensures { OnOk result (page.new ≡ page.old ++ number_columns opposite.now) }
+{
     page.right_number(5, u64::from(opposite.number))?;
     page.gap()?;
     page.right_number(5, u64::from(opposite.earlier))?;
-    page.gap()?;
-    write_ends(page, later.station.as_bytes(), later.target.as_bytes())?;
-    page.right_metres(20, opposite.sum)?;
-    page.end_line()
+    page.gap()
 }

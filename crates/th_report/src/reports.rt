@@ -29,6 +29,7 @@ pub fn report_text(
     ensures { IfOk result (λ text. text.items ≡ report_text network.now
         (heights_at (points_of network.now) heights.now) limit) }
 {
+    let _ = network.points();
     let residuals = residuals(alloc, network, heights)?;
     let mut page = Page::new(alloc);
     write_head(&mut page, network, cost(network, &residuals), limit)?;
