@@ -89,7 +89,7 @@ unfoldable pub residual_line : ℤ → ℕ → Observed → ℕ → ℤ → List
 residual_line limit number o weight residual = place_of number o ++ ends_of o ++ residual_of limit weight residual
 
 -- the same, with the weight of the survey
-abbrev pub line_in : Survey → ℤ → ℕ × (Observed × ℤ) → List ℕ
+unfoldable pub line_in : Survey → ℤ → ℕ × (Observed × ℤ) → List ℕ
 line_in survey limit (number, (o, residual)) = residual_line limit number o (weight_of survey.weights o.station o.target) residual
 
 -- the observations, each with its residual and numbered from 1
@@ -108,11 +108,15 @@ unfoldable pub residual_lines : Survey → List ℤ → ℤ → List ℕ
 residual_lines survey residuals limit =
     residual_header ++ flat_map (line_in survey limit) (residual_rows survey residuals)
 
+-- those that are blunders
+abbrev pub blunder_rows : Survey → List ℤ → ℤ → List (ℕ × (Observed × ℤ))
+blunder_rows survey residuals limit = filter (λ row. is_blunder limit row.1.1) (residual_rows survey residuals)
+
 -- how many blunders there are, and the lines of the table of residuals that are theirs
 unfoldable pub blunder_lines : Survey → List ℤ → ℤ → List ℕ
 blunder_lines survey residuals limit =
     label_line (codes "blunders") (decimal (length (blunders limit residuals)))
-    ++ flat_map (line_in survey limit) (filter (λ row. is_blunder limit row.1.1) (residual_rows survey residuals))
+    ++ flat_map (line_in survey limit) (blunder_rows survey residuals limit)
 
 -- the numbers of an observation and of its opposite, the earlier one
 unfoldable pub number_columns : Opposite → List ℕ

@@ -1,5 +1,6 @@
 //! The list of opposites.
 ghost use Rattle.std.specs.Prelude.{◌≡◌, ◌≤◌, ◌++◌, OnOk, length};
+ghost use Rattle.std.specs.List.{flat_map};
 ghost use Rattle.th_network.specs.Limits.{max_observations};
 ghost use Rattle.th_report.specs.Reports.{number_columns, opposite_columns, opposite_line, opposite_lines};
 
@@ -11,6 +12,7 @@ use th_blunders::{Opposite, opposites};
 use th_book::Observation;
 
 /// Writes the count of the opposites among some observations, and a line for each.
+#[tactic(auto, unfolding(crate::specs::Reports::opposite_lines))]
 pub(crate) fn write_opposites(
     alloc: Global,
     page: &mut Page,
@@ -21,7 +23,19 @@ pub(crate) fn write_opposites(
 {
     let opposites = opposites(alloc, observations)?;
     write_count(page, b"opposites", opposites.len())?;
-    for opposite in &opposites {
+    write_rows(page, observations, &opposites)
+}
+
+/// Writes the lines of some opposites among observations.
+fn write_rows(
+    page: &mut Page,
+    observations: &[Observation],
+    opposites: &[Opposite],
+) -> Result<(), AllocError>
+    ensures { OnOk result (page.new ≡ page.old
+        ++ flat_map (opposite_line observations.now) opposites.now) }
+{
+    for opposite in opposites {
         write_opposite(page, observations, opposite)?;
     }
     Ok(())

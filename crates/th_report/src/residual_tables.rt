@@ -1,7 +1,8 @@
 //! The table of residuals, and the blunders among them.
 ghost use Rattle.std.specs.Prelude.{◌≡◌, ◌<◌, ◌≤◌, ◌^◌, ◌++◌, All, OnOk, length, unsigned_abs};
+ghost use Rattle.std.specs.List.{flat_map};
 ghost use Rattle.th_network.specs.Limits.{max_observations};
-ghost use Rattle.th_report.specs.Reports.{blunder_lines, blunder_mark, end_columns, ends_of, place_columns, place_of, residual_columns, residual_header, residual_line, residual_lines, residual_of};
+ghost use Rattle.th_report.specs.Reports.{blunder_lines, blunder_mark, blunder_rows, end_columns, ends_of, line_in, place_columns, place_of, residual_columns, residual_header, residual_line, residual_lines, residual_of, residual_rows};
 ghost use Rattle.th_blunders.specs.Blunders.{is_blunder};
 
 use crate::columns::Page;
@@ -14,6 +15,7 @@ use th_network::Network;
 use th_units::metre_text;
 
 /// Writes the table of residuals, which are listed in the order of the observations.
+#[tactic(auto, unfolding(crate::specs::Reports::residual_lines))]
 pub(crate) fn write_residuals(
     page: &mut Page,
     network: &Network,
@@ -25,6 +27,21 @@ pub(crate) fn write_residuals(
     ensures { OnOk result (page.new ≡ page.old ++ residual_lines network.now residuals.now limit) }
 {
     write_header(page)?;
+    write_rows(page, network, residuals, limit)
+}
+
+/// Writes the line of each observation.
+fn write_rows(
+    page: &mut Page,
+    network: &Network,
+    residuals: &[i64],
+    limit: i64,
+) -> Result<(), AllocError>
+    requires each { length residuals.now ≡ length network.now.observations }
+    requires small { All (λ residual. unsigned_abs residual < 10 ^ 18) residuals.now }
+    ensures { OnOk result (page.new ≡ page.old ++ flat_map (line_in network.now limit)
+        (residual_rows network.now residuals.now)) }
+{
     for (i, o) in network.observations().iter().enumerate() {
         write_residual(page, i as u64 + 1, o, network.weight(i), residuals[i], limit)?;
     }
@@ -32,6 +49,7 @@ pub(crate) fn write_residuals(
 }
 
 /// Writes the count of the blunders, and the lines of the table of residuals that are theirs.
+#[tactic(auto, unfolding(crate::specs::Reports::blunder_lines))]
 pub(crate) fn write_blunders(
     alloc: Global,
     page: &mut Page,
@@ -46,6 +64,21 @@ pub(crate) fn write_blunders(
 {
     let numbers = blunders(alloc, residuals, limit)?;
     write_count(page, b"blunders", numbers.len())?;
+    write_blunder_rows(page, network, residuals, limit)
+}
+
+/// Writes the line of each observation that is a blunder.
+fn write_blunder_rows(
+    page: &mut Page,
+    network: &Network,
+    residuals: &[i64],
+    limit: i64,
+) -> Result<(), AllocError>
+    requires each { length residuals.now ≡ length network.now.observations }
+    requires small { All (λ residual. unsigned_abs residual < 10 ^ 18) residuals.now }
+    ensures { OnOk result (page.new ≡ page.old ++ flat_map (line_in network.now limit)
+        (blunder_rows network.now residuals.now limit)) }
+{
     for (i, o) in network.observations().iter().enumerate() {
         if residuals[i].abs() > limit {
             write_residual(page, i as u64 + 1, o, network.weight(i), residuals[i], limit)?;
