@@ -1,12 +1,15 @@
 -- Lines that are written one after another, and the rows of which they are the lines.
-use Rattle.std.proofs.Common.{◌≡◌, ◌<◌, ◌≤◌, ◌+◌, ℕ, ℤ, pos, List, [], ◌∷◌, ◌++◌, bytes_eq, length, get_or, drop, refl, sym, ap, ◌∙◌, arith, append_assoc}
+use Rattle.std.proofs.Common.{◌≡◌, ◌<◌, ◌≤◌, ◌+◌, ◌^◌, ℕ, ℤ, pos, All, List, [], ◌∷◌, ◌++◌, Some, bytes_eq, length, get_or, drop, map, slice_get, refl, sym, ap, ◌∙◌, arith, append_assoc, to_z, of_z, unsigned_abs, w64}
 use Rattle.std.specs.Cmp.Lexicographic.{nat_list_eq_equiv}
 use Rattle.std.specs.List.{IsDistinct, enumerate_from, flat_map, zip}
-use Rattle.std.proofs.lemmas.List.{append-nil, drop_all, drop_more, get_or_default}
+use Rattle.std.proofs.lemmas.Int.{fits_signed_from_abs, to_z-of_z}
+use Rattle.std.proofs.lemmas.List.{append-nil, drop_more, get_or-map}
 use Rattle.std.proofs.lemmas.List.Sums.{position_or_len_is}
+use Rattle.std.proofs.lemmas.Option.{get_or_from_slice_get}
 use Rattle.std.proofs.lemmas.Map.Keys.{apart_from_distinct}
 use Rattle.std.proofs.lemmas.Slice.Eq.{bytes_eq-Decides}
 use Rattle.th_network.specs.Heights.{heights_at}
+use Rattle.th_network.specs.Limits.{height_limit}
 use Rattle.th_network.specs.Places.{place_of}
 
 module _ {X : Type 0} (line : X → List ℕ) where
@@ -45,3 +48,18 @@ heights_at-listed names heights k name distinct within is = ap (λ k. get_or hei
     placed = position_or_len_is (bytes_eq (get_or names k name)) names k name (omega arith)
         (λ j before. nat_list_eq_equiv.symm (get_or names k name) (get_or names j name) ∙ apart_from_distinct bytes_eq names j k name distinct before within)
         (λ _. (bytes_eq-Decides (get_or names k name) (get_or names k name)).1 refl)
+
+-- a height in range is the number that its 64 bits write
+pub same_units : (height : ℤ) → unsigned_abs height < 10 ^ 18 → to_z w64 (of_z w64 height) ≡ height
+same_units height small = to_z-of_z w64 height (fits_signed_from_abs w64 height (omega arith))
+
+-- the height that is looked up at the place of a name
+pub height_there : (names : List (List ℕ)) (heights : List ℤ) (k : ℕ) (name : List ℕ) → IsDistinct bytes_eq names → All (λ height. unsigned_abs height < height_limit) heights → length heights ≡ length names → k < length names → name ≡ get_or names k name
+    → to_z w64 (of_z w64 (get_or heights k (pos 0))) ≡ heights_at names heights name
+height_there names heights k name distinct in_range each within is =
+    let small : unsigned_abs (get_or heights k (pos 0)) < height_limit = in_range k (pos 0) (omega arith) in
+    same_units (get_or heights k (pos 0)) (omega arith) ∙ sym (heights_at-listed names heights k name distinct within is)
+
+-- what is found at a place, by what stands there
+pub found_there : {X Y : Type 0} → (f : X → Y) (xs : List X) (k : ℕ) (x : X) (y : Y) → k < length xs → x ≡ get_or xs k x → slice_get (map f xs) k ≡ Some y → y ≡ f x
+found_there f xs k x y within is found = sym (get_or_from_slice_get (map f xs) k y y found) ∙ get_or-map f xs k x y within ∙ ap f (sym is)

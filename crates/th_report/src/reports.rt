@@ -19,6 +19,7 @@ use th_network::Network;
 /// the ends exchanged.
 ///
 /// The limit is in units of 10 nm.
+#[tactic(auto, unfolding(crate::specs::Reports::report_text))]
 pub fn report_text(
     alloc: Global,
     network: &Network,
