@@ -16,5 +16,5 @@ loop-i-preserved c =
     let within : i < length observations = omega (arith, ap length all, c.loop-i-test.true) in
     let is : o ≡ get_or observations i o = c.o-item.is ∙ ap (λ (os : List Observed). get_or os i o) all in
     let at = same_units (get_or residuals i (pos 0)) (c.requires.small i (pos 0) (omega arith)) in
-    residuals-further c.args.network.now residuals limit i o c.weight.result (to_z w64 (of_z w64 (get_or residuals i (pos 0)))) within c.requires.each is c.weight.ensures.weight at
+    residuals-further c.args.network.now residuals limit i o (to_z w64 (of_z w64 (get_or residuals i (pos 0)))) within c.requires.each is at c.weight.result c.weight.ensures.weight
     c.loop-i.page c.write_residual.new.page _ c.in_ok-write_residual.ensures c.loop-i.invariant
