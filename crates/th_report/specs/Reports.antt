@@ -25,6 +25,10 @@ is_benchmark survey name = is_some (height_of survey.benchmarks name)
 abbrev pub benchmark_count : Survey → ℕ
 benchmark_count survey = count_by (is_benchmark survey) (points_of survey)
 
+-- the title
+unfoldable pub title_line : List ℕ
+title_line = codes "HEIGHT NETWORK REPORT" ++ line_end
+
 -- the counts of points, benchmarks and observations
 unfoldable pub count_lines : Survey → List ℕ
 count_lines survey =
@@ -35,10 +39,7 @@ count_lines survey =
 -- the title, and what was adjusted in numbers: the counts, the cost in units of 10 nm, and the limit in metres
 unfoldable pub head_lines : Survey → ℕ → ℤ → List ℕ
 head_lines survey cost limit =
-    codes "HEIGHT NETWORK REPORT" ++ line_end
-    ++ count_lines survey
-    ++ label_line (codes "cost") (decimal cost)
-    ++ label_line (codes "blunder limit") (metres limit)
+    title_line ++ count_lines survey ++ label_line (codes "cost") (decimal cost) ++ label_line (codes "blunder limit") (metres limit)
 
 -- the columns of points: a name, a height, and a mark
 unfoldable pub point_columns : List ℕ → List ℕ → List ℕ → List ℕ
@@ -136,13 +137,19 @@ opposite_lines observations =
     label_line (codes "opposites") (decimal (length (opposites observations)))
     ++ flat_map (opposite_line observations) (opposites observations)
 
--- The text of the report: the title with the numbers, the points, the residuals, the blunders and the opposites, an empty line
--- between neighbours.
+-- what was adjusted: the title with the numbers, and the points, an empty line after each
+unfoldable pub adjusted_part : Survey → (List ℕ → ℤ) → ℕ → ℤ → List ℕ
+adjusted_part survey heights cost limit = head_lines survey cost limit ++ line_end ++ point_lines survey heights ++ line_end
+
+-- what was observed: the residuals, the blunders and the opposites, an empty line between neighbours
+unfoldable pub observed_part : Survey → List ℤ → ℤ → List ℕ
+observed_part survey residuals limit =
+    residual_lines survey residuals limit ++ line_end
+    ++ blunder_lines survey residuals limit ++ line_end
+    ++ opposite_lines survey.observations
+
+-- the text of the report
 unfoldable pub report_text : Survey → (List ℕ → ℤ) → ℤ → List ℕ
 report_text survey heights limit =
-    let left = residuals survey.observations heights in
-    head_lines survey (cost survey.observations survey.weights heights) limit ++ line_end
-    ++ point_lines survey heights ++ line_end
-    ++ residual_lines survey left limit ++ line_end
-    ++ blunder_lines survey left limit ++ line_end
-    ++ opposite_lines survey.observations
+    adjusted_part survey heights (cost survey.observations survey.weights heights) limit
+    ++ observed_part survey (residuals survey.observations heights) limit

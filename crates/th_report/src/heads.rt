@@ -1,7 +1,7 @@
 //! The first lines of the report, and the lines that count what follows.
 ghost use Rattle.std.specs.Prelude.{◌≡◌, ◌++◌, OnOk, codes, decimal};
 ghost use Rattle.th_units.specs.Metres.{metres};
-ghost use Rattle.th_report.specs.Reports.{benchmark_count, count_lines, head_lines, label_line};
+ghost use Rattle.th_report.specs.Reports.{benchmark_count, count_lines, head_lines, label_line, title_line};
 
 use crate::columns::Page;
 use itoa::Buffer;
@@ -19,11 +19,18 @@ pub(crate) fn write_head(
 ) -> Result<(), AllocError>
     ensures { OnOk result (page.new ≡ page.old ++ head_lines network.now cost limit) }
 {
-    page.add(b"HEIGHT NETWORK REPORT")?;
-    page.end_line()?;
+    write_title(page)?;
     write_counts(page, network)?;
     write_cost(page, cost)?;
     write_limit(page, limit)
+}
+
+/// Writes the title.
+#[tactic(auto, unfolding(crate::specs::Reports::title_line))]
+fn write_title(page: &mut Page) -> Result<(), AllocError>
+    ensures { OnOk result (page.new ≡ page.old ++ title_line) }
+{
+    page.add(b"HEIGHT NETWORK REPORT\n")
 }
 
 /// Writes the counts of points, benchmarks and observations.
