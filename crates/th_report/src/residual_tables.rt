@@ -43,7 +43,14 @@ fn write_rows(
         (residual_rows network.now residuals.now)) }
 {
     for (i, o) in network.observations().iter().enumerate() {
-        write_residual(page, i as u64 + 1, o, network.weight(i), residuals[i], limit)?;
+        write_residual(
+            page,
+            i as u64 + 1,
+            o,
+            network.weight(i),
+            residuals[i],
+            limit,
+        )?;
     }
     Ok(())
 }
@@ -81,7 +88,14 @@ fn write_blunder_rows(
 {
     for (i, o) in network.observations().iter().enumerate() {
         if residuals[i].abs() > limit {
-            write_residual(page, i as u64 + 1, o, network.weight(i), residuals[i], limit)?;
+            write_residual(
+                page,
+                i as u64 + 1,
+                o,
+                network.weight(i),
+                residuals[i],
+                limit,
+            )?;
         }
     }
     Ok(())
@@ -165,7 +179,12 @@ fn mark_of(residual: i64, limit: i64) -> &'static [u8]
 
 /// Writes the columns that say which observation it is.
 #[tactic(auto, unfolding(crate::specs::Reports::place_columns))]
-fn write_place_columns(page: &mut Page, number: &[u8], book: &[u8], line: &[u8]) -> Result<(), AllocError>
+fn write_place_columns(
+    page: &mut Page,
+    number: &[u8],
+    book: &[u8],
+    line: &[u8],
+) -> Result<(), AllocError>
     ensures { OnOk result (page.new ≡ page.old ++ place_columns number.now book.now line.now) }
 {
     page.right(5, number)?;
@@ -189,7 +208,12 @@ fn write_end_columns(page: &mut Page, station: &[u8], target: &[u8]) -> Result<(
 
 /// Writes the last columns, of what is left of an observation.
 #[tactic(auto, unfolding(crate::specs::Reports::residual_columns))]
-fn write_residual_columns(page: &mut Page, weight: &[u8], residual: &[u8], mark: &[u8]) -> Result<(), AllocError>
+fn write_residual_columns(
+    page: &mut Page,
+    weight: &[u8],
+    residual: &[u8],
+    mark: &[u8],
+) -> Result<(), AllocError>
     ensures { OnOk result (page.new ≡ page.old ++ residual_columns weight.now residual.now mark.now) }
 {
     page.right(4, weight)?;

@@ -19,11 +19,11 @@ loop-k-preserved c =
     ap is_some (sym (get_or-map (height_of survey.benchmarks) points k [] c.fixed.result within) ∙ get_or_from_slice_get (map (height_of survey.benchmarks) points) k c.fixed.result c.fixed.result c.fixed.ensures.height) ∙ sym c.is_some.ensures in
     elim c.if-is_some.branch [
       | then-is_some w ↦ record {
-          count = w.count-is ∙ ap (λ n. n + 1) c.loop-k.invariant.count ∙ sym (count_by_more_yes (is_benchmark survey) points k [] within (fixed ∙ w.if-is_some.true));
-          few = omega arith;
-        }
+        count = w.count-is ∙ ap (λ n. n + 1) c.loop-k.invariant.count ∙ sym (count_by_more_yes (is_benchmark survey) points k [] within (fixed ∙ w.if-is_some.true));
+        few = omega arith;
+      }
       | else-is_some w ↦ record {
-          count = w.count-is ∙ c.loop-k.invariant.count ∙ sym (count_by_more_no (is_benchmark survey) points k [] within (fixed ∙ w.if-is_some.false));
-          few = omega arith;
-        }
+        count = w.count-is ∙ c.loop-k.invariant.count ∙ sym (count_by_more_no (is_benchmark survey) points k [] within (fixed ∙ w.if-is_some.false));
+        few = omega arith;
+      }
     ]
