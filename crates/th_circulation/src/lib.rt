@@ -20,6 +20,7 @@ mod limits;
 mod listings;
 mod placed;
 mod slots;
+mod spanning;
 mod steps;
 #[cfg(test)]
 mod tests;
@@ -27,4 +28,5 @@ mod workspaces;
 
 pub use settled::{Flows, Heights, Settled, Spans};
 pub use settling::settle;
+pub use spanning::spans;
 pub use steps::Steps;

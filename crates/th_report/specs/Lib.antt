@@ -1,1 +1,4 @@
 pub mod Lists
+pub mod Gsi
+pub mod Heights
+pub mod Reports
