@@ -1,2 +1,5 @@
+pub mod Fronts
 pub mod BookFronts
 pub mod FeedLemmas
+pub mod Givens
+pub mod SourceLemmas
