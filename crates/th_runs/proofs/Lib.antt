@@ -3,3 +3,5 @@ pub mod BookFronts
 pub mod FeedLemmas
 pub mod Givens
 pub mod SourceLemmas
+pub mod RunLemmas
+pub mod VerdictLemmas
