@@ -1,12 +1,12 @@
 ghost use Rattle.std.specs.Prelude.{◌≡◌, IfOk, length};
 ghost use Rattle.th_circulation.specs.Extremes.{High, Low};
-ghost use Rattle.thnetwork.specs.Circulation.{Circulation, Shows};
-ghost use Rattle.thnetwork.specs.Heights.{IsHeights, heights_at};
-ghost use Rattle.thnetwork.specs.Networks.{AreAtPoints, points_of};
+ghost use Rattle.th_network.specs.Circulation.{Circulation, Shows};
+ghost use Rattle.th_network.specs.Heights.{IsHeights, heights_at};
+ghost use Rattle.th_network.specs.Networks.{AreAtPoints, points_of};
 
 use crate::settled::{Settled, Spans};
 use std::alloc::{AllocError, Global};
-use thnetwork::Network;
+use th_network::Network;
 
 /// A stub.
 pub fn spans(_alloc: Global, network: &Network, settled: &Settled) -> Result<Spans, AllocError>
