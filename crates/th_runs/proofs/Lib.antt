@@ -5,3 +5,4 @@ pub mod Givens
 pub mod SourceLemmas
 pub mod RunLemmas
 pub mod VerdictLemmas
+pub mod AnswerLemmas
