@@ -21,8 +21,8 @@ use Rattle.th_network.specs.Faults.{HasFault, IsNetwork}
 use Rattle.th_network.specs.Heights.{heights_at}
 use Rattle.th_network.specs.Limits.{height_limit}
 use Rattle.th_network.specs.Networks.{AreAtPoints, AreInRange, Survey, points_of}
-use Rattle.th_network.specs.Places.{place_of}
-use Rattle.th_network.specs.Points.{points}
+use Rattle.th_points.specs.Places.{place_of}
+use Rattle.th_points.specs.Points.{points}
 use Rattle.th_network.specs.declared.faults.NetFault.{NetFault}
 use Rattle.th_report.specs.Gsi.{gsi_text}
 use Rattle.th_report.specs.Heights.{heights_text}
