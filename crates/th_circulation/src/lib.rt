@@ -22,6 +22,8 @@ mod listings;
 mod placed;
 mod residuals;
 mod slots;
+#[cfg(test)]
+mod span_tests;
 mod spanning;
 mod steps;
 #[cfg(test)]
