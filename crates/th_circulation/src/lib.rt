@@ -40,6 +40,8 @@ mod spanning;
 // What holds of the definitions alone.
 pub mod laws;
 #[cfg(test)]
+mod span_tests;
+#[cfg(test)]
 mod tests;
 
 pub use settled::{Flows, Heights, Settled, Spans};
