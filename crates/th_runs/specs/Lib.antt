@@ -1,2 +1,4 @@
 pub mod Refusals
 pub mod Runs
+pub mod Inputs
+pub mod Reads
