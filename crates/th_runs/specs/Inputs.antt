@@ -143,6 +143,12 @@ MakesNetwork survey = IsNetwork survey.observations survey.benchmarks
 abbrev pub HasNetFault : Survey → NetFault → Type 0
 HasNetFault survey fault = HasFault survey.observations survey.benchmarks fault
 
+-- a refusal for the fault of a survey's network, or want of memory
+abbrev pub IsNetRefusal : Survey → Refusal → Type 0
+IsNetRefusal survey (refusal.Network fault) = HasNetFault survey fault
+IsNetRefusal survey refusal.NoMemory = Unit {0}
+IsNetRefusal survey other = ⊥
+
 -- what is owed has a survey with this fault, where it is known
 abbrev pub OwesNetFault : {X : Type 0} → (X → Survey) → Owed X → NetFault → Type 0
 OwesNetFault survey_of None fault = Unit {0}

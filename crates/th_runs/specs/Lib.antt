@@ -2,3 +2,5 @@ pub mod Refusals
 pub mod Runs
 pub mod Inputs
 pub mod Reads
+pub mod Writes
+pub mod Checked

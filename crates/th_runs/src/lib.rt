@@ -12,12 +12,18 @@ mod refusals;
 // What is read: one source, the books, and the survey that all of them say.
 mod books;
 mod inputs;
+mod surveys;
+
+// What is written.
+mod outputs;
 
 // The runs.
+mod checking;
 mod listing;
 #[cfg(test)]
 mod tests;
 
+pub use checking::run_check;
 pub use listing::run_list;
 pub use refusals::{
     DEVICE_FAILED, DONE, INPUT_REFUSED, Input, NO_MEMORY, Output, REFUSED_VERDICT, Refusal, USAGE,
