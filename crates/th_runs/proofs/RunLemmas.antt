@@ -4,7 +4,8 @@ use Rattle.std.specs.Prelude.{Option, Result}
 use Rattle.th_network.specs.Networks.{Survey}
 use Rattle.th_network.specs.declared.faults.NetFault.{NetFault}
 use Rattle.th_runs.specs.Inputs.{HasNetFault, IsNetRefusal, IsOwed, Meets, MeetsRefusal, Owed, OwesNetFault, and_then}
-use Rattle.th_runs.specs.Reads.{IsWithin, network_place, refused}
+use Rattle.th_runs.specs.Reads.{IsWithin, network_place, outputs_place, refused}
+use Rattle.th_runs.specs.Writes.{IsWritten}
 use Rattle.th_runs.specs.declared.refusals.Refusal.{Refusal}
 use Rattle.th_runs.specs.declared.refusals.Refusal.TheVariants as refusal
 
@@ -49,3 +50,9 @@ pub network_within : (survey : Survey) (own : Refusal) → IsNetRefusal survey o
 network_within survey (refusal.Network fault) refuses = (omega arith, omega arith)
 network_within survey refusal.NoMemory refuses = tt
 network_within survey other refuses = absurd refuses
+
+-- a refusal once outputs are begun comes from the place of the outputs
+pub written_within : {X : Type 0} (result : Result X Refusal) → IsWritten result → IfSome (refused result) (IsWithin outputs_place (outputs_place + 1))
+written_within (Ok x) written = tt
+written_within (Err (refusal.Write which)) written = (omega arith, omega arith)
+written_within (Err other) written = absurd written

@@ -4,3 +4,4 @@ pub mod Inputs
 pub mod Reads
 pub mod Writes
 pub mod Checked
+pub mod Adjusted

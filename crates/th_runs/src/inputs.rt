@@ -4,6 +4,7 @@ ghost use Rattle.std.specs.Prelude.{◌≡◌, ◌≢◌, ◌≤◌, ◌+◌, �
 ghost use Rattle.th_devices.specs.Limits.{calls_before};
 ghost use Rattle.th_runs.specs.Inputs.{Failed, Meets, MeetsRefusal, given, given_if_any, limit_of, owed_for_benchmarks, owed_for_book, owed_for_certificate, owed_for_weights};
 ghost use Rattle.th_runs.specs.Reads.{IfPresent, IsNamed, IsReadFor, IsWithin, network_place, place, refused};
+ghost use Rattle.th_tables.specs.Rows.{AreWeights};
 
 use crate::refusals::{Input, Refusal};
 use std::alloc::Global;
@@ -82,6 +83,7 @@ pub(crate) fn weights_from<S: Source>(
     requires { IfSome source.old (λ own. S.calls own ≤ calls_before) }
     ensures ok { IfOk result (λ table. Meets
         (owed_for_weights (given_if_any S.failures S.left source.old source.new)) (Ok table)) }
+    ensures rows { IfOk result (λ table. AreWeights table) }
     ensures refused { IfErr result (MeetsRefusal
         (owed_for_weights (given_if_any S.failures S.left source.old source.new))) }
     ensures at { IfErr result (IsWithin (place Input.Weights) (place Input.Certificate)) }
@@ -100,6 +102,7 @@ fn weights_in<S: Source>(alloc: Global, source: &mut S) -> Result<Weights, Refus
     requires { S.calls source.old ≤ calls_before }
     ensures ok { IfOk result (λ table. Meets
         (owed_for_weights (Some (given S.failures S.left source.old source.new))) (Ok table)) }
+    ensures rows { IfOk result (λ table. AreWeights table) }
     ensures refused { IfErr result (MeetsRefusal
         (owed_for_weights (Some (given S.failures S.left source.old source.new)))) }
     ensures at { IfErr result (IsWithin (place Input.Weights) (place Input.Certificate)) }

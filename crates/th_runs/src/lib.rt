@@ -18,13 +18,16 @@ mod surveys;
 mod outputs;
 
 // The runs.
+mod adjusting;
 mod checking;
 mod listing;
 #[cfg(test)]
 mod tests;
 
+pub use adjusting::run_adjust;
 pub use checking::run_check;
 pub use listing::run_list;
+pub use outputs::Outs;
 pub use refusals::{
     DEVICE_FAILED, DONE, INPUT_REFUSED, Input, NO_MEMORY, Output, REFUSED_VERDICT, Refusal, USAGE,
     status_of, status_of_verdict,

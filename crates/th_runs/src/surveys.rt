@@ -3,6 +3,7 @@ ghost use Rattle.std.specs.Prelude.{◌≡◌, ◌≤◌, ◌+◌, ◌<◌, All,
 ghost use Rattle.th_devices.specs.Limits.{calls_before};
 ghost use Rattle.th_runs.specs.Inputs.{IsNetRefusal, MakesNetwork, Meets, MeetsRefusal, given, given_if_any, givens, owed_for_survey, owed_for_tables, surveyed};
 ghost use Rattle.th_runs.specs.Reads.{EachBook, IfPresent, IsNamed, IsReadFor, IsWithin, network_place, outputs_place, place, refused};
+ghost use Rattle.th_tables.specs.Rows.{AreWeights};
 
 use crate::books::read_books;
 use crate::inputs::{benchmarks_from, weights_from};
@@ -46,6 +47,7 @@ pub(crate) fn read_inputs<B: Source, T: Source, W: Source>(
           benchmarks = inputs.tables.benchmarks;
           weights = inputs.tables.weights;
         })))) }
+    ensures weighted { IfOk result (λ inputs. AreWeights inputs.tables.weights) }
     ensures refused { IfErr result (MeetsRefusal (owed_for_survey
         (givens B.failures B.left books.old books.new)
         (given T.failures T.left benchmarks.old benchmarks.new)
@@ -81,6 +83,7 @@ fn read_tables<T: Source, W: Source>(
         (given T.failures T.left benchmarks.old benchmarks.new)
         (given_if_any W.failures W.left weights.old weights.new))
         (Ok (record { benchmarks = tables.benchmarks; weights = tables.weights }))) }
+    ensures weighted { IfOk result (λ tables. AreWeights tables.weights) }
     ensures refused { IfErr result (MeetsRefusal (owed_for_tables
         (given T.failures T.left benchmarks.old benchmarks.new)
         (given_if_any W.failures W.left weights.old weights.new))) }
