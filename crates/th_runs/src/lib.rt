@@ -21,6 +21,9 @@ mod outputs;
 mod adjusting;
 mod checking;
 mod listing;
+
+// What holds of the definitions alone.
+pub mod laws;
 #[cfg(test)]
 mod tests;
 
