@@ -19,7 +19,10 @@ use Rattle.th_certificate.specs.Certified.{cost_limit}
 use Rattle.th_network.specs.Limits.{height_limit}
 use Rattle.th_certificate.specs.Texts.{IsCertifiable, cost_of}
 use Rattle.th_certificate.specs.Inside.Costs.{most_residual}
-use Rattle.th_certificate.proofs.CostLemmas.{weighted}
+
+-- what an observation adds to the cost
+abbrev weighted : WeightRows → (List ℕ → ℤ) → Observed → ℕ
+weighted weights heights o = weight_of weights o.station o.target * unsigned_abs (residual o heights)
 
 -- names that are left of some that were apart from a name are apart from it
 apart_filter : (name : List ℕ) (test : List ℕ → Bool) (names : List (List ℕ)) → AllByRecursion (λ other. bytes_eq name other ≡ false) names → AllByRecursion (λ other. bytes_eq name other ≡ false) (filter test names)

@@ -16,7 +16,8 @@ ghost use Rattle.th_runs.specs.declared.refusals.Refusal.TheVariants.{NoMemory};
 use th_certificate::laws::text_of_version_2_is_read_back;
 use th_checker::laws::text_of_version_2_is_accepted;
 use th_circulation::laws::lowest_and_highest_are_one;
-use th_network::laws::{faults_exclude_each_other, points_are_ends_and_benchmarks};
+use th_network::laws::faults_exclude_each_other;
+use th_points::laws::points_are_ends_and_benchmarks;
 
 /// A run whose inputs say a survey that makes a network is refused for want of memory alone, before
 /// its outputs are begun. So where memory is there and no device fails, it is done.
