@@ -1,4 +1,7 @@
 -- what private functions say to one another
+pub mod Residuals
+pub mod Distances
+pub mod Spans
 pub mod Flows
 pub mod Cycles
 pub mod Placed
@@ -7,6 +10,3 @@ pub mod Listings
 pub mod Phases
 pub mod Workspaces
 pub mod Cuts
-pub mod Residuals
-pub mod Distances
-pub mod Spans

@@ -10,21 +10,23 @@ mod settled;
 // How a network is settled.
 mod settling;
 
+// How low and how high it could as well be settled.
+mod distances;
+mod residuals;
+#[cfg(test)]
+mod span_tests;
+mod spanning;
+
 // How flows change.
 mod cancels;
 mod differences;
-mod distances;
 mod graphs;
 mod heights;
 pub mod laws;
 mod limits;
 mod listings;
 mod placed;
-mod residuals;
 mod slots;
-#[cfg(test)]
-mod span_tests;
-mod spanning;
 mod steps;
 #[cfg(test)]
 mod tests;
