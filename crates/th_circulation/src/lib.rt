@@ -20,6 +20,8 @@ mod limits;
 mod listings;
 mod placed;
 mod proposals;
+#[cfg(test)]
+mod size_tests;
 mod slots;
 mod steps;
 #[cfg(test)]

@@ -48,6 +48,8 @@ impl Workspace {
             AreWithin graph.now.vertices 40002500000000000 work.heights.items) }
         ensures flow { IfOk result (λ work.
             IsFlow graph.now.links.now graph.now.weights.now work.flows.items) }
+        ensures none { IfOk result (λ work.
+            work.flows.items ≡ replicate (length graph.now.links.now) (pos 0)) }
         ensures arcs { IfOk result (λ work.
             2 * length graph.now.links.now ≤ vec_capacity work.listing.arcs) }
         ensures slots { IfOk result (λ work.
@@ -149,7 +151,7 @@ impl Workspace {
 
     /// Settles the phases one after another, each with its differences and on from the flows of the
     /// one before it, until the flows show heights for the links' own differences.
-    fn settle_by_halves<S: Search>(
+    pub fn settle_by_halves<S: Search>(
         &mut self,
         alloc: Global,
         graph: &Graph,

@@ -7,3 +7,6 @@ pub returns-clause-flow : goal.returns-clause-flow
 returns-clause-flow c =
     let graph = c.args.graph.now in
     subst (IsFlow graph.links.now graph.weights.now) (sym (c.in_ok-flows.ensures.items_if_clones_equal (λ y e. e))) (none_flows graph.links.now graph.weights.now graph.graph.sized)
+
+pub returns-clause-none : goal.returns-clause-none
+returns-clause-none c = c.in_ok-flows.ensures.items_if_clones_equal (λ y e. e)
