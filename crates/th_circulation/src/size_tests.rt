@@ -1,4 +1,6 @@
-ghost use Rattle.std.specs.Prelude.{◌≡◌};
+ghost use Rattle.std.specs.Prelude.{◌≡◌, ◌≤◌, All};
+ghost use Rattle.th_network.specs.Faults.{IsNetwork};
+ghost use Rattle.th_network.specs.Networks.{weights_of};
 
 use crate::graphs::Graph;
 use crate::settling::list_weights;
@@ -60,7 +62,20 @@ fn settles(
 /// What the flows gain where a network is settled by halves from the start.
 fn gain_by_halves(alloc: Global, network: &Network) -> Result<i128, AllocError> {
     let weights = list_weights(alloc, network)?;
-    let graph = Graph::of(network, &weights);
+    gain_of_halves(alloc, &*network, &weights)
+}
+
+/// The same, of a network that has these weights.
+fn gain_of_halves<'a>(
+    alloc: Global,
+    network: &'a Network,
+    weights: &'a [u32],
+) -> Result<i128, AllocError>
+    requires network { IsNetwork network.now.observations network.now.benchmarks }
+    requires weights { weights.now ≡ weights_of network.now }
+    requires light { All (λ weight. weight ≤ 1000) weights.now }
+{
+    let graph = Graph::of(network, weights);
     let mut work = Workspace::new(alloc, &graph)?;
     let mut search = LabelSearch::new();
     let mut steps = Steps::new();
