@@ -9,7 +9,6 @@ use crate::workspaces::Workspace;
 use crate::*;
 use std::alloc::{AllocError, Global};
 use std::process::Abort;
-use std::test::Fail;
 use th_book::read_book;
 use th_network::Network;
 use th_search::LabelSearch;
@@ -18,12 +17,15 @@ use th_tables::{read_benchmarks, read_weights};
 /// How often a search was called more than steps were counted.
 const PHASES: u128 = 44;
 
-/// A line, so many times.
-fn repeat(book: &mut Vec<u8>, line: &[u8], times: u32) -> Result<(), AllocError> {
-    for _ in 0..times {
-        book.extend_from_slice(line)?;
+/// A setup at A, and so many sights from it.
+fn book_of(alloc: Global, rt: &impl Abort, sights: &[(&[u8], u32)]) -> Vec<u8> {
+    let mut book = SETUP.to_vec(alloc).expect(rt, "a setup");
+    for (sight, times) in sights {
+        for _ in 0..*times {
+            book.extend_from_slice(sight).expect(rt, "a sight");
+        }
     }
-    Ok(())
+    book
 }
 
 /// What flows gain: the sum of each flow times its difference.
@@ -36,13 +38,7 @@ fn gain_of(network: &Network, flows: &[i64]) -> i128 {
 }
 
 /// Settles a book whose benchmark is A, and compares what the flows gain, the steps and the calls.
-fn settles(
-    alloc: Global,
-    rt: &impl Abort,
-    book: &[u8],
-    gain: i128,
-    steps: u128,
-) -> Result<Settled, AllocError> {
+fn settles(alloc: Global, rt: &impl Abort, book: &[u8], gain: i128, steps: u128) -> Settled {
     let observations = read_book(alloc, 1, book).expect(rt, "read_book");
     let benchmarks = read_benchmarks(alloc, b"point,height\nA,100\n").expect(rt, "benchmarks");
     let weights = read_weights(alloc, b"").expect(rt, "weights");
@@ -52,11 +48,11 @@ fn settles(
         counted: 0,
     };
     let mut counted = Steps::new();
-    let settled = settle(alloc, &network, &mut search, &mut counted)?;
+    let settled = settle(alloc, &network, &mut search, &mut counted).expect(rt, "settle");
     assert_eq!(rt; gain_of(&network, settled.flows.as_slice()), gain);
     assert_eq!(rt; counted.count(), steps);
     assert_eq!(rt; search.counted, steps.wrapping_add(PHASES));
-    Ok(settled)
+    settled
 }
 
 /// What the flows gain where a network is settled by halves from the start.
@@ -85,55 +81,62 @@ fn gain_of_halves<'a>(
 
 /// Two thousand sights of B, and as many longer ones: whatever each step moves, 2,000 are needed.
 #[test]
-fn settles_thousands_of_sights(rt: HostRuntime) -> Result<(), Fail> {
-    let mut book = SETUP.to_vec(rt.alloc())?;
-    repeat(&mut book, SIGHT, 2000)?;
-    repeat(&mut book, LONGER, 2000)?;
-    let settled = settles(rt.alloc(), &rt, &book, 400_000_000, 2000)?;
+fn settles_thousands_of_sights(rt: HostRuntime) {
+    let book = book_of(rt.alloc(), &rt, &[(SIGHT, 2000), (LONGER, 2000)]);
+    let settled = settles(rt.alloc(), &rt, &book, 400_000_000, 2000);
     for (i, flow) in settled.flows.as_slice().iter().enumerate() {
         assert_eq!(rt; *flow, if i < 2000 { -1 } else { 1 });
     }
-    Ok(())
 }
 
 /// As many sights as a network takes, all of one pair and alike: nothing flows.
 #[test]
-fn settles_one_pair(rt: HostRuntime) -> Result<(), Fail> {
-    let mut book = SETUP.to_vec(rt.alloc())?;
-    repeat(&mut book, SIGHT, 40_000)?;
-    let settled = settles(rt.alloc(), &rt, &book, 0, 0)?;
+fn settles_one_pair(rt: HostRuntime) {
+    let book = book_of(rt.alloc(), &rt, &[(SIGHT, 40_000)]);
+    let settled = settles(rt.alloc(), &rt, &book, 0, 0);
     assert_eq!(rt;
         settled.heights.as_slice(),
         [10_000_000_000i64, 10_254_500_000].as_slice()
     );
-    Ok(())
+}
+
+/// A book that sights 3,999 points ten times each from A.
+fn many_points(alloc: Global, rt: &impl Abort) -> Vec<u8> {
+    let mut book = SETUP.to_vec(alloc).expect(rt, "a setup");
+    for point in 0..3999u32 {
+        let sight = format!(in alloc;
+            "110002+000P{point:04} 33..00+00002345 87..10+00001300 \n"
+        ).expect(rt, "a sight");
+        for _ in 0..10 {
+            book.extend_from_slice(sight.as_bytes())
+                .expect(rt, "a sight");
+        }
+    }
+    book
 }
 
 /// As many points as a network takes, each sighted ten times from A: nothing flows.
 #[test]
-fn settles_many_points(rt: HostRuntime) -> Result<(), Fail> {
-    let mut book = SETUP.to_vec(rt.alloc())?;
-    for point in 0..3999u32 {
-        let sight = format!(in rt.alloc();
-            "110002+000P{point:04} 33..00+00002345 87..10+00001300 \n"
-        )?;
-        repeat(&mut book, sight.as_bytes(), 10)?;
-    }
-    let settled = settles(rt.alloc(), &rt, &book, 0, 0)?;
+fn settles_many_points(rt: HostRuntime) {
+    let book = many_points(rt.alloc(), &rt);
+    let settled = settles(rt.alloc(), &rt, &book, 0, 0);
     assert_eq!(rt; settled.heights.as_slice().len(), 4000);
-    for height in settled.heights.as_slice().iter().skip(1) {
-        assert_eq!(rt; *height, 10_254_500_000);
+    for (i, height) in settled.heights.as_slice().iter().enumerate() {
+        assert_eq!(rt;
+            *height,
+            if i == 0 {
+                10_000_000_000
+            } else {
+                10_254_500_000
+            }
+        );
     }
-    Ok(())
 }
 
 /// By halves the flows gain as much as where all is settled at once.
 #[test]
-fn settles_by_halves(rt: HostRuntime) -> Result<(), Fail> {
-    let mut book = SETUP.to_vec(rt.alloc())?;
-    repeat(&mut book, SIGHT, 30)?;
-    repeat(&mut book, LONGER, 20)?;
-    repeat(&mut book, SIGHT, 10)?;
+fn settles_by_halves(rt: HostRuntime) {
+    let book = book_of(rt.alloc(), &rt, &[(SIGHT, 30), (LONGER, 20), (SIGHT, 10)]);
     let observations = read_book(rt.alloc(), 1, &book).expect(&rt, "read_book");
     let benchmarks = read_benchmarks(rt.alloc(), b"point,height\nA,100\n").expect(
         &rt,
@@ -143,6 +146,6 @@ fn settles_by_halves(rt: HostRuntime) -> Result<(), Fail> {
     let network = Network::build(rt.alloc(), observations, &benchmarks, &weights).expect(
         &rt, "build",
     );
-    assert_eq!(rt; gain_by_halves(rt.alloc(), &network)?, 4_000_000);
-    Ok(())
+    let gain = gain_by_halves(rt.alloc(), &network).expect(&rt, "settle_by_halves");
+    assert_eq!(rt; gain, 4_000_000);
 }
