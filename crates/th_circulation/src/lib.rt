@@ -40,6 +40,8 @@ mod spanning;
 // What holds of the definitions alone.
 pub mod laws;
 #[cfg(test)]
+mod size_tests;
+#[cfg(test)]
 mod span_tests;
 #[cfg(test)]
 mod tests;

@@ -12,9 +12,9 @@ use th_tables::{read_benchmarks, read_weights};
 
 /// A search that counts its calls.
 #[derive(Drop)]
-struct CountingSearch<S> {
-    search: S,
-    counted: u128,
+pub(crate) struct CountingSearch<S> {
+    pub search: S,
+    pub counted: u128,
 }
 
 impl<S: Search> Search for CountingSearch<S> {
@@ -31,13 +31,13 @@ impl<S: Search> Search for CountingSearch<S> {
 }
 
 /// A setup at A, and a sight from it to B.
-const SETUP: &[u8] =
+pub(crate) const SETUP: &[u8] =
     b"110001+0000000A 84..10+00000000 85..10+00000000 86..10+00100000 88..10+00001500 \n";
 
-const SIGHT: &[u8] = b"110002+0000000B 33..00+00002345 87..10+00001300 \n";
+pub(crate) const SIGHT: &[u8] = b"110002+0000000B 33..00+00002345 87..10+00001300 \n";
 
 /// A sight from A to B that is 2 mm longer.
-const LONGER: &[u8] = b"110003+0000000B 33..00+00002347 87..10+00001300 \n";
+pub(crate) const LONGER: &[u8] = b"110003+0000000B 33..00+00002347 87..10+00001300 \n";
 
 /// The parts of a book, the tables of benchmarks and weights; and the heights, where they are the only
 /// ones that cost least, what they cost, and the flows, where they are the only ones that show it.
