@@ -196,10 +196,9 @@ printed_accepted read_back accepts books benchmarks weights survey limit texts o
     let low_range = in_range_at survey answer.low is.low_at_points in
     let high_range = in_range_at survey answer.high is.high_at_points in
     let read : certificate_of (text_of_version_2 survey low low high answer.flows) ≡ Ok (stated survey answer) =
-        read_back survey low low high answer.flows certifiable low_range low_range high_range is.each_flow in
-    (
+    read_back survey low low high answer.flows certifiable low_range low_range high_range is.each_flow in (
       record { survey = survey; certificate = stated survey answer },
       owed_with books benchmarks weights survey texts.certificate (stated survey answer) owed (ap certificate_of outputs.printed.certificate ∙ read),
       accepts survey low low high answer.flows (stated survey answer) certifiable are (shown_low survey answer is) (shown_low survey answer is) (shown_high survey answer is)
-      is.each_flow read,
+          is.each_flow read,
     )

@@ -2,12 +2,12 @@
 //! a device fails.
 ghost use Rattle.std.specs.Prelude.{◌≤◌, IfOk};
 
-use crate::*;
 use std::alloc::{AllocError, Global};
 use std::process::Abort;
 use std::test::Fail;
-use th_book::{BookFault, BookKind, MAX_BOOK};
+use th_book::MAX_BOOK;
 use th_devices::{TextSink, TextSource, write_all};
+use th_runs::{Input, Output, Refusal, run_list};
 
 /// A setup on A.
 const SETUP: &[u8] =
@@ -305,29 +305,6 @@ fn a_write_that_fails_leaves_a_beginning(rt: HostRuntime) -> Result<(), Fail> {
     let mut sink = sink_before_run(rt.alloc(), Some(6))?;
     assert_eq!(rt; run_list(rt.alloc(), &mut source, &mut sink), Ok(()));
     assert!(rt; sink.bytes() == LIST);
-    Ok(())
-}
-
-#[test]
-fn each_refusal_has_a_line_and_a_status(rt: HostRuntime) -> Result<(), Fail> {
-    let fault = BookFault {
-        line: 4,
-        kind: BookKind::NoReflectorHeight,
-    };
-    for (refusal, line, status) in [
-        (
-            Refusal::Book(1, fault),
-            "book 1 line 4: B10 no reflector height",
-            2,
-        ),
-        (Refusal::Read(Input::Book(1)), "read failed: book 1", 5),
-        (Refusal::Write(Output::List), "write failed: list", 5),
-        (Refusal::NoMemory, "out of memory", 4),
-    ] {
-        let text = format!(in rt.alloc(); "{refusal}")?;
-        assert!(rt; text.as_str() == line, "{line}");
-        assert_eq!(rt; status_of(&refusal), status, "{line}");
-    }
     Ok(())
 }
 
