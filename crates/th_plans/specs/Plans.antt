@@ -103,12 +103,12 @@ abbrev pub IsPlanOf : List Text → Plan → Type 0
 IsPlanOf words plan.Standard = length words ≤ 1
 IsPlanOf words other = (1 < length words) × AreTaken words × (asked words ≡ said_by other)
 
--- a fault of the words, of which there are more than the program's name: one that `clap` states for them, or `clap` takes them and they name too many books, or
--- ask for nothing. Want of memory may come for any
+-- a fault of the words, of which there are more than the program's name: one that `clap` states for them, or `clap` takes them and they ask for nothing, with too
+-- many books or without. Want of memory may come for any
 abbrev pub IsFaultOf : List Text → PlanFault → Type 0
 IsFaultOf words (Line error) = (1 < length words) × (kind_of error ≢ OutOfMemory) × (IsAmong (kind_of error) (fault_of command_line words)
     ⊎ (AreTaken words × (asked words ≡ None) × (books_named words ≤ max_books)))
-IsFaultOf words TooManyBooks = (1 < length words) × AreTaken words × (max_books < books_named words)
+IsFaultOf words TooManyBooks = (1 < length words) × AreTaken words × (asked words ≡ None) × (max_books < books_named words)
 IsFaultOf words NoMemory = 1 < length words
 
 -- the words are wrong, or ask for help: there are more than the program's name, and `clap` does not take them, or they ask for nothing that the program does

@@ -27,7 +27,8 @@ returns-in-None-clause-err g c =
     let taken = are_taken words _ c.in_ok-command.ensures c.in_ok-matches.ensures.kinds in
     let found = found_is words _ _ c.in_ok-command.ensures c.in_ok-matches.ensures.ok.2 in
     let many = c.if-has_too_many_books.ensures.0 refl in
-    (more, taken, subst (λ (n : ℕ). max_books < n) (books_are words _ found) many)
+    let none = nothing_asked words _ found (search rules) in
+    (more, taken, none, subst (λ (n : ℕ). max_books < n) (books_are words _ found) many)
 
 pub returns-in_err-error-in-None-2-clause-err : goal.returns-in_err-error-in-None-2-clause-err
 returns-in_err-error-in-None-2-clause-err g c =
