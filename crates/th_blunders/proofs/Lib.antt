@@ -1,3 +1,4 @@
 pub mod Numbered
 pub mod LatestOnes
 pub mod PointPlaces
+pub mod CostLemmas

@@ -1,11 +1,12 @@
-//! What an adjusted network shows of its observations: the residuals, which of them are blunders,
-//! and which observations were repeated with the ends exchanged.
+//! What an adjusted network shows of its observations: the residuals, what they cost, which of them
+//! are blunders, and which observations were repeated with the ends exchanged.
 //!
 //! Each list is a function of the observations in their order and, for residuals, of the heights of
 //! the points. Observations are numbered from 1. The time of each call is near the size of its input.
 #![tactic(auto)]
 
-// what heights leave of the observations
+// what heights leave of the observations, and what that costs
+mod costs;
 mod residual;
 
 // which of that is above a limit
@@ -17,5 +18,6 @@ mod pairs;
 mod tests;
 
 pub use blunder::blunders;
+pub use costs::cost;
 pub use pairs::{Opposite, opposites};
 pub use residual::residuals;

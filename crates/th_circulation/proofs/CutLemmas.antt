@@ -34,23 +34,27 @@ one_crosses w f false true heavy out back =
     let turned = times-minus f (pos 0) (pos 1) in
     (omega (arith, ints), λ low. absurd (omega (arith, ints)))
 
-carried_more : (weights : WeightRows) (inside : List ℕ → Bool) (observations : List Observed) (flows : List ℤ) → ((station target : List ℕ) → 1 ≤ weight_of weights station target) → AllZip (LeavesFull inside weights) observations flows → pos 0 ≤ℤ carried (depth inside) observations flows
+-- each observation weighs something
+abbrev pub AreHeavy : WeightRows → List Observed → Type 0
+AreHeavy weights observations = AllByRecursion (λ o. 1 ≤ weight_of weights o.station o.target) observations
+
+carried_more : (weights : WeightRows) (inside : List ℕ → Bool) (observations : List Observed) (flows : List ℤ) → AreHeavy weights observations → AllZip (LeavesFull inside weights) observations flows → pos 0 ≤ℤ carried (depth inside) observations flows
 carried_more weights inside [] [] heavy full = omega (arith, ints)
 carried_more weights inside [] (flow ∷ flows) heavy full = omega (arith, ints)
 carried_more weights inside (o ∷ observations) [] heavy full = omega (arith, ints)
 carried_more weights inside (o ∷ observations) (flow ∷ flows) heavy full =
-    let one = (one_crosses (weight_of weights o.station o.target) flow (inside o.station) (inside o.target) (heavy o.station o.target) full.0.0 full.0.1).0 in
-    let rest = carried_more weights inside observations flows heavy full.1 in
+    let one = (one_crosses (weight_of weights o.station o.target) flow (inside o.station) (inside o.target) heavy.0 full.0.0 full.0.1).0 in
+    let rest = carried_more weights inside observations flows heavy.1 full.1 in
     omega (arith, ints)
 
-none_crosses : (weights : WeightRows) (inside : List ℕ → Bool) (observations : List Observed) (flows : List ℤ) → ((station target : List ℕ) → 1 ≤ weight_of weights station target) → AllZip (LeavesFull inside weights) observations flows → carried (depth inside) observations flows ≤ℤ pos 0 → AllByRecursion (λ o. inside o.station ≡ inside o.target) observations
+none_crosses : (weights : WeightRows) (inside : List ℕ → Bool) (observations : List Observed) (flows : List ℤ) → AreHeavy weights observations → AllZip (LeavesFull inside weights) observations flows → carried (depth inside) observations flows ≤ℤ pos 0 → AllByRecursion (λ o. inside o.station ≡ inside o.target) observations
 none_crosses weights inside [] flows heavy full none = tt
 none_crosses weights inside (o ∷ observations) [] heavy full none = absurd full
 none_crosses weights inside (o ∷ observations) (flow ∷ flows) heavy full none =
-    let one = one_crosses (weight_of weights o.station o.target) flow (inside o.station) (inside o.target) (heavy o.station o.target) full.0.0 full.0.1 in
+    let one = one_crosses (weight_of weights o.station o.target) flow (inside o.station) (inside o.target) heavy.0 full.0.0 full.0.1 in
     let more = one.0 in
-    let rest = carried_more weights inside observations flows heavy full.1 in
-    (one.1 (omega (arith, ints)), none_crosses weights inside observations flows heavy full.1 (omega (arith, ints)))
+    let rest = carried_more weights inside observations flows heavy.1 full.1 in
+    (one.1 (omega (arith, ints)), none_crosses weights inside observations flows heavy.1 full.1 (omega (arith, ints)))
 
 depth_balance : (inside : List ℕ → Bool) (observations : List Observed) (benchmarks : BenchmarkRows) (flows : List ℤ) → ((name : List ℕ) → IsSome (height_of benchmarks name) → inside name ≡ false) → (name : List ℕ) → (height_of benchmarks name ≡ None → arriving observations flows name ≡ leaving observations flows name) → InBalance (depth inside) observations flows name
 depth_balance inside observations benchmarks flows outside name balanced = by (height_of benchmarks name) refl
@@ -60,7 +64,7 @@ depth_balance inside observations benchmarks flows outside name balanced = by (h
     by (Some height) e = inl (ap (λ b. if b then (pos 0 -ℤ pos 1) else pos 0) (outside name (subst IsSome (sym e) refl)))
 
 -- where each crossing flow leaves the inside full and every benchmark is outside, no point inside is tied
-pub untied_where_full : (observations : List Observed) (benchmarks : BenchmarkRows) (weights : WeightRows) (flows : List ℤ) (inside : List ℕ → Bool) → ((station target : List ℕ) → 1 ≤ weight_of weights station target) → Circulation observations benchmarks weights flows → ((name : List ℕ) → IsSome (height_of benchmarks name) → inside name ≡ false) → AllZip (LeavesFull inside weights) observations flows → (point : List ℕ) → inside point ≡ true → ¬ IsTied observations benchmarks point
+pub untied_where_full : (observations : List Observed) (benchmarks : BenchmarkRows) (weights : WeightRows) (flows : List ℤ) (inside : List ℕ → Bool) → AreHeavy weights observations → Circulation observations benchmarks weights flows → ((name : List ℕ) → IsSome (height_of benchmarks name) → inside name ≡ false) → AllZip (LeavesFull inside weights) observations flows → (point : List ℕ) → inside point ≡ true → ¬ IsTied observations benchmarks point
 untied_where_full observations benchmarks weights flows inside heavy circulation outside full =
     let names = points observations benchmarks in
     let u = depth inside in

@@ -28,7 +28,7 @@ onwards w flow o = record { from = o.station; to = o.target; rise = o.difference
 abbrev backwards : ℕ → ℤ → Observed → Bound
 backwards w flow o = record { from = o.target; to = o.station; rise = pos 0 -ℤ o.difference; applies = lt_z (pos 0 -ℤ pos w) flow }
 
-abbrev bounds_of : WeightRows → List Observed → List ℤ → List Bound
+abbrev pub bounds_of : WeightRows → List Observed → List ℤ → List Bound
 bounds_of weights [] flows = []
 bounds_of weights (o ∷ observations) [] = []
 bounds_of weights (o ∷ observations) (flow ∷ flows) = onwards (weight_of weights o.station o.target) flow o ∷ (backwards (weight_of weights o.station o.target) flow o ∷ bounds_of weights observations flows)
@@ -44,7 +44,7 @@ not_above w f r full room = by_lt_z (pos 0) r (λ up. let whole = full.0 up in l
 not_below : (w : ℕ) (f r : ℤ) → IsFull w f r → lt_z (pos 0 -ℤ pos w) f ≡ true → pos 0 ≤ℤ r
 not_below w f r full room = by_lt_z r (pos 0) (λ down. let whole = full.1 down in let less = lt_z-true (pos 0 -ℤ pos w) f room in absurd (omega (arith, ints))) (λ high. high)
 
-kept_of_full : (weights : WeightRows) (x : List ℕ → ℤ) (observations : List Observed) (flows : List ℤ) → AreFull observations weights flows x → KeepsAll x (bounds_of weights observations flows)
+pub kept_of_full : (weights : WeightRows) (x : List ℕ → ℤ) (observations : List Observed) (flows : List ℤ) → AreFull observations weights flows x → KeepsAll x (bounds_of weights observations flows)
 kept_of_full weights x [] [] full = tt
 kept_of_full weights x [] (flow ∷ flows) full = tt
 kept_of_full weights x (o ∷ observations) [] full = tt
@@ -68,7 +68,7 @@ one_full w f r bounded grow shrink = ((λ up. whole up (lt_z f (pos w)) grow (lt
     whole_back down true high less = let h = high refl in absurd (omega (arith, ints))
     whole_back down false high less = let h = less refl in omega (arith, ints)
 
-full_of_kept : (weights : WeightRows) (x : List ℕ → ℤ) (observations : List Observed) (flows : List ℤ) → AllZip (λ o flow. unsigned_abs flow ≤ weight_of weights o.station o.target) observations flows → KeepsAll x (bounds_of weights observations flows) → AreFull observations weights flows x
+pub full_of_kept : (weights : WeightRows) (x : List ℕ → ℤ) (observations : List Observed) (flows : List ℤ) → AllZip (λ o flow. unsigned_abs flow ≤ weight_of weights o.station o.target) observations flows → KeepsAll x (bounds_of weights observations flows) → AreFull observations weights flows x
 full_of_kept weights x [] [] bounded kept = tt
 full_of_kept weights x [] (flow ∷ flows) bounded kept = absurd bounded
 full_of_kept weights x (o ∷ observations) [] bounded kept = absurd bounded
@@ -190,12 +190,12 @@ or_true : (b c : Bool) → c ≡ true → (b || c) ≡ true
 or_true true c e = refl
 or_true false c e = e
 
-all_among : (all names : List (List ℕ)) → ((name : List ℕ) → is_among names name ≡ true → is_among all name ≡ true) → AllByRecursion (λ name. is_among all name ≡ true) names
+pub all_among : (all names : List (List ℕ)) → ((name : List ℕ) → is_among names name ≡ true → is_among all name ≡ true) → AllByRecursion (λ name. is_among all name ≡ true) names
 all_among all [] has = tt
 all_among all (first ∷ names) has = (has first (ap (λ b. b || is_among names first) (bytes_eq_same first)), all_among all names (λ name e. has name (or_true (bytes_eq name first) (is_among names name) e)))
 
 -- the name at a place of a list is among it
-among_at : (names : List (List ℕ)) → All (λ name. is_among names name ≡ true) names
+pub among_at : (names : List (List ℕ)) → All (λ name. is_among names name ≡ true) names
 among_at names = All-from_recursion (λ name. is_among names name ≡ true) names (all_among names names (λ name e. e))
 
 -- ---- the lowest

@@ -20,3 +20,9 @@ pub mod LeastKept
 pub mod ExtremeLemmas
 pub mod WeightLemmas
 pub mod CutLemmas
+pub mod DistanceLemmas
+pub mod NearLemmas
+pub mod ResidualLemmas
+pub mod VertexNumbers
+pub mod TiedLemmas
+pub mod SpanLemmas

@@ -27,18 +27,18 @@ use Rattle.th_circulation.specs.Inside.Flows.{IsFlow, ShowsLinks, arriving, leav
 use Rattle.th_circulation.specs.Inside.Placed.{placed}
 
 -- a benchmark has vertex 0, another point has none of that number
-fixed_vertex : (observations : List Observed) (benchmarks : BenchmarkRows) (name : List ℕ) (height : ℤ) → height_of benchmarks name ≡ Some height → vertex_of observations benchmarks name ≡ 0
+pub fixed_vertex : (observations : List Observed) (benchmarks : BenchmarkRows) (name : List ℕ) (height : ℤ) → height_of benchmarks name ≡ Some height → vertex_of observations benchmarks name ≡ 0
 fixed_vertex observations benchmarks name height e =
     let names = points observations benchmarks in
     ap (λ h. if is_none h then free_before benchmarks names (place_of names name) + 1 else 0) e
 
-free_vertex : (observations : List Observed) (benchmarks : BenchmarkRows) (name : List ℕ) → height_of benchmarks name ≡ None → 0 < vertex_of observations benchmarks name
+pub free_vertex : (observations : List Observed) (benchmarks : BenchmarkRows) (name : List ℕ) → height_of benchmarks name ≡ None → 0 < vertex_of observations benchmarks name
 free_vertex observations benchmarks name e =
     let names = points observations benchmarks in
     let same : vertex_of observations benchmarks name ≡ free_before benchmarks names (place_of names name) + 1 = ap (λ h. if is_none h then free_before benchmarks names (place_of names name) + 1 else 0) e in
     omega arith
 
-same_name : (observations : List Observed) (benchmarks : BenchmarkRows) (name point : List ℕ) → is_among (points observations benchmarks) name ≡ true → (k : ℕ) → slice_get (points observations benchmarks) k ≡ Some point → height_of benchmarks point ≡ None → vertex_of observations benchmarks name ≡ vertex_of observations benchmarks point → name ≡ point
+pub same_name : (observations : List Observed) (benchmarks : BenchmarkRows) (name point : List ℕ) → is_among (points observations benchmarks) name ≡ true → (k : ℕ) → slice_get (points observations benchmarks) k ≡ Some point → height_of benchmarks point ≡ None → vertex_of observations benchmarks name ≡ vertex_of observations benchmarks point → name ≡ point
 same_name observations benchmarks name point among k at free same = by (height_of benchmarks name) refl
   where
     by : (found : Option ℤ) → height_of benchmarks name ≡ found → name ≡ point
@@ -108,7 +108,7 @@ flow_circulates observations benchmarks weights flows flow = record {
 }
 
 -- a name's placed height is the benchmark's part and its vertex's
-placed_parts : (observations : List Observed) (benchmarks : BenchmarkRows) (heights : ℕ → ℤ) (name : List ℕ) → placed observations benchmarks heights name ≡ base benchmarks name +ℤ (heights (vertex_of observations benchmarks name) -ℤ heights 0)
+pub placed_parts : (observations : List Observed) (benchmarks : BenchmarkRows) (heights : ℕ → ℤ) (name : List ℕ) → placed observations benchmarks heights name ≡ base benchmarks name +ℤ (heights (vertex_of observations benchmarks name) -ℤ heights 0)
 placed_parts observations benchmarks heights name = by (height_of benchmarks name) refl
   where
     by : (found : Option ℤ) → height_of benchmarks name ≡ found → unwrap_or found (heights (vertex_of observations benchmarks name) -ℤ heights 0) ≡ unwrap_or found (pos 0) +ℤ (heights (vertex_of observations benchmarks name) -ℤ heights 0)

@@ -22,7 +22,7 @@ use Rattle.th_circulation.proofs.NameLemmas.{flow_circulates, shows_same}
 use Rattle.th_circulation.proofs.PhaseStarts.{first_differences}
 
 -- listed by points, the heights are those that are placed
-listed_placed : (observations : List Observed) (benchmarks : BenchmarkRows) (heights : ℕ → ℤ) (listed : List ℤ) (name : List ℕ) → ArePlaced observations benchmarks heights listed → is_among (points observations benchmarks) name ≡ true → heights_at (points observations benchmarks) listed name ≡ placed observations benchmarks heights name
+pub listed_placed : (observations : List Observed) (benchmarks : BenchmarkRows) (heights : ℕ → ℤ) (listed : List ℤ) (name : List ℕ) → ArePlaced observations benchmarks heights listed → is_among (points observations benchmarks) name ≡ true → heights_at (points observations benchmarks) listed name ≡ placed observations benchmarks heights name
 listed_placed observations benchmarks heights listed name are among =
     let names = points observations benchmarks in
     are (place_of names name) name (at_place_of names name among)

@@ -7,3 +7,6 @@ pub mod Listings
 pub mod Phases
 pub mod Workspaces
 pub mod Cuts
+pub mod Residuals
+pub mod Distances
+pub mod Spans

@@ -13,13 +13,18 @@ mod settling;
 // How flows change.
 mod cancels;
 mod differences;
+mod distances;
 mod graphs;
 mod heights;
 pub mod laws;
 mod limits;
 mod listings;
 mod placed;
+mod residuals;
 mod slots;
+#[cfg(test)]
+mod span_tests;
+mod spanning;
 mod steps;
 #[cfg(test)]
 mod tests;
@@ -27,4 +32,5 @@ mod workspaces;
 
 pub use settled::{Flows, Heights, Settled, Spans};
 pub use settling::settle;
+pub use spanning::spans;
 pub use steps::Steps;

@@ -1,9 +1,32 @@
-//! The texts that runs print, made in memory from observations and networks.
+//! The texts that runs print, made in memory from observations and networks: the list of a book, and
+//! the heights file, the report and the GSI file of an adjustment.
+//!
+//! Each is a function of the observations in their order, the points, the benchmarks, the weights
+//! and the heights. Want of memory is the only refusal.
 #![tactic(auto)]
 
 // The list of a book's observations.
 mod lists;
+
+// The heights of an adjustment, as a table and as blocks.
+mod gsi;
+mod heights;
+
+// The report: what its lines are made of, its parts from the first to the last, and the whole.
+mod columns;
+mod heads;
+mod opposite_lists;
+mod point_tables;
+mod residual_tables;
+// The parts stand on those before them in the report.
+mod reports;
+
+// What holds of the definitions alone.
+pub mod laws;
 #[cfg(test)]
 mod tests;
 
+pub use gsi::heights_gsi;
+pub use heights::heights_csv;
 pub use lists::list_text;
+pub use reports::report_text;

@@ -1,9 +1,7 @@
-use Rattle.std.proofs.Common.{◌≡◌, ◌≢◌, [], ◌⊎◌, refl, subst, Err, ◌+◌, ◌<◌, ℕ, List, length, take, ap, sym, ◌∙◌, inl, inr, if◌then◌else◌, arith, Some, None, IfSome}
-use Rattle.std.proofs.lemmas.Bool.{cases_lt, lt-ltb}
-use Rattle.std.proofs.lemmas.List.{length-take, take_all}
-use Rattle.std.specs.Prelude.{Option, Result, nat_lt}
-use Rattle.th_book.specs.Books.{book_answer, lines_answer, longest_book}
-use Rattle.gsi_block.specs.Lines.{lines_of}
+use Rattle.std.proofs.Common.{◌≡◌, ◌≢◌, [], ◌⊎◌, refl, subst, Err, ◌+◌, ℕ, List, take, sym, ◌∙◌, inl, inr, Some, None, IfSome}
+use Rattle.th_runs.proofs.Fronts.{book_answer-take}
+use Rattle.std.specs.Prelude.{Option, Result}
+use Rattle.th_book.specs.Books.{book_answer, longest_book}
 use Rattle.th_book.specs.Feeds.{FeedState, feed_due}
 use Rattle.th_book.specs.Observed.{Observed}
 use Rattle.th_book.specs.declared.faults.BookFault.{BookFault}
@@ -12,22 +10,6 @@ use Rattle.th_book.specs.declared.faults.BookKind.TheVariants as book_kind
 use Rattle.th_runs.specs.Runs.{IsRefusalOf}
 use Rattle.th_runs.specs.declared.refusals.Refusal.{Refusal}
 use Rattle.th_runs.specs.declared.refusals.Refusal.TheVariants.{Book, NoMemory}
-
--- one byte past the most tells that a text is too long, and a text that is not is its own front
-front_or_refused : {R : Type 0} (most : ℕ) (refused : R) (answer : List ℕ → R) (text : List ℕ)
-    → (if nat_lt most (length (take (most + 1) text)) then refused else answer (take (most + 1) text))
-    ≡ (if nat_lt most (length text) then refused else answer text)
-front_or_refused most refused answer text =
-    elim (cases_lt most (length text)) [
-      | inl long ↦
-          let longer : most < length (take (most + 1) text) = omega (arith, length-take (most + 1) text) in
-          simp (lt-ltb _ _ longer, lt-ltb _ _ long)
-      | inr short ↦ ap (λ (bytes : List ℕ). if nat_lt most (length bytes) then refused else answer bytes) (take_all (most + 1) text (omega arith))
-    ]
-
--- the front of a book, up to one byte more than a book may have, gives what the book gives
-pub book_answer-take : (number : ℕ) (text : List ℕ) → book_answer number (take (longest_book + 1) text) ≡ book_answer number text
-book_answer-take number text = front_or_refused longest_book _ (λ bytes. lines_answer number (lines_of bytes)) text
 
 -- what a feed owes that was fed the front of a text, up to one byte more than a book may have, is what the text gives, where that is told
 pub answer_told : (number : ℕ) (told : Option (List ℕ)) (old new : FeedState) (answer : Result (List Observed) BookFault)

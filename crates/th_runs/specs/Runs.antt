@@ -5,15 +5,10 @@ use Rattle.th_book.specs.declared.faults.BookFault.{BookFault}
 use Rattle.th_book.specs.declared.faults.BookKind.TheVariants as book_kind
 use Rattle.th_report.specs.Lists.{list_text}
 use Rattle.th_devices.specs.Transfer.{HoldsBeginning}
-use Rattle.th_runs.specs.declared.refusals.Input.{Input}
 use Rattle.th_runs.specs.declared.refusals.Input.TheVariants as input
 use Rattle.th_runs.specs.declared.refusals.Output.TheVariants as output
 use Rattle.th_runs.specs.declared.refusals.Refusal.{Refusal}
 use Rattle.th_runs.specs.declared.refusals.Refusal.TheVariants.{Book, Read, Write, NoMemory}
-
--- the most bytes that an input has
-abbrev pub limit_of : Input → ℕ
-limit_of (input.Book number) = longest_book
 
 -- the observations are those of the book with this number, where its text is told
 abbrev pub AreOfBook : ℕ → Option (List ℕ) → List Observed → Type 0
@@ -45,19 +40,14 @@ IsRefusalOf number told (Book own fault) =
 IsRefusalOf number told (Read which) = which ≡ input.Book number
 IsRefusalOf number told (Write which) = which ≡ output.List
 IsRefusalOf number told NoMemory = Unit {0}
+IsRefusalOf number told other = ⊥
 
 -- how many failed reads are behind the answer of a run
 abbrev pub failed_reads : {X : Type 0} → Result X Refusal → ℕ
-failed_reads (Ok done) = 0
-failed_reads (Err (Book number fault)) = 0
 failed_reads (Err (Read which)) = 1
-failed_reads (Err (Write which)) = 0
-failed_reads (Err NoMemory) = 0
+failed_reads other = 0
 
 -- how many failed calls of a sink are behind the answer of a run
 abbrev pub failed_writes : {X : Type 0} → Result X Refusal → ℕ
-failed_writes (Ok done) = 0
-failed_writes (Err (Book number fault)) = 0
-failed_writes (Err (Read which)) = 0
 failed_writes (Err (Write which)) = 1
-failed_writes (Err NoMemory) = 0
+failed_writes other = 0

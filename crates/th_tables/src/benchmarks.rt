@@ -58,6 +58,7 @@ impl Benchmarks {
 /// earlier record has. Want of memory may be answered for a table that is not too long.
 pub fn read_benchmarks(alloc: Global, bytes: &[u8]) -> Result<Benchmarks, TableFault>
     ensures table { IfOk result (λ table. benchmarks_of bytes.now ≡ Ok table) }
+    ensures rows { IfOk result (λ table. AreBenchmarks table) }
     ensures fault { IfErr result (λ fault. (fault ≡ no_memory) ⊎ (benchmarks_of bytes.now ≡ Err fault)) }
     ensures too_long { max_table < length bytes.now → result ≡ Err too_long }
 {
@@ -80,6 +81,7 @@ fn read_rows(
 ) -> Result<Benchmarks, TableFault>
     requires { length reader.records + 2 < 2 ^ 32 }
     ensures table { IfOk result (λ table. rows_after bytes_eq benchmark_in [] reader.entry.records ≡ Ok table) }
+    ensures rows { IfOk result (λ table. AreBenchmarks table) }
     ensures fault { IfErr result (λ fault. (fault ≡ no_memory) ⊎ (rows_after bytes_eq benchmark_in [] reader.entry.records ≡ Err fault)) }
 {
     let mut heights = IndexMap::new(alloc);

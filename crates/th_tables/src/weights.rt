@@ -1,7 +1,7 @@
 ghost use Rattle.std.specs.Prelude.{◌≡◌, ◌⊎◌, ◌<◌, ◌≤◌, ◌^◌, ◌+◌, [], Ok, Err, IfErr, IfOk, length};
 ghost use Rattle.th_tables.specs.Fields.{weighted_in};
 ghost use Rattle.th_tables.specs.Limits.{max_table, max_weight};
-ghost use Rattle.th_tables.specs.Rows.{same_ends, weight_of};
+ghost use Rattle.th_tables.specs.Rows.{AreWeights, same_ends, weight_of};
 ghost use Rattle.th_tables.specs.Tables.{no_memory, rows_after, too_long, weights_of};
 
 use crate::faults::{TableFault, TableKind};
@@ -33,7 +33,8 @@ impl Model for Weights {
 impl Weights {
     /// No weights: each observation weighs 1.
     pub fn empty(alloc: Global) -> Weights
-        ensures { result ≡ [] }
+        ensures none { result ≡ [] }
+        ensures rows { AreWeights result }
     {
         Weights {
             weights: IndexMap::new(alloc),
@@ -57,6 +58,7 @@ impl Weights {
 /// answered for a table that has bytes and is not too long.
 pub fn read_weights(alloc: Global, bytes: &[u8]) -> Result<Weights, TableFault>
     ensures table { IfOk result (λ table. weights_of bytes.now ≡ Ok table) }
+    ensures rows { IfOk result (λ table. AreWeights table) }
     ensures fault { IfErr result (λ fault. (fault ≡ no_memory) ⊎ (weights_of bytes.now ≡ Err fault)) }
     ensures empty { length bytes.now ≡ 0 → result ≡ Ok [] }
     ensures too_long { max_table < length bytes.now → result ≡ Err too_long }
@@ -83,6 +85,7 @@ fn read_rows(
 ) -> Result<Weights, TableFault>
     requires { length reader.records + 2 < 2 ^ 32 }
     ensures table { IfOk result (λ table. rows_after same_ends weighted_in [] reader.entry.records ≡ Ok table) }
+    ensures rows { IfOk result (λ table. AreWeights table) }
     ensures fault { IfErr result (λ fault. (fault ≡ no_memory) ⊎ (rows_after same_ends weighted_in [] reader.entry.records ≡ Err fault)) }
 {
     let mut weights = IndexMap::new(alloc);

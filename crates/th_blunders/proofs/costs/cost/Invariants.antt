@@ -1,0 +1,10 @@
+use Rattle.std.proofs.Common.{◌≡◌, ◌*◌, ◌≤◌, ◌^◌, ℕ, ℤ, List, take}
+use Rattle.th_network.specs.Heights.{cost}
+use Rattle.th_blunders.specs.Residuals.{residuals}
+use Rattle.th_blunders.proofs.costs.cost.Given as goal
+
+abbrev pub invariant-loop-i : goal.invariant-loop-i
+invariant-loop-i l = record {
+  total : (heights : List ℕ → ℤ) → l.residuals ≡ residuals l.network.observations heights → l.total ≡ cost (take l.i l.network.observations) l.network.weights heights;
+  small : l.total ≤ l.i * (1000 * 10 ^ 18);
+}

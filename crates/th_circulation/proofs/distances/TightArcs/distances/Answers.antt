@@ -1,0 +1,20 @@
+use Rattle.std.proofs.Common.{List, ℤ, sym, subst, arith, length, ap}
+use Rattle.th_circulation.specs.Inside.Distances.{AreDistances, AreLabels}
+use Rattle.th_circulation.proofs.DistanceLemmas.{distances_found, first_labels}
+use Rattle.th_circulation.proofs.HeightLemmas.{written}
+use Rattle.th_circulation.proofs.distances.TightArcs.distances.Goals as goal
+use Rattle.std.specs.Prelude.{slice_set, pos}
+
+pub passes-init : goal.passes-init
+passes-init c =
+    let tight = c.args.self.now.tight in
+    subst (λ (labels : List ℤ). AreLabels c.args.self.now.vertices c.args.self.now.arcs.now (slice_set labels 0 (pos 0))) (sym (c.in_ok-labels.ensures.items_if_clones_equal (λ x e. e))) (first_labels _ _ tight)
+
+pub returns : goal.returns
+returns c =
+    let tight = c.args.self.now.tight in
+    let lent = ap (λ (xs : List ℤ). length xs) c.deref_mut.ensures.value in
+    let long = c.deref_mut.ensures.len in
+    let kept = c.lower_all.auto.labels in
+    let is = written c.passes.labels.len c.lower_all.new.labels c.passes.labels.items (omega arith) (omega arith) in
+    subst (AreDistances c.args.self.now.vertices c.args.self.now.arcs.now) (sym is) (distances_found _ _ c.lower_all.new.labels tight c.lower_all.ensures.labels c.passes-test.ensures.lowered)

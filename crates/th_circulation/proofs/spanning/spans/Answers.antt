@@ -1,0 +1,61 @@
+use Rattle.std.proofs.Common.{ℤ, List, length, map, ap, sym, ◌∙◌, subst, arith}
+use Rattle.std.proofs.lemmas.List.{length-map}
+use Rattle.std.proofs.lemmas.Slice.Zip.{AllZip-long}
+use Rattle.std.specs.Prelude.{◌≤◌, unsigned_abs}
+use Rattle.th_book.specs.Observed.{Observed}
+use Rattle.th_tables.specs.Rows.{weight_of}
+use Rattle.th_network.specs.Heights.{heights_at}
+use Rattle.th_network.specs.Links.{link_of}
+use Rattle.th_network.specs.Networks.{points_of, vertices_of}
+use Rattle.th_search.specs.declared.arcs.Arc.{Arc}
+use Rattle.th_circulation.specs.Inside.Distances.{AreTight}
+use Rattle.th_circulation.specs.Inside.Residuals.{turned}
+use Rattle.th_circulation.specs.Inside.Spans.{AreAbove, AreBelow}
+use Rattle.th_circulation.proofs.SpanLemmas.{AreShown, high_found, low_found, shown_tight}
+use Rattle.th_circulation.proofs.TiedLemmas.{arcs_in}
+use Rattle.th_circulation.proofs.spanning.spans.Goals as goal
+
+pub residual_arcs-requires : goal.residual_arcs-requires
+residual_arcs-requires c =
+    let survey = c.args.network.now in
+    let links = length-map survey.observations (link_of survey.observations survey.benchmarks) in
+    let flows = AllZip-long (λ (o : Observed) (flow : ℤ). unsigned_abs flow ≤ weight_of survey.weights o.station o.target) survey.observations c.args.settled.now.flows c.requires.circulation.bounded in
+    let same = ap (λ (xs : List ℤ). length xs) c.as_slice.ensures in
+    omega arith
+
+pub lowest-requires-clause-tight : goal.lowest-requires-clause-tight
+lowest-requires-clause-tight c =
+    let survey = c.args.network.now in
+    let flows = c.args.settled.now.flows in
+    let shown : AreShown survey flows (heights_at (points_of survey) c.args.settled.now.heights) = record { kept = c.requires.benchmarks; circulation = c.requires.circulation; shown = c.requires.shows } in
+    let is = c.in_ok-arcs.ensures.arcs ∙ ap (arcs_in survey) c.as_slice.ensures in
+    let both = shown_tight survey flows (heights_at (points_of survey) c.args.settled.now.heights) c.in_ok-arcs.arcs.items c.points-points.ensures.network c.in_ok-arcs.ensures.heavy shown is c.in_ok-arcs.ensures.ends in
+    subst (AreTight (vertices_of survey)) (sym c.deref-2.ensures.value) both.0
+
+pub highest-requires-clause-tight : goal.highest-requires-clause-tight
+highest-requires-clause-tight c =
+    let survey = c.args.network.now in
+    let flows = c.args.settled.now.flows in
+    let shown : AreShown survey flows (heights_at (points_of survey) c.args.settled.now.heights) = record { kept = c.requires.benchmarks; circulation = c.requires.circulation; shown = c.requires.shows } in
+    let is = c.in_ok-arcs.ensures.arcs ∙ ap (arcs_in survey) c.as_slice.ensures in
+    let both = shown_tight survey flows (heights_at (points_of survey) c.args.settled.now.heights) c.in_ok-arcs.arcs.items c.points-points.ensures.network c.in_ok-arcs.ensures.heavy shown is c.in_ok-arcs.ensures.ends in
+    let back = c.deref-3.ensures.value ∙ c.in_ok-back.ensures ∙ ap (map turned) c.deref.ensures.value in
+    subst (AreTight (vertices_of survey)) (sym back) both.1
+
+pub returns-clause-low : goal.returns-clause-low
+returns-clause-low c =
+    let survey = c.args.network.now in
+    let flows = c.args.settled.now.flows in
+    let known = heights_at (points_of survey) c.args.settled.now.heights in
+    let shown : AreShown survey flows known = record { kept = c.requires.benchmarks; circulation = c.requires.circulation; shown = c.requires.shows } in
+    let is = c.deref-2.ensures.value ∙ c.in_ok-arcs.ensures.arcs ∙ ap (arcs_in survey) c.as_slice.ensures in
+    low_found survey flows known c.in_ok-lowest.field-0 shown (subst (λ (arcs : List Arc). AreBelow survey arcs c.in_ok-lowest.field-0) is c.in_ok-lowest.ensures)
+
+pub returns-clause-high : goal.returns-clause-high
+returns-clause-high c =
+    let survey = c.args.network.now in
+    let flows = c.args.settled.now.flows in
+    let known = heights_at (points_of survey) c.args.settled.now.heights in
+    let shown : AreShown survey flows known = record { kept = c.requires.benchmarks; circulation = c.requires.circulation; shown = c.requires.shows } in
+    let is = c.deref-3.ensures.value ∙ c.in_ok-back.ensures ∙ ap (map turned) (c.deref.ensures.value ∙ c.in_ok-arcs.ensures.arcs ∙ ap (arcs_in survey) c.as_slice.ensures) in
+    high_found survey flows known c.in_ok-highest.field-0 shown (subst (λ (arcs : List Arc). AreAbove survey arcs c.in_ok-highest.field-0) is c.in_ok-highest.ensures)

@@ -1,0 +1,50 @@
+use Rattle.std.specs.Prelude.{◌≡◌, ℕ, ◌-◌, ◌<◌, ◌≤◌, ℤ, pos, ◌+ℤ◌, ◌-ℤ◌, ◌≤ℤ◌, Bool, if◌then◌else◌, List, All, sum_by, unsigned_abs}
+use Rattle.th_search.specs.declared.arcs.Arc.{Arc}
+use Rattle.th_search.specs.Potentials.{value_at}
+use Rattle.th_search.specs.Walks.{IsArc}
+use Rattle.th_circulation.specs.Inside.Graphs.{AreWithin}
+
+-- the size that no distance exceeds: 4,000 arcs of the largest cost
+abbrev pub farthest : ℕ
+farthest = 40000000000000000
+
+-- along the arc the numbers of vertices rise by no more than its cost
+abbrev pub IsKept : (ℕ → ℤ) → Arc → Type 0
+IsKept numbers arc = numbers arc.head ≤ℤ (numbers arc.tail +ℤ arc.cost)
+
+-- numbers of vertices: 0 at vertex 0, and along no arc do they rise by more than its cost
+pub record KeepCosts (arcs : List Arc) (numbers : ℕ → ℤ) : Type 0 where
+  pub start : numbers 0 ≡ pos 0
+  pub along : All (IsKept numbers) arcs
+
+-- the numbers with the other sign
+abbrev pub opposite : (ℕ → ℤ) → ℕ → ℤ
+opposite numbers vertex = pos 0 -ℤ numbers vertex
+
+-- arcs between so many vertices; some numbers keep their costs, and none that do are larger in size than the farthest
+pub record AreTight (vertices : ℕ) (arcs : List Arc) : Type 0 where
+  pub some : 1 ≤ vertices
+  pub few : vertices ≤ 4001
+  pub ends : All (IsArc vertices) arcs
+  pub known : ¬ ((numbers : ℕ → ℤ) → ¬ KeepCosts arcs numbers)
+  pub near : (numbers : ℕ → ℤ) → KeepCosts arcs numbers → (vertex : ℕ) → vertex < vertices → unsigned_abs (numbers vertex) ≤ farthest
+
+-- a label for each vertex, which no numbers that keep the costs exceed
+pub record AreLabels (vertices : ℕ) (arcs : List Arc) (labels : List ℤ) : Type 0 where
+  pub within : AreWithin vertices farthest labels
+  pub start : value_at labels 0 ≤ℤ pos 0
+  pub above : (numbers : ℕ → ℤ) → KeepCosts arcs numbers → (vertex : ℕ) → vertex < vertices → numbers vertex ≤ℤ value_at labels vertex
+
+-- distances from vertex 0: the greatest numbers that keep the costs
+pub record AreDistances (vertices : ℕ) (arcs : List Arc) (distances : List ℤ) : Type 0 where
+  pub within : AreWithin vertices farthest distances
+  pub keep : KeepCosts arcs (value_at distances)
+  pub greatest : (numbers : ℕ → ℤ) → KeepCosts arcs numbers → (vertex : ℕ) → vertex < vertices → numbers vertex ≤ℤ value_at distances vertex
+
+-- how far the labels can still fall
+abbrev pub room : List ℤ → ℕ
+room labels = sum_by (λ label. unsigned_abs (label +ℤ pos farthest)) labels
+
+-- the place that a step comes to, from the front or from the back
+abbrev pub place_at : Bool → ℕ → ℕ → ℕ
+place_at backwards size step = if backwards then size - 1 - step else step

@@ -1,0 +1,20 @@
+use Rattle.std.specs.Prelude.{ℤ, List}
+use Rattle.th_network.specs.Networks.{AreAtPoints, Survey, vertices_of}
+use Rattle.th_search.specs.declared.arcs.Arc.{Arc}
+use Rattle.th_search.specs.Potentials.{value_at}
+use Rattle.th_circulation.specs.Inside.Distances.{AreDistances, opposite}
+use Rattle.th_circulation.specs.Inside.Placed.{ArePlaced}
+
+-- in point order, heights that are as far below the benchmarks as arcs between the vertices are long
+pub record AreBelow (survey : Survey) (arcs : List Arc) (heights : List ℤ) : Type 0 where
+  pub distances : List ℤ
+  pub long : AreDistances (vertices_of survey) arcs distances
+  pub placed : ArePlaced survey.observations survey.benchmarks (opposite (value_at distances)) heights
+  pub points : AreAtPoints survey heights
+
+-- and as far above them
+pub record AreAbove (survey : Survey) (arcs : List Arc) (heights : List ℤ) : Type 0 where
+  pub distances : List ℤ
+  pub long : AreDistances (vertices_of survey) arcs distances
+  pub placed : ArePlaced survey.observations survey.benchmarks (value_at distances) heights
+  pub points : AreAtPoints survey heights

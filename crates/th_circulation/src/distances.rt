@@ -1,0 +1,95 @@
+ghost use Rattle.std.specs.Prelude.{◌≡◌, ◌<◌, ◌+ℤ◌, All, IfOk, MatchBool, length};
+ghost use Rattle.th_circulation.specs.Inside.Distances.{AreDistances, AreLabels, AreTight, IsKept, place_at, room};
+ghost use Rattle.th_search.specs.Potentials.{value_at};
+ghost use Rattle.th_search.specs.Walks.{arc_at};
+
+use std::alloc::{AllocError, Global};
+use th_search::Arc;
+
+/// The size that no distance exceeds: 4,000 arcs of the largest cost.
+const FARTHEST: i64 = 40_000_000_000_000_000;
+
+/// Arcs without a negative cycle that lead from vertex 0 to each vertex, and back.
+#[derive(Clone, Copy)]
+pub(crate) struct TightArcs<'a> {
+    pub vertices: u32,
+    pub arcs: &'a [Arc],
+    ghost tight: { AreTight vertices arcs.now },
+}
+
+impl<'a> TightArcs<'a> {
+    /// The distance of each vertex from vertex 0: the shortest length of the walks to it.
+    ///
+    /// Labels that begin at or above all distances fall along one arc after another until no arc is
+    /// shorter than they say: then they are the distances. Every second pass goes backwards, since the
+    /// order of the arcs often follows the walks.
+    pub fn distances(&self, alloc: Global) -> Result<Vec<i64>, AllocError>
+        ensures { IfOk result (λ distances.
+            AreDistances self.now.vertices self.now.arcs.now distances.items) }
+    {
+        let mut labels = vec![in alloc; FARTHEST; self.vertices as usize]?;
+        labels[0] = 0;
+        let mut backwards = false;
+        'passes: while self.lower_all(backwards, &mut labels) {
+            backwards = !backwards;
+        }
+        Ok(labels)
+    }
+
+    /// Goes over the arcs once, from the front or from the back, and lowers the labels; whether any
+    /// was lowered. Where none was, each arc is as long as they say, or longer.
+    fn lower_all(&self, backwards: bool, labels: &mut [i64]) -> bool
+        requires { AreLabels self.now.vertices self.now.arcs.now labels.old }
+        ensures labels { AreLabels self.now.vertices self.now.arcs.now labels.new }
+        ensures lowered { MatchBool result (room labels.new < room labels.old)
+            (All (IsKept (value_at labels.new)) self.now.arcs.now) }
+    {
+        let mut lowered = false;
+        for step in 0..self.arcs.len() {
+            let number = place(backwards, self.arcs.len(), step);
+            if self.lower(number, labels) {
+                lowered = true;
+            }
+        }
+        lowered
+    }
+
+    /// Lowers the label of an arc's head where the label of its tail and its cost together are lower;
+    /// whether they were.
+    fn lower(&self, number: usize, labels: &mut [i64]) -> bool
+        requires number { number < length self.now.arcs.now }
+        requires labels { AreLabels self.now.vertices self.now.arcs.now labels.old }
+        ensures labels { AreLabels self.now.vertices self.now.arcs.now labels.new }
+        ensures lowered { MatchBool result (room labels.new < room labels.old)
+            ((labels.new ≡ labels.old)
+            × IsKept (value_at labels.old) (arc_at self.now.arcs.now number)) }
+    {
+        let head = self.arcs[number].head as usize;
+        let label = self.label_at_head(number, labels);
+        if label < labels[head] {
+            labels[head] = label;
+            return true;
+        }
+        false
+    }
+
+    /// The label of an arc's tail and its cost together.
+    fn label_at_head(&self, number: usize, labels: &[i64]) -> i64
+        requires number { number < length self.now.arcs.now }
+        requires labels { AreLabels self.now.vertices self.now.arcs.now labels.now }
+        ensures { result ≡ value_at labels.now (arc_at self.now.arcs.now number).tail
+            +ℤ (arc_at self.now.arcs.now number).cost }
+    {
+        let arc = self.arcs[number];
+        labels[arc.tail as usize] + arc.cost
+    }
+}
+
+/// The place that a step comes to, from the front or from the back.
+fn place(backwards: bool, size: usize, step: usize) -> usize
+    requires { step < size }
+    ensures within { result < size }
+    ensures value { result ≡ place_at backwards size step }
+{
+    if backwards { size - 1 - step } else { step }
+}

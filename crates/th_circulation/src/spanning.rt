@@ -1,0 +1,97 @@
+ghost use Rattle.std.specs.Prelude.{◌≡◌, ℕ, IfOk, length};
+ghost use Rattle.th_circulation.specs.Extremes.{High, Low};
+ghost use Rattle.th_circulation.specs.Inside.Distances.{AreTight, farthest, opposite};
+ghost use Rattle.th_circulation.specs.Inside.Graphs.{AreWithin};
+ghost use Rattle.th_circulation.specs.Inside.Spans.{AreAbove, AreBelow};
+ghost use Rattle.th_network.specs.Circulation.{Circulation, Shows};
+ghost use Rattle.th_network.specs.Heights.{IsHeights, heights_at};
+ghost use Rattle.th_network.specs.Networks.{AreAtPoints, points_of, vertices_of};
+ghost use Rattle.th_search.specs.Potentials.{value_at};
+
+use crate::distances::TightArcs;
+use crate::heights::raise;
+use crate::placed::place;
+use crate::residuals::{residual_arcs, turned};
+use crate::settled::{Heights, Settled, Spans};
+use std::alloc::{AllocError, Global};
+use th_network::Network;
+use th_search::Arc;
+
+/// Finds the lowest and the highest heights that cost least, from flows that show some that do.
+///
+/// The flows show all heights that cost least, and no others: those that rise along no residual arc by
+/// less than its difference. So the lowest height of a point is as far below the benchmarks as the
+/// shortest walk of residual arcs from them is long, and the highest as far above as the shortest walk
+/// back to them is.
+pub fn spans(alloc: Global, network: &Network, settled: &Settled) -> Result<Spans, AllocError>
+    requires benchmarks { IsHeights network.now.benchmarks
+        (heights_at (points_of network.now) settled.now.heights) }
+    requires circulation { Circulation network.now.observations network.now.benchmarks
+        network.now.weights settled.now.flows }
+    requires shows { Shows network.now.observations network.now.weights settled.now.flows
+        (heights_at (points_of network.now) settled.now.heights) }
+    requires each { length settled.now.heights ≡ length (points_of network.now) }
+    ensures low { IfOk result (λ spans. Low network.now.observations network.now.benchmarks
+        network.now.weights (heights_at (points_of network.now) spans.low)) }
+    ensures high { IfOk result (λ spans. High network.now.observations network.now.benchmarks
+        network.now.weights (heights_at (points_of network.now) spans.high)) }
+    ensures low_at_points { IfOk result (λ spans. AreAtPoints network.now spans.low) }
+    ensures high_at_points { IfOk result (λ spans. AreAtPoints network.now spans.high) }
+{
+    let points = network.points();
+    let low = vec![in alloc; 0i64; points.len()]?;
+    let high = vec![in alloc; 0i64; points.len()]?;
+    let arcs = residual_arcs(alloc, network, settled.flows.as_slice())?;
+    let back = turned(alloc, &arcs)?;
+    Ok(Spans {
+        low: lowest(alloc, network, &arcs, low)?,
+        high: highest(alloc, network, &back, high)?,
+    })
+}
+
+/// Lists the height of each point where each vertex is as far below vertex 0 as it is distant.
+fn lowest(
+    alloc: Global,
+    network: &Network,
+    arcs: &[Arc],
+    mut listed: Vec<i64>,
+) -> Result<Heights, AllocError>
+    requires tight { AreTight (vertices_of network.now) arcs.now }
+    requires each { length listed.items ≡ length (points_of network.now) }
+    ensures { IfOk result (λ heights. AreBelow network.now arcs.now heights) }
+{
+    let vertices = network.vertices();
+    let distances = TightArcs { vertices, arcs }.distances(alloc)?;
+    let heights = opposites(alloc, &distances, vertices)?;
+    place(network, &heights, &mut listed);
+    Ok(Heights::new(listed))
+}
+
+/// The distances with the other sign.
+fn opposites(alloc: Global, distances: &[i64], vertices: u32) -> Result<Vec<i64>, AllocError>
+    requires { AreWithin vertices farthest distances.now }
+    ensures each { IfOk result (λ heights. (v : ℕ)
+        → value_at heights.items v ≡ opposite (value_at distances.now) v) }
+    ensures within { IfOk result (λ heights. AreWithin vertices 40002500000000000 heights.items) }
+{
+    let mut heights = vec![in alloc; 0i64; vertices as usize]?;
+    raise(&mut heights, distances, vertices);
+    Ok(heights)
+}
+
+/// Lists the height of each point where each vertex is as far above vertex 0 as it is distant.
+fn highest(
+    alloc: Global,
+    network: &Network,
+    arcs: &[Arc],
+    mut listed: Vec<i64>,
+) -> Result<Heights, AllocError>
+    requires tight { AreTight (vertices_of network.now) arcs.now }
+    requires each { length listed.items ≡ length (points_of network.now) }
+    ensures { IfOk result (λ heights. AreAbove network.now arcs.now heights) }
+{
+    let vertices = network.vertices();
+    let distances = TightArcs { vertices, arcs }.distances(alloc)?;
+    place(network, &distances, &mut listed);
+    Ok(Heights::new(listed))
+}

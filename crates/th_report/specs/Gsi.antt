@@ -1,0 +1,46 @@
+-- Heights as GSI-16 blocks.
+use Rattle.std.specs.Prelude.{ℕ, ℤ, ◌+◌, ◌-◌, ◌/◌, ◌==◌, ◌&&◌, not, Bool, false, List, [], ◌∷◌, ◌++◌, codes, length, replicate, unsigned_abs}
+use Rattle.std.specs.Int.{is_negative}
+use Rattle.std.specs.List.{enumerate_from, flat_map}
+use Rattle.th_units.specs.Metres.{last_digits}
+use Rattle.gsi_word.specs.Words.{Parts, parts}
+use Rattle.gsi_word.specs.declared.words.Width.TheVariants.{Sixteen}
+use Rattle.gsi_block.specs.Blocks.{BlockParts}
+use Rattle.gsi_block.specs.Writing.{block_text}
+use Rattle.th_network.specs.Networks.{Survey, points_of}
+
+-- a name with zeros before it, 16 bytes in all: the data of a word 11 of GSI-16
+abbrev pub padded_name : List ℕ → List ℕ
+padded_name name = replicate (16 - length name) 48 ++ name
+
+-- the word 11 of a point: its number in four digits, and its name
+unfoldable pub number_word : ℕ → List ℕ → Parts
+number_word number name = parts 11 (last_digits 4 number) false (padded_name name)
+
+-- the size of a height in 1/100 mm, to the nearest, and at the half upwards
+abbrev pub hundredths : ℤ → ℕ
+hundredths height = (unsigned_abs height + 500) / 1000
+
+-- a height below zero that is not rounded to zero
+abbrev pub has_minus : ℤ → Bool
+has_minus height = is_negative height && not (hundredths height == 0)
+
+-- the word 83 of a height: calculated (mode 4), in units of 1/100 mm (unit 8), and 16 digits
+unfoldable pub height_word : ℤ → Parts
+height_word height = parts 83 (codes "..48") (has_minus height) (last_digits 16 (hundredths height))
+
+-- the block of a point
+abbrev pub point_block : ℕ → List ℕ → ℤ → BlockParts
+point_block number name height = record { width = Sixteen; words = number_word number name ∷ height_word height ∷ [] }
+
+-- the line of a point: its block, CR and LF
+abbrev pub point_text : ℕ → List ℕ → ℤ → List ℕ
+point_text number name height = block_text (point_block number name height)
+
+-- the line of a numbered name
+unfoldable pub text_of_point : (List ℕ → ℤ) → ℕ × List ℕ → List ℕ
+text_of_point heights (number, name) = point_text number name (heights name)
+
+-- the text: a line for each point, in point order, numbered from 1
+abbrev pub gsi_text : Survey → (List ℕ → ℤ) → List ℕ
+gsi_text survey heights = flat_map (text_of_point heights) (enumerate_from 1 (points_of survey))

@@ -1,0 +1,22 @@
+-- The file of heights.
+use Rattle.std.specs.Prelude.{ℕ, ℤ, List, [], ◌∷◌, codes, map}
+use Rattle.th_units.specs.Metres.{metres}
+use Rattle.th_csv.specs.Records.{Fields}
+use Rattle.th_csv.specs.Texts.{csv_text}
+use Rattle.th_network.specs.Networks.{Survey, points_of}
+
+-- the names of the fields
+abbrev pub heights_header : Fields
+heights_header = codes "point" ∷ codes "height" ∷ codes "low" ∷ codes "high" ∷ []
+
+-- the fields of a point: its name, its height, which is the lowest best one, the lowest and the highest best height, in metres
+abbrev pub height_fields : List ℕ → ℤ → ℤ → Fields
+height_fields name low high = name ∷ metres low ∷ metres low ∷ metres high ∷ []
+
+-- the record of a point
+abbrev pub height_record : (List ℕ → ℤ) → (List ℕ → ℤ) → List ℕ → Fields
+height_record low high name = height_fields name (low name) (high name)
+
+-- the text: the names of the fields, and then a record for each point, in point order
+abbrev pub heights_text : Survey → (List ℕ → ℤ) → (List ℕ → ℤ) → List ℕ
+heights_text survey low high = csv_text (heights_header ∷ map (height_record low high) (points_of survey))

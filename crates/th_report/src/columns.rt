@@ -1,0 +1,106 @@
+//! Text that grows, column by column and line by line.
+ghost use Rattle.std.specs.Prelude.{◌≡◌, ◌++◌, [], OnOk, decimal, replicate};
+ghost use Rattle.th_units.specs.Metres.{metres};
+ghost use Rattle.th_report.specs.Columns.{gap, left_in, line_end, right_in};
+
+use itoa::Buffer;
+use std::alloc::{AllocError, Global};
+use std::marker::Model;
+use th_units::metre_text;
+
+/// A text to which columns and line ends are added.
+#[derive(Drop)]
+pub(crate) struct Page {
+    bytes: Vec<u8>,
+}
+
+impl Model for Page {
+    ghost use Rattle.std.specs.Prelude.{List, ℕ};
+
+    ghost Value = { List ℕ };
+
+    ghost view = { λ page. page.bytes.items };
+}
+
+impl Page {
+    /// An empty text.
+    pub(crate) fn new(alloc: Global) -> Page
+        ensures { result ≡ [] }
+    {
+        Page {
+            bytes: Vec::new(alloc),
+        }
+    }
+
+    /// The text.
+    pub(crate) fn into_bytes(self) -> Vec<u8>
+        ensures { result.items ≡ self }
+    {
+        self.bytes
+    }
+
+    /// Adds bytes.
+    pub(crate) fn add(&mut self, bytes: &[u8]) -> Result<(), AllocError>
+        ensures { OnOk result (self.new ≡ self.old ++ bytes.now) }
+    {
+        self.bytes.extend_from_slice(bytes)
+    }
+
+    /// Adds spaces.
+    fn add_spaces(&mut self, count: usize) -> Result<(), AllocError>
+        ensures { OnOk result (self.new ≡ self.old ++ replicate count 32) }
+    {
+        for _ in 0..count {
+            self.bytes.push(b' ')?;
+        }
+        Ok(())
+    }
+
+    /// Adds a text with spaces after it, `width` bytes in all.
+    #[tactic(auto, unfolding(crate::specs::Columns::left_in))]
+    pub(crate) fn left(&mut self, width: usize, text: &[u8]) -> Result<(), AllocError>
+        ensures { OnOk result (self.new ≡ self.old ++ left_in width text.now) }
+    {
+        self.add(text)?;
+        self.add_spaces(width.saturating_sub(text.len()))
+    }
+
+    /// Adds a text with spaces before it, `width` bytes in all.
+    #[tactic(auto, unfolding(crate::specs::Columns::right_in))]
+    pub(crate) fn right(&mut self, width: usize, text: &[u8]) -> Result<(), AllocError>
+        ensures { OnOk result (self.new ≡ self.old ++ right_in width text.now) }
+    {
+        self.add_spaces(width.saturating_sub(text.len()))?;
+        self.add(text)
+    }
+
+    /// Adds a number with spaces before it, `width` bytes in all.
+    pub(crate) fn right_number(&mut self, width: usize, number: u64) -> Result<(), AllocError>
+        ensures { OnOk result (self.new ≡ self.old ++ right_in width (decimal number)) }
+    {
+        let mut digits = Buffer::new();
+        self.right(width, digits.format(number).as_bytes())
+    }
+
+    /// Adds a length in metres with spaces before it, `width` bytes in all.
+    pub(crate) fn right_metres(&mut self, width: usize, units: i64) -> Result<(), AllocError>
+        ensures { OnOk result (self.new ≡ self.old ++ right_in width (metres units)) }
+    {
+        let text = metre_text(units);
+        self.right(width, text.as_bytes())
+    }
+
+    /// Adds the two spaces between neighbouring columns.
+    pub(crate) fn gap(&mut self) -> Result<(), AllocError>
+        ensures { OnOk result (self.new ≡ self.old ++ gap) }
+    {
+        self.add(b"  ")
+    }
+
+    /// Ends the line.
+    pub(crate) fn end_line(&mut self) -> Result<(), AllocError>
+        ensures { OnOk result (self.new ≡ self.old ++ line_end) }
+    {
+        self.add(b"\n")
+    }
+}

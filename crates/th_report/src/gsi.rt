@@ -1,0 +1,135 @@
+//! Heights as GSI-16 blocks.
+ghost use Rattle.std.specs.Prelude.{◌≡◌, ◌<◌, ◌∷◌, ◌++◌, [], IfOk, OnOk, codes, false, true, unsigned_abs};
+ghost use Rattle.std.specs.List.{list_all};
+ghost use Rattle.gsi_block.specs.Blocks.{block_parts};
+ghost use Rattle.gsi_word.specs.Bytes.{is_data};
+ghost use Rattle.gsi_word.specs.Words.{Spells, parts, parts_of, spelling_of};
+ghost use Rattle.gsi_word.specs.declared.words.Width.TheVariants.{Sixteen};
+ghost use Rattle.th_network.specs.Limits.{height_limit};
+ghost use Rattle.th_network.specs.Heights.{heights_at};
+ghost use Rattle.th_network.specs.Networks.{AreAtPoints, points_of};
+ghost use Rattle.th_units.specs.Metres.{last_digits};
+ghost use Rattle.th_report.specs.Gsi.{gsi_text, has_minus, hundredths, padded_name, point_text};
+
+use gsi_block::{Block, write_block};
+use gsi_word::{Name, Word};
+use std::alloc::{AllocError, Global};
+use th_network::Network;
+
+/// The heights of a network, which are listed in point order and in units of 10 nm, as a GSI-16
+/// block for each point: a word 11 with the point's number from 1 and its name, and a word 83 with
+/// the height in 1/100 mm, rounded to the nearest, and at the half away from zero.
+///
+/// The name is read back from its word; no height is written as minus zero.
+pub fn heights_gsi(alloc: Global, network: &Network, heights: &[i64]) -> Result<Vec<u8>, AllocError>
+    requires { AreAtPoints network.now heights.now }
+    ensures { IfOk result (λ text. text.items ≡ gsi_text network.now
+        (heights_at (points_of network.now) heights.now)) }
+{
+    let mut text = Vec::new(alloc);
+    for (k, name) in network.points().iter().enumerate() {
+        write_point(&mut text, k as u64 + 1, name, heights[k])?;
+    }
+    Ok(text)
+}
+
+/// Appends the line of a point.
+fn write_point(text: &mut Vec<u8>, number: u64, name: &Name, height: i64) -> Result<(), AllocError>
+    requires { unsigned_abs height < height_limit }
+    ensures { OnOk result (text.new.items ≡ text.old.items ++ point_text number name.now height) }
+{
+    let padded = padded_name(name);
+    let digits = last_digits(hundredths(height));
+    let block = block_of(
+        &number_word(number, &padded),
+        &height_word(has_minus(height), &digits),
+    );
+    write_block(&block, text)
+}
+
+/// The block of two words of GSI-16.
+fn block_of<'a>(first: &Word<'a>, second: &Word<'a>) -> Block<'a>
+    requires first { Spells (parts_of first.now) (spelling_of (parts_of first.now)) Sixteen }
+    requires second { Spells (parts_of second.now) (spelling_of (parts_of second.now)) Sixteen }
+    ensures { block_parts result ≡ record {
+      width = Sixteen;
+      words = parts_of first.now ∷ parts_of second.now ∷ [];
+    } }
+{
+    match Block::of(&[*first, *second]) {
+        Some(block) => block,
+        None => unreachable!(),
+    }
+}
+
+/// The word with these parts, which is spelled in GSI-16.
+fn word_of<'a>(index: u8, info: [u8; 4], negative: bool, body: &'a [u8]) -> Word<'a>
+    requires { let word = parts index info negative body.now in
+        Spells word (spelling_of word) Sixteen }
+    ensures parts { parts_of result ≡ parts index info negative body.now }
+    ensures spelled { Spells (parts_of result) (spelling_of (parts_of result)) Sixteen }
+{
+    match Word::new(index, info, negative, body) {
+        Some(word) => word,
+        None => unreachable!(),
+    }
+}
+
+/// The word 11 of a point's number and of its name in 16 bytes.
+fn number_word<'a>(number: u64, name: &'a [u8; 16]) -> Word<'a>
+    requires { list_all is_data name.now ≡ true }
+    ensures parts { parts_of result ≡ parts 11 (last_digits 4 number) false name.now }
+    ensures spelled { Spells (parts_of result) (spelling_of (parts_of result)) Sixteen }
+{
+    word_of(11, last_digits(number), false, name)
+}
+
+/// The word 83 of a height in 1/100 mm.
+fn height_word<'a>(negative: bool, digits: &'a [u8; 16]) -> Word<'a>
+    requires { list_all is_data digits.now ≡ true }
+    ensures parts { parts_of result ≡ parts 83 (codes "..48") negative digits.now }
+    ensures spelled { Spells (parts_of result) (spelling_of (parts_of result)) Sixteen }
+{
+    word_of(83, *b"..48", negative, digits)
+}
+
+/// A name with zeros before it, in the data of a word.
+fn padded_name(name: &Name) -> [u8; 16]
+    ensures value { result ≡ padded_name name.now }
+    ensures data { list_all is_data result ≡ true }
+{
+    let bytes = name.as_bytes();
+    let mut data = [b'0'; 16];
+    data[16 - bytes.len()..].copy_from_slice(bytes);
+    data
+}
+
+/// The last `N` digits of a number, with zeros before a shorter number.
+fn last_digits<const N: usize>(number: u64) -> [u8; N]
+    ensures value { result ≡ last_digits N number }
+    ensures data { list_all is_data result ≡ true }
+{
+    let mut digits = [b'0'; N];
+    let mut rest = number;
+    for count in 0..N {
+        digits[N - 1 - count] = b'0' + (rest % 10) as u8;
+        rest /= 10;
+    }
+    digits
+}
+
+/// The size of a height in 1/100 mm.
+fn hundredths(height: i64) -> u64
+    requires { unsigned_abs height < height_limit }
+    ensures { result ≡ hundredths height }
+{
+    (height.unsigned_abs() + 500) / 1000
+}
+
+/// Whether a height is below zero and is not rounded to zero.
+fn has_minus(height: i64) -> bool
+    requires { unsigned_abs height < height_limit }
+    ensures { result ≡ has_minus height }
+{
+    height < 0 && hundredths(height) != 0
+}

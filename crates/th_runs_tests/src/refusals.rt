@@ -1,0 +1,109 @@
+//! The line of each refusal, and its status.
+use gsi_word::name_of;
+use std::process::Abort;
+use th_book::{BookFault, BookKind};
+use th_certificate::{CertFault, CertKind};
+use th_checker::{Reason, Verdict};
+use th_network::NetFault;
+use th_runs::{Input, Output, Refusal, status_of, status_of_verdict};
+use th_tables::{TableFault, TableKind};
+
+/// Refusals, their lines, and their statuses.
+const ROWS: [(Refusal, &str, u8); 18] = [
+    (
+        Refusal::Book(
+            1,
+            BookFault {
+                line: 4,
+                kind: BookKind::NoReflectorHeight,
+            },
+        ),
+        "book 1 line 4: B10 no reflector height",
+        2,
+    ),
+    (
+        Refusal::Benchmarks(TableFault {
+            row: 3,
+            kind: TableKind::Repeated,
+        }),
+        "benchmarks record 3: E6 repeated",
+        2,
+    ),
+    (
+        Refusal::Benchmarks(TableFault {
+            row: 0,
+            kind: TableKind::TableTooLong,
+        }),
+        "benchmarks record 0: E7 table too long",
+        2,
+    ),
+    (
+        Refusal::Weights(TableFault {
+            row: 2,
+            kind: TableKind::BadWeight,
+        }),
+        "weights record 2: E5 bad weight",
+        2,
+    ),
+    (
+        Refusal::Network(NetFault::TooManyObservations),
+        "network: N1 too many observations",
+        2,
+    ),
+    (
+        Refusal::Network(NetFault::TooManyPoints),
+        "network: N2 too many points",
+        2,
+    ),
+    (
+        Refusal::Certificate(CertFault {
+            row: 10,
+            kind: CertKind::Truncated,
+        }),
+        "certificate record 10: C7 truncated",
+        2,
+    ),
+    (Refusal::Read(Input::Book(1)), "read failed: book 1", 5),
+    (
+        Refusal::Read(Input::Benchmarks),
+        "read failed: benchmarks",
+        5,
+    ),
+    (Refusal::Read(Input::Weights), "read failed: weights", 5),
+    (
+        Refusal::Read(Input::Certificate),
+        "read failed: certificate",
+        5,
+    ),
+    (Refusal::Write(Output::List), "write failed: list", 5),
+    (Refusal::Write(Output::Heights), "write failed: heights", 5),
+    (
+        Refusal::Write(Output::Certificate),
+        "write failed: certificate",
+        5,
+    ),
+    (Refusal::Write(Output::Report), "write failed: report", 5),
+    (Refusal::Write(Output::Gsi), "write failed: gsi", 5),
+    (Refusal::Write(Output::Verdict), "write failed: verdict", 5),
+    (Refusal::NoMemory, "out of memory", 4),
+];
+
+#[test]
+fn each_refusal_has_a_line_and_a_status(rt: HostRuntime) {
+    for (refusal, line, status) in ROWS {
+        let text = format!(in rt.alloc(); "{refusal}").expect(&rt, "memory");
+        assert!(rt; text.as_str() == line, "{line}");
+        assert_eq!(rt; status_of(&refusal), status, "{line}");
+    }
+    let name = name_of(b"A").expect(&rt, "a name");
+    let refusal = Refusal::Network(NetFault::NoBenchmark(name));
+    let text = format!(in rt.alloc(); "{refusal}").expect(&rt, "memory");
+    assert!(rt; text.as_str() == "network: N3 no benchmark for A");
+    assert_eq!(rt; status_of(&refusal), 2);
+}
+
+#[test]
+fn each_verdict_has_a_status(rt: HostRuntime) {
+    assert_eq!(rt; status_of_verdict(&Verdict::Yes), 0);
+    assert_eq!(rt; status_of_verdict(&Verdict::No(Reason::WrongCost)), 1);
+}
