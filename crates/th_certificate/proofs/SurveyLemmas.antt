@@ -1,5 +1,5 @@
 -- What holds of the points and the cost of a network.
-use Rattle.std.proofs.Common.{◌≡◌, ◌<◌, ◌≤◌, ◌+◌, ◌*◌, ℕ, ℤ, pos, ◌-ℤ◌, Bool, true, false, not, cond, ◌||◌, List, [], ◌∷◌, ◌++◌, length, map, filter, Option, Some, None, All, IfSome, bytes_eq, unsigned_abs, unwrap_or, refl, sym, ap, subst, ◌∙◌, arith}
+use Rattle.std.proofs.Common.{◌≡◌, ◌<◌, ◌≤◌, ◌*◌, ℕ, ℤ, ◌-ℤ◌, Bool, true, false, not, cond, ◌||◌, List, [], ◌∷◌, ◌++◌, map, filter, Option, Some, None, IfSome, bytes_eq, unsigned_abs, unwrap_or, refl, sym, subst, arith}
 use Rattle.std.specs.List.{AllByRecursion, IsDistinct, list_any}
 use Rattle.std.specs.Map.{lookup}
 use Rattle.std.proofs.Math.Nat.{mul-le-mul}
@@ -11,7 +11,6 @@ use Rattle.std.proofs.lemmas.Map.Keys.{IsDistinct-cons, IsDistinct-head, IsDisti
 use Rattle.std.proofs.lemmas.Slice.Eq.{bytes_eq-Decides}
 use Rattle.th_book.specs.Observed.{IsBetweenPoints, Observed}
 use Rattle.th_tables.specs.Rows.{AreWeights, BenchmarkRows, WeightRows, same_ends, weight_of}
-use Rattle.th_network.specs.Heights.{cost, residual}
 use Rattle.th_network.specs.Networks.{AreInRange, Survey, points_of}
 use Rattle.th_points.specs.Points.{distinct, ends, points}
 use Rattle.th_points.proofs.PointLemmas.{EndsAmong, ends_are_points}
