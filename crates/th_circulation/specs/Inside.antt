@@ -2,6 +2,7 @@
 pub mod Residuals
 pub mod Distances
 pub mod Spans
+pub mod Spreading
 pub mod Flows
 pub mod Cycles
 pub mod Placed

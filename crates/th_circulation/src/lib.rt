@@ -16,6 +16,7 @@ mod residuals;
 #[cfg(test)]
 mod span_tests;
 mod spanning;
+mod spreading;
 
 // How flows change.
 mod cancels;
