@@ -4,6 +4,7 @@ pub mod Cycles
 pub mod Placed
 pub mod Graphs
 pub mod Residuals
+pub mod Spreading
 pub mod Distances
 pub mod Spans
 pub mod Listings

@@ -36,6 +36,7 @@ mod views;
 mod distances;
 mod residuals;
 mod spanning;
+mod spreading;
 
 // What holds of the definitions alone.
 pub mod laws;
