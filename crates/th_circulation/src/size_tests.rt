@@ -57,6 +57,8 @@ fn settles(alloc: Global, rt: &impl Abort, book: &[u8], gain: i128, steps: u128)
 
 /// What the flows gain where a network is settled by halves from the start.
 fn gain_by_halves(alloc: Global, network: &Network) -> Result<i128, AllocError> {
+    // Its contract tells that a network is lawful, as `Graph::of` asks.
+    let _ = network.points();
     let weights = list_weights(alloc, network)?;
     gain_of_halves(alloc, &*network, &weights)
 }
