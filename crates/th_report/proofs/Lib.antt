@@ -1,1 +1,5 @@
 pub mod ListLemmas
+pub mod RowLemmas
+pub mod ResidualLemmas
+pub mod NameLemmas
+pub mod WordLemmas

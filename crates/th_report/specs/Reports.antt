@@ -25,15 +25,21 @@ is_benchmark survey name = is_some (height_of survey.benchmarks name)
 abbrev pub benchmark_count : Survey → ℕ
 benchmark_count survey = count_by (is_benchmark survey) (points_of survey)
 
--- the title, and what the adjustment is in numbers
-unfoldable pub head_lines : Survey → ℕ → ℤ → List ℕ
-head_lines survey cost limit =
-    codes "HEIGHT NETWORK REPORT" ++ line_end
-    ++ label_line (codes "points") (decimal (length (points_of survey)))
+-- the title
+unfoldable pub title_line : List ℕ
+title_line = codes "HEIGHT NETWORK REPORT" ++ line_end
+
+-- the counts of points, benchmarks and observations
+unfoldable pub count_lines : Survey → List ℕ
+count_lines survey =
+    label_line (codes "points") (decimal (length (points_of survey)))
     ++ label_line (codes "benchmarks") (decimal (benchmark_count survey))
     ++ label_line (codes "observations") (decimal (length survey.observations))
-    ++ label_line (codes "cost") (decimal cost)
-    ++ label_line (codes "blunder limit") (metres limit)
+
+-- the title, and what was adjusted in numbers: the counts, the cost in units of 10 nm, and the limit in metres
+unfoldable pub head_lines : Survey → ℕ → ℤ → List ℕ
+head_lines survey cost limit =
+    title_line ++ count_lines survey ++ label_line (codes "cost") (decimal cost) ++ label_line (codes "blunder limit") (metres limit)
 
 -- the columns of points: a name, a height, and a mark
 unfoldable pub point_columns : List ℕ → List ℕ → List ℕ → List ℕ
@@ -67,15 +73,24 @@ residual_columns weight residual mark = right_in 4 weight ++ gap ++ right_in 20 
 abbrev pub blunder_mark : Bool → List ℕ
 blunder_mark is_one = if is_one then codes "  *" else []
 
--- the line of an observation: its number, from 1, its weight and its residual beside it
+-- which observation it is
+unfoldable pub place_of : ℕ → Observed → List ℕ
+place_of number o = place_columns (decimal number) (decimal o.book) (decimal o.line)
+
+-- its ends
+unfoldable pub ends_of : Observed → List ℕ
+ends_of o = end_columns o.station o.target
+
+-- its weight and its residual, with the mark of a blunder
+unfoldable pub residual_of : ℤ → ℕ → ℤ → List ℕ
+residual_of limit weight residual = residual_columns (decimal weight) (metres residual) (blunder_mark (is_blunder limit residual))
+
+-- the line of an observation with its number, from 1, its weight and its residual
 unfoldable pub residual_line : ℤ → ℕ → Observed → ℕ → ℤ → List ℕ
-residual_line limit number o weight residual =
-    place_columns (decimal number) (decimal o.book) (decimal o.line)
-    ++ end_columns o.station o.target
-    ++ residual_columns (decimal weight) (metres residual) (blunder_mark (is_blunder limit residual))
+residual_line limit number o weight residual = place_of number o ++ ends_of o ++ residual_of limit weight residual
 
 -- the same, with the weight of the survey
-abbrev pub line_in : Survey → ℤ → ℕ × (Observed × ℤ) → List ℕ
+unfoldable pub line_in : Survey → ℤ → ℕ × (Observed × ℤ) → List ℕ
 line_in survey limit (number, (o, residual)) = residual_line limit number o (weight_of survey.weights o.station o.target) residual
 
 -- the observations, each with its residual and numbered from 1
@@ -94,17 +109,23 @@ unfoldable pub residual_lines : Survey → List ℤ → ℤ → List ℕ
 residual_lines survey residuals limit =
     residual_header ++ flat_map (line_in survey limit) (residual_rows survey residuals)
 
+-- those that are blunders
+abbrev pub blunder_rows : Survey → List ℤ → ℤ → List (ℕ × (Observed × ℤ))
+blunder_rows survey residuals limit = filter (λ row. is_blunder limit row.1.1) (residual_rows survey residuals)
+
 -- how many blunders there are, and the lines of the table of residuals that are theirs
 unfoldable pub blunder_lines : Survey → List ℤ → ℤ → List ℕ
 blunder_lines survey residuals limit =
     label_line (codes "blunders") (decimal (length (blunders limit residuals)))
-    ++ flat_map (line_in survey limit) (filter (λ row. is_blunder limit row.1.1) (residual_rows survey residuals))
+    ++ flat_map (line_in survey limit) (blunder_rows survey residuals limit)
 
--- the columns of opposites: a number, the earlier one's number, the ends of the later observation, and the sum of the differences
+-- the numbers of an observation and of its opposite, the earlier one
+unfoldable pub number_columns : Opposite → List ℕ
+number_columns opposite = right_in 5 (decimal opposite.number) ++ gap ++ right_in 5 (decimal opposite.earlier) ++ gap
+
+-- the numbers, the ends of the later observation, and the sum of the two differences
 unfoldable pub opposite_columns : Opposite → Observed → List ℕ
-opposite_columns opposite later =
-    right_in 5 (decimal opposite.number) ++ gap ++ right_in 5 (decimal opposite.earlier) ++ gap
-    ++ end_columns later.station later.target ++ right_in 20 (metres opposite.sum) ++ line_end
+opposite_columns opposite later = number_columns opposite ++ ends_of later ++ right_in 20 (metres opposite.sum) ++ line_end
 
 -- the line of an observation with its opposite: the observation is the one that has the number, from 1
 unfoldable pub opposite_line : List Observed → Opposite → List ℕ
@@ -116,13 +137,19 @@ opposite_lines observations =
     label_line (codes "opposites") (decimal (length (opposites observations)))
     ++ flat_map (opposite_line observations) (opposites observations)
 
--- The text of the report: the title with the numbers, the points, the residuals, the blunders and the opposites, an empty line
--- between neighbours.
+-- what was adjusted: the title with the numbers, and the points, an empty line after each
+unfoldable pub adjusted_part : Survey → (List ℕ → ℤ) → ℕ → ℤ → List ℕ
+adjusted_part survey heights cost limit = head_lines survey cost limit ++ line_end ++ point_lines survey heights ++ line_end
+
+-- what was observed: the residuals, the blunders and the opposites, an empty line between neighbours
+unfoldable pub observed_part : Survey → List ℤ → ℤ → List ℕ
+observed_part survey residuals limit =
+    residual_lines survey residuals limit ++ line_end
+    ++ blunder_lines survey residuals limit ++ line_end
+    ++ opposite_lines survey.observations
+
+-- the text of the report
 unfoldable pub report_text : Survey → (List ℕ → ℤ) → ℤ → List ℕ
 report_text survey heights limit =
-    let left = residuals survey.observations heights in
-    head_lines survey (cost survey.observations survey.weights heights) limit ++ line_end
-    ++ point_lines survey heights ++ line_end
-    ++ residual_lines survey left limit ++ line_end
-    ++ blunder_lines survey left limit ++ line_end
-    ++ opposite_lines survey.observations
+    adjusted_part survey heights (cost survey.observations survey.weights heights) limit
+    ++ observed_part survey (residuals survey.observations heights) limit

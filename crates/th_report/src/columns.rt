@@ -57,6 +57,7 @@ impl Page {
     }
 
     /// Adds a text with spaces after it, `width` bytes in all.
+    #[tactic(auto, unfolding(crate::specs::Columns::left_in))]
     pub(crate) fn left(&mut self, width: usize, text: &[u8]) -> Result<(), AllocError>
         ensures { OnOk result (self.new ≡ self.old ++ left_in width text.now) }
     {
@@ -65,6 +66,7 @@ impl Page {
     }
 
     /// Adds a text with spaces before it, `width` bytes in all.
+    #[tactic(auto, unfolding(crate::specs::Columns::right_in))]
     pub(crate) fn right(&mut self, width: usize, text: &[u8]) -> Result<(), AllocError>
         ensures { OnOk result (self.new ≡ self.old ++ right_in width text.now) }
     {

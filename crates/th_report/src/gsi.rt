@@ -3,7 +3,7 @@ ghost use Rattle.std.specs.Prelude.{◌≡◌, ◌<◌, ◌∷◌, ◌++◌, [],
 ghost use Rattle.std.specs.List.{list_all};
 ghost use Rattle.gsi_block.specs.Blocks.{block_parts};
 ghost use Rattle.gsi_word.specs.Bytes.{is_data};
-ghost use Rattle.gsi_word.specs.Words.{HasSpelling, Spells, parts, parts_of, spelling_of};
+ghost use Rattle.gsi_word.specs.Words.{Spells, parts, parts_of, spelling_of};
 ghost use Rattle.gsi_word.specs.declared.words.Width.TheVariants.{Sixteen};
 ghost use Rattle.th_network.specs.Limits.{height_limit};
 ghost use Rattle.th_network.specs.Heights.{heights_at};
@@ -21,11 +21,7 @@ use th_network::Network;
 /// the height in 1/100 mm, rounded to the nearest, and at the half away from zero.
 ///
 /// The name is read back from its word; no height is written as minus zero.
-pub fn heights_gsi(
-    alloc: Global,
-    network: &Network,
-    heights: &[i64],
-) -> Result<Vec<u8>, AllocError>
+pub fn heights_gsi(alloc: Global, network: &Network, heights: &[i64]) -> Result<Vec<u8>, AllocError>
     requires { AreAtPoints network.now heights.now }
     ensures { IfOk result (λ text. text.items ≡ gsi_text network.now
         (heights_at (points_of network.now) heights.now)) }
@@ -38,12 +34,7 @@ pub fn heights_gsi(
 }
 
 /// Appends the line of a point.
-fn write_point(
-    text: &mut Vec<u8>,
-    number: u64,
-    name: &Name,
-    height: i64,
-) -> Result<(), AllocError>
+fn write_point(text: &mut Vec<u8>, number: u64, name: &Name, height: i64) -> Result<(), AllocError>
     requires { unsigned_abs height < height_limit }
     ensures { OnOk result (text.new.items ≡ text.old.items ++ point_text number name.now height) }
 {
@@ -71,10 +62,12 @@ fn block_of<'a>(first: &Word<'a>, second: &Word<'a>) -> Block<'a>
     }
 }
 
-/// The word with these parts, which some bytes spell.
+/// The word with these parts, which is spelled in GSI-16.
 fn word_of<'a>(index: u8, info: [u8; 4], negative: bool, body: &'a [u8]) -> Word<'a>
-    requires { HasSpelling (parts index info negative body.now) }
-    ensures { parts_of result ≡ parts index info negative body.now }
+    requires { let word = parts index info negative body.now in
+        Spells word (spelling_of word) Sixteen }
+    ensures parts { parts_of result ≡ parts index info negative body.now }
+    ensures spelled { Spells (parts_of result) (spelling_of (parts_of result)) Sixteen }
 {
     match Word::new(index, info, negative, body) {
         Some(word) => word,
@@ -82,18 +75,20 @@ fn word_of<'a>(index: u8, info: [u8; 4], negative: bool, body: &'a [u8]) -> Word
     }
 }
 
-/// The word 11 of a point's number and of data that hold its name.
-fn number_word<'a>(number: u64, data: &'a [u8; 16]) -> Word<'a>
-    requires { list_all is_data data.now ≡ true }
-    ensures { parts_of result ≡ parts 11 (last_digits 4 number) false data.now }
+/// The word 11 of a point's number and of its name in 16 bytes.
+fn number_word<'a>(number: u64, name: &'a [u8; 16]) -> Word<'a>
+    requires { list_all is_data name.now ≡ true }
+    ensures parts { parts_of result ≡ parts 11 (last_digits 4 number) false name.now }
+    ensures spelled { Spells (parts_of result) (spelling_of (parts_of result)) Sixteen }
 {
-    word_of(11, last_digits(number), false, data)
+    word_of(11, last_digits(number), false, name)
 }
 
 /// The word 83 of a height in 1/100 mm.
 fn height_word<'a>(negative: bool, digits: &'a [u8; 16]) -> Word<'a>
     requires { list_all is_data digits.now ≡ true }
-    ensures { parts_of result ≡ parts 83 (codes "..48") negative digits.now }
+    ensures parts { parts_of result ≡ parts 83 (codes "..48") negative digits.now }
+    ensures spelled { Spells (parts_of result) (spelling_of (parts_of result)) Sixteen }
 {
     word_of(83, *b"..48", negative, digits)
 }

@@ -1,7 +1,7 @@
 //! The first lines of the report, and the lines that count what follows.
-ghost use Rattle.std.specs.Prelude.{◌≡◌, ◌++◌, OnOk, decimal};
-ghost use Rattle.th_report.specs.Columns.{line_end};
-ghost use Rattle.th_report.specs.Reports.{benchmark_count, head_lines, label_line};
+ghost use Rattle.std.specs.Prelude.{◌≡◌, ◌++◌, OnOk, codes, decimal};
+ghost use Rattle.th_units.specs.Metres.{metres};
+ghost use Rattle.th_report.specs.Reports.{benchmark_count, count_lines, head_lines, label_line, title_line};
 
 use crate::columns::Page;
 use itoa::Buffer;
@@ -9,7 +9,7 @@ use std::alloc::AllocError;
 use th_network::Network;
 use th_units::metre_text;
 
-/// Writes the title, and the counts of points, benchmarks and observations, the cost and the limit.
+/// Writes the title, the counts, the cost in units of 10 nm, and the limit in metres.
 #[tactic(auto, unfolding(crate::specs::Reports::head_lines))]
 pub(crate) fn write_head(
     page: &mut Page,
@@ -19,14 +19,44 @@ pub(crate) fn write_head(
 ) -> Result<(), AllocError>
     ensures { OnOk result (page.new ≡ page.old ++ head_lines network.now cost limit) }
 {
-    page.add(b"HEIGHT NETWORK REPORT\n")?;
+    write_title(page)?;
+    write_counts(page, network)?;
+    write_cost(page, cost)?;
+    write_limit(page, limit)
+}
+
+/// Writes the title.
+#[tactic(auto, unfolding(crate::specs::Reports::title_line))]
+fn write_title(page: &mut Page) -> Result<(), AllocError>
+    ensures { OnOk result (page.new ≡ page.old ++ title_line) }
+{
+    page.add(b"HEIGHT NETWORK REPORT\n")
+}
+
+/// Writes the counts of points, benchmarks and observations.
+#[tactic(auto, unfolding(crate::specs::Reports::count_lines))]
+fn write_counts(page: &mut Page, network: &Network) -> Result<(), AllocError>
+    ensures { OnOk result (page.new ≡ page.old ++ count_lines network.now) }
+{
     write_count(page, b"points", network.points().len())?;
     write_count(page, b"benchmarks", benchmark_count(network))?;
-    write_count(page, b"observations", network.observations().len())?;
+    write_count(page, b"observations", network.observations().len())
+}
+
+/// Writes the cost.
+fn write_cost(page: &mut Page, cost: u128) -> Result<(), AllocError>
+    ensures { OnOk result (page.new ≡ page.old ++ label_line (codes "cost") (decimal cost)) }
+{
     let mut digits = Buffer::new();
-    write_label(page, b"cost", digits.format(cost).as_bytes())?;
-    let metres = metre_text(limit);
-    write_label(page, b"blunder limit", metres.as_bytes())
+    write_label(page, b"cost", digits.format(cost).as_bytes())
+}
+
+/// Writes the limit above which a residual is a blunder.
+fn write_limit(page: &mut Page, limit: i64) -> Result<(), AllocError>
+    ensures { OnOk result (page.new ≡ page.old ++ label_line (codes "blunder limit") (metres limit)) }
+{
+    let text = metre_text(limit);
+    write_label(page, b"blunder limit", text.as_bytes())
 }
 
 /// Writes a label and a count.

@@ -1,7 +1,8 @@
 //! The list of opposites.
 ghost use Rattle.std.specs.Prelude.{◌≡◌, ◌≤◌, ◌++◌, OnOk, length};
+ghost use Rattle.std.specs.List.{flat_map};
 ghost use Rattle.th_network.specs.Limits.{max_observations};
-ghost use Rattle.th_report.specs.Reports.{opposite_columns, opposite_line, opposite_lines};
+ghost use Rattle.th_report.specs.Reports.{number_columns, opposite_columns, opposite_line, opposite_lines};
 
 use crate::columns::Page;
 use crate::heads::write_count;
@@ -11,6 +12,7 @@ use th_blunders::{Opposite, opposites};
 use th_book::Observation;
 
 /// Writes the count of the opposites among some observations, and a line for each.
+#[tactic(auto, unfolding(crate::specs::Reports::opposite_lines))]
 pub(crate) fn write_opposites(
     alloc: Global,
     page: &mut Page,
@@ -21,7 +23,19 @@ pub(crate) fn write_opposites(
 {
     let opposites = opposites(alloc, observations)?;
     write_count(page, b"opposites", opposites.len())?;
-    for opposite in &opposites {
+    write_rows(page, observations, &opposites)
+}
+
+/// Writes the lines of some opposites among observations.
+fn write_rows(
+    page: &mut Page,
+    observations: &[Observation],
+    opposites: &[Opposite],
+) -> Result<(), AllocError>
+    ensures { OnOk result (page.new ≡ page.old
+        ++ flat_map (opposite_line observations.now) opposites.now) }
+{
+    for opposite in opposites {
         write_opposite(page, observations, opposite)?;
     }
     Ok(())
@@ -42,7 +56,7 @@ fn write_opposite(
     }
 }
 
-/// Writes the columns of opposites.
+/// Writes the numbers of the two observations, the ends of the later one, and the sum.
 #[tactic(auto, unfolding(crate::specs::Reports::opposite_columns))]
 fn write_columns(
     page: &mut Page,
@@ -51,11 +65,19 @@ fn write_columns(
 ) -> Result<(), AllocError>
     ensures { OnOk result (page.new ≡ page.old ++ opposite_columns opposite.now later.now) }
 {
+    write_numbers(page, opposite)?;
+    write_ends(page, later)?;
+    page.right_metres(20, opposite.sum)?;
+    page.end_line()
+}
+
+/// Writes the numbers of the two observations.
+#[tactic(auto, unfolding(crate::specs::Reports::number_columns))]
+fn write_numbers(page: &mut Page, opposite: &Opposite) -> Result<(), AllocError>
+    ensures { OnOk result (page.new ≡ page.old ++ number_columns opposite.now) }
+{
     page.right_number(5, u64::from(opposite.number))?;
     page.gap()?;
     page.right_number(5, u64::from(opposite.earlier))?;
-    page.gap()?;
-    write_ends(page, later.station.as_bytes(), later.target.as_bytes())?;
-    page.right_metres(20, opposite.sum)?;
-    page.end_line()
+    page.gap()
 }

@@ -1,8 +1,8 @@
 //! The report on an adjustment.
-ghost use Rattle.std.specs.Prelude.{◌≡◌, IfOk};
+ghost use Rattle.std.specs.Prelude.{◌≡◌, ◌<◌, ◌^◌, ◌++◌, All, IfOk, OnOk, length, unsigned_abs};
 ghost use Rattle.th_network.specs.Heights.{heights_at};
 ghost use Rattle.th_network.specs.Networks.{AreAtPoints, points_of};
-ghost use Rattle.th_report.specs.Reports.{report_text};
+ghost use Rattle.th_report.specs.Reports.{adjusted_part, observed_part, report_text};
 
 use crate::columns::Page;
 use crate::heads::write_head;
@@ -19,6 +19,7 @@ use th_network::Network;
 /// the ends exchanged.
 ///
 /// The limit is in units of 10 nm.
+#[tactic(auto, unfolding(crate::specs::Reports::report_text))]
 pub fn report_text(
     alloc: Global,
     network: &Network,
@@ -31,14 +32,49 @@ pub fn report_text(
 {
     let residuals = residuals(alloc, network, heights)?;
     let mut page = Page::new(alloc);
-    write_head(&mut page, network, cost(network, &residuals), limit)?;
-    page.end_line()?;
-    write_points(&mut page, network, heights)?;
-    page.end_line()?;
-    write_residuals(&mut page, network, &residuals, limit)?;
-    page.end_line()?;
-    write_blunders(alloc, &mut page, network, &residuals, limit)?;
-    page.end_line()?;
-    write_opposites(alloc, &mut page, network.observations())?;
+    let cost = cost(network, &residuals);
+    write_adjusted(&mut page, network, heights, cost, limit)?;
+    write_observed(alloc, &mut page, network, &residuals, limit)?;
     Ok(page.into_bytes())
+}
+
+/// Writes what was adjusted: the title with the numbers, and the points.
+#[tactic(auto, unfolding(crate::specs::Reports::adjusted_part))]
+fn write_adjusted(
+    page: &mut Page,
+    network: &Network,
+    heights: &[i64],
+    cost: u128,
+    limit: i64,
+) -> Result<(), AllocError>
+    requires { AreAtPoints network.now heights.now }
+    ensures { OnOk result (page.new ≡ page.old ++ adjusted_part network.now
+        (heights_at (points_of network.now) heights.now) cost limit) }
+{
+    write_head(page, network, cost, limit)?;
+    page.end_line()?;
+    write_points(page, network, heights)?;
+    page.end_line()
+}
+
+/// Writes what was observed: the residuals, the blunders and the opposites.
+#[tactic(auto, unfolding(crate::specs::Reports::observed_part))]
+fn write_observed(
+    alloc: Global,
+    page: &mut Page,
+    network: &Network,
+    residuals: &[i64],
+    limit: i64,
+) -> Result<(), AllocError>
+    requires each { length residuals.now ≡ length network.now.observations }
+    requires small { All (λ residual. unsigned_abs residual < 10 ^ 18) residuals.now }
+    ensures { OnOk result (page.new ≡ page.old ++ observed_part network.now residuals.now limit) }
+{
+    // its points say that a network has few observations
+    let _ = network.points();
+    write_residuals(page, network, residuals, limit)?;
+    page.end_line()?;
+    write_blunders(alloc, page, network, residuals, limit)?;
+    page.end_line()?;
+    write_opposites(alloc, page, network.observations())
 }

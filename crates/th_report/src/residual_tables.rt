@@ -1,6 +1,8 @@
 //! The table of residuals, and the blunders among them.
-ghost use Rattle.std.specs.Prelude.{◌≡◌, ◌<◌, ◌^◌, ◌++◌, All, OnOk, length, unsigned_abs};
-ghost use Rattle.th_report.specs.Reports.{blunder_lines, blunder_mark, end_columns, place_columns, residual_columns, residual_header, residual_line, residual_lines};
+ghost use Rattle.std.specs.Prelude.{◌≡◌, ◌<◌, ◌≤◌, ◌^◌, ◌++◌, All, OnOk, length, unsigned_abs};
+ghost use Rattle.std.specs.List.{flat_map};
+ghost use Rattle.th_network.specs.Limits.{max_observations};
+ghost use Rattle.th_report.specs.Reports.{blunder_lines, blunder_mark, blunder_rows, end_columns, ends_of, line_in, place_columns, place_of, residual_columns, residual_header, residual_line, residual_lines, residual_of, residual_rows};
 ghost use Rattle.th_blunders.specs.Blunders.{is_blunder};
 
 use crate::columns::Page;
@@ -13,6 +15,7 @@ use th_network::Network;
 use th_units::metre_text;
 
 /// Writes the table of residuals, which are listed in the order of the observations.
+#[tactic(auto, unfolding(crate::specs::Reports::residual_lines))]
 pub(crate) fn write_residuals(
     page: &mut Page,
     network: &Network,
@@ -24,15 +27,11 @@ pub(crate) fn write_residuals(
     ensures { OnOk result (page.new ≡ page.old ++ residual_lines network.now residuals.now limit) }
 {
     write_header(page)?;
-    for (i, o) in network.observations().iter().enumerate() {
-        write_residual(page, i as u64 + 1, o, network.weight(i), residuals[i], limit)?;
-    }
-    Ok(())
+    write_rows(page, network, residuals, limit)
 }
 
-/// Writes the count of the blunders, and the lines of the table of residuals that are theirs.
-pub(crate) fn write_blunders(
-    alloc: Global,
+/// Writes the line of each observation.
+fn write_rows(
     page: &mut Page,
     network: &Network,
     residuals: &[i64],
@@ -40,13 +39,63 @@ pub(crate) fn write_blunders(
 ) -> Result<(), AllocError>
     requires each { length residuals.now ≡ length network.now.observations }
     requires small { All (λ residual. unsigned_abs residual < 10 ^ 18) residuals.now }
+    ensures { OnOk result (page.new ≡ page.old ++ flat_map (line_in network.now limit)
+        (residual_rows network.now residuals.now)) }
+{
+    for (i, o) in network.observations().iter().enumerate() {
+        write_residual(
+            page,
+            i as u64 + 1,
+            o,
+            network.weight(i),
+            residuals[i],
+            limit,
+        )?;
+    }
+    Ok(())
+}
+
+/// Writes the count of the blunders, and the lines of the table of residuals that are theirs.
+#[tactic(auto, unfolding(crate::specs::Reports::blunder_lines))]
+pub(crate) fn write_blunders(
+    alloc: Global,
+    page: &mut Page,
+    network: &Network,
+    residuals: &[i64],
+    limit: i64,
+) -> Result<(), AllocError>
+    requires few { length residuals.now ≤ max_observations }
+    requires each { length residuals.now ≡ length network.now.observations }
+    requires small { All (λ residual. unsigned_abs residual < 10 ^ 18) residuals.now }
     ensures { OnOk result (page.new ≡ page.old ++ blunder_lines network.now residuals.now limit) }
 {
     let numbers = blunders(alloc, residuals, limit)?;
     write_count(page, b"blunders", numbers.len())?;
+    write_blunder_rows(page, network, residuals, limit)
+}
+
+/// Writes the line of each observation that is a blunder.
+fn write_blunder_rows(
+    page: &mut Page,
+    network: &Network,
+    residuals: &[i64],
+    limit: i64,
+) -> Result<(), AllocError>
+    requires each { length residuals.now ≡ length network.now.observations }
+    requires small { All (λ residual. unsigned_abs residual < 10 ^ 18) residuals.now }
+    ensures { OnOk result (page.new ≡ page.old ++ flat_map (line_in network.now limit)
+        (blunder_rows network.now residuals.now limit)) }
+{
     for (i, o) in network.observations().iter().enumerate() {
         if residuals[i].abs() > limit {
-            write_residual(page, i as u64 + 1, o, network.weight(i), residuals[i], limit)?;
+            write_residual(
+                page,
+                i as u64 + 1,
+                o,
+                network.weight(i),
+                residuals[i],
+                limit,
+            )?;
         }
     }
     Ok(())
@@ -57,13 +106,12 @@ pub(crate) fn write_blunders(
 fn write_header(page: &mut Page) -> Result<(), AllocError>
     ensures { OnOk result (page.new ≡ page.old ++ residual_header) }
 {
-    write_place(page, b"NO", b"BK", b"LINE")?;
-    write_ends(page, b"FROM", b"TO")?;
-    write_last(page, b"WT", b"RESIDUAL", b"")
+    write_place_columns(page, b"NO", b"BK", b"LINE")?;
+    write_end_columns(page, b"FROM", b"TO")?;
+    write_residual_columns(page, b"WT", b"RESIDUAL", b"")
 }
 
-/// Writes the line of an observation: its number, where it stands, its ends, its weight, its
-/// residual, and a mark where that is a blunder.
+/// Writes the line of an observation: which it is, its ends, and what is left of it.
 #[tactic(auto, unfolding(crate::specs::Reports::residual_line))]
 fn write_residual(
     page: &mut Page,
@@ -76,18 +124,46 @@ fn write_residual(
     requires { unsigned_abs residual < 10 ^ 18 }
     ensures { OnOk result (page.new ≡ page.old ++ residual_line limit number o.now weight residual) }
 {
-    let (mut digits, mut book, mut line, mut times) = (Buffer::new(), Buffer::new(), Buffer::new(), Buffer::new());
-    write_place(
+    write_place(page, number, o)?;
+    write_ends(page, o)?;
+    write_left(page, weight, residual, limit)
+}
+
+/// Writes an observation's number, from 1, its book and its line there.
+#[tactic(auto, unfolding(crate::specs::Reports::place_of))]
+fn write_place(page: &mut Page, number: u64, o: &Observation) -> Result<(), AllocError>
+    ensures { OnOk result (page.new ≡ page.old ++ place_of number o.now) }
+{
+    let mut count = Buffer::new();
+    let mut book = Buffer::new();
+    let mut line = Buffer::new();
+    write_place_columns(
         page,
-        digits.format(number).as_bytes(),
+        count.format(number).as_bytes(),
         book.format(o.book).as_bytes(),
         line.format(o.line).as_bytes(),
-    )?;
-    write_ends(page, o.station.as_bytes(), o.target.as_bytes())?;
+    )
+}
+
+/// Writes an observation's ends.
+#[tactic(auto, unfolding(crate::specs::Reports::ends_of))]
+pub(crate) fn write_ends(page: &mut Page, o: &Observation) -> Result<(), AllocError>
+    ensures { OnOk result (page.new ≡ page.old ++ ends_of o.now) }
+{
+    write_end_columns(page, o.station.as_bytes(), o.target.as_bytes())
+}
+
+/// Writes a weight and a residual, with a mark where that is a blunder.
+#[tactic(auto, unfolding(crate::specs::Reports::residual_of))]
+fn write_left(page: &mut Page, weight: u32, residual: i64, limit: i64) -> Result<(), AllocError>
+    requires { unsigned_abs residual < 10 ^ 18 }
+    ensures { OnOk result (page.new ≡ page.old ++ residual_of limit weight residual) }
+{
+    let mut digits = Buffer::new();
     let metres = metre_text(residual);
-    write_last(
+    write_residual_columns(
         page,
-        times.format(weight).as_bytes(),
+        digits.format(weight).as_bytes(),
         metres.as_bytes(),
         mark_of(residual, limit),
     )
@@ -103,7 +179,12 @@ fn mark_of(residual: i64, limit: i64) -> &'static [u8]
 
 /// Writes the columns that say which observation it is.
 #[tactic(auto, unfolding(crate::specs::Reports::place_columns))]
-fn write_place(page: &mut Page, number: &[u8], book: &[u8], line: &[u8]) -> Result<(), AllocError>
+fn write_place_columns(
+    page: &mut Page,
+    number: &[u8],
+    book: &[u8],
+    line: &[u8],
+) -> Result<(), AllocError>
     ensures { OnOk result (page.new ≡ page.old ++ place_columns number.now book.now line.now) }
 {
     page.right(5, number)?;
@@ -116,7 +197,7 @@ fn write_place(page: &mut Page, number: &[u8], book: &[u8], line: &[u8]) -> Resu
 
 /// Writes the columns of the ends.
 #[tactic(auto, unfolding(crate::specs::Reports::end_columns))]
-pub(crate) fn write_ends(page: &mut Page, station: &[u8], target: &[u8]) -> Result<(), AllocError>
+fn write_end_columns(page: &mut Page, station: &[u8], target: &[u8]) -> Result<(), AllocError>
     ensures { OnOk result (page.new ≡ page.old ++ end_columns station.now target.now) }
 {
     page.left(16, station)?;
@@ -127,7 +208,12 @@ pub(crate) fn write_ends(page: &mut Page, station: &[u8], target: &[u8]) -> Resu
 
 /// Writes the last columns, of what is left of an observation.
 #[tactic(auto, unfolding(crate::specs::Reports::residual_columns))]
-fn write_last(page: &mut Page, weight: &[u8], residual: &[u8], mark: &[u8]) -> Result<(), AllocError>
+fn write_residual_columns(
+    page: &mut Page,
+    weight: &[u8],
+    residual: &[u8],
+    mark: &[u8],
+) -> Result<(), AllocError>
     ensures { OnOk result (page.new ≡ page.old ++ residual_columns weight.now residual.now mark.now) }
 {
     page.right(4, weight)?;

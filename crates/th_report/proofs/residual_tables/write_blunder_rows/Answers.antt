@@ -1,0 +1,37 @@
+use Rattle.std.proofs.Common.{◌≡◌, ◌<◌, ◌++◌, ◌+◌, ℕ, true, false, pos, List, get_or, int_lt, length, of_z, to_z, unsigned_abs, w64, sym, ap, ◌∙◌, arith}
+use Rattle.std.specs.List.{flat_map}
+use Rattle.std.proofs.lemmas.Int.{ints}
+use Rattle.th_book.specs.Observed.{Observed}
+use Rattle.th_blunders.specs.Blunders.{is_blunder}
+use Rattle.th_report.specs.Reports.{line_in}
+use Rattle.th_report.proofs.RowLemmas.{same_units}
+use Rattle.th_report.proofs.ResidualLemmas.{blunders-further, blunders-passed, blunders_left}
+use Rattle.th_report.proofs.residual_tables.write_blunder_rows.Goals as goal
+use Rattle.th_report.proofs.residual_tables.write_blunder_rows.Goals.{then-abs-limit+in_ok-write_residual, else-abs-limit}
+
+pub loop-i-preserved : goal.loop-i-preserved
+loop-i-preserved c =
+    let survey = c.args.network.now in
+    let residuals = c.args.residuals.now in
+    let limit = to_z w64 (of_z w64 c.args.limit) in
+    let i = c.loop-i.i in
+    let o = c.o-item.result in
+    let there = get_or residuals i (pos 0) in
+    let residual = to_z w64 (of_z w64 there) in
+    let all = c.observations-o-items.ensures.observations in
+    let within : i < length survey.observations = omega (arith, ap length all, c.loop-i-test.true) in
+    let is : o ≡ get_or survey.observations i o = c.o-item.is ∙ ap (λ (os : List Observed). get_or os i o) all in
+    let small = c.requires.small i (pos 0) (omega arith) in
+    let at = same_units there small in
+    let size : to_z w64 (of_z w64 c.abs.result) ≡ pos (unsigned_abs residual) = omega (arith, ints, c.abs.ensures.value, small) in
+    let left = λ (page : List ℕ). page ++ flat_map (line_in survey limit) (blunders_left survey residuals limit (i + 1)) in
+    elim c.if-abs-limit.branch [
+      | then-abs-limit+in_ok-write_residual w ↦
+          let above : is_blunder limit residual ≡ true = ap (int_lt limit) (sym size) ∙ w.if-abs-limit.true in
+          ap left w.page-is
+          ∙ blunders-further survey residuals limit i o residual within c.requires.each is at w.weight.result w.weight.ensures.weight c.loop-i.page w.write_residual.new.page _ above w.in_ok-write_residual.ensures c.loop-i.invariant
+      | else-abs-limit w ↦
+          let not_above : is_blunder limit residual ≡ false = ap (int_lt limit) (sym size) ∙ w.if-abs-limit.false in
+          ap left w.page-is
+          ∙ blunders-passed survey residuals limit i o residual within c.requires.each is at c.loop-i.page _ not_above c.loop-i.invariant
+    ]

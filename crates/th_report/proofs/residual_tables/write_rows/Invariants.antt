@@ -1,0 +1,9 @@
+use Rattle.std.proofs.Common.{◌≡◌, ◌+◌, ◌++◌, drop}
+use Rattle.std.specs.List.{enumerate_from, flat_map, zip}
+use Rattle.th_report.specs.Reports.{line_in, residual_rows}
+use Rattle.th_report.proofs.residual_tables.write_rows.Given as goal
+
+abbrev pub invariant-loop-i : goal.invariant-loop-i
+invariant-loop-i l =
+    l.page ++ flat_map (line_in l.network l.limit) (enumerate_from (l.i + 1) (zip (drop l.i l.network.observations) (drop l.i l.residuals)))
+    ≡ l.fn.page ++ flat_map (line_in l.network l.limit) (residual_rows l.network l.residuals)
