@@ -10,7 +10,7 @@ use Rattle.std.proofs.lemmas.Map.Keys.{apart_from_distinct}
 use Rattle.std.proofs.lemmas.Slice.Eq.{bytes_eq-Decides}
 use Rattle.th_network.specs.Heights.{heights_at}
 use Rattle.th_network.specs.Limits.{height_limit}
-use Rattle.th_network.specs.Places.{place_of}
+use Rattle.th_points.specs.Places.{place_of}
 
 module _ {X : Type 0} (line : X → List ℕ) where
   -- one line more, where the rows that are left begin with its row
