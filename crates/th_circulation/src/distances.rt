@@ -26,8 +26,8 @@ impl<'a> TightArcs<'a> {
     /// The distance of each vertex from vertex 0: the shortest length of the walks to it.
     ///
     /// Labels that begin at or above all distances fall along one arc after another until no arc is
-    /// shorter than they say: then they are the distances. Every second pass goes backwards, since the
-    /// order of the arcs often follows the walks.
+    /// shorter than they say: then they are the distances. They fall from vertex to vertex first, and
+    /// then in passes over all arcs, every second one backwards.
     pub fn distances(&self, alloc: Global) -> Result<Vec<i64>, AllocError>
         ensures { IfOk result (λ distances.
             AreDistances self.now.vertices self.now.arcs.now distances.items) }
@@ -43,7 +43,7 @@ impl<'a> TightArcs<'a> {
     }
 
     /// Lowers labels from vertex 0 on, from one vertex to the next, as far as so many looks at vertices
-    /// reach: what is left is for the passes, and after most networks nothing is.
+    /// reach. What is left is for the passes, and in most networks nothing is.
     fn spread(&self, alloc: Global, labels: &mut [i64]) -> Result<(), AllocError>
         requires { AreLabels self.now.vertices self.now.arcs.now labels.old }
         ensures { AreLabels self.now.vertices self.now.arcs.now labels.new }
