@@ -1,4 +1,4 @@
-use Rattle.std.proofs.Common.{◌≡◌, ℕ, ℤ, pos, List, length, replicate, ap, ◌∙◌, arith}
+use Rattle.std.proofs.Common.{ℕ, pos, replicate, ap, ◌∙◌, arith}
 use Rattle.th_circulation.proofs.GraphLemmas.{flows_long}
 use Rattle.th_circulation.proofs.PhaseStarts.{weights_small}
 use Rattle.th_circulation.proofs.workspaces.Workspace.settle.Goals as goal
