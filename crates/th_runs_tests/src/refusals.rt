@@ -88,17 +88,20 @@ const ROWS: [(Refusal, &str, u8); 18] = [
     (Refusal::NoMemory, "out of memory", 4),
 ];
 
+/// The line of a refusal.
+fn line_of<R: AllocGlobal + Abort>(rt: &R, refusal: &Refusal) -> String {
+    format!(in rt.alloc(); "{refusal}").expect(rt, "memory")
+}
+
 #[test]
 fn each_refusal_has_a_line_and_a_status(rt: HostRuntime) {
     for (refusal, line, status) in ROWS {
-        let text = format!(in rt.alloc(); "{refusal}").expect(&rt, "memory");
-        assert!(rt; text.as_str() == line, "{line}");
+        assert!(rt; line_of(&rt, &refusal).as_str() == line, "{line}");
         assert_eq!(rt; status_of(&refusal), status, "{line}");
     }
     let name = name_of(b"A").expect(&rt, "a name");
     let refusal = Refusal::Network(NetFault::NoBenchmark(name));
-    let text = format!(in rt.alloc(); "{refusal}").expect(&rt, "memory");
-    assert!(rt; text.as_str() == "network: N3 no benchmark for A");
+    assert!(rt; line_of(&rt, &refusal).as_str() == "network: N3 no benchmark for A");
     assert_eq!(rt; status_of(&refusal), 2);
 }
 
