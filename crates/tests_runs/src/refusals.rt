@@ -9,7 +9,7 @@ use th_runs::{Input, Output, Refusal, status_of, status_of_verdict};
 use th_tables::{TableFault, TableKind};
 
 /// Refusals, their lines, and their statuses.
-const ROWS: [(Refusal, &str, u8); 18] = [
+const ROWS: [(Refusal, &[u8], u8); 18] = [
     (
         Refusal::Book(
             1,
@@ -18,7 +18,7 @@ const ROWS: [(Refusal, &str, u8); 18] = [
                 kind: BookKind::NoReflectorHeight,
             },
         ),
-        "book 1 line 4: B10 no reflector height",
+        b"book 1 line 4: B10 no reflector height",
         2,
     ),
     (
@@ -26,7 +26,7 @@ const ROWS: [(Refusal, &str, u8); 18] = [
             row: 3,
             kind: TableKind::Repeated,
         }),
-        "benchmarks record 3: E6 repeated",
+        b"benchmarks record 3: E6 repeated",
         2,
     ),
     (
@@ -34,7 +34,7 @@ const ROWS: [(Refusal, &str, u8); 18] = [
             row: 0,
             kind: TableKind::TableTooLong,
         }),
-        "benchmarks record 0: E7 table too long",
+        b"benchmarks record 0: E7 table too long",
         2,
     ),
     (
@@ -42,17 +42,17 @@ const ROWS: [(Refusal, &str, u8); 18] = [
             row: 2,
             kind: TableKind::BadWeight,
         }),
-        "weights record 2: E5 bad weight",
+        b"weights record 2: E5 bad weight",
         2,
     ),
     (
         Refusal::Network(NetFault::TooManyObservations),
-        "network: N1 too many observations",
+        b"network: N1 too many observations",
         2,
     ),
     (
         Refusal::Network(NetFault::TooManyPoints),
-        "network: N2 too many points",
+        b"network: N2 too many points",
         2,
     ),
     (
@@ -60,45 +60,48 @@ const ROWS: [(Refusal, &str, u8); 18] = [
             row: 10,
             kind: CertKind::Truncated,
         }),
-        "certificate record 10: C7 truncated",
+        b"certificate record 10: C7 truncated",
         2,
     ),
-    (Refusal::Read(Input::Book(1)), "read failed: book 1", 5),
+    (Refusal::Read(Input::Book(1)), b"read failed: book 1", 5),
     (
         Refusal::Read(Input::Benchmarks),
-        "read failed: benchmarks",
+        b"read failed: benchmarks",
         5,
     ),
-    (Refusal::Read(Input::Weights), "read failed: weights", 5),
+    (Refusal::Read(Input::Weights), b"read failed: weights", 5),
     (
         Refusal::Read(Input::Certificate),
-        "read failed: certificate",
+        b"read failed: certificate",
         5,
     ),
-    (Refusal::Write(Output::List), "write failed: list", 5),
-    (Refusal::Write(Output::Heights), "write failed: heights", 5),
+    (Refusal::Write(Output::List), b"write failed: list", 5),
+    (Refusal::Write(Output::Heights), b"write failed: heights", 5),
     (
         Refusal::Write(Output::Certificate),
-        "write failed: certificate",
+        b"write failed: certificate",
         5,
     ),
-    (Refusal::Write(Output::Report), "write failed: report", 5),
-    (Refusal::Write(Output::Gsi), "write failed: gsi", 5),
-    (Refusal::Write(Output::Verdict), "write failed: verdict", 5),
-    (Refusal::NoMemory, "out of memory", 4),
+    (Refusal::Write(Output::Report), b"write failed: report", 5),
+    (Refusal::Write(Output::Gsi), b"write failed: gsi", 5),
+    (Refusal::Write(Output::Verdict), b"write failed: verdict", 5),
+    (Refusal::NoMemory, b"out of memory", 4),
 ];
+
+/// The line of a refusal.
+fn line_of<R: AllocGlobal + Abort>(rt: &R, refusal: &Refusal) -> String {
+    format!(in rt.alloc(); "{refusal}").expect(rt, "memory")
+}
 
 #[test]
 fn each_refusal_has_a_line_and_a_status(rt: HostRuntime) {
     for (refusal, line, status) in ROWS {
-        let text = format!(in rt.alloc(); "{refusal}").expect(&rt, "memory");
-        assert!(rt; text.as_str() == line, "{line}");
-        assert_eq!(rt; status_of(&refusal), status, "{line}");
+        assert!(rt; line_of(&rt, &refusal).as_bytes() == line, "{refusal}");
+        assert_eq!(rt; status_of(&refusal), status, "{refusal}");
     }
     let name = name_of(b"A").expect(&rt, "a name");
     let refusal = Refusal::Network(NetFault::NoBenchmark(name));
-    let text = format!(in rt.alloc(); "{refusal}").expect(&rt, "memory");
-    assert!(rt; text.as_str() == "network: N3 no benchmark for A");
+    assert!(rt; line_of(&rt, &refusal).as_str() == "network: N3 no benchmark for A");
     assert_eq!(rt; status_of(&refusal), 2);
 }
 
