@@ -1,16 +1,18 @@
 //! The runs over any devices: the answer becomes a status, and a refusal a line on standard error.
-ghost use Rattle.std.specs.Prelude.{◌≡◌, ◌<◌, ◌≤◌, ◌≤ℤ◌, ◌↔◌, ◌⊎◌, All, IfSome, Ok, pos, true, length};
+ghost use Rattle.std.specs.Prelude.{◌≡◌, ◌<◌, ◌≤◌, ◌↔◌, ◌⊎◌, All, IfSome, None, Ok, true, length};
 ghost use Rattle.th_devices.specs.Limits.{calls_before};
-ghost use Rattle.th_runs.specs.Checked.{IsVerdictOn, verdict_line, verdict_on};
-ghost use Rattle.th_runs.specs.Inputs.{Claim, Meets, given, given_if_any, givens, owed_for_claim, owed_for_survey};
 ghost use Rattle.height_office.specs.Statuses.{IsStatusOfCheck};
-ghost use Rattle.th_runs.specs.Refusals.{IsStatusOfRun, status_of};
+ghost use Rattle.th_runs.specs.Adjusted.{AreOutputs, OutTexts};
+ghost use Rattle.th_runs.specs.Checked.{IsRight, verdict_on};
+ghost use Rattle.th_runs.specs.Inputs.{Claim, MakesNetwork, Meets, given, given_if_any, givens, owed_for_claim, owed_for_survey};
+ghost use Rattle.th_runs.specs.Refusals.{IsStatusOfRun, status_of, status_of_verdict};
 ghost use Rattle.th_runs.specs.Runs.{HasFault, HoldsList};
+ghost use Rattle.th_runs.specs.Writes.{IsWrittenFor};
 
 use th_devices::{Sink, Source};
 use th_runs::{
-    DEVICE_FAILED, DONE, INPUT_REFUSED, Outs, Refusal, run_adjust, run_check, run_list, status_of,
-    status_of_verdict,
+    DEVICE_FAILED, DONE, INPUT_REFUSED, Output, Outs, REFUSED_VERDICT, Refusal, run_adjust,
+    run_check, run_list, status_of, status_of_verdict,
 };
 
 /// Lists a book, and says the status to end with.
@@ -61,6 +63,20 @@ pub(crate) fn adjust<
     requires certificate_calls { C.calls outs.old.certificate ≤ calls_before }
     requires report_calls { R.calls outs.old.report ≤ calls_before }
     requires gsi_calls { G.calls outs.old.gsi ≤ calls_before }
+    ensures written { result ≡ DONE → ((survey : _) × (texts : OutTexts)
+        × Meets (owed_for_survey (givens B.failures B.left books.old books.new)
+        (given T.failures T.left benchmarks.old benchmarks.new)
+        (given_if_any W.failures W.left weights.old weights.new)) (Ok survey)
+        × MakesNetwork survey
+        × AreOutputs survey limit texts
+        × IsWrittenFor H.held H.is_finished H.calls H.failures Output.Heights None
+        texts.heights outs.old.heights outs.new.heights
+        × IsWrittenFor C.held C.is_finished C.calls C.failures Output.Certificate None
+        texts.certificate outs.old.certificate outs.new.certificate
+        × IsWrittenFor R.held R.is_finished R.calls R.failures Output.Report None
+        texts.report outs.old.report outs.new.report
+        × IsWrittenFor G.held G.is_finished G.calls G.failures Output.Gsi None
+        texts.gsi outs.old.gsi outs.new.gsi) }
     ensures status { IsStatusOfRun result }
 {
     match run_adjust(rt.alloc(), books, benchmarks, weights, limit, outs) {
@@ -84,6 +100,13 @@ pub(crate) fn check<A: AllocGlobal + Eprint, B: Source, T: Source, W: Source, C:
     requires weights_calls { IfSome weights.old (λ own. W.calls own ≤ calls_before) }
     requires certificate_calls { C.calls certificate.old ≤ calls_before }
     requires out_calls { K.calls out.old ≤ calls_before }
+    ensures answered { (result ≡ DONE) ⊎ (result ≡ REFUSED_VERDICT) → ((claim : Claim)
+        × Meets (owed_for_claim (givens B.failures B.left books.old books.new)
+        (given T.failures T.left benchmarks.old benchmarks.new)
+        (given_if_any W.failures W.left weights.old weights.new)
+        (given C.failures C.left certificate.old certificate.new)) (Ok claim)
+        × (result ≡ status_of_verdict (verdict_on claim))
+        × (result ≡ DONE → IsRight claim)) }
     ensures status { IsStatusOfCheck result }
 {
     match run_check(rt.alloc(), books, benchmarks, weights, certificate, out) {
