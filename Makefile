@@ -5,22 +5,28 @@ PREFIX ?= /usr/local
 BOOK ?= examples/building_site.gsi
 LOG := build.log
 
-.PHONY: help run build check test gate examples compare memory bench install clean
+.PHONY: help run list build check test gate examples documents compare office memory bench install clean
 
 help:
-	@echo 'make run       prove and build the program, and list a book (BOOK=$(BOOK))'
+	@echo 'make run       prove and build the program, adjust an example project, show its report and check its certificate'
+	@echo 'make list      prove and build the program, and list a book (BOOK=$(BOOK))'
 	@echo 'make build     prove and build the program: $(PROGRAM)'
-	@echo 'make check     while you work: prove what changed, then the examples and the second reader'
-	@echo 'make test      the gate (every proof from nothing, must-fail edits, tests, program runs), the examples and the second reader'
+	@echo 'make check     while you work: prove what changed, then examples, pages, second reader and second office'
+	@echo 'make test      the gate (every proof from nothing, must-fail edits, tests, program runs), and then the same four'
 	@echo 'make gate      rt ci alone'
-	@echo 'make examples  compare what the built program gives for the books of examples/ with what stands beside them'
+	@echo 'make examples  compare what the built program gives for examples/ with what stands beside them'
+	@echo 'make documents run each command of README.md and docs/TUTORIAL.md, and compare what it prints'
 	@echo 'make compare   compare the built program with the second reader on mutated books (BOOKS=$(BOOKS) SEED=$(SEED))'
+	@echo 'make office    compare the built program with the second office on random projects (PROJECTS=$(PROJECTS) SEED=$(SEED))'
 	@echo 'make memory    list a book, and read tables and build a network, with each allocation refused in turn (some twenty minutes)'
-	@echo 'make bench     throughput and peak memory, beside a plain C++ lister, wc and awk'
-	@echo 'make install   copy the built program to $(PREFIX)/bin'
+	@echo 'make bench     throughput and peak memory: listing, networks, certificates, settling beside other solvers'
+	@echo 'make install   copy the built program and its manual page below $(PREFIX)'
 	@echo 'make clean     remove what was built'
 
 run: build
+	@tests/adjust_example $(PROGRAM)
+
+list: build
 	@$(PROGRAM) list $(BOOK)
 
 # `rt run` is what builds; an empty book is listed on the way.
@@ -31,10 +37,10 @@ build:
 check:
 	@echo 'proving what changed; the log is $(LOG)'
 	@rt all check > $(LOG) 2>&1 || { tail -n 40 $(LOG); exit 1; }
-	@$(MAKE) --no-print-directory build examples compare
+	@$(MAKE) --no-print-directory build examples documents compare office
 
 # The gate leaves the program that it proved and built, so nothing is proved again after it.
-test: gate examples compare
+test: gate examples documents compare office
 
 gate:
 	@rt ci
@@ -42,11 +48,19 @@ gate:
 examples:
 	@tests/examples
 
+documents:
+	@tests/documents $(PROGRAM)
+
 BOOKS ?= 10000
 SEED ?= 20240607
 compare:
 	@python3 tests/second_reader/self_test.py
 	@python3 tests/second_reader/compare.py --program $(PROGRAM) --books $(BOOKS) --seed $(SEED)
+
+PROJECTS ?= 1000
+office:
+	@python3 tests/second_office/self_test.py
+	@python3 tests/second_office/compare.py --program $(PROGRAM) --projects $(PROJECTS) --seed $(SEED)
 
 memory:
 	@tests/refused_memory
@@ -54,9 +68,12 @@ memory:
 bench: build
 	@bench/list/run --program $(PROGRAM)
 	@bench/network/run
+	@bench/certificate/run
+	@bench/settle/run
 
 install: build
 	install -D $(PROGRAM) $(DESTDIR)$(PREFIX)/bin/height_office
+	install -D -m 644 docs/height_office.1 $(DESTDIR)$(PREFIX)/share/man/man1/height_office.1
 
 clean:
 	rm -rf crates/*/out $(LOG)

@@ -5,16 +5,20 @@
 //! what the flows gain, which is what the heights cost. Without words nothing is done.
 #![tactic(auto)]
 
+mod inputs;
+
 use anyhow::{Context, Result, anyhow};
+use inputs::Inputs;
 use std::alloc::Global;
+use std::env;
 use std::rt::{Clock, Env};
 use std::time::{Duration, Instant};
-use std::{env, fs};
-use th_book::read_book;
-use th_circulation::{Steps, settle};
+use th_circulation::{Settled, Steps, settle};
 use th_network::Network;
 use th_search::LabelSearch;
-use th_tables::{read_benchmarks, read_weights};
+
+/// How often a search is called more than steps are counted.
+const PHASES: u128 = 44;
 
 /// What one settling took and gave.
 #[derive(Clone, Copy)]
@@ -26,39 +30,37 @@ struct Run {
 
 fn main(rt: HostRuntime) -> Result<()> {
     let words: Vec<String> = env::args(&rt)?.collect(rt.alloc())?;
-    let (Some(book), Some(benchmarks), Some(weights), Some(repeats)) = (
-        words.get(1),
-        words.get(2),
-        words.get(3),
-        words.get(4),
-    ) else {
+    if words.len() != 5 {
         return Ok(());
-    };
-    let repeats = repeats.parse::<u32>().context("how often to repeat")?;
-    let book = fs::read(&rt, book.as_str())?;
-    let benchmarks = fs::read(&rt, benchmarks.as_str())?;
-    let weights = fs::read(&rt, weights.as_str())?;
-    let observations = read_book(rt.alloc(), 1, &book).map_err(|_| anyhow!("the book"))?;
-    let benchmarks = read_benchmarks(rt.alloc(), &benchmarks).map_err(|_| anyhow!("benchmarks"))?;
-    let weights = read_weights(rt.alloc(), &weights).map_err(|_| anyhow!("weights"))?;
-    let network = Network::build(rt.alloc(), observations, &benchmarks, &weights).map_err(
-        |_| anyhow!("the network"),
-    )?;
-    let mut best = once(&rt, rt.alloc(), &network)?;
+    }
+    let repeats = words[4].parse::<u32>().context("how often to repeat")?;
+    let inputs = Inputs::read(&rt, words[1].as_str(), words[2].as_str(), words[3].as_str())?;
+    let best = best_run(&rt, rt.alloc(), inputs, repeats)?;
+    let micros = best.time.as_micros();
+    let steps = best.steps;
+    let calls = steps.wrapping_add(PHASES);
+    let gain = best.gain;
+    println!(rt; "{micros} {steps} {calls} {gain}")?;
+    Ok(())
+}
+
+/// The fastest of some settlings of a network.
+fn best_run(clock: &impl Clock, alloc: Global, inputs: Inputs, repeats: u32) -> Result<Run> {
+    let Inputs {
+        observations,
+        benchmarks,
+        weights,
+    } = inputs;
+    let network = Network::build(alloc, observations, &benchmarks, &weights)
+        .map_err(|_| anyhow!("the network"))?;
+    let mut best = once(clock, alloc, &network)?;
     for _ in 0..repeats {
-        let run = once(&rt, rt.alloc(), &network)?;
+        let run = once(clock, alloc, &network)?;
         if run.time < best.time {
             best = run;
         }
     }
-    let calls = best.steps.wrapping_add(44);
-    println!(rt;
-        "{} {} {calls} {}",
-        best.time.as_micros(),
-        best.steps,
-        best.gain
-    )?;
-    Ok(())
+    Ok(best)
 }
 
 /// Settles a network once.
@@ -68,13 +70,18 @@ fn once(clock: &impl Clock, alloc: Global, network: &Network) -> Result<Run> {
     let start = Instant::now(clock)?;
     let settled = settle(alloc, network, &mut search, &mut steps)?;
     let time = start.elapsed(clock)?;
+    Ok(Run {
+        time,
+        steps: steps.count(),
+        gain: gain_of(network, &settled),
+    })
+}
+
+/// What the flows gain: the sum of each flow times its difference.
+fn gain_of(network: &Network, settled: &Settled) -> i128 {
     let mut gain = 0i128;
     for (link, flow) in network.arcs().iter().zip(settled.flows.as_slice()) {
         gain = gain.wrapping_add(i128::from(link.diff).wrapping_mul(i128::from(*flow)));
     }
-    Ok(Run {
-        time,
-        steps: steps.count(),
-        gain,
-    })
+    gain
 }

@@ -1,24 +1,28 @@
-//! Lists the height differences that a book of a total station holds.
+//! Lists the books of total stations, adjusts the height networks that they observe, and checks
+//! what others say that such an adjustment gives.
 //!
 //! The words of the command line become a plan, the plan a run over devices, and the answer of the
 //! run a status, with one line on standard error where it is a refusal.
 #![tactic(auto)]
 
-ghost use Rattle.std.specs.Prelude.{◌≡◌, ◌≢◌, ◌<◌, ◌≤◌, ◌↔◌, ◌⊎◌, IfOk, IfErr, true, map, string_bytes};
+ghost use Rattle.std.specs.Prelude.{◌≡◌, ◌≢◌, ◌⊎◌, IfOk, IfErr, map, string_bytes};
 ghost use Rattle.std.specs.IoError.{error_kind};
 ghost use Rattle.std.specs.declared.io.ErrorKind.TheVariants.{InvalidData};
-ghost use Rattle.th_devices.specs.Limits.{calls_before};
-ghost use Rattle.th_plans.specs.Plans.{AreWrong, book_asked};
-ghost use Rattle.th_runs.specs.Refusals.{IsStatus, IsStatusOfRun, status_of};
-ghost use Rattle.th_runs.specs.Runs.{HasFault, HoldsList};
+ghost use Rattle.th_plans.specs.Plans.{AreWrong};
+ghost use Rattle.height_office.specs.Statuses.{IsStatus, IsStatusOfPlan};
 
+// The runs, over any devices and over files.
+mod devices;
+mod files;
+
+use devices::refuse;
 use std::io::ErrorKind;
 use std::process::ExitCode;
 use std::rt::{Env, Files};
 use std::{env, io};
-use th_devices::{FileSource, Sink, Source, StandardInput, StandardOutput};
+use th_devices::{FileSource, StandardInput, StandardOutput};
 use th_plans::{Plan, PlanFault, plan};
-use th_runs::{DEVICE_FAILED, DONE, INPUT_REFUSED, NO_MEMORY, Refusal, USAGE, run_list, status_of};
+use th_runs::{NO_MEMORY, Refusal, USAGE};
 
 fn main(rt: HostRuntime) -> ExitCode {
     ExitCode::from(run_words(&rt))
@@ -66,73 +70,32 @@ fn run<R: AllocGlobal + Files + Input + Print + Eprint>(rt: &R, words: &[String]
         → (result ≡ USAGE) ⊎ (result ≡ NO_MEMORY) }
     ensures status { IsStatus result }
 {
-    let mut out = StandardOutput::new(rt);
     match plan(rt.alloc(), words) {
-        Ok(plan) => {
-            // A file is opened at its first read, and of no name none is asked for.
-            let mut file = FileSource::new(rt, plan.file_name().unwrap_or(""));
-            list_planned(rt, &plan, &mut StandardInput::new(rt), &mut file, &mut out)
-        }
-        Err(PlanFault::Line(error)) => {
-            let _ = rt.eprint(&PlanFault::Line(error));
+        Ok(plan) => run_plan(rt, &plan),
+        Err(PlanFault::NoMemory) => refuse(rt, &Refusal::NoMemory),
+        Err(fault) => {
+            let _ = rt.eprint(&fault);
             USAGE
         }
-        Err(PlanFault::NoMemory) => refuse(rt, &Refusal::NoMemory),
     }
 }
 
-/// Lists the book that a plan asks for, the one on standard input or the one in its file, and says
-/// the status to end with.
-fn list_planned<R: AllocGlobal + Eprint, S: Source, F: Source, K: Sink>(
-    rt: &R,
-    plan: &Plan,
-    standard: &mut S,
-    file: &mut F,
-    out: &mut K,
-) -> u8
-    requires standard_calls { S.calls standard.old ≤ calls_before }
-    requires file_calls { F.calls file.old ≤ calls_before }
-    requires out_calls { K.calls out.old ≤ calls_before }
-    ensures listed { result ≡ DONE → HoldsList 1
-        (book_asked plan.now (S.left standard.old) (F.left file.old))
-        (K.held out.old) (K.held out.new) }
-    ensures finished { result ≡ DONE → K.is_finished out.new ≡ true }
-    ensures refused { result ≡ INPUT_REFUSED
-        → HasFault 1 (book_asked plan.now (S.left standard.old) (F.left file.old)) }
-    ensures fails { (result ≡ DEVICE_FAILED) ↔ ((S.failures standard.old < S.failures standard.new)
-        ⊎ (F.failures file.old < F.failures file.new) ⊎ (K.failures out.old < K.failures out.new)) }
-    ensures status { IsStatusOfRun result }
+/// Does what a plan asks for, and says the status to end with.
+fn run_plan<R: AllocGlobal + Files + Input + Print + Eprint>(rt: &R, plan: &Plan<'_>) -> u8
+    ensures { IsStatusOfPlan plan.now result }
 {
+    let mut out = StandardOutput::new(rt);
     match plan {
-        Plan::Standard => list(rt, standard, out),
-        Plan::List(_) => list(rt, file, out),
+        Plan::Standard => devices::list(rt, &mut StandardInput::new(rt), &mut out),
+        Plan::List { book } => devices::list(rt, &mut FileSource::new(rt, *book), &mut out),
+        Plan::Adjust {
+            inputs,
+            limit,
+            prefix,
+        } => files::adjust(rt, inputs, *limit, *prefix),
+        Plan::Check {
+            inputs,
+            certificate,
+        } => files::check(rt, inputs, *certificate, &mut out),
     }
-}
-
-/// Lists a book, and says the status to end with.
-fn list<R: AllocGlobal + Eprint, S: Source, K: Sink>(rt: &R, book: &mut S, out: &mut K) -> u8
-    requires book_calls { S.calls book.old ≤ calls_before }
-    requires out_calls { K.calls out.old ≤ calls_before }
-    ensures listed { result ≡ DONE
-        → HoldsList 1 (S.left book.old) (K.held out.old) (K.held out.new) }
-    ensures finished { result ≡ DONE → K.is_finished out.new ≡ true }
-    ensures refused { result ≡ INPUT_REFUSED → HasFault 1 (S.left book.old) }
-    ensures fails { (result ≡ DEVICE_FAILED) ↔ ((S.failures book.old < S.failures book.new)
-        ⊎ (K.failures out.old < K.failures out.new)) }
-    ensures status { IsStatusOfRun result }
-{
-    match run_list(rt.alloc(), book, out) {
-        Ok(()) => DONE,
-        Err(refusal) => refuse(rt, &refusal),
-    }
-}
-
-/// Says a refusal in one line on standard error, and the status to end with.
-///
-/// Where standard error does not take the line, the status still tells.
-fn refuse<R: Eprint>(rt: &R, refusal: &Refusal) -> u8
-    ensures { result ≡ status_of refusal.now }
-{
-    let _ = rt.eprintln(refusal);
-    status_of(refusal)
 }

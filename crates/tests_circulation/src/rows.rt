@@ -1,5 +1,7 @@
 use crate::settling::{Outcome, cost_of, settled_over};
-use crate::surveys::{A_AT_100, LONGER, SETUP, SIGHT, Survey, joined, network_of, tables_of};
+use crate::surveys::{
+    A_AT_100, BACK, LONGER, ONWARDS, SETUP, SIGHT, Survey, joined, network_of, tables_of,
+};
 use std::alloc::Global;
 use std::process::Abort;
 use th_network::Network;
@@ -17,7 +19,7 @@ struct Row {
     most_steps: u128,
 }
 
-const ROWS: [Row; 14] = [
+const ROWS: [Row; 16] = [
     // One sight.
     Row {
         survey: Survey {
@@ -101,7 +103,7 @@ const ROWS: [Row; 14] = [
                 SETUP,
                 SIGHT,
                 LONGER,
-                b"110004+0000000B 84..10+00000000 88..10+00001500 \n110005+0000000C 33..00+00001000 87..10+00001500 \n",
+                ONWARDS,
             ],
             benchmarks: A_AT_100,
             weights: b"",
@@ -111,6 +113,32 @@ const ROWS: [Row; 14] = [
         cost: 200_000,
         flows: &[Some(-1), Some(1), Some(0)],
         most_steps: 264,
+    },
+    // The second sight is seen from its other end.
+    Row {
+        survey: Survey {
+            book: &[SETUP, SIGHT, BACK],
+            benchmarks: A_AT_100,
+            weights: b"",
+        },
+        low: &[10_000_000_000, 10_254_500_000],
+        high: &[10_000_000_000, 10_254_700_000],
+        cost: 200_000,
+        flows: &[Some(-1), Some(-1)],
+        most_steps: 176,
+    },
+    // And weighs three times as much.
+    Row {
+        survey: Survey {
+            book: &[SETUP, SIGHT, BACK],
+            benchmarks: A_AT_100,
+            weights: b"from,to,weight\nB,A,3\n",
+        },
+        low: &[10_000_000_000, 10_254_700_000],
+        high: &[10_000_000_000, 10_254_700_000],
+        cost: 200_000,
+        flows: &[Some(-1), Some(-1)],
+        most_steps: 352,
     },
     // A to B 1 m, B to C 1 m, C to A -2 m, and A to C 2.5 m.
     Row {
@@ -192,7 +220,7 @@ const ROWS: [Row; 14] = [
             book: &[
                 SETUP,
                 SIGHT,
-                b"110004+0000000B 84..10+00000000 88..10+00001500 \n110005+0000000C 33..00+00001000 87..10+00001500 \n",
+                ONWARDS,
             ],
             benchmarks: b"point,height\nA,100\nC,105\n",
             weights: b"",

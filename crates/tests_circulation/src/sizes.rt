@@ -95,3 +95,27 @@ fn many_targets_are_settled(rt: HostRuntime) {
     }
     settle_exact(&rt, rt.alloc(), &book, 4_000, 39_990);
 }
+
+/// A line of as many points as a network takes, each but the first sighted ten times from the one
+/// before it, 0.545 m below.
+#[test]
+fn a_line_is_settled(rt: HostRuntime) {
+    let mut book = Vec::new(rt.alloc());
+    for point in 0..3_999u32 {
+        let next = point + 1;
+        let setup = format!(in rt.alloc(); "110001+{point:08} 84..10+00000000 88..10+00001500 \n")
+            .expect(&rt, "memory");
+        let sight = format!(in rt.alloc(); "110002+{next:08} 33..00+00000345 87..10+00001300 \n")
+            .expect(&rt, "memory");
+        add(&rt, &mut book, setup.as_bytes(), 1);
+        add(&rt, &mut book, sight.as_bytes(), 10);
+    }
+    let tables = tables_of(&rt, rt.alloc(), b"point,height\n0,100\n", b"");
+    let network = network_of(&rt, rt.alloc(), &book, &tables);
+    let outcome = settled_over(&rt, rt.alloc(), &network, LabelSearch::new());
+    assert_eq!(rt; outcome.steps, 0);
+    assert_eq!(rt; outcome.spans.low.as_slice(), outcome.spans.high.as_slice());
+    assert_eq!(rt; outcome.spans.low.as_slice(), outcome.settled.heights.as_slice());
+    assert_eq!(rt; outcome.spans.low.as_slice().len(), 4_000);
+    assert_eq!(rt; outcome.spans.low.as_slice().last(), Some(&227_945_500_000));
+}

@@ -25,6 +25,14 @@ pub const SIGHT: &[u8] = b"110002+0000000B 33..00+00002345 87..10+00001300 \n";
 /// A sight of B that is 2 mm longer.
 pub const LONGER: &[u8] = b"110003+0000000B 33..00+00002347 87..10+00001300 \n";
 
+/// A setup at B, and the longer sight back from it to A.
+pub const BACK: &[u8] =
+    b"110003+0000000B 84..10+00000000 88..10+00001450 \n110004+0000000A 33..00-00002697 87..10+00001300 \n";
+
+/// A setup at B, and a sight from it to C, which is 1 m higher.
+pub const ONWARDS: &[u8] =
+    b"110004+0000000B 84..10+00000000 88..10+00001500 \n110005+0000000C 33..00+00001000 87..10+00001500 \n";
+
 /// The parts of a book, joined.
 pub fn joined(rt: &impl Abort, alloc: Global, parts: &[&[u8]]) -> Vec<u8> {
     let mut book = Vec::new(alloc);

@@ -200,3 +200,56 @@ fn residuals_of_a_large_network(rt: HostRuntime) {
     let above = blunders(rt.alloc(), &found, 0).expect(&rt, "memory");
     assert_eq!(rt; above.len(), 20_000);
 }
+
+/// A book, a table of weights, residuals in the order of the observations, and what they cost.
+type Cost = (&'static [u8], &'static [u8], &'static [i64], u128);
+
+const COSTS: [Cost; 4] = [
+    (THREE_SIGHTS, b"", &[-100_000, 0, 99_900_000], 100_000_000),
+    (
+        THERE_AND_BACK,
+        b"from,to,weight\nA,B,3\n",
+        &[0, -1_000_000],
+        1_000_000,
+    ),
+    (
+        THERE_AND_BACK,
+        b"from,to,weight\nA,B,3\nB,A,1000\n",
+        &[2, -1_000_000],
+        1_000_000_006,
+    ),
+    (b"", b"", &[], 0),
+];
+
+/// Residuals that are small.
+fn residuals_of(rt: &impl Abort, alloc: Global, units: &[i64]) -> Vec<i64>
+    ensures { All (λ residual. unsigned_abs residual < 10 ^ 18) result.items }
+{
+    let mut residuals = Vec::new(alloc);
+    for residual in units {
+        assert!(rt; residual.unsigned_abs() < 1_000_000_000_000_000_000);
+        residuals.push(*residual).expect(rt, "memory");
+    }
+    residuals
+}
+
+fn residuals_cost(rt: &impl Abort, alloc: Global, row: &Cost) {
+    let (book, weights, units, wanted) = *row;
+    let observations = observations_of(rt, alloc, book);
+    let benchmarks = read_benchmarks(alloc, b"point,height\nA,100\n").expect(rt, "benchmarks");
+    let weights = read_weights(alloc, weights).expect(rt, "weights");
+    let network = Network::build(alloc, observations, &benchmarks, &weights).expect(
+        rt,
+        "a network",
+    );
+    let residuals = residuals_of(rt, alloc, units);
+    assert_eq!(rt; residuals.len(), network.observations().len());
+    assert_eq!(rt; cost(&network, &residuals), wanted);
+}
+
+#[test]
+fn costs_of_residuals(rt: HostRuntime) {
+    for row in &COSTS {
+        residuals_cost(&rt, rt.alloc(), row);
+    }
+}

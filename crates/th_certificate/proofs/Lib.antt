@@ -2,7 +2,6 @@ pub mod NumberLemmas
 pub mod HeightLemmas
 pub mod StatementLemmas
 pub mod PointLemmas
-pub mod CostLemmas
 pub mod TextLemmas
 pub mod ReadNumbers
 pub mod ReadRows

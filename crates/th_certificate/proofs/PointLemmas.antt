@@ -60,25 +60,3 @@ stated_height-rows_at (first ∷ names) heights name among = by (bytes_eq name f
         → unwrap_or (if same then Some (heights first) else lookup (bytes_eq name) (rows_at names heights)) (pos 0) ≡ heights name
     by true equal more among = ap heights (sym (equal refl))
     by false equal more among = more among
-
--- another name has none, and no place either
-pub stated_height-other : (names : List (List ℕ)) (heights : List ℕ → ℤ) (name : List ℕ) → list_any (bytes_eq name) names ≡ false
-    → (stated_height (rows_at names heights) name ≡ pos 0) × (place_of names name ≡ length names)
-stated_height-other [] heights name other = (refl, refl)
-stated_height-other (first ∷ names) heights name other = by (bytes_eq name first) (stated_height-other names heights name) other
-  where
-    by : (same : Bool) → (list_any (bytes_eq name) names ≡ false → (stated_height (rows_at names heights) name ≡ pos 0) × (place_of names name ≡ length names)) → (same || list_any (bytes_eq name) names) ≡ false
-        → (unwrap_or (if same then Some (heights first) else lookup (bytes_eq name) (rows_at names heights)) (pos 0) ≡ pos 0)
-        × ((if not same then 1 + position_or_len (bytes_eq name) names else 0) ≡ length (first ∷ names))
-    by true more other = cc other
-    by false more other = ((more other).0, omega (arith, (more other).1))
-
--- rows of listed heights state just these
-pub stated_height-listed : (names : List (List ℕ)) (heights : List ℤ) (name : List ℕ) → length heights ≡ length names → stated_height (rows_at names (heights_at names heights)) name ≡ heights_at names heights name
-stated_height-listed names heights name same = by (list_any (bytes_eq name) names) refl
-  where
-    by : (among : Bool) → list_any (bytes_eq name) names ≡ among → stated_height (rows_at names (heights_at names heights)) name ≡ heights_at names heights name
-    by true is = stated_height-rows_at names (heights_at names heights) name is
-    by false is =
-        let none = stated_height-other names (heights_at names heights) name is in
-        none.0 ∙ sym (ap (λ k. get_or heights k (pos 0)) none.1 ∙ get_or_past heights (length names) (pos 0) (omega arith))

@@ -1,5 +1,5 @@
 -- Numbers that are written are read again.
-use Rattle.std.proofs.Common.{◌≡◌, ◌<◌, ◌≤◌, ◌+◌, ◌^◌, ℕ, ℤ, pos, negsuc, neg_ℤ, ◌&&◌, ◌||◌, ◌==◌, Bool, true, false, if◌then◌else◌, List, [], ◌∷◌, length, get_or, drop, decimal, Result, Ok, Err, nat_le, nat_lt, unsigned_abs, suc, zero, refl, sym, ap, subst, ◌∙◌, arith}
+use Rattle.std.proofs.Common.{◌≡◌, ◌<◌, ◌≤◌, ◌^◌, ℕ, ℤ, pos, negsuc, ◌&&◌, ◌||◌, ◌==◌, Bool, true, false, if◌then◌else◌, List, [], ◌∷◌, length, get_or, drop, decimal, Ok, Err, nat_le, nat_lt, unsigned_abs, suc, refl, ap, ◌∙◌, arith}
 use Rattle.std.specs.Fmt.{signed_decimal}
 use Rattle.std.specs.List.{list_all}
 use Rattle.std.specs.Str.Parse.{AllDigits}
@@ -7,13 +7,12 @@ use Rattle.std.proofs.lemmas.Bool.Decides.{nat_tests}
 use Rattle.std.proofs.lemmas.Fmt.{decimal_is_IsNumeral_wide, length-decimal-le_wide}
 use Rattle.std.proofs.lemmas.Str.Parse.{digit_from_value}
 use Rattle.th_units.specs.Lengths.{are_digits, is_digit, number, signed}
-use Rattle.th_units.specs.Metres.{has_minus, has_sign, metres, value, without_sign}
+use Rattle.th_units.specs.Metres.{has_minus, metres, without_sign}
 use Rattle.th_units.proofs.Digits.{digit_bounds, list_all-get_or}
 use Rattle.th_units.proofs.MetreTexts.{value-metres}
 use Rattle.th_certificate.specs.Certified.{cost_limit}
 use Rattle.th_network.specs.Limits.{height_limit}
 use Rattle.th_certificate.specs.Numbers.{cost_in, count_in, flow_in, height_from, height_in, most_flows, writes}
-use Rattle.th_certificate.specs.declared.faults.CertKind.{CertKind}
 use Rattle.th_certificate.specs.declared.faults.CertKind.TheVariants.{BadNumber, TooLarge}
 
 is_digit_from_bounds : (byte : ℕ) → 48 ≤ byte → byte ≤ 57 → is_digit byte ≡ true

@@ -1,5 +1,5 @@
 -- Rows that are written are read again.
-use Rattle.std.proofs.Common.{◌≡◌, ◌<◌, ◌≤◌, ◌+◌, ◌++◌, ℕ, ℤ, ◌&&◌, ◌==◌, Bool, true, false, if◌then◌else◌, List, [], ◌∷◌, length, get_or, take, map, Option, Some, None, is_some, Result, Ok, Err, bytes_eq, codes, decimal, nat_lt, unsigned_abs, suc, zero, refl, sym, ap, subst, ◌∙◌, append_assoc, length-append, arith}
+use Rattle.std.proofs.Common.{◌≡◌, ◌<◌, ◌≤◌, ◌+◌, ◌++◌, ℕ, ℤ, ◌&&◌, ◌==◌, true, if◌then◌else◌, List, [], ◌∷◌, length, get_or, map, Option, Some, None, is_some, Ok, Err, bytes_eq, codes, decimal, nat_lt, unsigned_abs, suc, sym, ap, subst, ◌∙◌, append_assoc, length-append, arith}
 use Rattle.std.specs.Fmt.{signed_decimal}
 use Rattle.std.specs.List.{AllByRecursion, IsDistinct, enumerate_from}
 use Rattle.std.specs.Map.{lookup}
@@ -9,19 +9,17 @@ use Rattle.std.proofs.lemmas.List.{append-nil, map-append}
 use Rattle.gsi_word.specs.Names.{name_of}
 use Rattle.th_units.specs.Metres.{metres}
 use Rattle.th_csv.specs.Records.{Fields}
-use Rattle.th_certificate.specs.Certified.{Certified, HeightRows, rows_at}
+use Rattle.th_certificate.specs.Certified.{HeightRows, rows_at}
 use Rattle.th_network.specs.Limits.{height_limit}
 use Rattle.th_certificate.specs.Numbers.{cost_in, flow_in, height_in, most_flows}
 use Rattle.th_certificate.specs.Reading.{after, certificate_after, ended}
-use Rattle.th_certificate.specs.Statements.{Draft, may_have_flow, may_have_cost, new_name, row_in, row_of, row_with, said, states, with_statement}
+use Rattle.th_certificate.specs.Statements.{Draft, new_name, row_in, row_of, row_with, said, states, with_statement}
 use Rattle.th_certificate.specs.Texts.{cost_row, flow_row, height_row}
-use Rattle.th_certificate.specs.declared.faults.CertFault.{CertFault}
-use Rattle.th_certificate.specs.declared.faults.CertKind.{CertKind}
 use Rattle.th_certificate.specs.declared.faults.CertKind.TheVariants.{BadKind, BadName}
 use Rattle.th_certificate.specs.declared.statements.Statement.{Statement}
 use Rattle.th_certificate.specs.declared.statements.Statement.TheVariants.{Flow, Cost}
 use Rattle.th_certificate.proofs.PointLemmas.{lookup-rows_before}
-use Rattle.th_certificate.proofs.ReadNumbers.{cost_in-decimal, flow_in-decimal, height_in-metres}
+use Rattle.th_certificate.proofs.ReadNumbers.{flow_in-decimal, height_in-metres}
 
 -- a point whose row can be read: its name is in reduced form and its height in its range
 abbrev pub IsReadable : (List ℕ → ℤ) → List ℕ → Type 0

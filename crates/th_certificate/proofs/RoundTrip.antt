@@ -1,5 +1,5 @@
 -- The text of a certificate is read as what it says.
-use Rattle.std.proofs.Common.{◌≡◌, ◌<◌, ◌≤◌, ◌+◌, ◌*◌, ◌==◌, ℕ, ℤ, Bool, false, if◌then◌else◌, List, [], ◌∷◌, ◌++◌, length, map, codes, decimal, Some, None, All, Result, Ok, Err, nat_lt, unsigned_abs, refl, sym, ap, subst, ◌∙◌, length-append, arith}
+use Rattle.std.proofs.Common.{◌≡◌, ◌<◌, ◌≤◌, ◌+◌, ℕ, ℤ, false, if◌then◌else◌, List, [], ◌∷◌, ◌++◌, length, map, codes, decimal, Some, None, Ok, Err, nat_lt, unsigned_abs, refl, ap, ◌∙◌, length-append, arith}
 use Rattle.std.specs.List.{AllByRecursion, enumerate_from}
 use Rattle.std.proofs.lemmas.Bool.Decides.{nat_tests}
 use Rattle.std.proofs.lemmas.List.{length-map}
@@ -10,14 +10,13 @@ use Rattle.th_csv.specs.Records.{Fields, records_of}
 use Rattle.th_csv.specs.Texts.{HasField, IsUnmarked, csv_text}
 use Rattle.th_csv.proofs.RoundTripLemmas.{records_of_csv_text, unmarked_text}
 use Rattle.th_network.specs.Networks.{AreInRange, Survey, points_of}
-use Rattle.th_certificate.specs.Certified.{Certified, HeightRows, rows_at}
+use Rattle.th_certificate.specs.Certified.{HeightRows}
 use Rattle.th_network.specs.Limits.{height_limit}
 use Rattle.th_certificate.specs.Faults.{too_long}
 use Rattle.th_certificate.specs.Numbers.{count_in}
 use Rattle.th_certificate.specs.Reading.{after, certificate_after, certificate_in, certificate_of, longest_certificate}
-use Rattle.th_certificate.specs.Statements.{Draft, begun, counted, empty_draft}
+use Rattle.th_certificate.specs.Statements.{begun, counted, empty_draft}
 use Rattle.th_certificate.specs.Texts.{AreOfObservations, IsCertifiable, cost_of, cost_row, end_rows, flow_row, header_row, height_row, heights_at_points, rows_of_version_1, rows_of_version_2, text_of_version_1, text_of_version_2, version_row}
-use Rattle.th_certificate.specs.declared.faults.CertFault.{CertFault}
 use Rattle.th_certificate.specs.declared.statements.Statement.TheVariants.{Height, Low, High}
 use Rattle.th_certificate.proofs.ReadNumbers.{cost_in-decimal, count_in-decimal}
 use Rattle.th_certificate.proofs.ReadRows.{IsReadable, cost_read, flowing, flows_read, heights_read}

@@ -1,5 +1,5 @@
 -- What holds of the points and the cost of a network.
-use Rattle.std.proofs.Common.{◌≡◌, ◌<◌, ◌≤◌, ◌+◌, ◌*◌, ℕ, ℤ, pos, ◌-ℤ◌, Bool, true, false, not, cond, ◌||◌, List, [], ◌∷◌, ◌++◌, length, map, filter, Option, Some, None, All, IfSome, bytes_eq, unsigned_abs, unwrap_or, refl, sym, ap, subst, ◌∙◌, arith}
+use Rattle.std.proofs.Common.{◌≡◌, ◌<◌, ◌≤◌, ◌*◌, ℕ, ℤ, ◌-ℤ◌, Bool, true, false, not, cond, ◌||◌, List, [], ◌∷◌, ◌++◌, map, filter, Option, Some, None, IfSome, bytes_eq, unsigned_abs, unwrap_or, refl, sym, subst, arith}
 use Rattle.std.specs.List.{AllByRecursion, IsDistinct, list_any}
 use Rattle.std.specs.Map.{lookup}
 use Rattle.std.proofs.Math.Nat.{mul-le-mul}
@@ -11,7 +11,6 @@ use Rattle.std.proofs.lemmas.Map.Keys.{IsDistinct-cons, IsDistinct-head, IsDisti
 use Rattle.std.proofs.lemmas.Slice.Eq.{bytes_eq-Decides}
 use Rattle.th_book.specs.Observed.{IsBetweenPoints, Observed}
 use Rattle.th_tables.specs.Rows.{AreWeights, BenchmarkRows, WeightRows, same_ends, weight_of}
-use Rattle.th_network.specs.Heights.{cost, residual}
 use Rattle.th_network.specs.Networks.{AreInRange, Survey, points_of}
 use Rattle.th_points.specs.Points.{distinct, ends, points}
 use Rattle.th_points.proofs.PointLemmas.{EndsAmong, ends_are_points}
@@ -19,7 +18,10 @@ use Rattle.th_certificate.specs.Certified.{cost_limit}
 use Rattle.th_network.specs.Limits.{height_limit}
 use Rattle.th_certificate.specs.Texts.{IsCertifiable, cost_of}
 use Rattle.th_certificate.specs.Inside.Costs.{most_residual}
-use Rattle.th_certificate.proofs.CostLemmas.{weighted}
+
+-- what an observation adds to the cost
+abbrev weighted : WeightRows → (List ℕ → ℤ) → Observed → ℕ
+weighted weights heights o = weight_of weights o.station o.target * unsigned_abs (residual o heights)
 
 -- names that are left of some that were apart from a name are apart from it
 apart_filter : (name : List ℕ) (test : List ℕ → Bool) (names : List (List ℕ)) → AllByRecursion (λ other. bytes_eq name other ≡ false) names → AllByRecursion (λ other. bytes_eq name other ≡ false) (filter test names)

@@ -1,5 +1,5 @@
 -- How long the text of a certificate is at most.
-use Rattle.std.proofs.Common.{◌≡◌, ◌<◌, ◌≤◌, ◌+◌, ◌*◌, ◌/◌, ◌%◌, ◌==◌, ℕ, ℤ, pos, negsuc, Bool, true, false, if◌then◌else◌, List, [], ◌∷◌, ◌++◌, length, map, decimal, codes, Some, None, not, nat_lt, unsigned_abs, suc, refl, sym, ap, ◌∙◌, length-append, arith}
+use Rattle.std.proofs.Common.{◌≡◌, ◌<◌, ◌≤◌, ◌+◌, ◌*◌, ◌/◌, ◌%◌, ◌==◌, ℕ, ℤ, pos, negsuc, Bool, true, false, if◌then◌else◌, List, [], ◌∷◌, ◌++◌, length, map, decimal, codes, Some, None, not, nat_lt, unsigned_abs, suc, refl, ap, length-append, arith}
 use Rattle.std.specs.Fmt.{signed_decimal}
 use Rattle.std.specs.Int.{is_negative}
 use Rattle.std.specs.List.{AllByRecursion, enumerate_from, list_all, list_any}
@@ -13,7 +13,7 @@ use Rattle.th_units.specs.Metres.{last_digits, metres, size_in_metres}
 use Rattle.th_units.proofs.Digits.{length-last_digits}
 use Rattle.th_csv.specs.Records.{Fields}
 use Rattle.th_csv.specs.Texts.{csv_text, row_text}
-use Rattle.th_certificate.specs.Certified.{HeightRows, cost_limit, rows_at}
+use Rattle.th_certificate.specs.Certified.{cost_limit, rows_at}
 use Rattle.th_network.specs.Limits.{height_limit}
 use Rattle.th_certificate.specs.Numbers.{most_flows}
 use Rattle.th_certificate.specs.Texts.{cost_row, flow_row, header_row, height_row, version_row}

@@ -70,7 +70,10 @@ pub(crate) fn cost_in(field: &[u8]) -> Result<u128, CertKind>
 fn writes(field: &[u8], number: u32) -> bool
     ensures { result ≡ writes field.now number }
 {
-    are_digits(field) && capped_number(field) == u128::from(number)
+    match short_number(field) {
+        Some(small) => small == number,
+        None => are_digits(field) && capped_number(field) == u128::from(number),
+    }
 }
 
 /// The number that digits write, or `COST_LIMIT` where it is larger.

@@ -1,5 +1,5 @@
 -- The differences of one phase after those of the phase before it, and where the first phase starts.
-use Rattle.std.proofs.Common.{◌≡◌, ℕ, zero, suc, ◌≤◌, ◌+◌, ◌*◌, ◌^◌, ◌/◌, ℤ, pos, negsuc, ◌+ℤ◌, ◌*ℤ◌, ◌≤ℤ◌, List, [], ◌∷◌, All, length, map, sum, unsigned_abs, Bool, true, false, eqb, zip, if◌then◌else◌, replicate, refl, ap, sym, ◌∙◌, arith}
+use Rattle.std.proofs.Common.{◌≡◌, ℕ, zero, suc, ◌≤◌, ◌+◌, ◌*◌, ◌<◌, ◌^◌, ◌/◌, ℤ, pos, negsuc, ◌+ℤ◌, ◌*ℤ◌, ◌≤ℤ◌, List, [], ◌∷◌, All, length, map, sum, unsigned_abs, Bool, true, false, eqb, zip, if◌then◌else◌, replicate, refl, ap, sym, subst, ◌∙◌, arith}
 use Rattle.std.proofs.lemmas.Int.{ints}
 use Rattle.std.proofs.lemmas.Nat.{shr-shr, shr_le}
 use Rattle.std.proofs.lemmas.List.Elements.{All-map, recursion_from_All}
@@ -118,6 +118,29 @@ phases_more w done = ap (λ (k : ℕ). 2 * w * k) (add-one done) ∙ mul-suc (2 
 pub phases_most : (w done : ℕ) → done ≤ 44 → 2 * w * done ≤ 88 * w
 phases_most w done h = let most = mul-le-mul_left (2 * w) h in omega arith
 
+all_none : (n : ℕ) → AllByRecursion (λ flow. flow ≡ pos 0) (replicate n (pos 0))
+all_none zero = tt
+all_none (suc n) = (refl, all_none n)
+
+-- the first phase starts from no flow, and raises the gain by at most the sum of the weights
+pub first_rise : (vertices : ℕ) (links : List Link) (weights : List ℕ) (flows new diffs : List ℤ) (rise : ℕ) → IsGraph vertices links weights → diffs ≡ differences_in 43 links → flows ≡ replicate (length links) (pos 0) → IsFlow links weights new → (gain flows diffs +ℤ pos rise) ≤ℤ gain new diffs → rise ≤ sum weights
+first_rise vertices links weights flows new diffs rise graph is none flow gained =
+    let most = first_gain links weights new (recursion_from_All (λ link. unsigned_abs link.diff ≤ 5000000000000) links graph.near) flow.bounded in
+    let nothing = gain_none (replicate (length links) (pos 0)) (differences_in 43 links) (all_none (length links)) in
+    let more = subst (λ (ds : List ℤ). (gain (replicate (length links) (pos 0)) ds +ℤ pos rise) ≤ℤ gain new ds) is (subst (λ (fs : List ℤ). (gain fs diffs +ℤ pos rise) ≤ℤ gain new diffs) none gained) in
+    omega (arith, ints)
+
+-- so all phases but the first may take twice that sum, and the first takes it once
+pub few_more : (w done start now next : ℕ) → now ≤ start + 2 * w * done → now ≤ next → next ≤ now + 2 * w → (done ≡ 0 → next ≤ now + w) → (0 < done → now + w ≤ start + 2 * w * done) → next + w ≤ start + 2 * w * (done + 1)
+few_more w zero start now next few more rise first before =
+    let one = phases_more w 0 in
+    let least = first refl in
+    omega arith
+few_more w (suc done) start now next few more rise first before =
+    let one = phases_more w (suc done) in
+    let least = before (omega arith) in
+    omega arith
+
 -- the weights of a network come to at most 40 million
 sum_small : (weights : List ℕ) → AllByRecursion (λ weight. weight ≤ 1000) weights → sum weights ≤ 1000 * length weights
 sum_small [] h = omega arith
@@ -161,10 +184,6 @@ none_flows links weights sized = record {
   bounded = none_bounded links weights sized;
   balanced = λ vertex. none_arrives links vertex ∙ sym (none_leaves links vertex);
 }
-
-all_none : (n : ℕ) → AllByRecursion (λ flow. flow ≡ pos 0) (replicate n (pos 0))
-all_none zero = tt
-all_none (suc n) = (refl, all_none n)
 
 pub none_near_replicate : (vertices : ℕ) (links : List Link) (weights : List ℕ) → IsGraph vertices links weights → IsNear links weights (differences_in 43 links) (replicate (length links) (pos 0))
 none_near_replicate vertices links weights graph = none_near vertices links weights (replicate (length links) (pos 0)) graph (all_none (length links))

@@ -3,11 +3,12 @@ pub mod Flows
 pub mod Cycles
 pub mod Placed
 pub mod Graphs
+pub mod Residuals
+pub mod Spreading
+pub mod Distances
+pub mod Spans
 pub mod Listings
+pub mod Proposals
 pub mod Phases
 pub mod Workspaces
 pub mod Cuts
-pub mod Proposals
-pub mod Residuals
-pub mod Distances
-pub mod Spans

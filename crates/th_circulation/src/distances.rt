@@ -1,13 +1,18 @@
 ghost use Rattle.std.specs.Prelude.{◌≡◌, ◌<◌, ◌+ℤ◌, All, IfOk, MatchBool, length};
 ghost use Rattle.th_circulation.specs.Inside.Distances.{AreDistances, AreLabels, AreTight, IsKept, place_at, room};
+ghost use Rattle.th_circulation.specs.Inside.Spreading.{AreTails, IsQueue};
 ghost use Rattle.th_search.specs.Potentials.{value_at};
 ghost use Rattle.th_search.specs.Walks.{arc_at};
 
+use crate::spreading::{Queue, Tails};
 use std::alloc::{AllocError, Global};
 use th_search::Arc;
 
 /// The size that no distance exceeds: 4,000 arcs of the largest cost.
 const FARTHEST: i64 = 40_000_000_000_000_000;
+
+/// How many vertices are looked at before the passes, for each vertex that there is.
+const LOOKS: usize = 64;
 
 /// Arcs without a negative cycle that lead from vertex 0 to each vertex, and back.
 #[derive(Clone, Copy)]
@@ -21,19 +26,66 @@ impl<'a> TightArcs<'a> {
     /// The distance of each vertex from vertex 0: the shortest length of the walks to it.
     ///
     /// Labels that begin at or above all distances fall along one arc after another until no arc is
-    /// shorter than they say: then they are the distances. Every second pass goes backwards, since the
-    /// order of the arcs often follows the walks.
+    /// shorter than they say: then they are the distances. They fall from vertex to vertex first, and
+    /// then in passes over all arcs, every second one backwards.
     pub fn distances(&self, alloc: Global) -> Result<Vec<i64>, AllocError>
         ensures { IfOk result (λ distances.
             AreDistances self.now.vertices self.now.arcs.now distances.items) }
     {
         let mut labels = vec![in alloc; FARTHEST; self.vertices as usize]?;
         labels[0] = 0;
+        self.spread(alloc, &mut labels)?;
         let mut backwards = false;
         'passes: while self.lower_all(backwards, &mut labels) {
             backwards = !backwards;
         }
         Ok(labels)
+    }
+
+    /// Lowers labels from vertex 0 on, from one vertex to the next, as far as so many looks at vertices
+    /// reach. What is left is for the passes, and in most networks nothing is.
+    fn spread(&self, alloc: Global, labels: &mut [i64]) -> Result<(), AllocError>
+        requires { AreLabels self.now.vertices self.now.arcs.now labels.old }
+        ensures { AreLabels self.now.vertices self.now.arcs.now labels.new }
+    {
+        let tails = Tails::of(alloc, self.vertices, self.arcs)?;
+        let mut queue = Queue::new(alloc, self.vertices)?;
+        for step in 0..LOOKS * self.vertices as usize {
+            let Some(vertex) = queue.take(step) else {
+                break;
+            };
+            self.lower_from(vertex, &tails, &mut queue, labels)?;
+        }
+        Ok(())
+    }
+
+    /// Lowers the labels along the arcs from a vertex, and lets those wait whose labels fell.
+    fn lower_from(
+        &self,
+        vertex: u32,
+        tails: &Tails,
+        queue: &mut Queue,
+        labels: &mut [i64],
+    ) -> Result<(), AllocError>
+        requires vertex { vertex < self.now.vertices }
+        requires tails { AreTails self.now.vertices (length self.now.arcs.now) tails.now.firsts.items
+            tails.now.followings.items }
+        requires queue { IsQueue self.now.vertices queue.old.vertices.items queue.old.waits.items }
+        requires labels { AreLabels self.now.vertices self.now.arcs.now labels.old }
+        ensures queue { IsQueue self.now.vertices queue.new.vertices.items queue.new.waits.items }
+        ensures labels { AreLabels self.now.vertices self.now.arcs.now labels.new }
+    {
+        let mut at = tails.firsts[vertex as usize];
+        for _ in 0..self.arcs.len() {
+            let Some(number) = at else {
+                break;
+            };
+            if self.lower(number, labels) {
+                queue.add(self.arcs[number].head)?;
+            }
+            at = tails.followings[number];
+        }
+        Ok(())
     }
 
     /// Goes over the arcs once, from the front or from the back, and lowers the labels; whether any

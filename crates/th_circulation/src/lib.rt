@@ -36,11 +36,10 @@ mod views;
 mod distances;
 mod residuals;
 mod spanning;
+mod spreading;
 
 // What holds of the definitions alone.
 pub mod laws;
-#[cfg(test)]
-mod tests;
 
 pub use settled::{Flows, Heights, Settled, Spans};
 pub use settling::settle;

@@ -22,7 +22,7 @@ use th_search::Search;
 /// Finds heights of the points of a network that cost least, and the circulation that shows it.
 ///
 /// A step is one cycle that was cancelled. The search is called once for each step, and once for each
-/// of 44 phases. All memory but the search's is taken before its first call: where memory is refused,
+/// of 44 phases; where all is settled at once, it is asked of no arcs for the phases that are left. All memory but the search's is taken before its first call: where memory is refused,
 /// either the search refused it, in its last call, or nothing was counted. The network may be settled
 /// again afterwards.
 pub fn settle<S: Search>(

@@ -39,14 +39,13 @@ pub fn spans(alloc: Global, network: &Network, settled: &Settled) -> Result<Span
     ensures high_at_points { IfOk result (λ spans. AreAtPoints network.now spans.high) }
 {
     let points = network.points();
-    let low = vec![in alloc; 0i64; points.len()]?;
-    let high = vec![in alloc; 0i64; points.len()]?;
+    let lowest_listed = vec![in alloc; 0i64; points.len()]?;
+    let highest_listed = vec![in alloc; 0i64; points.len()]?;
     let arcs = residual_arcs(alloc, network, settled.flows.as_slice())?;
     let back = turned(alloc, &arcs)?;
-    Ok(Spans {
-        low: lowest(alloc, network, &arcs, low)?,
-        high: highest(alloc, network, &back, high)?,
-    })
+    let low = lowest(alloc, network, &arcs, lowest_listed)?;
+    let high = highest(alloc, network, &back, highest_listed)?;
+    Ok(Spans { low, high })
 }
 
 /// Lists the height of each point where each vertex is as far below vertex 0 as it is distant.

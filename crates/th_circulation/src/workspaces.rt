@@ -1,4 +1,4 @@
-ghost use Rattle.std.specs.Prelude.{◌≡◌, ◌+◌, ◌<◌, ◌≤◌, ◌≤ℤ◌, ◌+ℤ◌, ◌-◌, ◌*◌, ◌⊎◌, pos, IfOk, MatchBool, OnErr, OnOk, length, sum};
+ghost use Rattle.std.specs.Prelude.{◌≡◌, ◌+◌, ◌<◌, ◌≤◌, ◌≤ℤ◌, ◌+ℤ◌, ◌-◌, ◌*◌, ◌⊎◌, ◌^◌, pos, IfOk, MatchBool, OnErr, OnOk, length, replicate, sum};
 ghost use Rattle.std.specs.Bool.{OnTrue};
 ghost use Rattle.std.specs.Vec.{vec_capacity};
 ghost use Rattle.th_circulation.specs.Inside.Flows.{IsFlow, ShowsLinks, gain, residuals};
@@ -22,7 +22,7 @@ use crate::proposals::closes_below_zero;
 use crate::steps::Steps;
 use crate::views::View;
 use std::alloc::{AllocError, Global};
-use th_search::{Found, Search};
+use th_search::{Arc, Found, Search};
 
 /// What a settling works on.
 #[derive(Drop)]
@@ -48,8 +48,8 @@ impl Workspace {
             AreWithin graph.now.vertices 40002500000000000 work.heights.items) }
         ensures flow { IfOk result (λ work.
             IsFlow graph.now.links.now graph.now.weights.now work.flows.items) }
-        ensures near { IfOk result (λ work. IsNear graph.now.links.now graph.now.weights.now
-            (differences_in 43 graph.now.links.now) work.flows.items) }
+        ensures none { IfOk result (λ work.
+            work.flows.items ≡ replicate (length graph.now.links.now) (pos 0)) }
         ensures arcs { IfOk result (λ work.
             2 * length graph.now.links.now ≤ vec_capacity work.listing.arcs) }
         ensures slots { IfOk result (λ work.
@@ -69,8 +69,8 @@ impl Workspace {
         })
     }
 
-    /// Settles the phases one after another, each with its differences and on from the flows of the
-    /// one before it, until the flows show heights for the links' own differences.
+    /// Settles all digits of the differences at once where few steps do, and else by halves, until the
+    /// flows show heights for the links' own differences.
     pub fn settle<S: Search>(
         &mut self,
         alloc: Global,
@@ -81,8 +81,6 @@ impl Workspace {
         requires differences { length self.old.differences.items ≡ length graph.now.links.now }
         requires heights { AreWithin graph.now.vertices 40002500000000000 self.old.heights.items }
         requires flow { IsFlow graph.now.links.now graph.now.weights.now self.old.flows.items }
-        requires near { IsNear graph.now.links.now graph.now.weights.now
-            (differences_in 43 graph.now.links.now) self.old.flows.items }
         requires arcs { 2 * length graph.now.links.now ≤ vec_capacity self.old.listing.arcs }
         requires slots { 2 * length graph.now.links.now ≤ vec_capacity self.old.listing.slots }
         requires calls { S.calls search.old ≤ max_counted }
@@ -95,6 +93,86 @@ impl Workspace {
             (value_at self.new.heights.items))) }
         ensures more { steps.old ≤ steps.new }
         ensures few { steps.new ≤ steps.old + 88 * sum graph.now.weights.now }
+        ensures calls { OnOk result (S.calls search.new + steps.old ≡ S.calls search.old + steps.new + 44) }
+        ensures refused { OnErr result (S.calls search.new + steps.old ≤ S.calls search.old + steps.new + 44) }
+        ensures asked { S.calls search.old + steps.new ≤ S.calls search.new + steps.old }
+        ensures refusals { S.refusals search.new ≡ S.refusals search.old + refusals_in result }
+    {
+        if self.settle_at_once(alloc, graph, search, steps)? {
+            skip_phases(alloc, graph.vertices, search)
+        } else {
+            self.flows.fill(0);
+            self.settle_by_halves(alloc, graph, search, steps)
+        }
+    }
+
+    /// Cancels cycles for the links' own differences, at most as often as the sum of the weights says;
+    /// true where the flows show heights then.
+    fn settle_at_once<S: Search>(
+        &mut self,
+        alloc: Global,
+        graph: &Graph,
+        search: &mut S,
+        steps: &mut Steps,
+    ) -> Result<bool, AllocError>
+        requires differences { length self.old.differences.items ≡ length graph.now.links.now }
+        requires heights { AreWithin graph.now.vertices 40002500000000000 self.old.heights.items }
+        requires flow { IsFlow graph.now.links.now graph.now.weights.now self.old.flows.items }
+        requires arcs { 2 * length graph.now.links.now ≤ vec_capacity self.old.listing.arcs }
+        requires slots { 2 * length graph.now.links.now ≤ vec_capacity self.old.listing.slots }
+        requires calls { S.calls search.old ≤ max_counted }
+        requires steps { steps.old ≤ max_counted }
+        ensures differences { self.new.differences.items ≡ differences_in 0 graph.now.links.now }
+        ensures heights { OnOk result (AreWithin graph.now.vertices 40002500000000000
+            self.new.heights.items) }
+        ensures flow { IsFlow graph.now.links.now graph.now.weights.now self.new.flows.items }
+        ensures arcs { vec_capacity self.old.listing.arcs ≤ vec_capacity self.new.listing.arcs }
+        ensures slots { vec_capacity self.old.listing.slots ≤ vec_capacity self.new.listing.slots }
+        ensures more { steps.old ≤ steps.new }
+        ensures few { steps.new ≤ steps.old + sum graph.now.weights.now }
+        ensures answer { IfOk result (λ shown. MatchBool shown
+            ((S.calls search.new + steps.old ≡ S.calls search.old + steps.new + 1)
+            × ShowsLinks graph.now.weights.now self.new.flows.items (residuals graph.now.links.now
+            (differences_in 0 graph.now.links.now) (value_at self.new.heights.items)))
+            (S.calls search.new + steps.old ≡ S.calls search.old + steps.new)) }
+        ensures calls { S.calls search.new + steps.old ≤ S.calls search.old + steps.new + 1 }
+        ensures asked { S.calls search.old + steps.new ≤ S.calls search.new + steps.old }
+        ensures refusals { S.refusals search.new ≡ S.refusals search.old + refusals_in result }
+    {
+        self.start_phase(graph, 0);
+        let most = total(graph.weights);
+        'steps: for done in 0..most {
+            if !self.advance(alloc, graph, search, steps)? {
+                return Ok(true);
+            }
+        }
+        Ok(false)
+    }
+
+    /// Settles the phases one after another, each with its differences and on from the flows of the
+    /// one before it, until the flows show heights for the links' own differences.
+    fn settle_by_halves<S: Search>(
+        &mut self,
+        alloc: Global,
+        graph: &Graph,
+        search: &mut S,
+        steps: &mut Steps,
+    ) -> Result<(), AllocError>
+        requires differences { length self.old.differences.items ≡ length graph.now.links.now }
+        requires heights { AreWithin graph.now.vertices 40002500000000000 self.old.heights.items }
+        requires none { self.old.flows.items ≡ replicate (length graph.now.links.now) (pos 0) }
+        requires arcs { 2 * length graph.now.links.now ≤ vec_capacity self.old.listing.arcs }
+        requires slots { 2 * length graph.now.links.now ≤ vec_capacity self.old.listing.slots }
+        requires calls { S.calls search.old ≤ 2 * max_counted }
+        requires steps { steps.old ≤ 2 * max_counted }
+        ensures flow { IsFlow graph.now.links.now graph.now.weights.now self.new.flows.items }
+        ensures heights { OnOk result (AreWithin graph.now.vertices 40002500000000000
+            self.new.heights.items) }
+        ensures shown { OnOk result (ShowsLinks graph.now.weights.now self.new.flows.items
+            (residuals graph.now.links.now (differences_in 0 graph.now.links.now)
+            (value_at self.new.heights.items))) }
+        ensures more { steps.old ≤ steps.new }
+        ensures few { steps.new + sum graph.now.weights.now ≤ steps.old + 88 * sum graph.now.weights.now }
         ensures calls { OnOk result (S.calls search.new + steps.old ≡ S.calls search.old + steps.new + 44) }
         ensures refused { OnErr result (S.calls search.new + steps.old ≤ S.calls search.old + steps.new + 44) }
         ensures asked { S.calls search.old + steps.new ≤ S.calls search.new + steps.old }
@@ -274,4 +352,30 @@ impl Workspace {
         'cycles: while self.advance(alloc, graph, search, steps)? {}
         Ok(())
     }
+}
+
+/// Asks the search of no arcs, once for each phase but one: where all was settled at once, nothing is
+/// left for them.
+fn skip_phases<S: Search>(alloc: Global, vertices: u32, search: &mut S) -> Result<(), AllocError>
+    requires some { 1 ≤ vertices }
+    requires few { vertices ≤ 4001 }
+    requires calls { S.calls search.old + 43 < 1000000000000000000000000000000000000 }
+    ensures calls { OnOk result (S.calls search.new ≡ S.calls search.old + 43) }
+    ensures few { S.calls search.new ≤ S.calls search.old + 43 }
+    ensures asked { S.calls search.old ≤ S.calls search.new }
+    ensures refusals { S.refusals search.new ≡ S.refusals search.old + refusals_in result }
+{
+    let none: [Arc; 0] = [];
+    'phases: for phase in 1..PHASES {
+        let _ = search.search(alloc, vertices, &none)?;
+    }
+    Ok(())
+}
+
+/// The sum of some weights.
+fn total(weights: &[u32]) -> u32
+    requires { sum weights.now < 2 ^ 32 }
+    ensures { result ≡ sum weights.now }
+{
+    weights.iter().sum()
 }

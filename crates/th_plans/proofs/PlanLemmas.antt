@@ -1,37 +1,20 @@
-use Rattle.std.proofs.Common.{◌≡◌, ◌≢◌, ◌<◌, ◌⊎◌, [], Ok, Err, Result, IsErrAnd, IfErr, List, length, Some, None, ap, ap₂, sym, subst, refl, inl, inr, ◌∙◌, true, if◌then◌else◌}
-use Rattle.std.specs.Prelude.{Option, Box, option_map, codes}
-use Rattle.std.specs.Box.{box_value}
-use Rattle.std.specs.Str.{bytes_eq}
-use Rattle.clap.specs.Words.{App, HasKind, Row, Text, fault_of, first_of, is_simple_and_free, kind_of, subcommand_rows, subcommand_rows_of, subcommand_name_of}
+use Rattle.std.proofs.Common.{◌≡◌, ◌≢◌, ◌<◌, ◌≤◌, ◌⊎◌, ℕ, false, is_some, [], Ok, Err, Result, IsErrAnd, IfErr, List, length, Some, None, ap, sym, subst, refl, inl, inr, ◌∙◌, true}
+use Rattle.std.specs.Prelude.{Option, option_map}
+use Rattle.std.specs.Option.{option_map_or}
+use Rattle.std.proofs.lemmas.Bool.{cases_lt}
+use Rattle.clap.proofs.WalkLemmas.{both}
+use Rattle.clap.specs.Words.{App, HasKind, HasMatchesOf, Row, Text, fault_of, is_simple, is_simple_and_free, kind_of, subcommand_of, subcommand_rows_of}
 use Rattle.clap.specs.declared.error.Error.{Error}
 use Rattle.clap.specs.declared.error.kind.ErrorKind.{ErrorKind}
-use Rattle.clap.specs.declared.error.kind.ErrorKind.TheVariants.{OutOfMemory}
+use Rattle.clap.specs.declared.error.kind.ErrorKind.TheVariants.{MissingRequiredArgument, OutOfMemory}
 use Rattle.clap.specs.declared.parser.matches.ArgMatches.{ArgMatches}
-use Rattle.clap.specs.declared.parser.matches.ArgMatches.TheViews.{out-ArgMatches, out-SubCommand}
-use Rattle.clap.specs.declared.parser.matches.SubCommand.{SubCommand}
 use Rattle.clap.proofs.OnLiterals.{clap_on_literals}
-use Rattle.th_plans.specs.Plans.{AreTaken, IsFaultOf, book_in, command_line}
-use Rattle.th_plans.specs.declared.plans.PlanFault.{PlanFault}
-use Rattle.th_plans.specs.declared.plans.PlanFault.TheVariants.{Line, NoMemory}
-
-some_same : {X : Type 0} (x y : X) → Some x ≡ Some y → x ≡ y
-some_same x y e = cc
-
--- a subcommand is known by its name and its rows
-met_by_parts : {Z : Type 0} (met : Option (Box SubCommand Z)) (name : Text) (rows : List Row)
-    → Some name ≡ option_map (λ b. (out-SubCommand (box_value b)).name.now) met
-    → Some rows ≡ option_map (λ p. p.1) (subcommand_rows met)
-    → subcommand_rows met ≡ Some (name, rows)
-met_by_parts None name rows e f = cc
-met_by_parts (Some b) name rows e f = ap₂ (λ n r. Some (n, r)) (sym (some_same _ _ e)) (sym (some_same _ _ f))
-
--- the book's name where `list` was met
-pub book_in_list : (m : ArgMatches) (name : Text) (rows : List Row) → Some name ≡ subcommand_name_of m
-    → Some rows ≡ option_map (λ p. p.1) (subcommand_rows_of m)
-    → bytes_eq name (codes "list") ≡ true → book_in (subcommand_rows_of m) ≡ first_of (codes "book") rows
-book_in_list m name rows e f is_list =
-    ap book_in (met_by_parts (out-ArgMatches m).subcommand name rows e f)
-    ∙ ap (λ b. if b then first_of (codes "book") rows else None) is_list
+use Rattle.th_plans.specs.Plans.{AreTaken, IsFaultOf, IsPlanOf, asked, books_named, command_line, said_by}
+use Rattle.th_plans.specs.Asked.{Asked, asked_by, book_count}
+use Rattle.th_plans.specs.declared.plans.Plan.{Plan}
+use Rattle.th_plans.specs.declared.plans.Plan.TheVariants as plan
+use Rattle.th_plans.specs.declared.faults.PlanFault.{PlanFault}
+use Rattle.th_plans.specs.declared.faults.PlanFault.TheVariants.{Line, NoMemory}
 
 -- `clap` states the matches and the faults of this command line exactly
 command_line_is_simple : is_simple_and_free command_line ≡ true
@@ -69,3 +52,56 @@ at_err (Err e) Q P h k = k e h
 pub are_taken : (words : List Text) (app : App) → app ≡ command_line → (is_simple_and_free app ≡ true → fault_of app words ≡ [])
     → AreTaken words
 are_taken words app is none = subst (λ (a : App). fault_of a words ≡ []) is (none (ap is_simple_and_free is ∙ command_line_is_simple))
+
+-- what `clap` found of a command is what the words name
+pub found_is : (words : List Text) (app : App) (m : ArgMatches) → app ≡ command_line → HasMatchesOf app words m
+    → subcommand_rows_of m ≡ subcommand_of command_line words
+found_is words app m is has =
+    let simple : is_simple command_line ≡ true = (both _ _ command_line_is_simple).0 in
+    subst (λ (a : App). subcommand_rows_of m ≡ subcommand_of a words) is (has (ap is_simple is ∙ simple)).1
+
+said_is_asked : (said asked : Option Asked) → Some said ≡ option_map Some asked → (asked ≡ said) × (is_some asked ≡ true)
+said_is_asked said None e = cc
+said_is_asked said (Some x) e = (cc, refl)
+
+-- a plan that says what was found is the plan of the words
+pub is_plan : (words : List Text) (own : Plan) (found : Option (Text × List Row)) → 1 < length words → AreTaken words
+    → found ≡ subcommand_of command_line words → Some (said_by own) ≡ option_map Some (asked_by found) → IsPlanOf words own
+is_plan words own found more taken met e = go own (said_is_asked (said_by own) (asked_by found) e)
+  where
+    go : (p : Plan) → (asked_by found ≡ said_by p) × (is_some (asked_by found) ≡ true) → IsPlanOf words p
+    go plan.Standard h =
+        let bad : false ≡ true = rw h.0 at h.1 in
+        cc
+    go (plan.List book) h = (more, taken, ap asked_by (sym met) ∙ h.0)
+    go (plan.Adjust inputs limit prefix) h = (more, taken, ap asked_by (sym met) ∙ h.0)
+    go (plan.Check inputs certificate) h = (more, taken, ap asked_by (sym met) ∙ h.0)
+
+-- where no plan says what was found, nothing was asked for
+pub nothing_asked : (words : List Text) (found : Option (Text × List Row)) → found ≡ subcommand_of command_line words
+    → None ≡ option_map Some (asked_by found) → asked words ≡ None
+nothing_asked words found met e = ap asked_by (sym met) ∙ go (asked_by found) e
+  where
+    go : (o : Option Asked) → None ≡ option_map Some o → o ≡ None
+    go None h = refl
+    go (Some x) h = cc
+
+-- the books that were found are those that the words name
+pub books_are : (words : List Text) (found : Option (Text × List Row)) → found ≡ subcommand_of command_line words
+    → option_map_or (λ (p : Text × List Row). book_count p.1) found 0 ≡ books_named words
+books_are words found met = ap (λ (f : Option (Text × List Row)). option_map_or (λ (p : Text × List Row). book_count p.1) f 0) met
+
+pub not_more : (most n : ℕ) → (most < n → ⊥) → n ≤ most
+not_more most n h = elim (cases_lt most n) [
+  | inl less ↦ absurd (h less)
+  | inr least ↦ least
+]
+
+-- a missing argument is no want of memory
+pub other_kind : (kind : ErrorKind) → kind ≡ MissingRequiredArgument → kind ≡ OutOfMemory → ⊥
+other_kind kind missing memory =
+    let bad : MissingRequiredArgument ≡ OutOfMemory = sym missing ∙ memory in
+    cc
+
+pub not_true : false ≡ true → ⊥
+not_true e = cc

@@ -1,1 +1,5 @@
+pub mod Limits
+pub mod Asked
+pub mod Books
 pub mod Plans
+pub mod Inside

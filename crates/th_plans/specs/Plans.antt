@@ -1,59 +1,116 @@
-use Rattle.std.specs.Prelude.{◌≡◌, ◌≢◌, ◌<◌, ◌≤◌, ◌⊎◌, true, List, Option, Some, None, codes, option_and_then, if◌then◌else◌, length, []}
-use Rattle.std.specs.Str.{bytes_eq}
-use Rattle.clap.specs.Words.{App, IsAmong, Row, Text, fault_of, first_of, kind_of, new_app, new_rule, subcommand_of, with_rule, with_subcommand}
+use Rattle.std.specs.Prelude.{◌≡◌, ◌≢◌, ◌<◌, ◌≤◌, ◌⊎◌, ◌∷◌, ℕ, true, pos, List, Option, Some, None, codes, option_map, length, []}
+use Rattle.std.specs.Option.{option_map_or}
+use Rattle.clap.specs.Lexer.{usize_max}
+use Rattle.clap.specs.Words.{App, IsAmong, Rule, Text, fault_of, kind_of, new_app, new_rule, subcommand_of, with_rule, with_subcommand}
+use Rattle.clap.specs.declared.builder.action.ArgAction.TheVariants.{Append}
+use Rattle.clap.specs.declared.builder.value_parser.ValueParser.TheVariants.{Signed}
 use Rattle.clap.specs.declared.error.kind.ErrorKind.TheVariants.{OutOfMemory}
+use Rattle.th_plans.specs.Asked.{Asked, Files, adjust, asked_by, book_count, check, list}
+use Rattle.th_plans.specs.Books.{names_in}
+use Rattle.th_plans.specs.Limits.{max_blunder, max_books}
+use Rattle.th_plans.specs.declared.plans.Inputs.{Inputs}
 use Rattle.th_plans.specs.declared.plans.Plan.{Plan}
-use Rattle.th_plans.specs.declared.plans.Plan.TheVariants.{Standard, List as ListBook}
-use Rattle.th_plans.specs.declared.plans.PlanFault.{PlanFault}
-use Rattle.th_plans.specs.declared.plans.PlanFault.TheVariants.{Line, NoMemory}
+use Rattle.th_plans.specs.declared.plans.Plan.TheVariants as plan
+use Rattle.th_plans.specs.declared.faults.PlanFault.{PlanFault}
+use Rattle.th_plans.specs.declared.faults.PlanFault.TheVariants.{Line, NoMemory, TooManyBooks}
+
+-- the argument `BOOK`, and the argument `BOOK...`
+abbrev pub book_rule : Rule
+book_rule = record (new_rule (codes "book")) {
+  required = true;
+  value_names = 1;
+}
+
+abbrev pub books_rule : Rule
+books_rule = record book_rule {
+  action = Some Append;
+  range = Some (record { start_inclusive = 1; end_inclusive = usize_max });
+}
+
+-- an option `--NAME VALUE`, and one that must be there
+abbrev pub option_rule : Text → Rule
+option_rule name = record (new_rule name) {
+  long = Some name;
+  value_names = 1;
+}
+
+abbrev pub needed_rule : Text → Rule
+needed_rule name = record (option_rule name) { required = true }
+
+-- `--blunder MICROMETRES`, a whole number within its limit, 20000 where it is not given
+abbrev pub blunder_rule : Rule
+blunder_rule = record (option_rule (codes "blunder")) {
+  defaults = codes "20000" ∷ [];
+  parser = Some (Signed (pos 0) (pos max_blunder));
+}
 
 -- `list BOOK`
 abbrev pub list_command : App
-list_command = with_rule (new_app (codes "list")) (record (new_rule (codes "book")) {
-  required = true;
-  value_names = 1;
-})
+list_command = with_rule (new_app (codes "list")) book_rule
 
--- the command line, as `clap` describes one: `list BOOK` must follow, and it has a version
-abbrev pub command_line : App
-command_line =
+-- `adjust --benchmarks FILE [--weights FILE] [--blunder MICROMETRES] --out PREFIX BOOK...`
+abbrev pub adjust_command : App
+adjust_command =
+    with_rule (with_rule (with_rule (with_rule (with_rule (new_app (codes "adjust")) (needed_rule (codes "benchmarks")))
+    (option_rule (codes "weights"))) blunder_rule) (needed_rule (codes "out"))) books_rule
+
+-- `check --benchmarks FILE [--weights FILE] --certificate FILE BOOK...`
+abbrev pub check_command : App
+check_command =
+    with_rule (with_rule (with_rule (with_rule (new_app (codes "check")) (needed_rule (codes "benchmarks")))
+    (option_rule (codes "weights"))) (needed_rule (codes "certificate"))) books_rule
+
+-- the program with a version, which needs a command
+abbrev pub bare_program : App
+bare_program =
     let bare = new_app (codes "height_office") in
-    with_subcommand (record bare { top = record bare.top { has_version = true; subcommand_required = true } }) list_command.top
+    record bare { top = record bare.top { has_version = true; subcommand_required = true } }
 
--- the book's name in what `clap` found for a subcommand
-abbrev pub book_in : Option (Text × List Row) → Option Text
-book_in = option_and_then (λ found. if bytes_eq found.0 (codes "list") then first_of (codes "book") found.1 else None)
-
--- the book that the words name, as `clap` reads them by the command line
-abbrev pub book_named : List Text → Option Text
-book_named words = book_in (subcommand_of command_line words)
+-- the command line, as `clap` describes one: `list`, `adjust` or `check` must follow
+abbrev pub command_line : App
+command_line = with_subcommand (with_subcommand (with_subcommand bare_program list_command.top) adjust_command.top) check_command.top
 
 -- `clap` takes the words: it has no fault to state for them
 abbrev pub AreTaken : List Text → Type 0
 AreTaken words = fault_of command_line words ≡ []
 
+-- what the words ask for, as `clap` reads them by the command line
+abbrev pub asked : List Text → Option Asked
+asked words = asked_by (subcommand_of command_line words)
+
+-- how many books the words name
+abbrev pub books_named : List Text → ℕ
+books_named words = option_map_or (λ found. book_count found.1) (subcommand_of command_line words) 0
+
+-- the files that inputs name
+abbrev pub files : Inputs → Files
+files inputs = record {
+  books = names_in inputs.books;
+  benchmarks = inputs.benchmarks.now;
+  weights = option_map (λ name. name.now) inputs.weights;
+}
+
+-- what a plan says that was asked for; none where it is to list standard input
+abbrev pub said_by : Plan → Option Asked
+said_by plan.Standard = None
+said_by (plan.List book) = Some (list book.now)
+said_by (plan.Adjust inputs limit prefix) = Some (adjust (files inputs) limit prefix.now)
+said_by (plan.Check inputs certificate) = Some (check (files inputs) certificate.now)
+
 -- the plan is what the words ask for: with no word after the program's name, or not even that one, it is to list standard input; `-` is a file's name like any
 -- other, and so is the empty name, which no file has
 abbrev pub IsPlanOf : List Text → Plan → Type 0
-IsPlanOf words Standard = length words ≤ 1
-IsPlanOf words (ListBook name) = (1 < length words) × AreTaken words × (book_named words ≡ Some name.now)
+IsPlanOf words plan.Standard = length words ≤ 1
+IsPlanOf words other = (1 < length words) × AreTaken words × (asked words ≡ said_by other)
 
--- the name of the file that a plan asks for
-abbrev pub name_asked : Plan → Option Text
-name_asked Standard = None
-name_asked (ListBook name) = Some name.now
-
--- of what there is of standard input and of the file with the plan's name, that of the one which the plan asks to list
-abbrev pub book_asked : {X : Type 0} → Plan → X → X → X
-book_asked Standard standard file = standard
-book_asked (ListBook name) standard file = file
-
--- a fault of the words, of which there are more than the program's name: one that `clap` states for them, or `clap` takes them and they name no book. Want of
--- memory may come for any
+-- a fault of the words, of which there are more than the program's name: one that `clap` states for them, or `clap` takes them and they ask for nothing, with too
+-- many books or without. Want of memory may come for any
 abbrev pub IsFaultOf : List Text → PlanFault → Type 0
-IsFaultOf words (Line error) = (1 < length words) × (kind_of error ≢ OutOfMemory) × (IsAmong (kind_of error) (fault_of command_line words) ⊎ (AreTaken words × (book_named words ≡ None)))
+IsFaultOf words (Line error) = (1 < length words) × (kind_of error ≢ OutOfMemory) × (IsAmong (kind_of error) (fault_of command_line words)
+    ⊎ (AreTaken words × (asked words ≡ None) × (books_named words ≤ max_books)))
+IsFaultOf words TooManyBooks = (1 < length words) × AreTaken words × (asked words ≡ None) × (max_books < books_named words)
 IsFaultOf words NoMemory = 1 < length words
 
--- the words are wrong, or ask for help: there are more than the program's name, and `clap` does not take them, or they name no book
+-- the words are wrong, or ask for help: there are more than the program's name, and `clap` does not take them, or they ask for nothing that the program does
 abbrev pub AreWrong : List Text → Type 0
-AreWrong words = (1 < length words) × ((fault_of command_line words ≢ []) ⊎ (book_named words ≡ None))
+AreWrong words = (1 < length words) × ((fault_of command_line words ≢ []) ⊎ (asked words ≡ None))

@@ -1,62 +1,21 @@
 //! The words of the command line, read by `clap`.
-ghost use Rattle.std.specs.Prelude.{◌≡◌, ◌≤◌, ◌↔◌, IfOk, IfErr, Ok, length, map, option_map};
-ghost use Rattle.clap.specs.Words.{app_of, subcommand_rows_of};
-ghost use Rattle.th_plans.specs.Plans.{IsFaultOf, IsPlanOf, book_in, command_line};
+ghost use Rattle.std.specs.Prelude.{◌≡◌, ◌<◌, ◌≤◌, ◌↔◌, IfErr, IfOk, IsTrue, Ok, Some, length, map, option_map};
+ghost use Rattle.std.specs.Option.{option_map_or};
+ghost use Rattle.clap.specs.Words.{all_of, first_of, found_of, rows_of, subcommand_rows_of};
+ghost use Rattle.th_plans.specs.Asked.{adjust_asked, asked_by, book_count, check_asked, files_in, limit_in, list_asked};
+ghost use Rattle.th_plans.specs.Limits.{max_books};
+ghost use Rattle.th_plans.specs.Plans.{IsFaultOf, IsPlanOf, files, said_by};
 
-use crate::plans::{Plan, PlanFault};
+use crate::blunder_limits::Limit;
+use crate::books::Books;
+use crate::commands::command_line;
+use crate::faults::PlanFault;
+use crate::limits::MAX_BOOKS;
+use crate::plans::{Inputs, Plan};
+use clap::ArgMatches;
 use clap::error::ErrorKind;
-use clap::{Arg, ArgMatches, Command};
-use std::alloc::{AllocError, Global};
+use std::alloc::Global;
 use std::convert::AsStr;
-
-/// The program's version.
-const VERSION: &str = "0.9.0";
-
-/// How the program is called: without words it lists the book on standard input.
-const USAGE: &str = "height_office list <BOOK>
-       height_office < BOOK        (the book on standard input)";
-
-/// What the program ends with.
-const AFTER_HELP: &str = "Statuses:
-  0  the list was printed
-  2  the book was refused: its first fault stands on standard error, with its line
-  3  the words are no command, or ask for help or the version
-  4  memory was refused
-  5  a device failed: 'read failed' stands for a file that is missing, that may not be read or that
-     is a directory, for a standard input that is closed, and for any other error of the system
-     while reading; 'write failed' for a list that was not taken whole";
-
-/// The program's command line: `list` with the file name of a book.
-fn command_line<'a>(alloc: Global) -> Result<Command<'a>, AllocError>
-    ensures { IfOk result (λ command. app_of command ≡ command_line) }
-{
-    let book = Arg::new(alloc, "book")
-        .required(true)
-        .value_name("BOOK")
-        .help("The file of the book, in GSI-8 or GSI-16 blocks");
-    let list = Command::new(alloc, "list")
-        .about("Prints the height differences of a book as CSV")
-        .arg(book)?;
-    Command::new(alloc, "height_office")
-        .about("Lists the height differences that a total station's book holds")
-        .version(VERSION)
-        .override_usage(USAGE)
-        .after_help(AFTER_HELP)
-        .subcommand_required(true)
-        .subcommand(list)
-}
-
-/// The file name that follows `list`.
-fn book_of<'a>(matches: &ArgMatches<'a>) -> Option<&'a str>
-    ensures { option_map (λ name. name.now) result ≡ book_in (subcommand_rows_of matches.now) }
-{
-    let (name, found) = matches.subcommand()?;
-    if name == "list" {
-        found.get_str("book")
-    } else {
-        None
-    }
-}
 
 /// What the words ask for, the program's own name first.
 pub fn plan<'a, S: AsStr>(alloc: Global, words: &'a [S]) -> Result<Plan<'a>, PlanFault>
@@ -69,12 +28,111 @@ pub fn plan<'a, S: AsStr>(alloc: Global, words: &'a [S]) -> Result<Plan<'a>, Pla
     }
     let mut command = command_line(alloc)?;
     let matches = command.try_get_matches_from_mut(words)?;
-    match book_of(&matches) {
-        Some(book) => Ok(Plan::List(book)),
-        // Not where clap keeps its word: a parse that succeeds has a book.
+    match plan_of(&matches) {
+        Some(plan) => Ok(plan),
+        None if has_too_many_books(&matches) => Err(PlanFault::TooManyBooks),
+        // Not where clap keeps its word: a parse that succeeds has each argument that must be there.
         None => Err(PlanFault::Line(command.error(
             ErrorKind::MissingRequiredArgument,
-            "a book is missing",
+            "an argument is missing",
         )?)),
     }
+}
+
+/// The plan of the command that was found.
+fn plan_of<'a>(matches: &ArgMatches<'a>) -> Option<Plan<'a>>
+    ensures { option_map said_by result
+        ≡ option_map Some (asked_by (subcommand_rows_of matches.now)) }
+{
+    let (name, found) = matches.subcommand()?;
+    if name == "list" {
+        list_of(found)
+    } else if name == "adjust" {
+        adjust_of(found)
+    } else if name == "check" {
+        check_of(found)
+    } else {
+        None
+    }
+}
+
+/// Whether the command that was found has more books than it takes.
+fn has_too_many_books(matches: &ArgMatches<'_>) -> bool
+    ensures { IsTrue result ↔ (max_books < option_map_or (λ found. book_count found.1)
+        (subcommand_rows_of matches.now) 0) }
+{
+    let Some((_, found)) = matches.subcommand() else {
+        return false;
+    };
+    match values_of(found, "book") {
+        Some(names) => names.len() > MAX_BOOKS,
+        None => false,
+    }
+}
+
+/// What follows `list`.
+fn list_of<'a>(found: &ArgMatches<'a>) -> Option<Plan<'a>>
+    ensures { option_map said_by result
+        ≡ option_map Some (list_asked (rows_of (found_of found.now))) }
+{
+    Some(Plan::List {
+        book: value_of(found, "book")?,
+    })
+}
+
+/// What follows `adjust`.
+fn adjust_of<'a>(found: &ArgMatches<'a>) -> Option<Plan<'a>>
+    ensures { option_map said_by result
+        ≡ option_map Some (adjust_asked (rows_of (found_of found.now))) }
+{
+    Some(Plan::Adjust {
+        inputs: inputs_of(found)?,
+        limit: limit_of(found)?,
+        prefix: value_of(found, "out")?,
+    })
+}
+
+/// What follows `check`.
+fn check_of<'a>(found: &ArgMatches<'a>) -> Option<Plan<'a>>
+    ensures { option_map said_by result
+        ≡ option_map Some (check_asked (rows_of (found_of found.now))) }
+{
+    Some(Plan::Check {
+        inputs: inputs_of(found)?,
+        certificate: value_of(found, "certificate")?,
+    })
+}
+
+/// The files that an adjustment and a check read.
+fn inputs_of<'a>(found: &ArgMatches<'a>) -> Option<Inputs<'a>>
+    ensures { option_map files result ≡ files_in (rows_of (found_of found.now)) }
+{
+    Some(Inputs {
+        books: Books::of(values_of(found, "book")?)?,
+        benchmarks: value_of(found, "benchmarks")?,
+        weights: value_of(found, "weights"),
+    })
+}
+
+/// The limit of blunders, which has a default.
+fn limit_of(found: &ArgMatches<'_>) -> Option<Limit>
+    ensures { result ≡ limit_in (rows_of (found_of found.now)) }
+{
+    Limit::of_micrometres(found.get_one::<u32>("blunder")?)
+}
+
+/// The first value of an argument.
+fn value_of<'a>(found: &ArgMatches<'a>, name: &str) -> Option<&'a str>
+    ensures { option_map (λ value. value.now) result
+        ≡ first_of name.now (rows_of (found_of found.now)) }
+{
+    found.get_str(name)
+}
+
+/// The values of an argument.
+fn values_of<'b, 'a>(found: &'b ArgMatches<'a>, name: &str) -> Option<&'b [&'a str]>
+    ensures { option_map (λ values. map (λ value. value.now) values.now) result
+        ≡ all_of name.now (rows_of (found_of found.now)) }
+{
+    found.get_strs(name)
 }

@@ -1,5 +1,5 @@
 -- Lines that are written one after another, and the rows of which they are the lines.
-use Rattle.std.proofs.Common.{◌≡◌, ◌<◌, ◌≤◌, ◌+◌, ◌^◌, ℕ, ℤ, pos, All, List, [], ◌∷◌, ◌++◌, Some, bytes_eq, length, get_or, drop, map, slice_get, refl, sym, ap, ◌∙◌, arith, append_assoc, to_z, of_z, unsigned_abs, w64}
+use Rattle.std.proofs.Common.{◌≡◌, ◌<◌, ◌+◌, ◌^◌, ℕ, ℤ, pos, All, List, [], ◌∷◌, ◌++◌, Some, bytes_eq, length, get_or, drop, map, slice_get, refl, sym, ap, ◌∙◌, arith, append_assoc, to_z, of_z, unsigned_abs, w64}
 use Rattle.std.specs.Cmp.Lexicographic.{nat_list_eq_equiv}
 use Rattle.std.specs.List.{IsDistinct, enumerate_from, flat_map, zip}
 use Rattle.std.proofs.lemmas.Int.{fits_signed_from_abs, to_z-of_z}

@@ -1,5 +1,5 @@
 -- What the laws of runs rest on.
-use Rattle.std.proofs.Common.{inl, inr, [], ◌≡◌, ◌≤◌, ◌<◌, ◌+◌, ℕ, ℤ, pos, List, Some, None, Ok, Err, true, false, length, get_or, refl, ap, sym, subst, ◌∙◌, unsigned_abs, bytes_eq, arith}
+use Rattle.std.proofs.Common.{inl, inr, [], ◌∷◌, ◌++◌, map, ◌≡◌, ◌≤◌, ◌<◌, ◌+◌, ℕ, ℤ, pos, List, Some, None, Ok, Err, true, false, length, get_or, refl, ap, sym, subst, ◌∙◌, unsigned_abs, bytes_eq, arith}
 use Rattle.std.proofs.lemmas.Bool.{cases_lt}
 use Rattle.std.proofs.lemmas.Bool.Decides.{Decides-like, same_from_decides}
 use Rattle.std.proofs.lemmas.List.{get_or_default, get_or_past, same_lists}
@@ -22,7 +22,9 @@ use Rattle.th_network.specs.Heights.{heights_at}
 use Rattle.th_network.specs.Limits.{height_limit}
 use Rattle.th_network.specs.Networks.{AreAtPoints, AreInRange, Survey, points_of}
 use Rattle.th_points.specs.Places.{place_of}
-use Rattle.th_points.specs.Points.{points}
+use Rattle.th_points.specs.Points.{distinct, ends, points}
+use Rattle.th_network.specs.Circulation.{Circulation, Shows}
+use Rattle.th_circulation.specs.Misreadings.{AreMisread}
 use Rattle.th_network.specs.declared.faults.NetFault.{NetFault}
 use Rattle.th_report.specs.Gsi.{gsi_text}
 use Rattle.th_report.specs.Heights.{heights_text}
@@ -196,10 +198,46 @@ printed_accepted read_back accepts books benchmarks weights survey limit texts o
     let low_range = in_range_at survey answer.low is.low_at_points in
     let high_range = in_range_at survey answer.high is.high_at_points in
     let read : certificate_of (text_of_version_2 survey low low high answer.flows) ≡ Ok (stated survey answer) =
-        read_back survey low low high answer.flows certifiable low_range low_range high_range is.each_flow in
-    (
+    read_back survey low low high answer.flows certifiable low_range low_range high_range is.each_flow in (
       record { survey = survey; certificate = stated survey answer },
       owed_with books benchmarks weights survey texts.certificate (stated survey answer) owed (ap certificate_of outputs.printed.certificate ∙ read),
       accepts survey low low high answer.flows (stated survey answer) certifiable are (shown_low survey answer is) (shown_low survey answer is) (shown_high survey answer is)
-      is.each_flow read,
+          is.each_flow read,
     )
+
+-- misread observations run between the same points
+ends_same : (heights : List ℕ → ℤ) (observations misread : List Observed) → AreMisread heights observations misread → ends misread ≡ ends observations
+ends_same heights [] [] each = refl
+ends_same heights [] (other ∷ others) each = absurd each
+ends_same heights (o ∷ observations) [] each = absurd each
+ends_same heights (o ∷ observations) (other ∷ others) each =
+    ap (λ station. station ∷ other.target ∷ ends others) each.0.station ∙ ap (λ target. o.station ∷ target ∷ ends others) each.0.target
+    ∙ ap (λ later. o.station ∷ o.target ∷ later) (ends_same heights observations others each.1)
+
+points_same : (heights : List ℕ → ℤ) (observations misread : List Observed) (benchmarks : BenchmarkRows) → AreMisread heights observations misread
+    → points misread benchmarks ≡ points observations benchmarks
+unfolding points
+points_same heights observations misread benchmarks each =
+    ap (λ (names : List (List ℕ)). distinct (names ++ map (λ row. row.0) benchmarks)) (ends_same heights observations misread each)
+
+-- so they have the same lowest best heights
+pub misread_low :
+    ((observations misread : List Observed) (benchmarks : BenchmarkRows) (weights : WeightRows) (heights : List ℕ → ℤ) (flows : List ℤ)
+    → Low observations benchmarks weights heights → Circulation observations benchmarks weights flows → Shows observations weights flows heights
+    → AreMisread heights observations misread → Low misread benchmarks weights heights)
+    → ((observations : List Observed) (benchmarks : BenchmarkRows) (weights : WeightRows) (first second : List ℕ → ℤ)
+    → Low observations benchmarks weights first → Low observations benchmarks weights second → All (λ point. first point ≡ second point) (points observations benchmarks))
+    → ((observations : List Observed) (benchmarks : BenchmarkRows) → IsDistinct bytes_eq (points observations benchmarks))
+    → (survey : Survey) (misread : List Observed) (first second : Answer) → IsAnswer survey first
+    → AreMisread (at_points_of survey first.low) survey.observations misread
+    → IsAnswer (record survey { observations = misread }) second → second.low ≡ first.low
+misread_low keeps one_low once survey misread first second one each other =
+    let there : Survey = record survey { observations = misread } in
+    let same : points_of there ≡ points_of survey = points_same (at_points_of survey first.low) survey.observations misread survey.benchmarks each in
+    let kept : Low misread survey.benchmarks survey.weights (at_points_of survey first.low) =
+        keeps survey.observations misread survey.benchmarks survey.weights (at_points_of survey first.low) first.flows one.low one.circulation one.shows_low each in
+    let low : Low misread survey.benchmarks survey.weights (at_points_of there first.low) =
+        subst (λ (names : List (List ℕ)). Low misread survey.benchmarks survey.weights (heights_at names first.low)) (sym same) kept in
+    let listed : AreAtPoints there first.low = record { each = one.low_at_points.each ∙ ap length (sym same); in_range = one.low_at_points.in_range } in
+    same_heights there second.low first.low (once misread survey.benchmarks) other.low_at_points listed
+    (one_low misread survey.benchmarks survey.weights (at_points_of there second.low) (at_points_of there first.low) other.low low)

@@ -2,7 +2,8 @@
 
 ghost use Rattle.std.specs.Prelude.{◌≡◌, All, ℕ, ℤ, List, Ok, Option, Some};
 ghost use Rattle.gsi_word.specs.Names.{name_of};
-ghost use Rattle.th_book.specs.Observed.{IsBetweenPoints};
+ghost use Rattle.th_book.specs.Observed.{Observed};
+ghost use Rattle.th_circulation.specs.Misreadings.{AreMisread};
 ghost use Rattle.th_certificate.specs.Texts.{IsCertifiable, text_of_version_2};
 ghost use Rattle.th_checker.specs.declared.verdicts.Verdict.TheVariants.{Yes};
 ghost use Rattle.th_network.specs.Networks.{Survey, points_of};
@@ -15,8 +16,9 @@ ghost use Rattle.th_runs.specs.declared.refusals.Refusal.TheVariants.{NoMemory};
 
 use th_certificate::laws::text_of_version_2_is_read_back;
 use th_checker::laws::text_of_version_2_is_accepted;
-use th_circulation::laws::lowest_and_highest_are_one;
-use th_network::laws::{faults_exclude_each_other, points_are_ends_and_benchmarks};
+use th_circulation::laws::{lowest_and_highest_are_one, misreading_keeps_low};
+use th_network::laws::faults_exclude_each_other;
+use th_points::laws::points_are_ends_and_benchmarks;
 
 /// A run whose inputs say a survey that makes a network is refused for want of memory alone, before
 /// its outputs are begun. So where memory is there and no device fails, it is done.
@@ -74,6 +76,21 @@ pub fn outputs_are_one_but_for_flows()
         → texts.certificate ≡ text_of_version_2 survey (at_points_of survey first.low)
         (at_points_of survey first.low) (at_points_of survey first.high) second.flows }
 {
+    lowest_and_highest_are_one();
+    points_are_ends_and_benchmarks();
+}
+
+/// A misreading that shows in the residuals moves no printed height, however large it grows: where each
+/// observation that errs against the printed heights errs further to the same side, and each other one
+/// stays as it was, the same heights are printed.
+pub fn misreading_moves_no_printed_height()
+    ensures { (survey : Survey) (misread : List Observed) (first second : Answer)
+        → IsAnswer survey first
+        → AreMisread (at_points_of survey first.low) survey.observations misread
+        → IsAnswer (record survey { observations = misread }) second
+        → second.low ≡ first.low }
+{
+    misreading_keeps_low();
     lowest_and_highest_are_one();
     points_are_ends_and_benchmarks();
 }

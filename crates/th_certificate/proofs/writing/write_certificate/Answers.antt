@@ -4,10 +4,8 @@ use Rattle.th_network.specs.Heights.{cost, heights_at}
 use Rattle.th_network.specs.Networks.{points_of}
 use Rattle.th_csv.specs.Records.{Fields}
 use Rattle.th_csv.specs.Texts.{csv_text}
-use Rattle.th_certificate.specs.Certified.{HeightRows, rows_at, stated_height}
+use Rattle.th_certificate.specs.Certified.{HeightRows}
 use Rattle.th_certificate.specs.Texts.{cost_of, cost_row, flow_row, header_row, height_row, heights_at_points, version_row}
-use Rattle.th_certificate.proofs.CostLemmas.{cost_same}
-use Rattle.th_certificate.proofs.PointLemmas.{stated_height-listed}
 use Rattle.th_certificate.proofs.TextLemmas.{holds_same, written_joined}
 use Rattle.th_certificate.proofs.writing.write_certificate.Goals as goal
 

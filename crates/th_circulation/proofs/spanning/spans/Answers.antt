@@ -49,7 +49,7 @@ returns-clause-low c =
     let known = heights_at (points_of survey) c.args.settled.now.heights in
     let shown : AreShown survey flows known = record { kept = c.requires.benchmarks; circulation = c.requires.circulation; shown = c.requires.shows } in
     let is = c.deref-2.ensures.value ∙ c.in_ok-arcs.ensures.arcs ∙ ap (arcs_in survey) c.as_slice.ensures in
-    low_found survey flows known c.in_ok-lowest.field-0 shown (subst (λ (arcs : List Arc). AreBelow survey arcs c.in_ok-lowest.field-0) is c.in_ok-lowest.ensures)
+    low_found survey flows known c.in_ok-low.low shown (subst (λ (arcs : List Arc). AreBelow survey arcs c.in_ok-low.low) is c.in_ok-low.ensures)
 
 pub returns-clause-high : goal.returns-clause-high
 returns-clause-high c =
@@ -58,4 +58,4 @@ returns-clause-high c =
     let known = heights_at (points_of survey) c.args.settled.now.heights in
     let shown : AreShown survey flows known = record { kept = c.requires.benchmarks; circulation = c.requires.circulation; shown = c.requires.shows } in
     let is = c.deref-3.ensures.value ∙ c.in_ok-back.ensures ∙ ap (map turned) (c.deref.ensures.value ∙ c.in_ok-arcs.ensures.arcs ∙ ap (arcs_in survey) c.as_slice.ensures) in
-    high_found survey flows known c.in_ok-highest.field-0 shown (subst (λ (arcs : List Arc). AreAbove survey arcs c.in_ok-highest.field-0) is c.in_ok-highest.ensures)
+    high_found survey flows known c.in_ok-high.high shown (subst (λ (arcs : List Arc). AreAbove survey arcs c.in_ok-high.high) is c.in_ok-high.ensures)

@@ -1,4 +1,4 @@
-use Rattle.std.proofs.Common.{◌≡◌, ◌++◌, ◌∷◌, [], Bool, List, ℕ, false, codes, OnOk, subst, ap, ◌∙◌, arith}
+use Rattle.std.proofs.Common.{◌≡◌, ◌++◌, Bool, List, ℕ, false, codes, OnOk, subst, ap, ◌∙◌, arith}
 use Rattle.th_units.specs.Metres.{last_digits}
 use Rattle.gsi_word.specs.Words.{Parts, parts, parts_of}
 use Rattle.gsi_block.specs.Blocks.{BlockParts, block_parts}

@@ -1,4 +1,4 @@
-use Rattle.std.proofs.Common.{◌≡◌, ◌<◌, ◌++◌, ◌+◌, ℕ, ℤ, true, false, pos, List, get_or, int_lt, length, of_z, to_z, unsigned_abs, w64, sym, ap, ◌∙◌, arith}
+use Rattle.std.proofs.Common.{◌≡◌, ◌<◌, ◌++◌, ◌+◌, ℕ, true, false, pos, List, get_or, int_lt, length, of_z, to_z, unsigned_abs, w64, sym, ap, ◌∙◌, arith}
 use Rattle.std.specs.List.{flat_map}
 use Rattle.std.proofs.lemmas.Int.{ints}
 use Rattle.th_book.specs.Observed.{Observed}

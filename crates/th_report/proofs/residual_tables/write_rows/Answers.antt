@@ -1,6 +1,5 @@
-use Rattle.std.proofs.Common.{◌≡◌, ◌<◌, ℤ, pos, List, get_or, length, of_z, to_z, w64, ap, ◌∙◌, arith, sym, ◌++◌, ◌+◌}
+use Rattle.std.proofs.Common.{◌≡◌, ◌<◌, pos, List, get_or, length, of_z, to_z, w64, ap, ◌∙◌, arith}
 use Rattle.th_book.specs.Observed.{Observed}
-use Rattle.th_report.specs.Reports.{residual_line}
 use Rattle.th_report.proofs.RowLemmas.{same_units}
 use Rattle.th_report.proofs.ResidualLemmas.{residuals-further}
 use Rattle.th_report.proofs.residual_tables.write_rows.Goals as goal

@@ -1,8 +1,6 @@
 use Rattle.std.proofs.Common.{sym, subst}
 use Rattle.th_circulation.specs.Inside.Flows.{IsFlow}
-use Rattle.th_circulation.specs.Inside.Phases.{differences_in}
-use Rattle.th_circulation.specs.Inside.Workspaces.{IsNear}
-use Rattle.th_circulation.proofs.PhaseStarts.{none_flows, none_near_replicate}
+use Rattle.th_circulation.proofs.PhaseStarts.{none_flows}
 use Rattle.th_circulation.proofs.workspaces.Workspace.new.Goals as goal
 
 pub returns-clause-flow : goal.returns-clause-flow
@@ -10,7 +8,5 @@ returns-clause-flow c =
     let graph = c.args.graph.now in
     subst (IsFlow graph.links.now graph.weights.now) (sym (c.in_ok-flows.ensures.items_if_clones_equal (λ y e. e))) (none_flows graph.links.now graph.weights.now graph.graph.sized)
 
-pub returns-clause-near : goal.returns-clause-near
-returns-clause-near c =
-    let graph = c.args.graph.now in
-    subst (IsNear graph.links.now graph.weights.now (differences_in 43 graph.links.now)) (sym (c.in_ok-flows.ensures.items_if_clones_equal (λ y e. e))) (none_near_replicate graph.vertices graph.links.now graph.weights.now graph.graph)
+pub returns-clause-none : goal.returns-clause-none
+returns-clause-none c = c.in_ok-flows.ensures.items_if_clones_equal (λ y e. e)

@@ -1,76 +1,36 @@
-use Rattle.std.proofs.Common.{◌≡◌, ◌+◌, ◌-◌, ℕ, ℤ, List, length, sum, suc, ap, sym, subst, arith}
-use Rattle.th_search.specs.Potentials.{value_at}
-use Rattle.th_circulation.specs.Inside.Flows.{IsFlow, ShowsLinks, residuals}
-use Rattle.th_circulation.specs.Inside.Graphs.{AreWithin}
-use Rattle.th_circulation.specs.Inside.Phases.{differences_in}
-use Rattle.th_circulation.proofs.PhaseStarts.{differences_within, next_near, phases_more, phases_most, weights_small}
+use Rattle.std.proofs.Common.{ℕ, pos, replicate, ap, ◌∙◌, arith}
+use Rattle.th_circulation.proofs.GraphLemmas.{flows_long}
+use Rattle.th_circulation.proofs.PhaseStarts.{weights_small}
 use Rattle.th_circulation.proofs.workspaces.Workspace.settle.Goals as goal
 
-pub settle_phase-requires-clause-ready : goal.settle_phase-requires-clause-ready
-settle_phase-requires-clause-ready g c =
+pub skip_phases-requires-clause-calls : goal.skip_phases-requires-clause-calls
+skip_phases-requires-clause-calls g c =
     let graph = c.args.graph.now in
-    let i = c.phases.invariant in
-    let arcs = c.start_phase.ensures.arcs in
-    let slots = c.start_phase.ensures.slots in
-    record {
-      near_differences = subst (AreWithin (length graph.links.now) 5000000000000) (sym c.start_phase.ensures.differences) (differences_within graph.links.now (43 - c.phases.done) graph.graph.near);
-      near_heights = c.start_phase.ensures.heights;
-      flow = subst (IsFlow graph.links.now graph.weights.now) (sym c.start_phase.ensures.flows) i.2;
-      arcs_fit = omega arith;
-      slots_fit = omega arith;
-    }
-
-pub settle_phase-requires-clause-calls : goal.settle_phase-requires-clause-calls
-settle_phase-requires-clause-calls g c =
-    let graph = c.args.graph.now in
-    let w = sum graph.weights.now in
     let small = weights_small graph.vertices graph.links.now graph.weights.now graph.graph in
-    let most = phases_most w c.phases.done (omega arith) in
+    let few = c.settle_at_once.ensures.few in
+    let calls = c.settle_at_once.ensures.calls in
     omega arith
 
-pub settle_phase-requires-clause-steps : goal.settle_phase-requires-clause-steps
-settle_phase-requires-clause-steps g c =
+pub settle_by_halves-requires-clause-none : goal.settle_by_halves-requires-clause-none
+settle_by_halves-requires-clause-none g c =
     let graph = c.args.graph.now in
-    let w = sum graph.weights.now in
+    let flow = c.settle_at_once.ensures.flow in
+    let long = flows_long graph.weights.now c.settle_at_once.new.self.flows.items flow.bounded in
+    let sized = flow.sized in
+    let full = c.settle_at_once.new.self.flows.ok in
+    c.fill.ensures.items (λ y e. e) ∙ ap (λ (n : ℕ). replicate n (pos 0)) (omega arith)
+
+pub settle_by_halves-requires-clause-calls : goal.settle_by_halves-requires-clause-calls
+settle_by_halves-requires-clause-calls g c =
+    let graph = c.args.graph.now in
     let small = weights_small graph.vertices graph.links.now graph.weights.now graph.graph in
-    let most = phases_most w c.phases.done (omega arith) in
+    let few = c.settle_at_once.ensures.few in
+    let calls = c.settle_at_once.ensures.calls in
     omega arith
 
-pub returns-in_err-settle_phase-clause-few : goal.returns-in_err-settle_phase-clause-few
-returns-in_err-settle_phase-clause-few g c =
-    let w = sum c.args.graph.now.weights.now in
-    let more = phases_more w c.phases.done in
-    let most = phases_most w (c.phases.done + 1) (omega arith) in
-    let rise = c.settle_phase.ensures.few in
-    omega arith
-
-pub phases-preserved : goal.phases-preserved
-phases-preserved g c =
+pub settle_by_halves-requires-clause-steps : goal.settle_by_halves-requires-clause-steps
+settle_by_halves-requires-clause-steps g c =
     let graph = c.args.graph.now in
-    let links = graph.links.now in
-    let weights = graph.weights.now in
-    let done = c.phases.done in
-    let w = sum weights in
-    let i = c.phases.invariant in
-    let more = phases_more w done in
-    let rise = c.settle_phase.ensures.few in
-    let kept = ap (λ (ds : List ℤ). length ds) c.settle_phase.ensures.differences in
-    let set = ap (λ (ds : List ℤ). length ds) c.start_phase.ensures.differences in
-    let within = differences_within links (43 - done) graph.graph.near in
-    let long = within.each in
-    let arcs = c.start_phase.ensures.arcs in
-    let slots = c.start_phase.ensures.slots in
-    let heights = c.settle_phase.new.self.heights.items in
-    let shown : ShowsLinks weights c.settle_phase.new.self.flows.items (residuals links (differences_in (43 - done) links) (value_at heights)) = subst (λ (ds : List ℤ). ShowsLinks weights c.settle_phase.new.self.flows.items (residuals links ds (value_at heights))) c.start_phase.ensures.differences (c.in_ok-settle_phase.ensures.shown).1 in (
-      omega arith,
-      (c.in_ok-settle_phase.ensures.shown).0,
-      c.settle_phase.ensures.flow,
-      omega arith,
-      omega arith,
-      omega arith,
-      omega arith,
-      omega arith,
-      (let none = c.in_ok-settle_phase.ensures.refusals in omega arith),
-      (λ less. let earlier : 43 - done ≡ suc (43 - (done + 1)) = omega arith in next_near links weights c.settle_phase.new.self.flows.items (value_at heights) (43 - (done + 1)) c.settle_phase.ensures.flow (subst (λ (k : ℕ). ShowsLinks weights c.settle_phase.new.self.flows.items (residuals links (differences_in k links) (value_at heights))) earlier shown)),
-      (λ some. let same : 43 - done ≡ 44 - (done + 1) = omega arith in subst (λ (k : ℕ). ShowsLinks weights c.settle_phase.new.self.flows.items (residuals links (differences_in k links) (value_at heights))) same shown),
-    )
+    let small = weights_small graph.vertices graph.links.now graph.weights.now graph.graph in
+    let few = c.settle_at_once.ensures.few in
+    omega arith

@@ -1,0 +1,57 @@
+ghost use Rattle.std.specs.Prelude.{◌≡◌, ◌≤◌, All, IfOk, length, unsigned_abs};
+ghost use Rattle.th_certificate.specs.Texts.{AreOfObservations};
+ghost use Rattle.th_network.specs.Networks.{AreAtPoints};
+
+use crate::inputs::Inputs;
+use anyhow::{Result, anyhow};
+use std::alloc::Global;
+use th_certificate::write_certificate;
+use th_circulation::{Flows, Heights, Settled, Spans};
+use th_network::Network;
+
+/// The text of the certificate of a network, whose lowest and highest best heights are the heights.
+pub fn text_of(alloc: Global, network: &Network, inputs: &Inputs) -> Result<Vec<u8>> {
+    let settled = Settled {
+        heights: heights_of(alloc, network, &inputs.heights)?,
+        flows: flows_of(alloc, network, &inputs.flows)?,
+    };
+    let spans = Spans {
+        low: heights_of(alloc, network, &inputs.heights)?,
+        high: heights_of(alloc, network, &inputs.heights)?,
+    };
+    Ok(write_certificate(alloc, network, &settled, &spans)?)
+}
+
+/// These heights, where they are in their range and there is one for each point.
+fn heights_of(alloc: Global, network: &Network, units: &[i64]) -> Result<Heights>
+    ensures { IfOk result (λ heights. AreAtPoints network.now heights) }
+{
+    let mut heights = Vec::new(alloc);
+    for height in units {
+        if height.unsigned_abs() >= 100_000_000_000_000_000 {
+            return Err(anyhow!("a height"));
+        }
+        heights.push(*height)?;
+    }
+    if heights.len() != network.points().len() {
+        return Err(anyhow!("the count of heights"));
+    }
+    Ok(Heights::new(heights))
+}
+
+/// These flows, where they are in their range and there is one for each observation.
+fn flows_of(alloc: Global, network: &Network, units: &[i64]) -> Result<Flows>
+    ensures { IfOk result (λ flows. AreOfObservations network.now flows) }
+{
+    let mut flows = Vec::new(alloc);
+    for flow in units {
+        if flow.unsigned_abs() > 1_000 {
+            return Err(anyhow!("a flow"));
+        }
+        flows.push(*flow)?;
+    }
+    if flows.len() != network.observations().len() {
+        return Err(anyhow!("the count of flows"));
+    }
+    Ok(Flows::new(flows))
+}

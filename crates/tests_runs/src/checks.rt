@@ -1,0 +1,104 @@
+//! Certificates of the loop that are checked, as they were printed and changed.
+use crate::projects::{A_AT_100, HELD_BEFORE, LOOP, LOOP_BEGINNING, LOOP_END, check, sink, source};
+use gsi_word::name_of;
+use std::process::Abort;
+use th_certificate::{CertFault, CertKind};
+use th_checker::{Reason, Verdict};
+use th_devices::TextSource;
+use th_runs::{Refusal, run_check};
+
+/// A certificate of the loop.
+const CERTIFICATE: &[u8] =
+    b"kind,key,value\nV,1,4\nH,A,100.00000000\nH,B,101.00000000\nH,C,102.00000000\nF,1,0\nF,2,0\nF,3,1\nF,4,1\nZ,cost,50000000\n";
+
+/// Certificates that are refused, the line of the verdict, and why.
+const REFUSED: [(&[u8], &[u8], Reason); 7] = [
+    (
+        b"kind,key,value\nV,1,4\nH,A,100\nH,B,101\nH,C,102\nF,1,0\nF,2,0\nF,3,1\nF,4,2\nZ,cost,50000000\n",
+        b"no: flow too large at 4\n",
+        Reason::FlowTooLarge(4),
+    ),
+    (
+        b"kind,key,value\nV,1,4\nH,A,100\nH,B,101\nH,C,102\nF,1,0\nF,2,0\nF,3,1\nF,4,1\nZ,cost,49999999\n",
+        b"no: wrong cost\n",
+        Reason::WrongCost,
+    ),
+    (
+        b"kind,key,value\nV,1,4\nH,A,100.00000001\nH,B,101\nH,C,102\nF,1,0\nF,2,0\nF,3,1\nF,4,1\nZ,cost,50000000\n",
+        b"no: benchmark moved\n",
+        Reason::BenchmarkMoved,
+    ),
+    (
+        b"kind,key,value\nV,1,3\nH,A,100\nH,B,101\nH,C,102\nF,1,0\nF,2,0\nF,3,1\nZ,cost,50000000\n",
+        b"no: flow count\n",
+        Reason::FlowCount,
+    ),
+    (
+        b"kind,key,value\nV,1,4\nH,A,100\nH,C,102\nF,1,0\nF,2,0\nF,3,1\nF,4,1\nZ,cost,50000000\n",
+        b"no: points differ\n",
+        Reason::PointsDiffer,
+    ),
+    (
+        b"kind,key,value\nV,1,4\nH,A,100\nH,B,101\nH,C,102.00000001\nF,1,0\nF,2,0\nF,3,1\nF,4,1\nZ,cost,50000000\n",
+        b"no: not slack at 2\n",
+        Reason::NotSlack(2),
+    ),
+    (
+        b"kind,key,value\nV,2,4\nH,A,100\nH,B,101\nH,C,102\nL,A,100\nL,B,101\nL,C,102\nU,A,100\nU,B,101.00000001\nU,C,102\nF,1,0\nF,2,0\nF,3,1\nF,4,1\nZ,cost,50000000\n",
+        b"no: high not slack at 1\n",
+        Reason::HighNotSlack(1),
+    ),
+];
+
+#[test]
+fn accepts_and_refuses_certificates(rt: HostRuntime) {
+    let verdict = check(&rt, LOOP, A_AT_100, b"", CERTIFICATE, b"yes\n");
+    assert_eq!(rt; verdict, Ok(Verdict::Yes));
+    for (certificate, line, reason) in REFUSED {
+        let verdict = check(&rt, LOOP, A_AT_100, b"", certificate, line);
+        assert_eq!(rt; verdict, Ok(Verdict::No(reason)));
+    }
+    let unbalanced: &[u8] =
+        b"kind,key,value\nV,1,4\nH,A,100\nH,B,101\nH,C,102\nF,1,0\nF,2,0\nF,3,0\nF,4,1\nZ,cost,50000000\n";
+    let verdict = check(
+        &rt,
+        LOOP,
+        A_AT_100,
+        b"",
+        unbalanced,
+        b"no: unbalanced at C\n",
+    );
+    let name = name_of(b"C").expect(&rt, "a name");
+    assert_eq!(rt; verdict, Ok(Verdict::No(Reason::Unbalanced(name))));
+}
+
+#[test]
+fn names_the_faulty_record_of_a_certificate(rt: HostRuntime) {
+    let truncated: &[u8] =
+        b"kind,key,value\nV,1,4\nH,A,100\nH,B,101\nH,C,102\nF,1,0\nF,2,0\nF,3,1\nF,4,1\n";
+    let verdict = check(&rt, LOOP, A_AT_100, b"", truncated, HELD_BEFORE);
+    let fault = CertFault {
+        row: 10,
+        kind: CertKind::Truncated,
+    };
+    assert_eq!(rt; verdict, Err(Refusal::Certificate(fault)));
+}
+
+#[test]
+fn two_books_are_one_survey(rt: HostRuntime) {
+    let mut books = [source(LOOP_BEGINNING), source(LOOP_END)];
+    let mut benchmarks = source(A_AT_100);
+    let mut weights: Option<TextSource> = None;
+    let mut certificate = source(CERTIFICATE);
+    let mut out = sink(&rt, None);
+    let verdict = run_check(
+        rt.alloc(),
+        &mut books,
+        &mut benchmarks,
+        &mut weights,
+        &mut certificate,
+        &mut out,
+    );
+    assert_eq!(rt; verdict, Ok(Verdict::Yes));
+    assert!(rt; out.bytes() == b"yes\n".as_slice());
+}

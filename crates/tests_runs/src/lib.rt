@@ -1,0 +1,16 @@
+//! Tests of the runs, from memory to memory. They stand in a crate of their own so that the runs are
+//! proved once.
+#![tactic(auto)]
+
+#[cfg(test)]
+mod adjustments;
+#[cfg(test)]
+mod checks;
+#[cfg(test)]
+mod failures;
+#[cfg(test)]
+mod lists;
+#[cfg(test)]
+mod projects;
+#[cfg(test)]
+mod refusals;

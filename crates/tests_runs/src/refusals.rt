@@ -1,0 +1,112 @@
+//! The line of each refusal, and its status.
+use gsi_word::name_of;
+use std::process::Abort;
+use th_book::{BookFault, BookKind};
+use th_certificate::{CertFault, CertKind};
+use th_checker::{Reason, Verdict};
+use th_network::NetFault;
+use th_runs::{Input, Output, Refusal, status_of, status_of_verdict};
+use th_tables::{TableFault, TableKind};
+
+/// Refusals, their lines, and their statuses.
+const ROWS: [(Refusal, &[u8], u8); 18] = [
+    (
+        Refusal::Book(
+            1,
+            BookFault {
+                line: 4,
+                kind: BookKind::NoReflectorHeight,
+            },
+        ),
+        b"book 1 line 4: B10 no reflector height",
+        2,
+    ),
+    (
+        Refusal::Benchmarks(TableFault {
+            row: 3,
+            kind: TableKind::Repeated,
+        }),
+        b"benchmarks record 3: E6 repeated",
+        2,
+    ),
+    (
+        Refusal::Benchmarks(TableFault {
+            row: 0,
+            kind: TableKind::TableTooLong,
+        }),
+        b"benchmarks record 0: E7 table too long",
+        2,
+    ),
+    (
+        Refusal::Weights(TableFault {
+            row: 2,
+            kind: TableKind::BadWeight,
+        }),
+        b"weights record 2: E5 bad weight",
+        2,
+    ),
+    (
+        Refusal::Network(NetFault::TooManyObservations),
+        b"network: N1 too many observations",
+        2,
+    ),
+    (
+        Refusal::Network(NetFault::TooManyPoints),
+        b"network: N2 too many points",
+        2,
+    ),
+    (
+        Refusal::Certificate(CertFault {
+            row: 10,
+            kind: CertKind::Truncated,
+        }),
+        b"certificate record 10: C7 truncated",
+        2,
+    ),
+    (Refusal::Read(Input::Book(1)), b"read failed: book 1", 5),
+    (
+        Refusal::Read(Input::Benchmarks),
+        b"read failed: benchmarks",
+        5,
+    ),
+    (Refusal::Read(Input::Weights), b"read failed: weights", 5),
+    (
+        Refusal::Read(Input::Certificate),
+        b"read failed: certificate",
+        5,
+    ),
+    (Refusal::Write(Output::List), b"write failed: list", 5),
+    (Refusal::Write(Output::Heights), b"write failed: heights", 5),
+    (
+        Refusal::Write(Output::Certificate),
+        b"write failed: certificate",
+        5,
+    ),
+    (Refusal::Write(Output::Report), b"write failed: report", 5),
+    (Refusal::Write(Output::Gsi), b"write failed: gsi", 5),
+    (Refusal::Write(Output::Verdict), b"write failed: verdict", 5),
+    (Refusal::NoMemory, b"out of memory", 4),
+];
+
+/// The line of a refusal.
+fn line_of<R: AllocGlobal + Abort>(rt: &R, refusal: &Refusal) -> String {
+    format!(in rt.alloc(); "{refusal}").expect(rt, "memory")
+}
+
+#[test]
+fn each_refusal_has_a_line_and_a_status(rt: HostRuntime) {
+    for (refusal, line, status) in ROWS {
+        assert!(rt; line_of(&rt, &refusal).as_bytes() == line, "{refusal}");
+        assert_eq!(rt; status_of(&refusal), status, "{refusal}");
+    }
+    let name = name_of(b"A").expect(&rt, "a name");
+    let refusal = Refusal::Network(NetFault::NoBenchmark(name));
+    assert!(rt; line_of(&rt, &refusal).as_str() == "network: N3 no benchmark for A");
+    assert_eq!(rt; status_of(&refusal), 2);
+}
+
+#[test]
+fn each_verdict_has_a_status(rt: HostRuntime) {
+    assert_eq!(rt; status_of_verdict(&Verdict::Yes), 0);
+    assert_eq!(rt; status_of_verdict(&Verdict::No(Reason::WrongCost)), 1);
+}

@@ -1,0 +1,24 @@
+use Rattle.std.proofs.Common.{◌≡◌, ◌∙◌, ap, codes, true}
+use Rattle.std.proofs.lemmas.Result.{IfOk-weaker}
+use Rattle.clap.specs.Words.{App, app_of, new_app}
+use Rattle.clap.specs.Simple.{app_of_fields}
+use Rattle.th_plans.specs.Plans.{bare_program}
+use Rattle.th_plans.proofs.CommandLemmas.{with_command}
+use Rattle.th_plans.proofs.commands.command_line.Goals as goal
+
+abbrev with_version : App → App
+with_version app = record app { top = record app.top { has_version = true } }
+
+abbrev with_required : App → App
+with_required app = record app { top = record app.top { subcommand_required = true } }
+
+pub returns : goal.returns
+returns c =
+    let version_is : app_of c.version.result ≡ with_version (new_app (codes "height_office")) =
+    ap app_of_fields c.version.ensures ∙ ap with_version (ap app_of_fields c.about.ensures ∙ c.new.ensures.app) in
+    let bare : app_of c.subcommand_required.result ≡ bare_program =
+    ap app_of_fields c.subcommand_required.ensures
+    ∙ ap with_required (ap app_of_fields c.after_help.ensures ∙ ap app_of_fields c.override_usage.ensures ∙ version_is) in
+    let one = with_command _ _ _ _ _ c.in_ok-subcommand.ensures bare c.in_ok-list.ensures in
+    let two = with_command _ _ _ _ _ c.in_ok-subcommand-2.ensures one c.in_ok-adjust.ensures in
+    IfOk-weaker c.subcommand-3.result _ _ (λ command adds. with_command _ _ _ _ _ adds two c.in_ok-check.ensures) c.subcommand-3.ensures

@@ -1,0 +1,72 @@
+use Rattle.std.specs.Prelude.{◌*◌, ◌&&◌, ℕ, ℤ, List, Option, Some, None, pos, [], codes, if◌then◌else◌, length, nat_le, option_and_then, option_map, unwrap_or}
+use Rattle.std.specs.Str.{bytes_eq}
+use Rattle.std.specs.Str.Parse.{digits_value, without_leading_plus}
+use Rattle.clap.specs.ValueTests.{is_numeral}
+use Rattle.clap.specs.Words.{Row, Text, all_of, first_of, one_of}
+use Rattle.th_plans.specs.Limits.{max_blunder, max_books, units_in_micrometre}
+
+-- the names of the files that an adjustment and a check read: the books in order, the benchmarks, and the weights where a file of them is named
+pub record Files : Type 0 where
+  pub books : List Text
+  pub benchmarks : Text
+  pub weights : Option Text
+
+-- what words ask for: to list a book; to adjust, with a limit of blunders in units of 10 nm and the prefix of the outputs; to check a certificate
+pub data Asked : Type 0 where
+  list : Text → Asked
+  adjust : Files → ℤ → Text → Asked
+  check : Files → Text → Asked
+
+-- as many books as a command takes
+abbrev pub books_of : List Text → Option (List Text)
+books_of names = if nat_le 1 (length names) && nat_le (length names) max_books then Some names else None
+
+-- a limit that a command takes
+abbrev pub limit_of : ℕ → Option ℤ
+limit_of micrometres = if nat_le micrometres max_blunder then Some (pos (units_in_micrometre * micrometres)) else None
+
+-- the whole number that a text writes
+abbrev pub number_in : Text → Option ℕ
+number_in text =
+    let digits = without_leading_plus text in
+    if is_numeral digits then Some (digits_value 10 digits) else None
+
+-- what `clap` found for a command's arguments: the files,
+abbrev pub files_in : List Row → Option Files
+files_in rows =
+    option_and_then (λ names. option_and_then (λ books. option_map (λ benchmarks. record {
+      books = books;
+      benchmarks = benchmarks;
+      weights = first_of (codes "weights") rows;
+    }) (first_of (codes "benchmarks") rows)) (books_of names)) (all_of (codes "book") rows)
+
+-- the limit of blunders,
+abbrev pub limit_in : List Row → Option ℤ
+limit_in rows = option_and_then limit_of (option_and_then number_in (one_of (codes "blunder") rows))
+
+-- and how many books there are
+abbrev pub book_count : List Row → ℕ
+book_count rows = length (unwrap_or (all_of (codes "book") rows) [])
+
+-- what the arguments of each command ask for
+abbrev pub list_asked : List Row → Option Asked
+list_asked rows = option_map list (first_of (codes "book") rows)
+
+abbrev pub adjust_asked : List Row → Option Asked
+adjust_asked rows =
+    option_and_then (λ files. option_and_then (λ limit. option_map (adjust files limit) (first_of (codes "out") rows)) (limit_in rows)) (files_in rows)
+
+abbrev pub check_asked : List Row → Option Asked
+check_asked rows = option_and_then (λ files. option_map (check files) (first_of (codes "certificate") rows)) (files_in rows)
+
+-- what a command of this name asks for
+abbrev pub command_asked : Text → List Row → Option Asked
+command_asked name rows =
+    if bytes_eq name (codes "list") then list_asked rows
+    else if bytes_eq name (codes "adjust") then adjust_asked rows
+    else if bytes_eq name (codes "check") then check_asked rows
+    else None
+
+-- what a command asks for, with what `clap` found for its arguments
+abbrev pub asked_by : Option (Text × List Row) → Option Asked
+asked_by = option_and_then (λ found. command_asked found.0 found.1)

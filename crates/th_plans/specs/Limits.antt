@@ -1,0 +1,13 @@
+use Rattle.std.specs.Prelude.{ℕ}
+
+-- the most books that a command takes
+abbrev pub max_books : ℕ
+max_books = 16
+
+-- the largest limit of blunders that a command takes, in micrometres
+abbrev pub max_blunder : ℕ
+max_blunder = 1000000000
+
+-- how many units of 10 nm a micrometre has
+abbrev pub units_in_micrometre : ℕ
+units_in_micrometre = 100

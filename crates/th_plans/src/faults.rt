@@ -1,0 +1,65 @@
+use clap::error::ErrorKind;
+use std::alloc::AllocError;
+use std::fmt;
+
+/// Why the words give no plan. It shows itself as the text for standard error.
+#[derive(Debug, Drop)]
+pub enum PlanFault {
+    /// A mistake in the words, or a request for help, with the text for the user.
+    Line(clap::Error),
+    /// There are more books than a command takes.
+    TooManyBooks,
+    /// There was no memory to read them.
+    NoMemory,
+}
+
+/// What stands behind the text of `clap` where the first word is no command.
+const TIP: &str = "\n  tip: to list the book in a file, write 'height_office list FILE'\n";
+
+/// The text where there are more books than a command takes.
+const TOO_MANY_BOOKS: &str = "error: more than 16 books\n\nFor more information, try '--help'.\n";
+
+impl fmt::Display for PlanFault {
+    fn fmt<W: fmt::Write>(&self, f: &mut fmt::Formatter<W>) -> fmt::Result {
+        match self {
+            PlanFault::Line(error) => {
+                write!(f, "{error}")?;
+                match error.kind() {
+                    ErrorKind::InvalidSubcommand => f.write_str(TIP),
+                    _ => Ok(()),
+                }
+            }
+            PlanFault::TooManyBooks => f.write_str(TOO_MANY_BOOKS),
+            PlanFault::NoMemory => f.write_str("out of memory\n"),
+        }
+    }
+}
+
+impl From<AllocError> for PlanFault {
+    ghost use Rattle.std.specs.Prelude.{◌≡◌};
+    ghost use Rattle.th_plans.specs.declared.faults.PlanFault.TheVariants.{NoMemory};
+
+    ghost from_gives = { λ _ fault. fault ≡ NoMemory };
+
+    fn from(_error: AllocError) -> PlanFault {
+        PlanFault::NoMemory
+    }
+}
+
+/// `clap`'s own refusal for memory is want of memory here too.
+impl From<clap::Error> for PlanFault {
+    ghost use Rattle.std.specs.Prelude.{◌≡◌, ◌≢◌};
+    ghost use Rattle.clap.specs.Words.{kind_of};
+    ghost use Rattle.clap.specs.declared.error.kind.ErrorKind.TheVariants.{OutOfMemory};
+    ghost use Rattle.th_plans.specs.declared.faults.PlanFault.TheVariants.{Line, NoMemory};
+
+    ghost from_gives = { λ error fault. (kind_of error ≡ OutOfMemory → fault ≡ NoMemory)
+        × (kind_of error ≢ OutOfMemory → fault ≡ Line error) };
+
+    fn from(error: clap::Error) -> PlanFault {
+        match error.kind() {
+            ErrorKind::OutOfMemory => PlanFault::NoMemory,
+            _ => PlanFault::Line(error),
+        }
+    }
+}

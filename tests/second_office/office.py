@@ -1,0 +1,173 @@
+#!/usr/bin/env python3
+"""A second office, written from docs/FORMATS.md alone.
+
+    office.py adjust --benchmarks F [--weights F] [--blunder MICROMETRES] --out PREFIX BOOK...
+    office.py check --benchmarks F [--weights F] --certificate F BOOK...
+
+Gives what the program gives: the same files, the same lines, the same statuses. It shares nothing with the program, so that where
+the two differ one of them, or the page, is at fault. Which of several best flows a certificate carries is left open: the program's
+may differ from these.
+"""
+
+import argparse
+import sys
+from pathlib import Path
+from typing import Dict, List, NamedTuple, Optional
+
+from certificates import CertificateFault, certificate_text, read_certificate, verdict_line
+from network import Heights, Network, NetworkFault, Sight, best_flows, cost_of, highest_heights, lowest_heights, make_network
+from tables import TableFault, read_benchmarks, read_weights, reader
+from texts import gsi_text, heights_text, report_text
+
+UNITS_IN_MICROMETRE = 100
+DEFAULT_BLUNDER = 20_000
+
+
+class Inputs(NamedTuple):
+    """The bytes that an adjustment and a check read."""
+
+    books: List[bytes]
+    benchmarks: bytes
+    weights: Optional[bytes]
+
+
+class Adjusted(NamedTuple):
+    """A network, its lowest and highest best heights, and flows that show them."""
+
+    network: Network
+    low: Heights
+    high: Heights
+    flows: List[int]
+
+
+class Refused(Exception):
+    """An input was refused, with the line for standard error."""
+
+
+class Answer(NamedTuple):
+    """What a command gives. Files are known by the ends of their names."""
+
+    status: int
+    standard_output: bytes
+    standard_error: bytes
+    files: Dict[str, bytes]
+
+
+# Inputs
+
+
+def sight_lines(book: bytes) -> List[int]:
+    """The numbers of the lines that are sights, of a book without a fault."""
+    lines = enumerate(reader.split_into_lines(book), start=1)
+    return [number for number, line in lines if not reader.is_blank(line) and reader.is_sight(reader.read_block(line))]
+
+
+def sights_of(number: int, book: bytes) -> List[Sight]:
+    """The sights of a book that is given as book `number`."""
+    try:
+        observations = reader.read_book(book)
+    except reader.BookFault as fault:
+        raise Refused(f"book {number} line {fault.line}: {fault.kind} {fault.words}") from None
+    return [Sight(observation.station, observation.target, observation.difference, number, line)
+            for observation, line in zip(observations, sight_lines(book))]
+
+
+def table_of(which: str, read, text: bytes):
+    try:
+        return read(text)
+    except (TableFault, CertificateFault) as fault:
+        raise Refused(f"{which} record {fault.record}: {fault.kind} {fault.words}") from None
+
+
+def network_of(sights: List[Sight], benchmarks: Heights, weights) -> Network:
+    try:
+        return make_network(sights, benchmarks, weights)
+    except NetworkFault as fault:
+        raise Refused(f"network: {fault.kind} {fault.words}") from None
+
+
+def read_inputs(inputs: Inputs, certificate: Optional[bytes]):
+    """The network and what the certificate says. The first input with a fault decides: books, benchmarks, weights, certificate, network."""
+    sights = [sight for number, book in enumerate(inputs.books, start=1) for sight in sights_of(number, book)]
+    benchmarks = table_of("benchmarks", read_benchmarks, inputs.benchmarks)
+    weights = table_of("weights", read_weights, inputs.weights or b"")
+    stated = None if certificate is None else table_of("certificate", read_certificate, certificate)
+    return network_of(sights, benchmarks, weights), stated
+
+
+# Commands
+
+
+def adjusted(network: Network) -> Adjusted:
+    flows = best_flows(network)
+    return Adjusted(network, lowest_heights(network, flows), highest_heights(network, flows), flows)
+
+
+def files_of(answer: Adjusted, limit: int) -> Dict[str, bytes]:
+    return {
+        ".heights.csv": heights_text(answer.network, answer.low, answer.high),
+        ".certificate.csv": certificate_text(answer.network, answer.low, answer.high, answer.flows),
+        ".report.txt": report_text(answer.network, answer.low, limit),
+        ".heights.gsi": gsi_text(answer.network, answer.low),
+    }
+
+
+def refused(fault: Refused) -> Answer:
+    return Answer(2, b"", f"{fault}\n".encode("ascii"), {})
+
+
+def adjust(inputs: Inputs, limit: int) -> Answer:
+    try:
+        network, _ = read_inputs(inputs, None)
+    except Refused as fault:
+        return refused(fault)
+    return Answer(0, b"", b"", files_of(adjusted(network), limit))
+
+
+def check(inputs: Inputs, certificate: bytes) -> Answer:
+    try:
+        network, stated = read_inputs(inputs, certificate)
+    except Refused as fault:
+        return refused(fault)
+    line = verdict_line(network, stated)
+    return Answer(0 if line == b"yes\n" else 1, line, b"", {})
+
+
+# The command line
+
+
+def arguments(words: Optional[List[str]] = None) -> argparse.Namespace:
+    parser = argparse.ArgumentParser(description="A second office, to be compared with the program.")
+    commands = parser.add_subparsers(dest="command", required=True)
+    for name in ("adjust", "check"):
+        command = commands.add_parser(name)
+        command.add_argument("--benchmarks", type=Path, required=True)
+        command.add_argument("--weights", type=Path)
+        command.add_argument("books", type=Path, nargs="+", metavar="BOOK")
+    commands.choices["adjust"].add_argument("--blunder", type=int, default=DEFAULT_BLUNDER)
+    commands.choices["adjust"].add_argument("--out", required=True)
+    commands.choices["check"].add_argument("--certificate", type=Path, required=True)
+    return parser.parse_args(words)
+
+
+def run(chosen: argparse.Namespace) -> Answer:
+    books = [path.read_bytes() for path in chosen.books]
+    weights = chosen.weights.read_bytes() if chosen.weights else None
+    inputs = Inputs(books, chosen.benchmarks.read_bytes(), weights)
+    if chosen.command == "check":
+        return check(inputs, chosen.certificate.read_bytes())
+    return adjust(inputs, UNITS_IN_MICROMETRE * chosen.blunder)
+
+
+def main() -> int:
+    chosen = arguments()
+    answer = run(chosen)
+    for end, text in answer.files.items():
+        Path(chosen.out + end).write_bytes(text)
+    sys.stdout.buffer.write(answer.standard_output)
+    sys.stderr.buffer.write(answer.standard_error)
+    return answer.status
+
+
+if __name__ == "__main__":
+    sys.exit(main())

@@ -1,0 +1,250 @@
+#!/usr/bin/env python3
+"""Tests the second office itself on rows that were calculated by hand. It needs no program.
+
+    self_test.py
+
+Status 0 only where every row comes out.
+"""
+
+import sys
+from typing import Dict, List, NamedTuple, Optional
+
+import office
+from office import Inputs
+
+# A setup on A with the instrument at 1.5 m, and a sight of B: 2.345 + 1.5 - 1.3 = 2.545 m.
+S = b"110001+0000000A 84..10+00000000 85..10+00000000 86..10+00100000 88..10+00001500 \n"
+P = b"110002+0000000B 33..00+00002345 87..10+00001300 \n"
+# Sights of B that differ in millimetres and by a metre.
+MISREAD = S + P + b"110003+0000000B 33..00+00002346 \n110004+0000000B 33..00+00003345 \n"
+TWO_BEST = S + P + b"110003+0000000B 33..00+00002347 \n"
+# On from B to C, a metre up.
+TWO_BEST_AND_ON = TWO_BEST + (b"110004+0000000B 84..10+00000000 88..10+00001500 \n"
+                              b"110005+0000000C 33..00+00001000 87..10+00001500 \n")
+# Three sides of a triangle that close, and a side that doesn't.
+TRIANGLE = (
+    b"110001+0000000A 84..10+00000000 88..10+00001500 \n"
+    b"110002+0000000B 33..00+00001000 87..10+00001500 \n"
+    b"110003+0000000B 84..10+00000000 88..10+00001500 \n"
+    b"110004+0000000C 33..00+00001000 87..10+00001500 \n"
+    b"110005+0000000C 84..10+00000000 88..10+00001500 \n"
+    b"110006+0000000A 33..00-00002000 87..10+00001500 \n"
+    b"110007+0000000A 84..10+00000000 88..10+00001500 \n"
+    b"110008+0000000C 33..00+00002500 87..10+00001500 \n"
+)
+THERE_AND_BACK = S + P + (b"110003+0000000B 84..10+00000000 88..10+00001450 \n"
+                          b"110004+0000000A 33..00-00002705 87..10+00001300 \n")
+A_100 = b"point,height\nA,100\n"
+TRIANGLE_CERTIFICATE = b"""kind,key,value
+V,1,4
+H,A,100.00000000
+H,B,101.00000000
+H,C,102.00000000
+F,1,0
+F,2,0
+F,3,1
+F,4,1
+Z,cost,50000000
+"""
+TWO_BEST_CERTIFICATE = b"""kind,key,value
+V,2,2
+H,A,100.00000000
+H,B,102.54500000
+L,A,100.00000000
+L,B,102.54500000
+U,A,100.00000000
+U,B,102.54700000
+F,1,-1
+F,2,1
+Z,cost,200000
+"""
+MISREAD_REPORT = b"""HEIGHT NETWORK REPORT
+points                                 2
+benchmarks                             1
+observations                           3
+cost                           100000000
+blunder limit                 0.02000000
+
+POINT                           HEIGHT
+A                         100.00000000  B
+B                         102.54600000
+
+   NO  BK      LINE  FROM              TO                  WT              RESIDUAL
+    1   1         2  A                 B                    1           -0.00100000
+    2   1         3  A                 B                    1            0.00000000
+    3   1         4  A                 B                    1            0.99900000  *
+
+blunders                               1
+    3   1         4  A                 B                    1            0.99900000  *
+
+opposites                              0
+"""
+
+
+class Row(NamedTuple):
+    """A project, and what is calculated of it: the cost, the lowest and the highest heights in metres, the flows where they are forced."""
+
+    title: str
+    inputs: Inputs
+    cost: int
+    low: Dict[bytes, str]
+    high: Dict[bytes, str]
+    flows: Optional[List[int]]
+
+
+def same(heights: Dict[bytes, str]) -> tuple:
+    return heights, heights
+
+
+ROWS = (
+    Row("one sight", Inputs([S + P], A_100, None), 0, *same({b"A": "100.00000000", b"B": "102.54500000"}), [0]),
+    Row("ten-thousandths of a foot",
+        Inputs([S + b"*110002+000000000000000B 33..07+0000000000076940 87..08+0000000000130000 \n"], A_100, None),
+        0, *same({b"A": "100.00000000", b"B": "102.54513120"}), [0]),
+    Row("a misread staff", Inputs([MISREAD], A_100, None), 100_000_000, *same({b"A": "100.00000000", b"B": "102.54600000"}), [-1, 0, 1]),
+    Row("a staff misread by 9 km more", Inputs([MISREAD.replace(b"00003345", b"09003345")], A_100, None), 900_100_000_000,
+        *same({b"A": "100.00000000", b"B": "102.54600000"}), [-1, 0, 1]),
+    Row("best heights that are not unique", Inputs([TWO_BEST], A_100, None), 200_000,
+        {b"A": "100.00000000", b"B": "102.54500000"}, {b"A": "100.00000000", b"B": "102.54700000"}, [-1, 1]),
+    Row("and on", Inputs([TWO_BEST_AND_ON], A_100, None), 200_000,
+        {b"A": "100.00000000", b"B": "102.54500000", b"C": "103.54500000"},
+        {b"A": "100.00000000", b"B": "102.54700000", b"C": "103.54700000"}, [-1, 1, 0]),
+    Row("a triangle", Inputs([TRIANGLE], A_100, None), 50_000_000,
+        *same({b"A": "100.00000000", b"B": "101.00000000", b"C": "102.00000000"}), None),
+    Row("a triangle of two books", Inputs([b"".join(TRIANGLE.splitlines(True)[:4]), b"".join(TRIANGLE.splitlines(True)[4:])], A_100, None),
+        50_000_000, *same({b"A": "100.00000000", b"B": "101.00000000", b"C": "102.00000000"}), None),
+    Row("there and back", Inputs([THERE_AND_BACK], A_100, b"from,to,weight\nA,B,3\n"), 1_000_000,
+        *same({b"A": "100.00000000", b"B": "102.54500000"}), [-1, -1]),
+    Row("two benchmarks that disagree", Inputs([S + P], A_100 + b"B,103\n", None), 45_500_000,
+        *same({b"A": "100.00000000", b"B": "103.00000000"}), [-1]),
+    Row("an empty book", Inputs([b""], A_100, None), 0, *same({b"A": "100.00000000"}), []),
+    Row("nothing", Inputs([b""], b"point,height\n", None), 0, *same({}), []),
+    Row("a weight of a thousand", Inputs([S + b"".join(
+        b"110002+0000000B 33..00+00002345 87..10+00001300 \n" if k < 5 else b"110002+0000000B 33..00+00002347 87..10+00001300 \n"
+        for k in range(8))], A_100, b"from,to,weight\nA,B,1000\n"), 600_000_000,
+        {b"A": "100.00000000", b"B": "102.54500000"}, {b"A": "100.00000000", b"B": "102.54500000"}, None),
+)
+
+
+def inputs_with(book: bytes = S + P, benchmarks: bytes = A_100, weights: Optional[bytes] = None) -> Inputs:
+    return Inputs([book], benchmarks, weights)
+
+
+# A project, a certificate where one is checked, and the line and the status that come.
+LINES = (
+    ("no benchmark", inputs_with(benchmarks=b"point,height\nZ,100\n"), None, b"network: N3 no benchmark for A\n", 2),
+    ("no reflector height", inputs_with(book=S + P + b"110003+0000000B 84..10+00000000 88..10+00001400 \n110004+0000000C 33..00+00001000 \n"),
+     None, b"book 1 line 4: B10 no reflector height\n", 2),
+    ("one name in two spellings", inputs_with(benchmarks=b"point,height\n00A,100\nA,101\n"), None, b"benchmarks record 3: E6 repeated\n", 2),
+    ("too high", inputs_with(benchmarks=b"point,height\nA,10000.00000001\n"), None, b"benchmarks record 2: E4 bad height\n", 2),
+    ("a field is missing", inputs_with(benchmarks=b"point,height\nA\n"), None, b"benchmarks record 2: E2 field count\n", 2),
+    ("no weight", inputs_with(weights=b"from,to,weight\nA,B,0\n"), None, b"weights record 2: E5 bad weight\n", 2),
+    ("no header of weights", inputs_with(weights=b"\xef\xbb\xbf"), None, b"weights record 1: E1 bad header\n", 2),
+    ("no header of benchmarks", inputs_with(benchmarks=b""), None, b"benchmarks record 1: E1 bad header\n", 2),
+    ("a table that is too long", inputs_with(benchmarks=b"\n" * 1_048_577), None, b"benchmarks record 0: E7 table too long\n", 2),
+    ("the first input with a fault decides", Inputs([S + P, P], b"", None), None, b"book 2 line 1: B8 sight before setup\n", 2),
+    ("yes", inputs_with(book=TRIANGLE), TRIANGLE_CERTIFICATE, b"yes\n", 0),
+    ("other flows", inputs_with(book=TRIANGLE), TRIANGLE_CERTIFICATE.replace(b"F,1,0\nF,2,0\nF,3,1", b"F,1,-1\nF,2,-1\nF,3,0"), b"yes\n", 0),
+    ("other spellings", inputs_with(book=TRIANGLE), TRIANGLE_CERTIFICATE.replace(b"H,A,100.00000000", b"H,00A,100").replace(b"F,1,0", b"F,01,-0"),
+     b"yes\n", 0),
+    ("a unit too high", inputs_with(book=TRIANGLE), TRIANGLE_CERTIFICATE.replace(b"102.00000000", b"102.00000001"), b"no: not slack at 2\n", 1),
+    ("not balanced", inputs_with(book=TRIANGLE), TRIANGLE_CERTIFICATE.replace(b"F,3,1", b"F,3,0"), b"no: unbalanced at C\n", 1),
+    ("over its weight", inputs_with(book=TRIANGLE), TRIANGLE_CERTIFICATE.replace(b"F,4,1", b"F,4,2"), b"no: flow too large at 4\n", 1),
+    ("another cost", inputs_with(book=TRIANGLE), TRIANGLE_CERTIFICATE.replace(b"50000000", b"49999999"), b"no: wrong cost\n", 1),
+    ("a benchmark moved", inputs_with(book=TRIANGLE), TRIANGLE_CERTIFICATE.replace(b"100.00000000", b"100.00000001"), b"no: benchmark moved\n", 1),
+    ("a flow is missing", inputs_with(book=TRIANGLE), TRIANGLE_CERTIFICATE.replace(b"F,4,1\n", b"").replace(b"V,1,4", b"V,1,3"), b"no: flow count\n", 1),
+    ("a point is missing", inputs_with(book=TRIANGLE), TRIANGLE_CERTIFICATE.replace(b"H,B,101.00000000\n", b""), b"no: points differ\n", 1),
+    ("no cost", inputs_with(book=TRIANGLE), TRIANGLE_CERTIFICATE.replace(b"Z,cost,50000000\n", b""), b"certificate record 10: C7 truncated\n", 2),
+    ("a point twice", inputs_with(book=TRIANGLE), TRIANGLE_CERTIFICATE.replace(b"H,B", b"H,A,100\nH,B"), b"certificate record 4: C4 bad name\n", 2),
+    ("a count that is too large", inputs_with(book=TRIANGLE), TRIANGLE_CERTIFICATE.replace(b"V,1,4", b"V,1,40001"), b"certificate record 2: C6 too large\n", 2),
+    ("the cost before the count is reached", inputs_with(book=TRIANGLE), TRIANGLE_CERTIFICATE.replace(b"V,1,4", b"V,1,4001"), b"certificate record 10: C3 bad kind\n", 2),
+    ("a flow beyond the count", inputs_with(book=TRIANGLE), TRIANGLE_CERTIFICATE.replace(b"Z,", b"F,5,0\nZ,"), b"certificate record 10: C3 bad kind\n", 2),
+    ("two costs", inputs_with(book=TRIANGLE), TRIANGLE_CERTIFICATE + b"Z,cost,50000000\n", b"certificate record 11: C3 bad kind\n", 2),
+    ("lows in version 1", inputs_with(book=TRIANGLE), TRIANGLE_CERTIFICATE.replace(b"F,1,0", b"L,A,100\nF,1,0"), b"certificate record 6: C3 bad kind\n", 2),
+    ("version 3", inputs_with(book=TRIANGLE), TRIANGLE_CERTIFICATE.replace(b"V,1,4", b"V,3,4"), b"certificate record 2: C3 bad kind\n", 2),
+    ("a benchmark moved against the disagreement", inputs_with(benchmarks=A_100 + b"B,103\n"),
+     b"kind,key,value\nV,1,1\nH,A,100.00000000\nH,B,103.00000000\nF,1,-1\nZ,cost,45500000\n", b"yes\n", 0),
+    ("version 2", inputs_with(book=TWO_BEST), TWO_BEST_CERTIFICATE, b"yes\n", 0),
+    ("too low", inputs_with(book=TWO_BEST), TWO_BEST_CERTIFICATE.replace(b"L,B,102.54500000", b"L,B,102.54499999"), b"no: low not slack at 1\n", 1),
+    ("too high a high", inputs_with(book=TWO_BEST), TWO_BEST_CERTIFICATE.replace(b"102.54700000", b"102.54700001"), b"no: high not slack at 2\n", 1),
+    ("a low benchmark moved", inputs_with(book=TWO_BEST), TWO_BEST_CERTIFICATE.replace(b"L,A,100.00000000", b"L,A,100.00000001"), b"no: benchmark moved\n", 1),
+    ("no lows", inputs_with(book=TWO_BEST), TWO_BEST_CERTIFICATE.replace(b"L,A,100.00000000\nL,B,102.54500000\n", b""), b"no: points differ\n", 1),
+    ("lows and highs exchanged", inputs_with(book=TWO_BEST),
+     TWO_BEST_CERTIFICATE.replace(b"L,B,102.54500000", b"L,B,102.54700000").replace(b"U,B,102.54700000", b"U,B,102.54500000"), b"yes\n", 0),
+)
+
+# A project, a limit in micrometres, the end of a file's name, and the file.
+FILES = (
+    ("heights of one sight", inputs_with(), 20_000, ".heights.csv",
+     b"point,height,low,high\nA,100.00000000,100.00000000,100.00000000\nB,102.54500000,102.54500000,102.54500000\n"),
+    ("heights that are not unique", inputs_with(book=TWO_BEST), 20_000, ".heights.csv",
+     b"point,height,low,high\nA,100.00000000,100.00000000,100.00000000\nB,102.54500000,102.54500000,102.54700000\n"),
+    ("their certificate", inputs_with(book=TWO_BEST), 20_000, ".certificate.csv", TWO_BEST_CERTIFICATE),
+    ("heights of nothing", inputs_with(book=b"", benchmarks=b"point,height\n"), 20_000, ".heights.csv", b"point,height,low,high\n"),
+    ("certificate of nothing", inputs_with(book=b"", benchmarks=b"point,height\n"), 20_000, ".certificate.csv", b"kind,key,value\nV,2,0\nZ,cost,0\n"),
+    ("GSI file of nothing", inputs_with(book=b"", benchmarks=b"point,height\n"), 20_000, ".heights.gsi", b""),
+    ("GSI file of one sight", inputs_with(), 20_000, ".heights.gsi",
+     b"*110001+000000000000000A 83..48+0000000010000000 \r\n*110002+000000000000000B 83..48+0000000010254500 \r\n"),
+    ("half of 1/100 mm below zero", inputs_with(book=b"", benchmarks=b"point,height\nA,-0.000005\n"), 20_000, ".heights.gsi",
+     b"*110001+000000000000000A 83..48-0000000000000001 \r\n"),
+    ("less than half of it", inputs_with(book=b"", benchmarks=b"point,height\nA,-0.00000499\n"), 20_000, ".heights.gsi",
+     b"*110001+000000000000000A 83..48+0000000000000000 \r\n"),
+    ("report of a misread staff", inputs_with(book=MISREAD), 20_000, ".report.txt", MISREAD_REPORT),
+)
+
+# A text that a report has to hold, or must not hold.
+REPORT_LINES: tuple = (
+    ("the sum of opposites", inputs_with(book=THERE_AND_BACK, weights=b"from,to,weight\nA,B,3\n"), 20_000,
+     b"\nopposites                              1\n    2      1  B                 A                          -0.01000000\n", True),
+    ("a residual at the limit", inputs_with(book=MISREAD), 999_000, b"*", False),
+    ("a residual above the limit", inputs_with(book=MISREAD), 998_999, b"0.99900000  *\n", True),
+)
+
+
+def expect(failures: List[str], title: str, own: object, wanted: object) -> None:
+    if own != wanted:
+        failures.append(f"{title}: {own!r}, and not {wanted!r}")
+
+
+def test_row(failures: List[str], row: Row) -> None:
+    network, _ = office.read_inputs(row.inputs, None)
+    answer = office.adjusted(network)
+    expect(failures, f"{row.title}: cost", office.cost_of(network, answer.low), row.cost)
+    for which, heights, wanted in (("low", answer.low, row.low), ("high", answer.high, row.high)):
+        shown = {point: office.reader.metres(height).decode("ascii") for point, height in heights.items()}
+        expect(failures, f"{row.title}: {which}", shown, wanted)
+    if row.flows is not None:
+        expect(failures, f"{row.title}: flows", answer.flows, row.flows)
+    own = office.adjust(row.inputs, 0).files[".certificate.csv"]
+    expect(failures, f"{row.title}: its own certificate", office.check(row.inputs, own).standard_output, b"yes\n")
+
+
+def test_line(failures: List[str], title: str, inputs: Inputs, certificate: Optional[bytes], line: bytes, status: int) -> None:
+    answer = office.adjust(inputs, 0) if certificate is None else office.check(inputs, certificate)
+    expect(failures, title, (answer.standard_output + answer.standard_error, answer.status), (line, status))
+
+
+def test_file(failures: List[str], title: str, inputs: Inputs, limit: int, end: str, text: bytes) -> None:
+    expect(failures, title, office.adjust(inputs, 100 * limit).files[end], text)
+
+
+def test_report(failures: List[str], title: str, inputs: Inputs, limit: int, text: bytes, stands: bool) -> None:
+    expect(failures, title, text in office.adjust(inputs, 100 * limit).files[".report.txt"], stands)
+
+
+TESTS: tuple = ((test_row, [(row,) for row in ROWS]), (test_line, LINES), (test_file, FILES), (test_report, REPORT_LINES))
+
+
+def main() -> int:
+    failures: List[str] = []
+    for test, rows in TESTS:
+        for row in rows:
+            test(failures, *row)
+    for failure in failures:
+        print(failure)
+    print(f"second office: {sum(len(rows) for _, rows in TESTS)} rows, {len(failures)} failures")
+    return 1 if failures else 0
+
+
+if __name__ == "__main__":
+    sys.exit(main())
