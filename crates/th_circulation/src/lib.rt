@@ -40,12 +40,6 @@ mod spreading;
 
 // What holds of the definitions alone.
 pub mod laws;
-#[cfg(test)]
-mod size_tests;
-#[cfg(test)]
-mod span_tests;
-#[cfg(test)]
-mod tests;
 
 pub use settled::{Flows, Heights, Settled, Spans};
 pub use settling::settle;

@@ -111,7 +111,7 @@ fn settle_weighted<'a, S: Search>(
 }
 
 /// The weights of the observations of a network.
-pub(crate) fn list_weights(alloc: Global, network: &Network) -> Result<Vec<u32>, AllocError>
+fn list_weights(alloc: Global, network: &Network) -> Result<Vec<u32>, AllocError>
     ensures weights { IfOk result (λ weights. weights.items ≡ weights_of network.now) }
     ensures light { IfOk result (λ weights. All (λ weight. weight ≤ 1000) weights.items) }
 {

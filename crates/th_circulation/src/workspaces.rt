@@ -151,7 +151,7 @@ impl Workspace {
 
     /// Settles the phases one after another, each with its differences and on from the flows of the
     /// one before it, until the flows show heights for the links' own differences.
-    pub fn settle_by_halves<S: Search>(
+    fn settle_by_halves<S: Search>(
         &mut self,
         alloc: Global,
         graph: &Graph,

@@ -1,0 +1,36 @@
+//! Tests of `th_circulation` over the searches of `th_search` and over strange ones: what rows of
+//! surveys are settled to, networks of size, and small networks against plain references.
+//!
+//! They stand in a crate of their own since a crate is proved a second time with its tests. They use
+//! public calls alone, and take their wanted values from worked surveys.
+#![tactic(auto)]
+
+// The networks, the searches, and the settling of one over the other.
+#[cfg(test)]
+mod searches;
+#[cfg(test)]
+mod settling;
+#[cfg(test)]
+mod surveys;
+
+// Surveys with known heights, costs and flows.
+#[cfg(test)]
+mod rows;
+#[cfg(test)]
+mod sizes;
+
+// Small networks, and what plain references find of them.
+#[cfg(test)]
+mod grids;
+#[cfg(test)]
+mod randoms;
+#[cfg(test)]
+mod references;
+#[cfg(test)]
+mod samples;
+
+// Searches that are strange, and want of memory.
+#[cfg(test)]
+mod refusals;
+#[cfg(test)]
+mod strangers;

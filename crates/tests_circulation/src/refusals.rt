@@ -1,0 +1,55 @@
+use crate::searches::RefusingSearch;
+use crate::surveys::{A_AT_100, LONGER, SETUP, SIGHT, joined, network_of, tables_of};
+use std::alloc::Global;
+use std::process::Abort;
+use th_circulation::{Steps, settle};
+use th_network::Network;
+
+/// How many calls and steps a settling may start with.
+const MAX_COUNTED: u128 = 1_000_000_000_000_000_000_000_000_000_000;
+
+/// Settles a network over a search that refuses one call, and again over the same search; whether the
+/// first settling was refused.
+fn settle_twice(rt: &impl Abort, alloc: Global, network: &Network, refused: u128) -> bool {
+    let mut search = RefusingSearch {
+        refused,
+        calls: 0,
+        refusals: 0,
+    };
+    let mut steps = Steps::new();
+    if settle(alloc, network, &mut search, &mut steps).is_ok() {
+        return false;
+    }
+    let counted = steps.count();
+    let calls = search.calls;
+    assert_eq!(rt; calls, refused.wrapping_add(1));
+    assert_eq!(rt; search.refusals, 1);
+    assert!(rt; calls <= MAX_COUNTED && counted <= MAX_COUNTED);
+    let settled = settle(alloc, network, &mut search, &mut steps).expect(rt, "memory");
+    let rise = steps.count().wrapping_sub(counted);
+    assert_eq!(rt; search.calls.wrapping_sub(calls), rise.wrapping_add(44));
+    assert_eq!(rt; settled.flows.as_slice(), [-1i64, -1, 0, 1, 1].as_slice());
+    true
+}
+
+/// Each call of the search in turn is refused, until one is that never comes.
+#[test]
+fn refused_settlings_are_made_again(rt: HostRuntime) {
+    let parts: [&[u8]; 4] = [
+        SETUP,
+        SIGHT,
+        SIGHT,
+        b"110003+0000000B 33..00+00002346 \n110004+0000000B 33..00+00003345 \n",
+    ];
+    let mut book = joined(&rt, rt.alloc(), &parts);
+    book.extend_from_slice(LONGER).expect(&rt, "memory");
+    let tables = tables_of(&rt, rt.alloc(), A_AT_100, b"");
+    let network = network_of(&rt, rt.alloc(), &book, &tables);
+    let mut refusals = 0u32;
+    for refused in 0..200u32 {
+        if settle_twice(&rt, rt.alloc(), &network, u128::from(refused)) {
+            refusals = refusals.wrapping_add(1);
+        }
+    }
+    assert!(rt; 46 <= refusals && refusals < 200, "{refusals}");
+}

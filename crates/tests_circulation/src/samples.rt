@@ -1,0 +1,81 @@
+use crate::grids::{Best, MOST_VERTICES, best_on_grid};
+use crate::randoms::{Random, Sample};
+use crate::references::{Walk, are_lengths, shortest};
+use crate::settling::{Outcome, cost_of, settled_over};
+use crate::surveys::{network_of, tables_of};
+use std::alloc::Global;
+use std::process::Abort;
+use th_network::Network;
+use th_search::{LabelSearch, LevelSearch};
+
+/// Compares spans with the lengths of shortest walks.
+fn compare_walks(rt: &impl Abort, alloc: Global, network: &Network, outcome: &Outcome) {
+    let flows = outcome.settled.flows.as_slice();
+    let away = shortest(rt, alloc, network, flows, Walk::Away);
+    let back = shortest(rt, alloc, network, flows, Walk::Back);
+    assert!(rt; are_lengths(network, &away, Walk::Away, outcome.spans.low.as_slice()));
+    assert!(rt; are_lengths(network, &back, Walk::Back, outcome.spans.high.as_slice()));
+}
+
+/// Compares two outcomes: heights that cost as much, the same spans.
+fn compare_outcomes(rt: &impl Abort, network: &Network, one: &Outcome, other: &Outcome) {
+    let cost = cost_of(network, one.settled.heights.as_slice());
+    assert_eq!(rt; cost_of(network, other.settled.heights.as_slice()), cost);
+    assert_eq!(rt; cost_of(network, one.spans.low.as_slice()), cost);
+    assert_eq!(rt; cost_of(network, one.spans.high.as_slice()), cost);
+    assert_eq!(rt; one.spans.low.as_slice(), other.spans.low.as_slice());
+    assert_eq!(rt; one.spans.high.as_slice(), other.spans.high.as_slice());
+}
+
+/// Whether heights of the points that are no benchmarks are these.
+fn are_at(network: &Network, heights: &[i64], wanted: [i64; 2]) -> bool {
+    let mut vertex = 0usize;
+    for (k, height) in heights.iter().enumerate() {
+        if k < network.points().len() && network.fixed(k).is_none() {
+            if wanted.get(vertex) != Some(height) {
+                return false;
+            }
+            vertex = vertex.wrapping_add(1);
+        }
+    }
+    true
+}
+
+/// Compares an outcome with the best of all heights on a grid.
+fn compare_grid(rt: &impl Abort, network: &Network, outcome: &Outcome) {
+    let Best { cost, low, high } = best_on_grid(network);
+    assert_eq!(rt; cost_of(network, outcome.settled.heights.as_slice()), cost);
+    assert!(rt; are_at(network, outcome.spans.low.as_slice(), low));
+    assert!(rt; are_at(network, outcome.spans.high.as_slice(), high));
+}
+
+/// Settles a sample over both searches and compares what they give with each other and with plain
+/// references; whether all heights were tried.
+fn settle_sample(rt: &impl Abort, alloc: Global, sample: &Sample) -> bool {
+    let tables = tables_of(rt, alloc, &sample.benchmarks, &sample.weights);
+    let network = network_of(rt, alloc, &sample.book, &tables);
+    let labels = settled_over(rt, alloc, &network, LabelSearch::new());
+    let levels = settled_over(rt, alloc, &network, LevelSearch::new());
+    compare_outcomes(rt, &network, &labels, &levels);
+    compare_walks(rt, alloc, &network, &labels);
+    compare_walks(rt, alloc, &network, &levels);
+    if network.vertices() <= MOST_VERTICES {
+        compare_grid(rt, &network, &labels);
+        return true;
+    }
+    false
+}
+
+/// A thousand small networks; of some all heights are tried.
+#[test]
+fn samples_are_settled_alike(rt: HostRuntime) {
+    let mut random = Random { state: 1 };
+    let mut tried = 0u32;
+    for _ in 0..1_000 {
+        let sample = Sample::new(&rt, rt.alloc(), &mut random);
+        if settle_sample(&rt, rt.alloc(), &sample) {
+            tried = tried.wrapping_add(1);
+        }
+    }
+    assert!(rt; 200 < tried && tried < 900, "{tried} of 1000");
+}

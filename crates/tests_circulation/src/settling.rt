@@ -1,0 +1,68 @@
+ghost use Rattle.std.specs.Prelude.{◌≤◌};
+ghost use Rattle.th_circulation.specs.Limits.{max_counted};
+
+use crate::searches::CountingSearch;
+use gsi_word::Name;
+use std::alloc::Global;
+use std::process::Abort;
+use th_circulation::{Settled, Spans, Steps, settle, spans};
+use th_network::Network;
+use th_search::Search;
+
+/// How many phases a settling has: for each the search is called once more than steps are counted.
+const PHASES: u128 = 44;
+
+/// What a network was settled to, its spans, and how many steps that took.
+#[derive(Drop)]
+pub struct Outcome {
+    pub settled: Settled,
+    pub spans: Spans,
+    pub steps: u128,
+}
+
+/// Settles a network over a search, finds its spans, and compares the counts of calls and steps.
+pub fn settled_over<S: Search + Drop>(
+    rt: &impl Abort,
+    alloc: Global,
+    network: &Network,
+    search: S,
+) -> Outcome
+    requires { S.calls search ≤ max_counted }
+{
+    let mut counting = CountingSearch { search, counted: 0 };
+    let mut steps = Steps::new();
+    let settled = settle(alloc, network, &mut counting, &mut steps).expect(rt, "memory");
+    let spans = spans(alloc, network, &settled).expect(rt, "memory");
+    let steps = steps.count();
+    assert_eq!(rt; counting.counted, steps.wrapping_add(PHASES));
+    Outcome {
+        settled,
+        spans,
+        steps,
+    }
+}
+
+/// What heights cost: the sum of weight times size of the residual.
+pub fn cost_of(network: &Network, heights: &[i64]) -> u128 {
+    let points = network.points();
+    let mut cost = 0u128;
+    for (i, o) in network.observations().iter().enumerate() {
+        let (station, target) = o.ends();
+        let rise = height_at(points, heights, &target).wrapping_sub(height_at(
+            points, heights, &station,
+        ));
+        let residual = o.difference().wrapping_sub(rise).unsigned_abs() as u128;
+        cost = cost.wrapping_add(residual.wrapping_mul(network.weight(i) as u128));
+    }
+    cost
+}
+
+/// The height of a name.
+fn height_at(points: &[Name], heights: &[i64], name: &Name) -> i64 {
+    for (point, height) in points.iter().zip(heights) {
+        if point == name {
+            return *height;
+        }
+    }
+    0
+}

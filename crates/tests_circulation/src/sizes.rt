@@ -1,0 +1,121 @@
+use crate::settling::{Outcome, cost_of, settled_over};
+use crate::surveys::{A_AT_100, LONGER, SETUP, SIGHT, joined, network_of, tables_of};
+use std::alloc::Global;
+use std::process::Abort;
+use th_search::{LabelSearch, LevelSearch};
+
+/// Adds a line to a book so many times.
+fn add(rt: &impl Abort, book: &mut Vec<u8>, line: &[u8], times: u32) {
+    for _ in 0..times {
+        book.extend_from_slice(line).expect(rt, "memory");
+    }
+}
+
+/// Whether heights are that of A and then this one of each other point.
+fn are_all(heights: &[i64], points: usize, height: i64) -> bool {
+    heights.len() == points
+        && heights.first() == Some(&10_000_000_000)
+        && heights.iter().skip(1).all(|&other| other == height)
+}
+
+/// Compares what flows where two thousand sights differ from two thousand others.
+fn compare_halves(rt: &impl Abort, outcome: &Outcome) {
+    assert!(rt; are_all(outcome.spans.low.as_slice(), 2, 10_254_500_000));
+    assert!(rt; are_all(outcome.spans.high.as_slice(), 2, 10_254_700_000));
+    assert!(rt; 2_000 <= outcome.steps && outcome.steps <= 352_000);
+    let flows = outcome.settled.flows.as_slice();
+    assert_eq!(rt; flows.len(), 4_000);
+    for (i, flow) in flows.iter().enumerate() {
+        assert_eq!(rt; *flow, if i < 2_000 { -1 } else { 1 });
+    }
+}
+
+/// Two thousand sights of B and as many longer ones: each step moves one of the first and one of the
+/// others, so there are 2,000 of them or more.
+#[test]
+fn thousands_of_sights_are_settled(rt: HostRuntime) {
+    let mut book = joined(&rt, rt.alloc(), &[SETUP]);
+    add(&rt, &mut book, SIGHT, 2_000);
+    add(&rt, &mut book, LONGER, 2_000);
+    let tables = tables_of(&rt, rt.alloc(), A_AT_100, b"");
+    let network = network_of(&rt, rt.alloc(), &book, &tables);
+    let labels = settled_over(&rt, rt.alloc(), &network, LabelSearch::new());
+    assert_eq!(rt;
+        cost_of(&network, labels.settled.heights.as_slice()),
+        400_000_000
+    );
+    compare_halves(&rt, &labels);
+    let levels = settled_over(&rt, rt.alloc(), &network, LevelSearch::new());
+    assert_eq!(rt;
+        cost_of(&network, levels.settled.heights.as_slice()),
+        400_000_000
+    );
+    compare_halves(&rt, &levels);
+}
+
+/// Compares what a book without residuals is settled to: nothing flows, and each point but A is at the
+/// height of B.
+fn compare_exact(rt: &impl Abort, outcome: &Outcome, points: usize, observations: usize) {
+    assert_eq!(rt; outcome.steps, 0);
+    assert!(rt; are_all(outcome.settled.heights.as_slice(), points, 10_254_500_000));
+    assert!(rt; are_all(outcome.spans.low.as_slice(), points, 10_254_500_000));
+    assert!(rt; are_all(outcome.spans.high.as_slice(), points, 10_254_500_000));
+    let flows = outcome.settled.flows.as_slice();
+    assert_eq!(rt; flows.len(), observations);
+    assert!(rt; flows.iter().all(|&flow| flow == 0));
+}
+
+/// Settles a book without residuals.
+fn settle_exact(rt: &impl Abort, alloc: Global, book: &[u8], points: usize, observations: usize) {
+    let tables = tables_of(rt, alloc, A_AT_100, b"");
+    let network = network_of(rt, alloc, book, &tables);
+    let labels = settled_over(rt, alloc, &network, LabelSearch::new());
+    compare_exact(rt, &labels, points, observations);
+    let levels = settled_over(rt, alloc, &network, LevelSearch::new());
+    compare_exact(rt, &levels, points, observations);
+}
+
+/// As many sights as a network takes, all of one pair and alike.
+#[test]
+fn one_pair_is_settled(rt: HostRuntime) {
+    let mut book = joined(&rt, rt.alloc(), &[SETUP]);
+    add(&rt, &mut book, SIGHT, 40_000);
+    settle_exact(&rt, rt.alloc(), &book, 2, 40_000);
+}
+
+/// As many points as a network takes, each but A sighted ten times from A.
+#[test]
+fn many_targets_are_settled(rt: HostRuntime) {
+    let mut book = joined(&rt, rt.alloc(), &[SETUP]);
+    for target in 0..3_999u32 {
+        let sight = format!(in rt.alloc();
+            "110002+000P{target:04} 33..00+00002345 87..10+00001300 \n"
+        ).expect(&rt, "memory");
+        add(&rt, &mut book, sight.as_bytes(), 10);
+    }
+    settle_exact(&rt, rt.alloc(), &book, 4_000, 39_990);
+}
+
+/// A line of as many points as a network takes, each but the first sighted ten times from the one
+/// before it, 0.545 m below.
+#[test]
+fn a_line_is_settled(rt: HostRuntime) {
+    let mut book = Vec::new(rt.alloc());
+    for point in 0..3_999u32 {
+        let next = point + 1;
+        let setup = format!(in rt.alloc(); "110001+{point:08} 84..10+00000000 88..10+00001500 \n")
+            .expect(&rt, "memory");
+        let sight = format!(in rt.alloc(); "110002+{next:08} 33..00+00000345 87..10+00001300 \n")
+            .expect(&rt, "memory");
+        add(&rt, &mut book, setup.as_bytes(), 1);
+        add(&rt, &mut book, sight.as_bytes(), 10);
+    }
+    let tables = tables_of(&rt, rt.alloc(), b"point,height\n0,100\n", b"");
+    let network = network_of(&rt, rt.alloc(), &book, &tables);
+    let outcome = settled_over(&rt, rt.alloc(), &network, LabelSearch::new());
+    assert_eq!(rt; outcome.steps, 0);
+    assert_eq!(rt; outcome.spans.low.as_slice(), outcome.spans.high.as_slice());
+    assert_eq!(rt; outcome.spans.low.as_slice(), outcome.settled.heights.as_slice());
+    assert_eq!(rt; outcome.spans.low.as_slice().len(), 4_000);
+    assert_eq!(rt; outcome.spans.low.as_slice().last(), Some(&227_945_500_000));
+}

@@ -1,0 +1,46 @@
+use crate::randoms::{Random, Sample};
+use crate::searches::{Manner, StrangeSearch};
+use crate::settling::{cost_of, settled_over};
+use crate::surveys::{network_of, tables_of};
+use std::alloc::Global;
+use std::process::Abort;
+use th_search::LabelSearch;
+
+/// Strange manners of answering.
+const MANNERS: [Manner; 3] = [Manner::Longest, Manner::Turned, Manner::Lowest];
+
+/// Settles a sample over a search of each manner, and compares what it gives with what the program's
+/// search does.
+fn settle_strangely(rt: &impl Abort, alloc: Global, sample: &Sample) {
+    let tables = tables_of(rt, alloc, &sample.benchmarks, &sample.weights);
+    let network = network_of(rt, alloc, &sample.book, &tables);
+    let wanted = settled_over(rt, alloc, &network, LabelSearch::new());
+    let cost = cost_of(&network, wanted.settled.heights.as_slice());
+    for manner in MANNERS {
+        let given = settled_over(rt, alloc, &network, StrangeSearch::new(manner));
+        assert_eq!(rt;
+            cost_of(&network, given.settled.heights.as_slice()),
+            cost,
+            "{manner:?}"
+        );
+        assert_eq!(rt;
+            given.spans.low.as_slice(),
+            wanted.spans.low.as_slice(),
+            "{manner:?}"
+        );
+        assert_eq!(rt;
+            given.spans.high.as_slice(),
+            wanted.spans.high.as_slice(),
+            "{manner:?}"
+        );
+    }
+}
+
+#[test]
+fn strange_searches_settle_as_well(rt: HostRuntime) {
+    let mut random = Random { state: 2 };
+    for _ in 0..300 {
+        let sample = Sample::new(&rt, rt.alloc(), &mut random);
+        settle_strangely(&rt, rt.alloc(), &sample);
+    }
+}
