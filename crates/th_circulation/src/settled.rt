@@ -35,7 +35,8 @@ impl Heights {
     pub fn into_vec(self) -> Vec<i64>
         ensures { result.items ≡ self }
     {
-        self.units
+        let Heights { units } = self;
+        units
     }
 }
 
@@ -72,7 +73,8 @@ impl Flows {
     pub fn into_vec(self) -> Vec<i64>
         ensures { result.items ≡ self }
     {
-        self.flows
+        let Flows { flows } = self;
+        flows
     }
 }
 

@@ -28,7 +28,8 @@ impl Steps {
     pub fn count(&self) -> u128
         ensures { result ≡ self.now }
     {
-        self.count
+        let Steps { count } = self;
+        *count
     }
 
     /// Counts one step more.
