@@ -297,9 +297,16 @@ def changed_certificate(rng: Random, text: bytes) -> bytes:
 # Projects
 
 
+def random_height(rng: Random) -> int:
+    """Millimetres, any units, or so little that it is next to nothing in 1/100 mm."""
+    if rng.random() < 0.15:
+        return rng.randint(-600, 600)
+    return rng.randint(-2_000, 20_000) * MILLIMETRE + rng.choice((0, 0, rng.randint(0, 99_999)))
+
+
 def random_project(rng: Random) -> Project:
     names = rng.sample(NAMES, rng.randint(2, 7))
-    heights = {name: rng.randint(-2_000, 20_000) * MILLIMETRE + rng.choice((0, 0, rng.randint(0, 99_999))) for name in names}
+    heights = {name: random_height(rng) for name in names}
     books = [book_of(rng, heights) for _ in range(rng.choice((1, 1, 2, 3)))]
     benchmarks = benchmarks_of(rng, heights)
     weights = weights_of(rng, heights) if rng.random() < 0.5 else None
@@ -310,5 +317,6 @@ def random_project(rng: Random) -> Project:
     if rng.random() < 0.1:
         place = rng.randrange(len(books))
         books[place] = with_mistakes(rng, books[place])
-    limit = rng.choice((None, None, 0, 1_000, DEFAULT_LIMIT, rng.randint(0, LARGEST_LIMIT)))
+    # Residuals are often whole millimetres, so some limits are as large as a residual.
+    limit = rng.choice((None, None, 0, 1_000, 2_000, 3_000, 50_000, DEFAULT_LIMIT, rng.randint(0, LARGEST_LIMIT)))
     return Project(Inputs(books, benchmarks, weights), limit)
