@@ -99,12 +99,7 @@ const ROWS: [Row; 16] = [
     // The same, and on from B to C, which goes with B.
     Row {
         survey: Survey {
-            book: &[
-                SETUP,
-                SIGHT,
-                LONGER,
-                ONWARDS,
-            ],
+            book: &[SETUP, SIGHT, LONGER, ONWARDS],
             benchmarks: A_AT_100,
             weights: b"",
         },
@@ -217,11 +212,7 @@ const ROWS: [Row; 16] = [
     // A point between two benchmarks that are 1.455 m further apart than its sights say.
     Row {
         survey: Survey {
-            book: &[
-                SETUP,
-                SIGHT,
-                ONWARDS,
-            ],
+            book: &[SETUP, SIGHT, ONWARDS],
             benchmarks: b"point,height\nA,100\nC,105\n",
             weights: b"",
         },

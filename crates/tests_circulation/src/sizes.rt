@@ -103,10 +103,12 @@ fn a_line_is_settled(rt: HostRuntime) {
     let mut book = Vec::new(rt.alloc());
     for point in 0..3_999u32 {
         let next = point + 1;
-        let setup = format!(in rt.alloc(); "110001+{point:08} 84..10+00000000 88..10+00001500 \n")
-            .expect(&rt, "memory");
-        let sight = format!(in rt.alloc(); "110002+{next:08} 33..00+00000345 87..10+00001300 \n")
-            .expect(&rt, "memory");
+        let setup = format!(in rt.alloc();
+            "110001+{point:08} 84..10+00000000 88..10+00001500 \n"
+        ).expect(&rt, "memory");
+        let sight = format!(in rt.alloc();
+            "110002+{next:08} 33..00+00000345 87..10+00001300 \n"
+        ).expect(&rt, "memory");
         add(&rt, &mut book, setup.as_bytes(), 1);
         add(&rt, &mut book, sight.as_bytes(), 10);
     }
@@ -115,7 +117,10 @@ fn a_line_is_settled(rt: HostRuntime) {
     let outcome = settled_over(&rt, rt.alloc(), &network, LabelSearch::new());
     assert_eq!(rt; outcome.steps, 0);
     assert_eq!(rt; outcome.spans.low.as_slice(), outcome.spans.high.as_slice());
-    assert_eq!(rt; outcome.spans.low.as_slice(), outcome.settled.heights.as_slice());
+    assert_eq!(rt;
+        outcome.spans.low.as_slice(),
+        outcome.settled.heights.as_slice()
+    );
     assert_eq!(rt; outcome.spans.low.as_slice().len(), 4_000);
     assert_eq!(rt; outcome.spans.low.as_slice().last(), Some(&227_945_500_000));
 }
