@@ -235,9 +235,9 @@ misread_low keeps one_low once survey misread first second one each other =
     let there : Survey = record survey { observations = misread } in
     let same : points_of there ≡ points_of survey = points_same (at_points_of survey first.low) survey.observations misread survey.benchmarks each in
     let kept : Low misread survey.benchmarks survey.weights (at_points_of survey first.low) =
-        keeps survey.observations misread survey.benchmarks survey.weights (at_points_of survey first.low) first.flows one.low one.circulation one.shows_low each in
+    keeps survey.observations misread survey.benchmarks survey.weights (at_points_of survey first.low) first.flows one.low one.circulation one.shows_low each in
     let low : Low misread survey.benchmarks survey.weights (at_points_of there first.low) =
-        subst (λ (names : List (List ℕ)). Low misread survey.benchmarks survey.weights (heights_at names first.low)) (sym same) kept in
+    subst (λ (names : List (List ℕ)). Low misread survey.benchmarks survey.weights (heights_at names first.low)) (sym same) kept in
     let listed : AreAtPoints there first.low = record { each = one.low_at_points.each ∙ ap length (sym same); in_range = one.low_at_points.in_range } in
     same_heights there second.low first.low (once misread survey.benchmarks) other.low_at_points listed
     (one_low misread survey.benchmarks survey.weights (at_points_of there second.low) (at_points_of there first.low) other.low low)
