@@ -11,6 +11,7 @@ use Rattle.std.proofs.lemmas.Map.Keys.{IsDistinct-cons, IsDistinct-head, IsDisti
 use Rattle.std.proofs.lemmas.Slice.Eq.{bytes_eq-Decides}
 use Rattle.th_book.specs.Observed.{IsBetweenPoints, Observed}
 use Rattle.th_tables.specs.Rows.{AreWeights, BenchmarkRows, WeightRows, same_ends, weight_of}
+use Rattle.th_network.specs.Heights.{residual}
 use Rattle.th_network.specs.Networks.{AreInRange, Survey, points_of}
 use Rattle.th_points.specs.Points.{distinct, ends, points}
 use Rattle.th_points.proofs.PointLemmas.{EndsAmong, ends_are_points}
