@@ -5,16 +5,17 @@ PREFIX ?= /usr/local
 BOOK ?= examples/building_site.gsi
 LOG := build.log
 
-.PHONY: help run list build check test gate examples documents compare office memory bench install clean
+.PHONY: help run list build check test gate examples statuses documents compare office memory bench install clean
 
 help:
 	@echo 'make run       prove and build the program, adjust an example project, show its report and check its certificate'
 	@echo 'make list      prove and build the program, and list a book (BOOK=$(BOOK))'
 	@echo 'make build     prove and build the program: $(PROGRAM)'
-	@echo 'make check     while you work: prove what changed, then examples, pages, second reader and second office'
-	@echo 'make test      the gate (every proof from nothing, must-fail edits, tests, program runs), and then the same four'
+	@echo 'make check     while you work: prove what changed, then examples, statuses, pages, second reader and second office'
+	@echo 'make test      the gate (every proof from nothing, must-fail edits, tests, program runs), and then the same five'
 	@echo 'make gate      rt ci alone'
 	@echo 'make examples  compare what the built program gives for examples/ with what stands beside them'
+	@echo 'make statuses  run the built program on command lines that fail, and compare status and lines'
 	@echo 'make documents run each command of README.md and docs/TUTORIAL.md, and compare what it prints'
 	@echo 'make compare   compare the built program with the second reader on mutated books (BOOKS=$(BOOKS) SEED=$(SEED))'
 	@echo 'make office    compare the built program with the second office on random projects (PROJECTS=$(PROJECTS) SEED=$(SEED))'
@@ -37,16 +38,19 @@ build:
 check:
 	@echo 'proving what changed; the log is $(LOG)'
 	@rt all check > $(LOG) 2>&1 || { tail -n 40 $(LOG); exit 1; }
-	@$(MAKE) --no-print-directory build examples documents compare office
+	@$(MAKE) --no-print-directory build examples statuses documents compare office
 
 # The gate leaves the program that it proved and built, so nothing is proved again after it.
-test: gate examples documents compare office
+test: gate examples statuses documents compare office
 
 gate:
 	@rt ci
 
 examples:
 	@tests/examples
+
+statuses:
+	@tests/statuses
 
 documents:
 	@tests/documents $(PROGRAM)
