@@ -168,110 +168,113 @@ fn seventeen_books_are_too_many(rt: HostRuntime) {
     }
 }
 
+/// Words that are no plan, and the kind of the error that `clap` answers.
+const WRONG_WORDS: [(&str, ErrorKind); 35] = [
+    ("height_office list", ErrorKind::MissingRequiredArgument),
+    ("height_office list a b", ErrorKind::UnknownArgument),
+    ("height_office lisst a", ErrorKind::InvalidSubcommand),
+    ("height_office k.gsi", ErrorKind::InvalidSubcommand),
+    ("height_office k.gsi --out p", ErrorKind::InvalidSubcommand),
+    ("height_office --wide", ErrorKind::UnknownArgument),
+    ("height_office --", ErrorKind::MissingSubcommand),
+    ("height_office --help", ErrorKind::DisplayHelp),
+    ("height_office help", ErrorKind::DisplayHelp),
+    ("height_office help adjust", ErrorKind::DisplayHelp),
+    ("height_office --version", ErrorKind::DisplayVersion),
+    ("height_office list -h", ErrorKind::DisplayHelp),
+    ("height_office adjust -h", ErrorKind::DisplayHelp),
+    ("height_office check --help", ErrorKind::DisplayHelp),
+    ("height_office list --out p a", ErrorKind::UnknownArgument),
+    // Each that must be there is missing.
+    (
+        "height_office adjust --out p a",
+        ErrorKind::MissingRequiredArgument,
+    ),
+    (
+        "height_office adjust --benchmarks m a",
+        ErrorKind::MissingRequiredArgument,
+    ),
+    (
+        "height_office adjust --benchmarks m --out p",
+        ErrorKind::MissingRequiredArgument,
+    ),
+    (
+        "height_office check --certificate c a",
+        ErrorKind::MissingRequiredArgument,
+    ),
+    (
+        "height_office check --benchmarks m a",
+        ErrorKind::MissingRequiredArgument,
+    ),
+    (
+        "height_office check --benchmarks m --certificate c",
+        ErrorKind::MissingRequiredArgument,
+    ),
+    // A value is missing.
+    (
+        "height_office adjust a --benchmarks m --out",
+        ErrorKind::InvalidValue,
+    ),
+    (
+        "height_office check a --benchmarks m --certificate",
+        ErrorKind::InvalidValue,
+    ),
+    // Each is doubled.
+    (
+        "height_office adjust a --benchmarks m --out p --out q",
+        ErrorKind::ArgumentConflict,
+    ),
+    (
+        "height_office adjust a --benchmarks m --benchmarks m --out p",
+        ErrorKind::ArgumentConflict,
+    ),
+    (
+        "height_office adjust a --benchmarks m --out p --weights w --weights=w",
+        ErrorKind::ArgumentConflict,
+    ),
+    (
+        "height_office adjust a --benchmarks m --out p --blunder 1 --blunder 1",
+        ErrorKind::ArgumentConflict,
+    ),
+    (
+        "height_office check a --benchmarks m --certificate c --certificate c",
+        ErrorKind::ArgumentConflict,
+    ),
+    // An option of the other command.
+    (
+        "height_office check a --benchmarks m --certificate c --out p",
+        ErrorKind::UnknownArgument,
+    ),
+    (
+        "height_office adjust a --benchmarks m --certificate c --out p",
+        ErrorKind::UnknownArgument,
+    ),
+    // No limit.
+    (
+        "height_office adjust a --benchmarks m --out p --blunder 1000000001",
+        ErrorKind::ValueValidation,
+    ),
+    (
+        "height_office adjust a --benchmarks m --out p --blunder=-1",
+        ErrorKind::ValueValidation,
+    ),
+    (
+        "height_office adjust a --benchmarks m --out p --blunder 1.5",
+        ErrorKind::ValueValidation,
+    ),
+    (
+        "height_office adjust a --benchmarks m --out p --blunder 20mm",
+        ErrorKind::ValueValidation,
+    ),
+    (
+        "height_office adjust a --benchmarks m --out p --blunder=",
+        ErrorKind::ValueValidation,
+    ),
+];
+
 #[test]
 fn wrong_words_are_a_fault(rt: HostRuntime) {
-    for (words, kind) in [
-        ("height_office list", ErrorKind::MissingRequiredArgument),
-        ("height_office list a b", ErrorKind::UnknownArgument),
-        ("height_office lisst a", ErrorKind::InvalidSubcommand),
-        ("height_office k.gsi", ErrorKind::InvalidSubcommand),
-        ("height_office k.gsi --out p", ErrorKind::InvalidSubcommand),
-        ("height_office --wide", ErrorKind::UnknownArgument),
-        ("height_office --", ErrorKind::MissingSubcommand),
-        ("height_office --help", ErrorKind::DisplayHelp),
-        ("height_office help", ErrorKind::DisplayHelp),
-        ("height_office help adjust", ErrorKind::DisplayHelp),
-        ("height_office --version", ErrorKind::DisplayVersion),
-        ("height_office list -h", ErrorKind::DisplayHelp),
-        ("height_office adjust -h", ErrorKind::DisplayHelp),
-        ("height_office check --help", ErrorKind::DisplayHelp),
-        ("height_office list --out p a", ErrorKind::UnknownArgument),
-        // Each that must be there is missing.
-        (
-            "height_office adjust --out p a",
-            ErrorKind::MissingRequiredArgument,
-        ),
-        (
-            "height_office adjust --benchmarks m a",
-            ErrorKind::MissingRequiredArgument,
-        ),
-        (
-            "height_office adjust --benchmarks m --out p",
-            ErrorKind::MissingRequiredArgument,
-        ),
-        (
-            "height_office check --certificate c a",
-            ErrorKind::MissingRequiredArgument,
-        ),
-        (
-            "height_office check --benchmarks m a",
-            ErrorKind::MissingRequiredArgument,
-        ),
-        (
-            "height_office check --benchmarks m --certificate c",
-            ErrorKind::MissingRequiredArgument,
-        ),
-        // A value is missing.
-        (
-            "height_office adjust a --benchmarks m --out",
-            ErrorKind::InvalidValue,
-        ),
-        (
-            "height_office check a --benchmarks m --certificate",
-            ErrorKind::InvalidValue,
-        ),
-        // Each is doubled.
-        (
-            "height_office adjust a --benchmarks m --out p --out q",
-            ErrorKind::ArgumentConflict,
-        ),
-        (
-            "height_office adjust a --benchmarks m --benchmarks m --out p",
-            ErrorKind::ArgumentConflict,
-        ),
-        (
-            "height_office adjust a --benchmarks m --out p --weights w --weights=w",
-            ErrorKind::ArgumentConflict,
-        ),
-        (
-            "height_office adjust a --benchmarks m --out p --blunder 1 --blunder 1",
-            ErrorKind::ArgumentConflict,
-        ),
-        (
-            "height_office check a --benchmarks m --certificate c --certificate c",
-            ErrorKind::ArgumentConflict,
-        ),
-        // An option of the other command.
-        (
-            "height_office check a --benchmarks m --certificate c --out p",
-            ErrorKind::UnknownArgument,
-        ),
-        (
-            "height_office adjust a --benchmarks m --certificate c --out p",
-            ErrorKind::UnknownArgument,
-        ),
-        // No limit.
-        (
-            "height_office adjust a --benchmarks m --out p --blunder 1000000001",
-            ErrorKind::ValueValidation,
-        ),
-        (
-            "height_office adjust a --benchmarks m --out p --blunder=-1",
-            ErrorKind::ValueValidation,
-        ),
-        (
-            "height_office adjust a --benchmarks m --out p --blunder 1.5",
-            ErrorKind::ValueValidation,
-        ),
-        (
-            "height_office adjust a --benchmarks m --out p --blunder 20mm",
-            ErrorKind::ValueValidation,
-        ),
-        (
-            "height_office adjust a --benchmarks m --out p --blunder=",
-            ErrorKind::ValueValidation,
-        ),
-    ] {
+    for (words, kind) in WRONG_WORDS {
         let split = words_of(&rt, words);
         match plan(rt.alloc(), split.as_slice()) {
             Err(PlanFault::Line(error)) => assert!(rt; error.kind() == kind, "{words}"),
