@@ -20,7 +20,7 @@ help:
 	@echo 'make compare   compare the built program with the second reader on mutated books (BOOKS=$(BOOKS) SEED=$(SEED))'
 	@echo 'make office    compare the built program with the second office on random projects (PROJECTS=$(PROJECTS) SEED=$(SEED))'
 	@echo 'make memory    list a book, and read tables and build a network, with each allocation refused in turn (some twenty minutes)'
-	@echo 'make bench     throughput and peak memory: listing, networks, certificates, settling beside other solvers'
+	@echo 'make bench     throughput and peak memory: listing, networks, certificates, settling beside other solvers, adjusting'
 	@echo 'make install   copy the built program and its manual page below $(PREFIX)'
 	@echo 'make clean     remove what was built'
 
@@ -74,6 +74,7 @@ bench: build
 	@bench/network/run
 	@bench/certificate/run
 	@bench/settle/run
+	@bench/adjust/run --program $(PROGRAM)
 
 install: build
 	install -D $(PROGRAM) $(DESTDIR)$(PREFIX)/bin/height_office
