@@ -33,6 +33,14 @@ written_joined t0 t1 t2 t3 t4 t5 t6 front a b c d e e0 e1 e2 e3 e4 e5 e6 =
 pub holds_same : (result : Result (Vec ℕ Global) AllocError) (text other : List ℕ) → IfOk result (λ made. made.items ≡ text) → text ≡ other → IfOk result (λ made. made.items ≡ other)
 holds_same result text other h same = subst (λ t. IfOk result (λ made. made.items ≡ t)) same h
 
+-- past the last row
+pub past_all : {X : Type 0} (xs : List X) (k : ℕ) → None ≡ slice_get xs k → length xs ≤ k
+past_all {X} xs k none = by (slice_get_cases xs k).1
+  where
+    by : ((x : X) × (k < length xs) × (slice_get xs k ≡ Some x) × (get_or xs k x ≡ x)) ⊎ ((length xs ≤ k) × (slice_get xs k ≡ None)) → length xs ≤ k
+    by (inl some) = absurd (cc (none ∙ some.2))
+    by (inr past) = past.0
+
 module _ {X : Type 0} (row : X → Fields) where
   -- one row more
   pub text_more : (xs : List X) (k : ℕ) (x : X) (text text' all : List ℕ) → Some x ≡ slice_get xs k → text' ≡ text ++ row_text (row x)
@@ -49,11 +57,4 @@ module _ {X : Type 0} (row : X → Fields) where
   -- no row is left
   pub text_all : (xs : List X) (k : ℕ) (text all : List ℕ) → None ≡ slice_get xs k → text ++ csv_text (map row (drop k xs)) ≡ all → text ≡ all
   text_all xs k text all none so_far =
-      sym (append-nil text) ∙ ap (λ left. text ++ csv_text (map row left)) (sym (drop_all k xs (past xs k none))) ∙ so_far
-    where
-      past : (xs : List X) (k : ℕ) → None ≡ slice_get xs k → length xs ≤ k
-      past xs k none = by (slice_get_cases xs k).1
-        where
-          by : ((x : X) × (k < length xs) × (slice_get xs k ≡ Some x) × (get_or xs k x ≡ x)) ⊎ ((length xs ≤ k) × (slice_get xs k ≡ None)) → length xs ≤ k
-          by (inl some) = absurd (cc (none ∙ some.2))
-          by (inr past) = past.0
+      sym (append-nil text) ∙ ap (λ left. text ++ csv_text (map row left)) (sym (drop_all k xs (past_all xs k none))) ∙ so_far

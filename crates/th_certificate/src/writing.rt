@@ -1,9 +1,12 @@
-ghost use Rattle.std.specs.Prelude.{◌≡◌, ◌++◌, ◌∷◌, [], IfOk, OnOk, codes, length, map};
+ghost use Rattle.std.specs.Prelude.{◌≡◌, ◌++◌, ◌∷◌, [], All, IfOk, OnOk, Some, codes, length, map};
 ghost use Rattle.std.specs.List.{enumerate_from};
+ghost use Rattle.gsi_word.specs.Names.{name_of};
 ghost use Rattle.th_csv.specs.Texts.{csv_text};
+ghost use Rattle.th_network.specs.Faults.{IsNetwork};
 ghost use Rattle.th_network.specs.Heights.{heights_at};
 ghost use Rattle.th_network.specs.Networks.{AreAtPoints, points_of};
-ghost use Rattle.th_certificate.specs.Texts.{AreOfObservations, cost_row, flow_row, header_row, height_row, heights_at_points, text_of_version_2, version_row};
+ghost use Rattle.th_tables.specs.Rows.{AreWeights};
+ghost use Rattle.th_certificate.specs.Texts.{AreOfObservations, IsCertifiable, cost_row, flow_row, header_row, height_row, heights_at_points, text_of_version_2, version_row};
 
 use crate::costs::cost_of;
 use crate::heights::StatedHeights;
@@ -16,7 +19,8 @@ use th_units::metre_text;
 
 /// The text of the certificate, of version 2, that heights, a circulation and spans make over a
 /// network: a height, a lowest and a highest height for each point, in point order, a flow for each
-/// observation, and what the heights cost.
+/// observation, and what the heights cost. Over a table of weights, the network is one whose
+/// certificates are read back.
 pub fn write_certificate(
     alloc: Global,
     network: &Network,
@@ -27,11 +31,12 @@ pub fn write_certificate(
     requires low { AreAtPoints network.now spans.now.low }
     requires high { AreAtPoints network.now spans.now.high }
     requires flows { AreOfObservations network.now settled.now.flows }
-    ensures { IfOk result (λ text. text.items ≡ text_of_version_2 network.now
+    ensures text { IfOk result (λ text. text.items ≡ text_of_version_2 network.now
         (heights_at (points_of network.now) settled.now.heights)
         (heights_at (points_of network.now) spans.now.low)
         (heights_at (points_of network.now) spans.now.high)
         settled.now.flows) }
+    ensures certifiable { OnOk result (AreWeights network.now.weights → IsCertifiable network.now) }
 {
     let cost = cost_of(alloc, network, settled.heights.as_slice())?;
     let mut writer = RowWriter::new(alloc);
@@ -69,8 +74,10 @@ fn write_heights(
     heights: &[i64],
 ) -> Result<(), AllocError>
     requires { AreAtPoints network.now heights.now }
-    ensures { OnOk result (writer.new.text ≡ writer.old.text ++ csv_text (map (height_row letter.now)
+    ensures text { OnOk result (writer.new.text ≡ writer.old.text ++ csv_text (map (height_row letter.now)
         (heights_at_points network.now (heights_at (points_of network.now) heights.now)))) }
+    ensures network { OnOk result (IsNetwork network.now.observations network.now.benchmarks) }
+    ensures names { OnOk result (All (λ name. name_of name ≡ Some name) (points_of network.now)) }
 {
     let stated = StatedHeights::at_points(alloc, network.points(), heights)?;
     write_rows(writer, letter, &stated)
@@ -82,8 +89,9 @@ fn write_rows(
     letter: &[u8],
     heights: &StatedHeights,
 ) -> Result<(), AllocError>
-    ensures { OnOk result (writer.new.text ≡ writer.old.text
+    ensures text { OnOk result (writer.new.text ≡ writer.old.text
         ++ csv_text (map (height_row letter.now) heights.now)) }
+    ensures names { OnOk result (All (λ row. name_of row.0 ≡ Some row.0) heights.now) }
 {
     let mut k = 0;
     while let Some(row) = heights.entry(k) {

@@ -1,5 +1,5 @@
 -- What the front of a text answers, up to one byte more than the most that it may have, its text answers.
-use Rattle.std.proofs.Common.{◌≡◌, ◌+◌, ◌<◌, ℕ, List, [], ◌∷◌, Err, length, take, ap, sym, refl, ◌∙◌, inl, inr, arith}
+use Rattle.std.proofs.Common.{◌≡◌, ◌+◌, ◌<◌, ℕ, List, [], ◌∷◌, Err, length, take, ap, sym, ◌∙◌, inl, inr, arith}
 use Rattle.std.proofs.lemmas.Bool.{cases_lt, lt-ltb, ne_eqb}
 use Rattle.std.proofs.lemmas.List.{length-take, take_all}
 use Rattle.th_book.specs.Books.{book_answer, longest_book, too_long as book_too_long}

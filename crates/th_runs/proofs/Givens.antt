@@ -1,5 +1,5 @@
 -- What is owed for a source that was read.
-use Rattle.std.proofs.Common.{◌≡◌, ◌≢◌, ◌⊎◌, ◌+◌, ℕ, List, Some, None, Ok, Err, IfSome, take, ap, sym, subst, refl, ◌∙◌, inl, inr, if◌then◌else◌, arith}
+use Rattle.std.proofs.Common.{◌≡◌, ◌≢◌, ◌⊎◌, ℕ, List, Some, None, Err, IfSome, take, ap, sym, subst, refl, ◌∙◌, inl, inr, if◌then◌else◌, arith}
 use Rattle.std.proofs.lemmas.Bool.{le-ltb}
 use Rattle.std.specs.Prelude.{Option, Result, Bool}
 use Rattle.th_certificate.specs.Faults.{no_memory as no_memory_for_certificate}

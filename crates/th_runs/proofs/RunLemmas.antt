@@ -1,6 +1,6 @@
 -- What the refusals of the steps of a run say of what is owed.
-use Rattle.std.proofs.Common.{◌≡◌, ◌≢◌, ◌+◌, ◌<◌, ◌≤◌, ℕ, Some, None, Ok, Err, IfSome, ap, sym, subst, refl, arith}
-use Rattle.std.specs.Prelude.{Option, Result}
+use Rattle.std.proofs.Common.{◌≡◌, ◌+◌, ℕ, Some, None, Ok, Err, IfSome, ap, sym, subst, arith}
+use Rattle.std.specs.Prelude.{Result}
 use Rattle.th_network.specs.Networks.{Survey}
 use Rattle.th_network.specs.declared.faults.NetFault.{NetFault}
 use Rattle.th_runs.specs.Inputs.{HasNetFault, IsNetRefusal, IsOwed, Meets, MeetsRefusal, Owed, OwesNetFault, and_then}

@@ -1,5 +1,5 @@
 use Rattle.std.specs.Prelude.{◌≡◌, ◌≢◌, ◌≤◌, ◌+◌, ℕ, List, Option, Some, IfSome, Result, Ok, Err, length}
-use Rattle.th_book.specs.Books.{book_answer, longest_book}
+use Rattle.th_book.specs.Books.{book_answer}
 use Rattle.th_book.specs.Observed.{Observed}
 use Rattle.th_book.specs.declared.faults.BookFault.{BookFault}
 use Rattle.th_book.specs.declared.faults.BookKind.TheVariants as book_kind

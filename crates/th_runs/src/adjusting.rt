@@ -1,12 +1,13 @@
 //! A run that adjusts the height network of books.
-ghost use Rattle.std.specs.Prelude.{◌≡◌, ◌≤◌, ◌+◌, ◌<◌, ◌≤ℤ◌, pos, All, IfErr, IfOk, IfSome, Ok, OnOk, false, is_some, length};
+ghost use Rattle.std.specs.Prelude.{◌≡◌, ◌≤◌, ◌<◌, All, IfErr, IfOk, IfSome, Ok, OnOk, false, is_some, length};
 ghost use Rattle.th_devices.specs.Limits.{calls_before};
 ghost use Rattle.th_runs.specs.Adjusted.{AreOutputs, ArePrinted, IsAnswer, OutTexts};
 ghost use Rattle.th_runs.specs.Inputs.{IsNetRefusal, IsOwed, MakesNetwork, Meets, given, given_if_any, givens, owed_for_survey, surveyed};
 ghost use Rattle.th_runs.specs.Reads.{EachBook, IfPresent, IsNamed, IsReadFor, refused};
 ghost use Rattle.th_runs.specs.Writes.{IsWritten, IsWrittenFor};
+ghost use Rattle.th_certificate.specs.Texts.{IsCertifiable};
 ghost use Rattle.th_network.specs.Networks.{Survey};
-ghost use Rattle.th_tables.specs.Rows.{AreWeights};
+ghost use Rattle.th_tables.specs.Rows.{AreBenchmarks, AreWeights};
 
 use crate::outputs::{Outs, Texts, write_outs};
 use crate::refusals::{Input, Output, Refusal};
@@ -86,7 +87,8 @@ pub fn run_adjust<B: Source, T: Source, W: Source, H: Sink, C: Sink, R: Sink, G:
 
 /// The texts of what is adjusted, or the first fault of its network.
 fn texts_of(alloc: Global, inputs: Inputs, limit: i64) -> Result<Texts, Refusal>
-    requires { AreWeights inputs.tables.weights }
+    requires benchmarks { AreBenchmarks inputs.tables.benchmarks }
+    requires weights { AreWeights inputs.tables.weights }
     ensures texts { IfOk result (λ texts. AreOutputs (surveyed inputs.observations.items (record {
       benchmarks = inputs.tables.benchmarks;
       weights = inputs.tables.weights;
@@ -119,7 +121,8 @@ fn texts_of_survey(
     tables: &Tables,
     limit: i64,
 ) -> Result<Texts, Refusal>
-    requires { AreWeights tables.now.weights }
+    requires benchmarks { AreBenchmarks tables.now.benchmarks }
+    requires weights { AreWeights tables.now.weights }
     ensures texts { IfOk result (λ texts. AreOutputs (surveyed observations.items (record {
       benchmarks = tables.now.benchmarks;
       weights = tables.now.weights;
@@ -147,7 +150,8 @@ fn texts_of_survey(
 
 /// The texts of a network.
 fn texts_of_network(alloc: Global, network: &Network, limit: i64) -> Result<Texts, AllocError>
-    requires { AreWeights network.now.weights }
+    requires benchmarks { AreBenchmarks network.now.benchmarks }
+    requires weights { AreWeights network.now.weights }
     ensures { IfOk result (λ texts. AreOutputs network.now limit (record {
       heights = texts.heights.items;
       certificate = texts.certificate.items;
@@ -198,13 +202,14 @@ fn print_adjusted(
     adjusted: &Adjusted,
     limit: i64,
 ) -> Result<Texts, AllocError>
+    requires weights { AreWeights network.now.weights }
     requires answer { IsAnswer network.now (record {
       low = adjusted.now.spans.low;
       high = adjusted.now.spans.high;
       flows = adjusted.now.printed.flows;
     }) }
     requires printed { adjusted.now.printed.heights ≡ adjusted.now.spans.low }
-    ensures { IfOk result (λ texts. ArePrinted network.now limit (record {
+    ensures printed { IfOk result (λ texts. ArePrinted network.now limit (record {
       low = adjusted.now.spans.low;
       high = adjusted.now.spans.high;
       flows = adjusted.now.printed.flows;
@@ -214,6 +219,7 @@ fn print_adjusted(
       report = texts.report.items;
       gsi = texts.gsi.items;
     })) }
+    ensures certifiable { OnOk result (IsCertifiable network.now) }
 {
     let Adjusted { printed, spans } = adjusted;
     let low = spans.low.as_slice();

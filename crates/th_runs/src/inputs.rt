@@ -1,10 +1,10 @@
 //! What one source says: its text is read to its end, or to one byte more than it may have, and only
 //! then are its faults answered.
-ghost use Rattle.std.specs.Prelude.{◌≡◌, ◌≢◌, ◌≤◌, ◌+◌, ◌<◌, IfErr, IfOk, IfSome, OnOk, true, false, is_some, take, []};
+ghost use Rattle.std.specs.Prelude.{◌≡◌, ◌≢◌, ◌≤◌, ◌+◌, ◌<◌, IfErr, IfOk, IfSome, false, is_some, take};
 ghost use Rattle.th_devices.specs.Limits.{calls_before};
-ghost use Rattle.th_runs.specs.Inputs.{Failed, Meets, MeetsRefusal, given, given_if_any, limit_of, owed_for_benchmarks, owed_for_book, owed_for_certificate, owed_for_weights};
+ghost use Rattle.th_runs.specs.Inputs.{Failed, Meets, MeetsRefusal, given, given_if_any, limit_of, owed_for_benchmarks, owed_for_certificate, owed_for_weights};
 ghost use Rattle.th_runs.specs.Reads.{IfPresent, IsNamed, IsReadFor, IsWithin, network_place, place, refused};
-ghost use Rattle.th_tables.specs.Rows.{AreWeights};
+ghost use Rattle.th_tables.specs.Rows.{AreBenchmarks, AreWeights};
 
 use crate::refusals::{Input, Refusal};
 use std::alloc::Global;
@@ -51,6 +51,7 @@ pub(crate) fn benchmarks_from<S: Source>(
     requires { S.calls source.old ≤ calls_before }
     ensures ok { IfOk result (λ table. Meets
         (owed_for_benchmarks (given S.failures S.left source.old source.new)) (Ok table)) }
+    ensures rows { IfOk result (λ table. AreBenchmarks table) }
     ensures refused { IfErr result (MeetsRefusal
         (owed_for_benchmarks (given S.failures S.left source.old source.new))) }
     ensures at { IfErr result (IsWithin (place Input.Benchmarks) (place Input.Weights)) }

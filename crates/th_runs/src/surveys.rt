@@ -1,9 +1,9 @@
 //! The survey that books and tables say, and its network.
-ghost use Rattle.std.specs.Prelude.{◌≡◌, ◌≤◌, ◌+◌, ◌<◌, All, IfErr, IfOk, IfSome, Ok, OnOk, false, is_some, length};
+ghost use Rattle.std.specs.Prelude.{◌≡◌, ◌≤◌, ◌<◌, All, IfErr, IfOk, IfSome, Ok, false, is_some, length};
 ghost use Rattle.th_devices.specs.Limits.{calls_before};
 ghost use Rattle.th_runs.specs.Inputs.{IsNetRefusal, MakesNetwork, Meets, MeetsRefusal, given, given_if_any, givens, owed_for_survey, owed_for_tables, surveyed};
-ghost use Rattle.th_runs.specs.Reads.{EachBook, IfPresent, IsNamed, IsReadFor, IsWithin, network_place, outputs_place, place, refused};
-ghost use Rattle.th_tables.specs.Rows.{AreWeights};
+ghost use Rattle.th_runs.specs.Reads.{EachBook, IfPresent, IsNamed, IsReadFor, IsWithin, place, refused};
+ghost use Rattle.th_tables.specs.Rows.{AreBenchmarks, AreWeights};
 
 use crate::books::read_books;
 use crate::inputs::{benchmarks_from, weights_from};
@@ -47,6 +47,7 @@ pub(crate) fn read_inputs<B: Source, T: Source, W: Source>(
           benchmarks = inputs.tables.benchmarks;
           weights = inputs.tables.weights;
         })))) }
+    ensures benchmarked { IfOk result (λ inputs. AreBenchmarks inputs.tables.benchmarks) }
     ensures weighted { IfOk result (λ inputs. AreWeights inputs.tables.weights) }
     ensures refused { IfErr result (MeetsRefusal (owed_for_survey
         (givens B.failures B.left books.old books.new)
@@ -83,6 +84,7 @@ fn read_tables<T: Source, W: Source>(
         (given T.failures T.left benchmarks.old benchmarks.new)
         (given_if_any W.failures W.left weights.old weights.new))
         (Ok (record { benchmarks = tables.benchmarks; weights = tables.weights }))) }
+    ensures benchmarked { IfOk result (λ tables. AreBenchmarks tables.benchmarks) }
     ensures weighted { IfOk result (λ tables. AreWeights tables.weights) }
     ensures refused { IfErr result (MeetsRefusal (owed_for_tables
         (given T.failures T.left benchmarks.old benchmarks.new)

@@ -1,11 +1,15 @@
-use Rattle.std.proofs.Common.{◌≡◌, ◌++◌, ◌∷◌, [], ℕ, ℤ, List, codes, length, map, ap, subst, ◌∙◌}
+use Rattle.std.proofs.Common.{◌≡◌, ◌++◌, ◌∷◌, [], ℕ, ℤ, All, List, OnOk, Result, Some, Ok, Err, codes, length, map, ap, subst, rules, ◌∙◌}
+use Rattle.gsi_word.specs.Names.{name_of}
+use Rattle.th_book.specs.Observed.{IsBetweenPoints}
+use Rattle.th_tables.specs.Rows.{AreWeights}
+use Rattle.th_network.specs.Faults.{IsNetwork}
 use Rattle.std.specs.List.{enumerate_from}
 use Rattle.th_network.specs.Heights.{cost, heights_at}
-use Rattle.th_network.specs.Networks.{points_of}
+use Rattle.th_network.specs.Networks.{Survey, points_of}
 use Rattle.th_csv.specs.Records.{Fields}
 use Rattle.th_csv.specs.Texts.{csv_text}
 use Rattle.th_certificate.specs.Certified.{HeightRows}
-use Rattle.th_certificate.specs.Texts.{cost_of, cost_row, flow_row, header_row, height_row, heights_at_points, version_row}
+use Rattle.th_certificate.specs.Texts.{IsCertifiable, cost_of, cost_row, flow_row, header_row, height_row, heights_at_points, version_row}
 use Rattle.th_certificate.proofs.TextLemmas.{holds_same, written_joined}
 use Rattle.th_certificate.proofs.writing.write_certificate.Goals as goal
 
@@ -15,9 +19,9 @@ rows_from count heights low high flows cost =
     (header_row ∷ version_row (codes "2") count ∷ [])
     ++ (map (height_row (codes "H")) heights ++ (map (height_row (codes "L")) low ++ (map (height_row (codes "U")) high ++ (map flow_row (enumerate_from 1 flows) ++ cost_row cost ∷ []))))
 
-pub returns : goal.returns
+pub returns-clause-text : goal.returns-clause-text
 unfolding rows_from
-returns c =
+returns-clause-text c =
     let network = c.args.network.now in
     let names = points_of network in
     let settled = c.args.settled.now in
@@ -33,11 +37,21 @@ returns c =
     (header_row ∷ version_row (codes "2") (length c.observations.result.now) ∷ []) (map (height_row (codes "H")) (heights_at_points network heights)) (map (height_row (codes "L")) (heights_at_points network low))
     (map (height_row (codes "U")) (heights_at_points network high)) (map flow_row (enumerate_from 1 settled.flows)) (cost_row c.in_ok-cost.cost ∷ [])
     c.new-writer.ensures.text c.in_ok-write_front.ensures
-    (subst (written (codes "H") c.write_front.new.writer.text c.write_heights.new.writer.text) c.as_slice-2.ensures c.in_ok-write_heights.ensures)
-    (subst (written (codes "L") c.write_heights.new.writer.text c.write_heights-2.new.writer.text) c.as_slice-3.ensures c.in_ok-write_heights-2.ensures)
-    (subst (written (codes "U") c.write_heights-2.new.writer.text c.write_heights-3.new.writer.text) c.as_slice-4.ensures c.in_ok-write_heights-3.ensures)
+    (subst (written (codes "H") c.write_front.new.writer.text c.write_heights.new.writer.text) c.as_slice-2.ensures c.in_ok-write_heights.ensures.text)
+    (subst (written (codes "L") c.write_heights.new.writer.text c.write_heights-2.new.writer.text) c.as_slice-3.ensures c.in_ok-write_heights-2.ensures.text)
+    (subst (written (codes "U") c.write_heights-2.new.writer.text c.write_heights-3.new.writer.text) c.as_slice-4.ensures c.in_ok-write_heights-3.ensures.text)
     (c.in_ok-write_flows.ensures ∙ ap (λ (flows : List ℤ). c.write_heights-3.new.writer.text ++ csv_text (map flow_row (enumerate_from 1 flows))) c.as_slice-5.ensures)
     c.in_ok-write_cost.ensures in
     let costs : c.in_ok-cost.cost ≡ cost_of network heights = c.in_ok-cost.ensures ∙ ap (λ (listed : List ℤ). cost_of network (heights_at names listed)) c.as_slice.ensures in
     holds_same c.into_text.result c.write_cost.new.writer.text _ c.into_text.ensures.text
     (whole ∙ ap (λ n. csv_text (count_rows n c.in_ok-cost.cost)) count ∙ ap (λ n. csv_text (count_rows (length network.observations) n)) costs)
+
+-- what is made is of a network whose names, observations and weights are in their ranges
+certifiable : {X E : Type 0} (result : Result X E) (survey : Survey) → IsNetwork survey.observations survey.benchmarks → All IsBetweenPoints survey.observations
+    → All (λ name. name_of name ≡ Some name) (points_of survey) → OnOk result (AreWeights survey.weights → IsCertifiable survey)
+certifiable (Ok made) survey network between names = λ weights. record { network = network; between = between; weights = weights; names = names }
+certifiable (Err error) survey network between names = search rules
+
+pub returns-clause-certifiable : goal.returns-clause-certifiable
+returns-clause-certifiable c =
+    certifiable c.into_text.result c.args.network.now c.in_ok-write_heights.ensures.network c.observations.ensures.between c.in_ok-write_heights.ensures.names

@@ -4,7 +4,7 @@ use Rattle.std.proofs.lemmas.Int.{fits_signed_from_abs, to_z-of_z}
 use Rattle.th_units.specs.Metres.{metres}
 use Rattle.th_csv.specs.Texts.{row_text}
 use Rattle.th_certificate.specs.Texts.{height_row}
-use Rattle.th_certificate.proofs.HeightLemmas.{row_small}
+use Rattle.th_certificate.proofs.HeightLemmas.{names_all, names_more, row_small}
 use Rattle.th_certificate.proofs.TextLemmas.{text_all, text_more}
 use Rattle.th_certificate.proofs.writing.write_rows.Goals as goal
 
@@ -21,7 +21,11 @@ loop-row-preserved c =
     record {
       within = omega arith;
       text = text_more (height_row letter) c.args.heights.now c.loop-row.k row c.loop-row.writer.text c.write.new.self.text _ c.in-Some.ensures.value written c.loop-row.invariant.text;
+      names = names_more c.args.heights.now c.loop-row.k row c.in-Some.ensures.value c.as_bytes.ensures.reduced c.loop-row.invariant.names;
     }
 
-pub returns : goal.returns
-returns c = text_all (height_row c.args.letter.now) c.args.heights.now c.loop-row.k c.loop-row.writer.text _ c.in_default.ensures.value c.loop-row.invariant.text
+pub returns-clause-names : goal.returns-clause-names
+returns-clause-names c = names_all c.args.heights.now c.loop-row.k c.in_default.ensures.value c.loop-row.invariant.names
+
+pub returns-clause-text : goal.returns-clause-text
+returns-clause-text c = text_all (height_row c.args.letter.now) c.args.heights.now c.loop-row.k c.loop-row.writer.text _ c.in_default.ensures.value c.loop-row.invariant.text
