@@ -5,16 +5,37 @@ ghost use Rattle.gsi_block.specs.Inside.Ends.{end_len, is_lone_return, feed_len}
 
 use memchr::memchr2;
 
+/// How many bytes are searched at once. The search goes over 32 bytes at a time, and takes slower
+/// steps of 64 where there are so many; most lines are short.
+const WINDOW: usize = 63;
+
 /// How many bytes stand before the first one of an end. Where an end stands at the front, as behind
 /// an empty line, nothing is searched.
 pub(crate) fn line_len(text: &[u8]) -> usize
     ensures place { result ≡ prefix_len is_in_line text.now }
     ensures within { result ≤ length text.now }
 {
-    match text {
-        [b'\n' | b'\r', ..] => 0,
-        _ => memchr2(b'\n', b'\r', text).unwrap_or(text.len()),
+    if let [b'\n' | b'\r', ..] = text {
+        return 0;
     }
+    let mut rest = text;
+    while !rest.is_empty() {
+        let (window, behind) = rest.split_at(rest.len().min(WINDOW));
+        let found = line_len_within(window);
+        if found < window.len() {
+            return text.len() - rest.len() + found;
+        }
+        rest = behind;
+    }
+    text.len()
+}
+
+/// The same of a few bytes.
+fn line_len_within(window: &[u8]) -> usize
+    ensures place { result ≡ prefix_len is_in_line window.now }
+    ensures within { result ≤ length window.now }
+{
+    memchr2(b'\n', b'\r', window).unwrap_or(window.len())
 }
 
 /// How many bytes the end has that stands at the front, none where nothing stands there.
