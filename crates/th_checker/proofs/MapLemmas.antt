@@ -6,13 +6,20 @@ use Rattle.std.proofs.lemmas.List.{map-append, take_more}
 use Rattle.std.proofs.lemmas.List.Elements.{All-get_or}
 use Rattle.std.proofs.lemmas.Option.{get_or_from_slice_get, slice_get_within}
 use Rattle.th_tables.specs.Rows.{AreBenchmarks, BenchmarkRows}
-use Rattle.th_certificate.specs.Certified.{HeightRows, stated_height}
+use Rattle.th_certificate.specs.Certified.{AreHeightRows, HeightRows, stated_height}
+use Rattle.th_network.specs.Limits.{height_limit}
 
 -- the height of a benchmark by its place
 pub benchmark_small : (rows : BenchmarkRows) (k : ℕ) (row : List ℕ × ℤ) → AreBenchmarks rows → slice_get rows k ≡ Some row → unsigned_abs row.1 ≤ 1000000000000
 benchmark_small rows k row valid found =
     subst (λ (row : List ℕ × ℤ). unsigned_abs row.1 ≤ 1000000000000) (get_or_from_slice_get rows k row row found)
     (All-get_or (λ row. unsigned_abs row.1 ≤ 1000000000000) rows k row (slice_get_within rows k row found) valid.heights)
+
+-- the height of a row by its place
+pub row_small : (rows : HeightRows) (k : ℕ) (row : List ℕ × ℤ) → AreHeightRows rows → slice_get rows k ≡ Some row → unsigned_abs row.1 < height_limit
+row_small rows k row valid found =
+    subst (λ (row : List ℕ × ℤ). unsigned_abs row.1 < height_limit) (get_or_from_slice_get rows k row row found)
+    (All-get_or (λ row. unsigned_abs row.1 < height_limit) rows k row (slice_get_within rows k row found) valid.in_range)
 
 -- a name without a row is not among the names of rows, and one with a row is
 pub no_row : (rows : HeightRows) (name : List ℕ) → lookup (bytes_eq name) rows ≡ None → list_any (bytes_eq name) (keys_of rows) ≡ false

@@ -1,6 +1,8 @@
-ghost use Rattle.std.specs.Prelude.{◌≡◌, IfOk, MatchOption, bytes_eq, true, false};
+ghost use Rattle.std.specs.Prelude.{◌≡◌, ◌<◌, IfOk, IfSome, MatchOption, bytes_eq, true, false, unsigned_abs};
 ghost use Rattle.std.specs.List.{list_all, list_any};
+ghost use Rattle.std.specs.Map.{lookup};
 ghost use Rattle.std.specs.Option.{option_copied};
+ghost use Rattle.th_network.specs.Limits.{height_limit};
 ghost use Rattle.th_checker.specs.Inside.Tests.{AreListed, AreMaps, AreStated, listed_in};
 ghost use Rattle.th_checker.specs.Verdicts.{if_there, keeps, names_are, of_all_maps};
 
@@ -81,12 +83,24 @@ fn heights_at(
     }
     let mut heights = Vec::with_capacity(alloc, points.len())?;
     for name in points.as_slice() {
-        match stated.height_of(name) {
+        match height_near(stated, name, heights.len()) {
             Some(height) => heights.push(height)?,
             None => return Ok(None),
         }
     }
     Ok(Some(heights))
+}
+
+/// The height that is stated for a name; none where none is. The row at a place is asked first: what
+/// is written in the order of the points has it there.
+fn height_near(stated: &StatedHeights, name: &Name, place: usize) -> Option<i64>
+    ensures value { result ≡ lookup (bytes_eq name.now) stated.now }
+    ensures in_range { IfSome result (λ height. unsigned_abs height < height_limit) }
+{
+    match stated.entry(place) {
+        Some((there, height)) if there == *name => Some(height),
+        _ => stated.height_of(name),
+    }
 }
 
 /// Whether each name that is stated is a point.
@@ -95,12 +109,22 @@ fn are_points(points: &IndexSet<Name>, stated: &StatedHeights) -> bool
 {
     let mut k = 0;
     while let Some(row) = stated.entry(k) {
-        if !points.contains(&row.0) {
+        if !is_point(points, &row.0, k) {
             return false;
         }
         k += 1;
     }
     true
+}
+
+/// Whether a name is a point. The point at a place is asked first, as in `height_near`.
+fn is_point(points: &IndexSet<Name>, name: &Name, place: usize) -> bool
+    ensures { result ≡ list_any (bytes_eq name.now) points.now.keys }
+{
+    match points.get_index(place) {
+        Some(there) if there == name => true,
+        _ => points.contains(name),
+    }
 }
 
 /// Whether all maps of a certificate keep the benchmarks.

@@ -6,7 +6,7 @@ use Rattle.std.proofs.lemmas.Bool.{false≢true, or_left, or_right}
 use Rattle.std.proofs.lemmas.Slice.Eq.{bytes_eq-Decides}
 use Rattle.std.proofs.lemmas.Map.Views.{Contains-from_any, list_any-from_Contains}
 use Rattle.std.proofs.lemmas.Map.Keys.{IsDistinct-push, apart_from_distinct}
-use Rattle.std.proofs.lemmas.List.Folds.{list_any-append}
+use Rattle.std.proofs.lemmas.List.Folds.{list_any-append, list_any_at}
 use Rattle.std.proofs.lemmas.List.Sums.{position_or_len_is}
 use Rattle.std.proofs.lemmas.List.Elements.{All-contains, All-from_recursion, All-weaker}
 use Rattle.std.proofs.lemmas.Option.{slice_get_within, slice_get_read, get_or_from_slice_get}
@@ -43,6 +43,13 @@ place_of_at names k name h at =
     position_or_len_is (bytes_eq name) names k name (omega arith) (λ j before.
     let apart : bytes_eq (get_or names j name) name ≡ false = ap (bytes_eq (get_or names j name)) (sym here) ∙ apart_from_distinct bytes_eq names j k name h before within in
     bytes_eq_turned (get_or names j name) name false apart) (λ _. ap (bytes_eq name) here ∙ bytes_eq_same name)
+
+-- a name that stands at a place goes in without a change
+pub insert_there : (names : List (List ℕ)) (k : ℕ) (name : List ℕ) → slice_get names k ≡ Some name → insert_key bytes_eq names name ≡ names
+insert_there names k name at =
+    let here = get_or_from_slice_get names k name name at in
+    let among : is_among names name ≡ true = list_any_at (bytes_eq name) names k name (slice_get_within names k name at) (ap (bytes_eq name) here ∙ bytes_eq_same name) in
+    ap (λ b. cond b names (names ++ name ∷ [])) among
 
 -- what stands at a place stands at the next one of a longer list
 at_next : (first : List ℕ) (names : List (List ℕ)) (name : List ℕ) (k : ℕ) → slice_get names k ≡ Some name → slice_get (first ∷ names) (1 + k) ≡ Some name

@@ -1,4 +1,4 @@
-ghost use Rattle.std.specs.Prelude.{◌≡◌, [], ◌∷◌, ◌++◌, IfOk, OnOk, bytes_eq, map};
+ghost use Rattle.std.specs.Prelude.{◌≡◌, ◌↔◌, [], ◌∷◌, ◌++◌, IfOk, IsTrue, OnOk, Some, bytes_eq, map, slice_get};
 ghost use Rattle.indexmap.specs.IndexSet.{insert_all, insert_key};
 ghost use Rattle.th_points.specs.Ends.{ArePoints};
 ghost use Rattle.th_points.specs.Places.{place_of};
@@ -49,10 +49,37 @@ impl Points {
               place_of (insert_key bytes_eq self.old.names.keys o.now.station) o.now.target,
             ) ∷ []) }
     {
-        let station = place_in(&mut self.names, o.station)?;
-        let target = place_in(&mut self.names, o.target)?;
+        let (near_station, near_target) = self.ends.last().copied().unwrap_or((0, 0));
+        let station = place_near(&mut self.names, o.station, near_station)?;
+        let target = place_near(&mut self.names, o.target, near_target)?;
         self.ends.push((station, target))?;
         Ok(())
+    }
+}
+
+/// The place of a name, which goes last where it is not there yet. It is sought first at a place and
+/// the next one: sights follow one another from one station, and go round the same targets again.
+fn place_near(names: &mut IndexSet<Name>, name: Name, near: usize) -> Result<usize, AllocError>
+    ensures keys { OnOk result (names.new.keys ≡ insert_key bytes_eq names.old.keys name) }
+    ensures place { IfOk result (λ place. place ≡ place_of names.old.keys name) }
+{
+    let next = near.saturating_add(1);
+    if stands_at(names.as_slice(), &name, near) {
+        Ok(near)
+    } else if stands_at(names.as_slice(), &name, next) {
+        Ok(next)
+    } else {
+        place_in(names, name)
+    }
+}
+
+/// Whether a name stands at this place.
+fn stands_at(names: &[Name], name: &Name, place: usize) -> bool
+    ensures { IsTrue result ↔ (slice_get names.now place ≡ Some name.now) }
+{
+    match names.get(place) {
+        Some(there) => there == name,
+        None => false,
     }
 }
 

@@ -47,6 +47,9 @@ impl Weights {
         ensures positive { 1 ≤ result }
         ensures range { result ≤ max_weight }
     {
+        if self.weights.is_empty() {
+            return 1;
+        }
         self.weights.get(&(*station, *target)).copied().unwrap_or(1)
     }
 }

@@ -4,8 +4,8 @@ use Rattle.std.proofs.lemmas.Option.{get_or_from_slice_get, slice_get_within}
 use Rattle.th_checker.proofs.PositionLemmas.{all_fails, all_more, all_pass, past_end}
 use Rattle.th_checker.proofs.maps.are_points.Goals as goal
 
-pub returns-then-not-contains : goal.returns-then-not-contains
-returns-then-not-contains c =
+pub returns-then-not-is_point : goal.returns-then-not-is_point
+returns-then-not-is_point c =
     let stated = c.args.stated.now in
     let row = c.in-Some.row in
     let found = sym c.in-Some.ensures.value in
