@@ -20,6 +20,7 @@ pub mod LeastKept
 pub mod ExtremeLemmas
 pub mod WeightLemmas
 pub mod CutLemmas
+pub mod QueueLemmas
 pub mod DistanceLemmas
 pub mod NearLemmas
 pub mod ResidualLemmas

@@ -1,6 +1,6 @@
 ghost use Rattle.std.specs.Prelude.{◌≡◌, ◌<◌, ◌+ℤ◌, All, IfOk, MatchBool, length};
 ghost use Rattle.th_circulation.specs.Inside.Distances.{AreDistances, AreLabels, AreTight, IsKept, place_at, room};
-ghost use Rattle.th_circulation.specs.Inside.Spreading.{AreTails, IsQueue};
+ghost use Rattle.th_circulation.specs.Inside.Spreading.{AreTails};
 ghost use Rattle.th_search.specs.Potentials.{value_at};
 ghost use Rattle.th_search.specs.Walks.{arc_at};
 
@@ -11,7 +11,7 @@ use th_search::Arc;
 /// The size that no distance exceeds: 4,000 arcs of the largest cost.
 const FARTHEST: i64 = 40_000_000_000_000_000;
 
-/// How many vertices are looked at before the passes, for each vertex that there is.
+/// How many entries of the queue are taken before the passes, for each vertex that there is.
 const LOOKS: usize = 64;
 
 /// Arcs without a negative cycle that lead from vertex 0 to each vertex, and back.
@@ -19,6 +19,9 @@ const LOOKS: usize = 64;
 pub(crate) struct TightArcs<'a> {
     pub vertices: u32,
     pub arcs: &'a [Arc],
+    /// Numbers of the vertices. Any will do; those along which no arc falls by more than its cost make
+    /// labels fall seldom.
+    pub levels: &'a [i64],
     ghost tight: { AreTight vertices arcs.now },
 }
 
@@ -43,18 +46,21 @@ impl<'a> TightArcs<'a> {
     }
 
     /// Lowers labels from vertex 0 on, from one vertex to the next, as far as so many looks at vertices
-    /// reach. What is left is for the passes, and in most networks nothing is.
+    /// reach. What is left is for the passes, and in most networks nothing is. A vertex whose label fell
+    /// again since it was added stands there a second time.
     fn spread(&self, alloc: Global, labels: &mut [i64]) -> Result<(), AllocError>
         requires { AreLabels self.now.vertices self.now.arcs.now labels.old }
         ensures { AreLabels self.now.vertices self.now.arcs.now labels.new }
     {
         let tails = Tails::of(alloc, self.vertices, self.arcs)?;
         let mut queue = Queue::new(alloc, self.vertices)?;
-        for step in 0..LOOKS * self.vertices as usize {
-            let Some(vertex) = queue.take(step) else {
+        for _ in 0..LOOKS * self.vertices as usize {
+            let Some((vertex, label)) = queue.take() else {
                 break;
             };
-            self.lower_from(vertex, &tails, &mut queue, labels)?;
+            if label == labels[vertex as usize] {
+                self.lower_from(vertex, &tails, &mut queue, labels)?;
+            }
         }
         Ok(())
     }
@@ -70,9 +76,9 @@ impl<'a> TightArcs<'a> {
         requires vertex { vertex < self.now.vertices }
         requires tails { AreTails self.now.vertices (length self.now.arcs.now) tails.now.firsts.items
             tails.now.followings.items }
-        requires queue { IsQueue self.now.vertices queue.old.vertices.items queue.old.waits.items }
+        requires queue { queue.old.vertices ≡ self.now.vertices }
         requires labels { AreLabels self.now.vertices self.now.arcs.now labels.old }
-        ensures queue { IsQueue self.now.vertices queue.new.vertices.items queue.new.waits.items }
+        ensures queue { queue.new.vertices ≡ self.now.vertices }
         ensures labels { AreLabels self.now.vertices self.now.arcs.now labels.new }
     {
         let mut at = tails.firsts[vertex as usize];
@@ -81,11 +87,32 @@ impl<'a> TightArcs<'a> {
                 break;
             };
             if self.lower(number, labels) {
-                queue.add(self.arcs[number].head)?;
+                self.add_head(number, labels, queue)?;
             }
             at = tails.followings[number];
         }
         Ok(())
+    }
+
+    /// Adds the head of an arc to a queue: before all others where the arc is as long as the levels say.
+    /// Then it is looked at with the vertices that the levels put as far.
+    fn add_head(&self, number: usize, labels: &[i64], queue: &mut Queue) -> Result<(), AllocError>
+        requires number { number < length self.now.arcs.now }
+        requires labels { AreLabels self.now.vertices self.now.arcs.now labels.now }
+        requires queue { queue.old.vertices ≡ self.now.vertices }
+        ensures { queue.new.vertices ≡ self.now.vertices }
+    {
+        let arc = self.arcs[number];
+        let label = labels[arc.head as usize];
+        if self.level(arc.head).wrapping_add(arc.cost) == self.level(arc.tail) {
+            return queue.add_first(arc.head, label);
+        }
+        queue.add_last(arc.head, label)
+    }
+
+    /// The level of a vertex.
+    fn level(&self, vertex: u32) -> i64 {
+        self.levels.get(vertex as usize).copied().unwrap_or(0)
     }
 
     /// Goes over the arcs once, from the front or from the back, and lowers the labels; whether any

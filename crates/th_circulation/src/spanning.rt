@@ -43,9 +43,30 @@ pub fn spans(alloc: Global, network: &Network, settled: &Settled) -> Result<Span
     let highest_listed = vec![in alloc; 0i64; points.len()]?;
     let arcs = residual_arcs(alloc, network, settled.flows.as_slice())?;
     let back = turned(alloc, &arcs)?;
-    let low = lowest(alloc, network, &arcs, lowest_listed)?;
-    let high = highest(alloc, network, &back, highest_listed)?;
+    let rises = rises_of(alloc, network, settled.heights.as_slice())?;
+    let low = lowest(alloc, network, &arcs, &rises, lowest_listed)?;
+    let falls = falls_of(alloc, &rises)?;
+    let high = highest(alloc, network, &back, &falls, highest_listed)?;
     Ok(Spans { low, high })
+}
+
+/// How high each vertex stands above vertex 0. Only the order in which vertices are looked at comes
+/// from it.
+fn rises_of(alloc: Global, network: &Network, heights: &[i64]) -> Result<Vec<i64>, AllocError>
+    requires { length heights.now ≡ length (points_of network.now) }
+{
+    let mut rises = vec![in alloc; 0i64]?;
+    for (place, height) in heights.iter().enumerate() {
+        if network.fixed(place).is_none() {
+            rises.push(*height)?;
+        }
+    }
+    Ok(rises)
+}
+
+/// How far each vertex stands below vertex 0.
+fn falls_of(alloc: Global, rises: &[i64]) -> Result<Vec<i64>, AllocError> {
+    rises.iter().map(|rise| rise.wrapping_neg()).collect(alloc)
 }
 
 /// Lists the height of each point where each vertex is as far below vertex 0 as it is distant.
@@ -53,6 +74,7 @@ fn lowest(
     alloc: Global,
     network: &Network,
     arcs: &[Arc],
+    levels: &[i64],
     mut listed: Vec<i64>,
 ) -> Result<Heights, AllocError>
     requires tight { AreTight (vertices_of network.now) arcs.now }
@@ -60,7 +82,12 @@ fn lowest(
     ensures { IfOk result (λ heights. AreBelow network.now arcs.now heights) }
 {
     let vertices = network.vertices();
-    let distances = TightArcs { vertices, arcs }.distances(alloc)?;
+    let distances = TightArcs {
+        vertices,
+        arcs,
+        levels,
+    }
+    .distances(alloc)?;
     let heights = opposites(alloc, &distances, vertices)?;
     place(network, &heights, &mut listed);
     Ok(Heights::new(listed))
@@ -83,6 +110,7 @@ fn highest(
     alloc: Global,
     network: &Network,
     arcs: &[Arc],
+    levels: &[i64],
     mut listed: Vec<i64>,
 ) -> Result<Heights, AllocError>
     requires tight { AreTight (vertices_of network.now) arcs.now }
@@ -90,7 +118,12 @@ fn highest(
     ensures { IfOk result (λ heights. AreAbove network.now arcs.now heights) }
 {
     let vertices = network.vertices();
-    let distances = TightArcs { vertices, arcs }.distances(alloc)?;
+    let distances = TightArcs {
+        vertices,
+        arcs,
+        levels,
+    }
+    .distances(alloc)?;
     place(network, &distances, &mut listed);
     Ok(Heights::new(listed))
 }

@@ -1,8 +1,9 @@
 ghost use Rattle.std.specs.Prelude.{◌≡◌, ◌<◌, ◌≤◌, All, IfOk, IfSome, length};
-ghost use Rattle.th_circulation.specs.Inside.Spreading.{AreTails, IsQueue};
+ghost use Rattle.th_circulation.specs.Inside.Spreading.{AreTails, AreVertices};
 ghost use Rattle.th_search.specs.Walks.{IsArc};
 
 use std::alloc::{AllocError, Global};
+use std::collections::VecDeque;
 use th_search::Arc;
 
 /// The numbers of arcs by their tails.
@@ -31,51 +32,50 @@ impl Tails {
     }
 }
 
-/// Vertices whose labels fell, in that order, each of which is still to be looked at.
+/// Vertices whose labels fell, each with the label that it then had, in the order in which they are to be
+/// looked at.
 #[derive(Drop)]
 pub(crate) struct Queue {
-    pub vertices: Vec<u32>,
-    /// For each vertex whether it is still to be looked at.
-    pub waits: Vec<bool>,
+    /// How many vertices there are.
+    pub vertices: u32,
+    entries: VecDeque<(u32, i64)>,
+    ghost within: { AreVertices vertices entries.items },
 }
 
 impl Queue {
-    /// Vertex 0 alone.
+    /// Vertex 0 alone, of so many, with the label 0.
     pub fn new(alloc: Global, vertices: u32) -> Result<Queue, AllocError>
         requires { 1 ≤ vertices }
-        ensures { IfOk result (λ queue. IsQueue vertices queue.vertices.items queue.waits.items) }
+        ensures { IfOk result (λ queue. queue.vertices ≡ vertices) }
     {
-        let first = vec![in alloc; 0u32]?;
-        let waits = vec![in alloc; false; vertices as usize]?;
-        Ok(Queue {
-            vertices: first,
-            waits,
-        })
+        let mut entries = VecDeque::new(alloc);
+        entries.push_back((0, 0))?;
+        Ok(Queue { vertices, entries })
     }
 
-    /// Adds a vertex, unless it waits already.
-    pub fn add(&mut self, vertex: u32) -> Result<(), AllocError>
-        requires queue { IsQueue (length self.old.waits.items) self.old.vertices.items self.old.waits.items }
-        requires vertex { vertex < length self.old.waits.items }
-        ensures size { length self.new.waits.items ≡ length self.old.waits.items }
-        ensures queue { IsQueue (length self.old.waits.items) self.new.vertices.items self.new.waits.items }
+    /// Adds a vertex with its label before all others.
+    pub fn add_first(&mut self, vertex: u32, label: i64) -> Result<(), AllocError>
+        requires { vertex < self.old.vertices }
+        ensures { self.new.vertices ≡ self.old.vertices }
     {
-        if !self.waits[vertex as usize] {
-            self.vertices.push(vertex)?;
-            self.waits[vertex as usize] = true;
-        }
+        self.entries.push_front((vertex, label))?;
         Ok(())
     }
 
-    /// The vertex at a place of the queue, which waits no longer.
-    pub fn take(&mut self, place: usize) -> Option<u32>
-        requires { IsQueue (length self.old.waits.items) self.old.vertices.items self.old.waits.items }
-        ensures size { length self.new.waits.items ≡ length self.old.waits.items }
-        ensures queue { IsQueue (length self.old.waits.items) self.new.vertices.items self.new.waits.items }
-        ensures vertex { IfSome result (λ vertex. vertex < length self.old.waits.items) }
+    /// Adds a vertex with its label behind all others.
+    pub fn add_last(&mut self, vertex: u32, label: i64) -> Result<(), AllocError>
+        requires { vertex < self.old.vertices }
+        ensures { self.new.vertices ≡ self.old.vertices }
     {
-        let vertex = self.vertices.get(place).copied()?;
-        self.waits[vertex as usize] = false;
-        Some(vertex)
+        self.entries.push_back((vertex, label))?;
+        Ok(())
+    }
+
+    /// Takes the first vertex, and the label that it had when it was added.
+    pub fn take(&mut self) -> Option<(u32, i64)>
+        ensures vertices { self.new.vertices ≡ self.old.vertices }
+        ensures vertex { IfSome result (λ taken. taken.0 < self.old.vertices) }
+    {
+        self.entries.pop_front()
     }
 }

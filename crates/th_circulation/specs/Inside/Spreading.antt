@@ -1,4 +1,4 @@
-use Rattle.std.specs.Prelude.{◌≡◌, ℕ, ◌<◌, Bool, List, Option, All, IfSome, length}
+use Rattle.std.specs.Prelude.{◌≡◌, ℕ, ◌<◌, ℤ, List, Option, All, IfSome, length}
 
 -- an arc for each vertex and after each arc, where there is one, among so many arcs
 pub record AreTails (vertices arcs : ℕ) (firsts followings : List (Option ℕ)) : Type 0 where
@@ -7,7 +7,6 @@ pub record AreTails (vertices arcs : ℕ) (firsts followings : List (Option ℕ)
   pub firsts_are_arcs : All (λ first. IfSome first (λ number. number < arcs)) firsts
   pub followings_are_arcs : All (λ following. IfSome following (λ number. number < arcs)) followings
 
--- vertices that are to be looked at, and for each vertex whether it waits
-pub record IsQueue (vertices : ℕ) (queued : List ℕ) (waits : List Bool) : Type 0 where
-  pub each : length waits ≡ vertices
-  pub are_vertices : All (λ vertex. vertex < vertices) queued
+-- the entries of a queue are vertices, each with a label
+abbrev pub AreVertices : ℕ → List (ℕ × ℤ) → Type 0
+AreVertices vertices entries = All (λ entry. entry.0 < vertices) entries

@@ -39,7 +39,7 @@ highest-requires-clause-tight c =
     let shown : AreShown survey flows (heights_at (points_of survey) c.args.settled.now.heights) = record { kept = c.requires.benchmarks; circulation = c.requires.circulation; shown = c.requires.shows } in
     let is = c.in_ok-arcs.ensures.arcs ∙ ap (arcs_in survey) c.as_slice.ensures in
     let both = shown_tight survey flows (heights_at (points_of survey) c.args.settled.now.heights) c.in_ok-arcs.arcs.items c.points-points.ensures.network c.in_ok-arcs.ensures.heavy shown is c.in_ok-arcs.ensures.ends in
-    let back = c.deref-3.ensures.value ∙ c.in_ok-back.ensures ∙ ap (map turned) c.deref.ensures.value in
+    let back = c.deref-5.ensures.value ∙ c.in_ok-back.ensures ∙ ap (map turned) c.deref.ensures.value in
     subst (AreTight (vertices_of survey)) (sym back) both.1
 
 pub returns-clause-low : goal.returns-clause-low
@@ -57,5 +57,5 @@ returns-clause-high c =
     let flows = c.args.settled.now.flows in
     let known = heights_at (points_of survey) c.args.settled.now.heights in
     let shown : AreShown survey flows known = record { kept = c.requires.benchmarks; circulation = c.requires.circulation; shown = c.requires.shows } in
-    let is = c.deref-3.ensures.value ∙ c.in_ok-back.ensures ∙ ap (map turned) (c.deref.ensures.value ∙ c.in_ok-arcs.ensures.arcs ∙ ap (arcs_in survey) c.as_slice.ensures) in
+    let is = c.deref-5.ensures.value ∙ c.in_ok-back.ensures ∙ ap (map turned) (c.deref.ensures.value ∙ c.in_ok-arcs.ensures.arcs ∙ ap (arcs_in survey) c.as_slice.ensures) in
     high_found survey flows known c.in_ok-high.high shown (subst (λ (arcs : List Arc). AreAbove survey arcs c.in_ok-high.high) is c.in_ok-high.ensures)
