@@ -1,25 +1,29 @@
 # Height Office: what people do with the repository. `make help` lists it.
 
 PROGRAM := crates/height_office/out/height_office
+CALLS := crates/tests_memory/out/tests_memory
 PREFIX ?= /usr/local
 BOOK ?= examples/building_site.gsi
 LOG := build.log
 
-.PHONY: help run list build check test gate examples statuses documents compare office memory bench install clean
+.PHONY: help run list build calls check test gate examples statuses documents compare office mutated each-byte memory hostile bench install clean
 
 help:
 	@echo 'make run       prove and build the program, adjust an example project, show its report and check its certificate'
 	@echo 'make list      prove and build the program, and list a book (BOOK=$(BOOK))'
 	@echo 'make build     prove and build the program: $(PROGRAM)'
-	@echo 'make check     while you work: prove what changed, then examples, statuses, pages, second reader and second office'
-	@echo 'make test      the gate (every proof from nothing, must-fail edits, tests, program runs), and then the same five'
+	@echo 'make check     while you work: prove what changed, then all of the below down to memory but the gate and each-byte'
+	@echo 'make test      the gate (every proof from nothing, must-fail edits, tests, program runs), and then the same'
 	@echo 'make gate      rt ci alone'
 	@echo 'make examples  compare what the built program gives for examples/ with what stands beside them'
 	@echo 'make statuses  run the built program on command lines that fail, and compare status and lines'
 	@echo 'make documents run each command of README.md and docs/TUTORIAL.md, and compare what it prints'
 	@echo 'make compare   compare the built program with the second reader on mutated books (BOOKS=$(BOOKS) SEED=$(SEED))'
 	@echo 'make office    compare the built program with the second office on random projects (PROJECTS=$(PROJECTS) SEED=$(SEED))'
-	@echo 'make memory    list a book, and read tables and build a network, with each allocation refused in turn (some twenty minutes)'
+	@echo 'make mutated   the same on mutated books, tables and certificates (INPUTS=$(INPUTS) SEED=$(SEED)); a million take hours'
+	@echo 'make each-byte the same on each beginning and each changed byte of a book and two certificates (some minutes)'
+	@echo 'make memory    run the built program with each request for memory refused in turn, and the calls that `make calls` builds'
+	@echo 'make hostile   time and memory of books, tables, certificates and networks that are made to cost time'
 	@echo 'make bench     throughput and peak memory: listing, networks, certificates, settling beside other solvers, adjusting'
 	@echo 'make install   copy the built program and its manual page below $(PREFIX)'
 	@echo 'make clean     remove what was built'
@@ -35,13 +39,17 @@ build:
 	@echo 'proving and building $(PROGRAM): some minutes at first, seconds where nothing changed; the log is $(LOG)'
 	@cd crates/height_office && rt run < /dev/null > ../../$(LOG) 2>&1 || { tail -n 40 ../../$(LOG); exit 1; }
 
+# What `make memory` runs beside the program.
+calls:
+	@cd crates/tests_memory && rt run < /dev/null > ../../$(LOG) 2>&1 || { tail -n 40 ../../$(LOG); exit 1; }
+
 check:
 	@echo 'proving what changed; the log is $(LOG)'
 	@rt all check > $(LOG) 2>&1 || { tail -n 40 $(LOG); exit 1; }
-	@$(MAKE) --no-print-directory build examples statuses documents compare office
+	@$(MAKE) --no-print-directory build calls examples statuses documents compare office mutated memory
 
 # The gate leaves the program that it proved and built, so nothing is proved again after it.
-test: gate examples statuses documents compare office
+test: gate examples statuses documents compare office mutated memory
 
 gate:
 	@rt ci
@@ -66,8 +74,18 @@ office:
 	@python3 tests/second_office/self_test.py
 	@python3 tests/second_office/compare.py --program $(PROGRAM) --projects $(PROJECTS) --seed $(SEED)
 
+INPUTS ?= 1000
+mutated:
+	@python3 tests/second_office/compare_mutated.py --program $(PROGRAM) --inputs $(INPUTS) --seed $(SEED)
+
+each-byte:
+	@python3 tests/second_office/compare_mutated.py --program $(PROGRAM) --each-byte
+
 memory:
-	@tests/refused_memory
+	@tests/refused_memory/run.py --program $(PROGRAM) --calls $(CALLS)
+
+hostile:
+	@bench/hostile/run --program $(PROGRAM)
 
 bench: build
 	@bench/list/run --program $(PROGRAM)
@@ -75,6 +93,7 @@ bench: build
 	@bench/certificate/run
 	@bench/settle/run
 	@bench/adjust/run --program $(PROGRAM)
+	@$(MAKE) --no-print-directory hostile
 
 install: build
 	install -D $(PROGRAM) $(DESTDIR)$(PREFIX)/bin/height_office

@@ -13,7 +13,6 @@ not be made.
 
 import argparse
 import os
-import re
 import shutil
 import subprocess
 import sys
@@ -25,16 +24,14 @@ from random import Random
 from typing import Dict, List, NamedTuple, Optional, Tuple
 
 import office
-from projects import DEFAULT_LIMIT, Project, changed_certificate, random_project
+from projects import Project, changed_certificate, random_project
+from runs import (DEFAULT_PROGRAM, Files, adjust_words, compare_files, differ, outcome_of, saved, second_adjustment,
+                  written)
 
-ROOT = Path(__file__).resolve().parents[2]
-DEFAULT_PROGRAM = ROOT / "crates" / "height_office" / "out" / "height_office"
 DEFAULT_PROJECTS = 1_000
 DEFAULT_SEED = 20_240_607
 CHANGED_CERTIFICATES = 4
 PATIENCE_IN_SECONDS = 120
-LONGEST_PRINTED_TEXT = 300
-ENDS = (".heights.csv", ".certificate.csv", ".report.txt", ".heights.gsi")
 
 
 class Comparison(NamedTuple):
@@ -45,27 +42,7 @@ class Comparison(NamedTuple):
     folder: Path
 
 
-class Files(NamedTuple):
-    """A project in a folder: the words of the command line that name its inputs."""
-
-    folder: Path
-    words: List[str]
-
-
 # Running the program
-
-
-def saved(project: Project, folder: Path) -> Files:
-    """Writes a project's inputs."""
-    words = ["--benchmarks", "benchmarks.csv"]
-    (folder / "benchmarks.csv").write_bytes(project.inputs.benchmarks)
-    if project.inputs.weights is not None:
-        (folder / "weights.csv").write_bytes(project.inputs.weights)
-        words += ["--weights", "weights.csv"]
-    for number, book in enumerate(project.inputs.books, start=1):
-        (folder / f"book_{number}.gsi").write_bytes(book)
-        words.append(f"book_{number}.gsi")
-    return Files(folder, words)
 
 
 def run(program: Path, folder: Path, words: List[str]) -> Tuple[int, bytes, bytes]:
@@ -77,46 +54,7 @@ def run(program: Path, folder: Path, words: List[str]) -> Tuple[int, bytes, byte
     return done.returncode, done.stdout, done.stderr
 
 
-def adjust_words(project: Project, files: Files) -> List[str]:
-    limit = [] if project.limit is None else ["--blunder", str(project.limit)]
-    return ["adjust", "--out", "own"] + limit + files.words
-
-
-def written(folder: Path) -> Dict[str, bytes]:
-    return {end: (folder / f"own{end}").read_bytes() for end in ENDS if (folder / f"own{end}").exists()}
-
-
 # Comparing
-
-
-def shortened(text: bytes) -> str:
-    if len(text) <= LONGEST_PRINTED_TEXT:
-        return repr(text)
-    return f"{text[:LONGEST_PRINTED_TEXT]!r}... ({len(text)} bytes)"
-
-
-def differ(what: str, own: object, second: object) -> List[str]:
-    if own == second:
-        return []
-    show = [shortened(text) if isinstance(text, bytes) else repr(text) for text in (own, second)]
-    return [f"{what}: program {show[0]}, second office {show[1]}"]
-
-
-def without_flows(certificate: bytes) -> bytes:
-    """A certificate with its flows left open."""
-    return re.sub(rb"^(F,[0-9]+),.*$", rb"\1,?", certificate, flags=re.MULTILINE)
-
-
-def compare_files(project: Project, own: Dict[str, bytes], second: Dict[str, bytes]) -> List[str]:
-    differences = differ("files", sorted(own), sorted(second))
-    if differences or not second:
-        return differences
-    for end in (".heights.csv", ".report.txt", ".heights.gsi"):
-        differences += differ(end, own[end], second[end])
-    certificate = own[".certificate.csv"]
-    differences += differ(".certificate.csv", without_flows(certificate), without_flows(second[".certificate.csv"]))
-    verdict = office.check(project.inputs, certificate)
-    return differences + differ("the second office's verdict on the program's flows", b"yes\n", verdict.standard_output)
 
 
 def compare_check(program: Path, project: Project, files: Files, title: str, certificate: bytes) -> Tuple[str, List[str]]:
@@ -127,21 +65,13 @@ def compare_check(program: Path, project: Project, files: Files, title: str, cer
     return outcome_of("check", second), differences
 
 
-def outcome_of(command: str, answer: office.Answer) -> str:
-    """The command with its line, without the numbers and names in it."""
-    line = (answer.standard_output + answer.standard_error).decode("ascii").rstrip("\n")
-    line = re.sub(r" at .*| for .*", "", re.sub(r"(book|line|record|word) [0-9]+", r"\1 K", line))
-    return f"{command}: {line or 'files'}"
-
-
 def compare_project(program: Path, folder: Path, seed: int, number: int) -> Comparison:
     """Compares project `number`, which hangs on the seed and the number alone."""
     rng = Random(f"{seed} {number}")
     project = random_project(rng)
     files = saved(project, folder)
     own = run(program, folder, adjust_words(project, files))
-    limit = DEFAULT_LIMIT if project.limit is None else project.limit
-    second = office.adjust(project.inputs, limit * office.UNITS_IN_MICROMETRE)
+    second = second_adjustment(project)
     outcomes = [outcome_of("adjust", second)]
     differences = differ("adjust", own, (second.status, second.standard_output, second.standard_error))
     differences += compare_files(project, written(folder), second.files)

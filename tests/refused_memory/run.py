@@ -1,0 +1,217 @@
+#!/usr/bin/env python3
+"""Refuses each request for memory in turn, and looks at what the built programs answer.
+
+    run.py [--program PATH] [--calls PATH]
+
+The program lists, adjusts and checks two projects; of each run request 1 is refused, then request 2, and so on until a run asks for
+less: once that request alone, and once it and all behind it. A run that wants memory has to say `out of memory` and nothing else, to
+end with status 4 and to begin no file. Where the library makes up for a refusal, as of room that it only asks for ahead, the answer
+has to be the right one, all of it. The program `tests_memory` makes calls and makes them once more where they want memory: it has to
+say so, and the rest of what it prints may not change.
+
+Requests are counted and refused by `refusing_allocator.c`, which is compiled with `cc` and stands before the C library's allocator.
+Prints for each run how many requests there are and what was answered. Status 0 only where all is right.
+"""
+
+import argparse
+import os
+import shutil
+import subprocess
+import sys
+import tempfile
+from pathlib import Path
+from typing import Dict, List, NamedTuple, Optional, Tuple
+
+HERE = Path(__file__).resolve().parent
+CRATES = HERE.parents[1] / "crates"
+DEFAULT_PROGRAM = CRATES / "height_office" / "out" / "height_office"
+DEFAULT_CALLS = CRATES / "tests_memory" / "out" / "tests_memory"
+# No run here asks so often.
+MOST_REQUESTS = 100_000
+NO_MEMORY = 4
+
+# Three sights from A to B, the last of them misread by a metre.
+MISREAD = (b"110001+0000000A 84..10+00000000 85..10+00000000 86..10+00100000 88..10+00001500 \n"
+           b"110002+0000000B 33..00+00002345 87..10+00001300 \n110003+0000000B 33..00+00002346 \n110004+0000000B 33..00+00003345 \n")
+MISREAD_LIST = b"number,from,to,difference\n1,A,B,2.54500000\n2,A,B,2.54600000\n3,A,B,3.54500000\n"
+MISREAD_HEIGHTS = b"point,height,low,high\nA,100.00000000,100.00000000,100.00000000\nB,102.54600000,102.54600000,102.54600000\n"
+# Three sides of a triangle that close, and a side that does not.
+TRIANGLE = (b"110001+0000000A 84..10+00000000 88..10+00001500 \n110002+0000000B 33..00+00001000 87..10+00001500 \n"
+            b"110003+0000000B 84..10+00000000 88..10+00001500 \n110004+0000000C 33..00+00001000 87..10+00001500 \n"
+            b"110005+0000000C 84..10+00000000 88..10+00001500 \n110006+0000000A 33..00-00002000 87..10+00001500 \n"
+            b"110007+0000000A 84..10+00000000 88..10+00001500 \n110008+0000000C 33..00+00002500 87..10+00001500 \n")
+TRIANGLE_LIST = b"number,from,to,difference\n1,A,B,1.00000000\n2,B,C,1.00000000\n3,C,A,-2.00000000\n4,A,C,2.50000000\n"
+TRIANGLE_HEIGHTS = (b"point,height,low,high\nA,100.00000000,100.00000000,100.00000000\nB,101.00000000,101.00000000,101.00000000\n"
+                    b"C,102.00000000,102.00000000,102.00000000\n")
+TRIANGLE_CERTIFICATE = (b"kind,key,value\nV,1,4\nH,A,100.00000000\nH,B,101.00000000\nH,C,102.00000000\nF,1,0\nF,2,0\nF,3,1\nF,4,1\n"
+                        b"Z,cost,50000000\n")
+MISREAD_CERTIFICATE = (b"kind,key,value\nV,2,3\nH,A,100.00000000\nH,B,102.54600000\nL,A,100.00000000\nL,B,102.54600000\n"
+                       b"U,A,100.00000000\nU,B,102.54600000\nF,1,-1\nF,2,0\nF,3,1\nZ,cost,100000000\n")
+INPUTS = {
+    "misread.gsi": MISREAD,
+    "triangle.gsi": TRIANGLE,
+    "marks.csv": b"point,height\nA,100\n",
+    "weights.csv": b"from,to,weight\nB,A,7\n",
+    "misread.csv": MISREAD_CERTIFICATE,
+    "triangle.csv": TRIANGLE_CERTIFICATE,
+}
+# The calls that are refused memory in turn.
+CALLS = {f"{call} wants memory\n".encode("ascii")
+         for call in ("Book::line", "BookFeed", "read_book", "read_benchmarks", "read_weights", "Network::build", "settle")}
+TABLES = ["--benchmarks", "marks.csv", "--weights", "weights.csv"]
+
+
+class Answer(NamedTuple):
+    """What a run gave: its files by name, and whether a request was refused."""
+
+    status: int
+    standard_output: bytes
+    standard_error: bytes
+    files: Dict[str, bytes]
+    refused: bool
+
+
+class Series(NamedTuple):
+    """A command line, what it has to print, and a file that it has to write."""
+
+    title: str
+    words: List[str]
+    printed: bytes
+    file: Optional[Tuple[str, bytes]]
+
+
+SERIES = (
+    Series("list of a misread sight", ["list", "misread.gsi"], MISREAD_LIST, None),
+    Series("list of a triangle", ["list", "triangle.gsi"], TRIANGLE_LIST, None),
+    Series("adjustment of a misread sight", ["adjust"] + TABLES + ["--out", "own", "misread.gsi"], b"",
+           ("own.heights.csv", MISREAD_HEIGHTS)),
+    Series("adjustment of a triangle", ["adjust"] + TABLES + ["--out", "own", "triangle.gsi"], b"",
+           ("own.heights.csv", TRIANGLE_HEIGHTS)),
+    Series("check of a misread sight", ["check"] + TABLES + ["--certificate", "misread.csv", "misread.gsi"], b"yes\n", None),
+    Series("check of a triangle", ["check"] + TABLES + ["--certificate", "triangle.csv", "triangle.gsi"], b"yes\n", None),
+)
+
+
+class Wrong(Exception):
+    """An answer that is not allowed, in words."""
+
+
+# Running
+
+
+class Folder:
+    """Where the runs take place: the inputs, the allocator, and what a run leaves."""
+
+    def __init__(self, path: Path) -> None:
+        self.path = path
+        self.allocator = path / "refusing_allocator.so"
+        subprocess.run(["cc", "-shared", "-fPIC", "-O1", "-o", str(self.allocator), str(HERE / "refusing_allocator.c")], check=True)
+        for name, text in INPUTS.items():
+            (path / name).write_bytes(text)
+        os.chdir(path)
+
+    def run(self, program: Path, words: List[str], refuse: str) -> Answer:
+        """Runs a program, some of whose requests are refused: `3` the third alone, `3..` it and all behind it, `0` none."""
+        for left in self.path.glob("own.*"):
+            left.unlink()
+        actions = [(os.POSIX_SPAWN_OPEN, 0, "/dev/null", os.O_RDONLY, 0)]
+        for descriptor, name in ((1, "stdout"), (2, "stderr"), (3, "refused")):
+            actions.append((os.POSIX_SPAWN_OPEN, descriptor, name, os.O_WRONLY | os.O_CREAT | os.O_TRUNC, 0o644))
+        environment = {**os.environ, "LD_PRELOAD": str(self.allocator), "REFUSE": refuse}
+        process = os.posix_spawn(str(program), [str(program)] + words, environment, file_actions=actions)
+        status = os.waitstatus_to_exitcode(os.waitpid(process, 0)[1])
+        printed, said, refused = (Path(name).read_bytes() for name in ("stdout", "stderr", "refused"))
+        return Answer(status, printed, said, {left.name: left.read_bytes() for left in self.path.glob("own.*")}, refused != b"")
+
+
+# Comparing
+
+
+def wants_memory(answer: Answer) -> bool:
+    return answer[:4] == (NO_MEMORY, b"", b"out of memory\n", {})
+
+
+def check_right(series: Series, answer: Answer) -> None:
+    if answer[:3] != (0, series.printed, b""):
+        raise Wrong(f"{series.title}: {answer[:3]}")
+    if series.file is not None and answer.files.get(series.file[0]) != series.file[1]:
+        raise Wrong(f"{series.title}: {answer.files}")
+
+
+def refuse_in_turn(folder: Folder, program: Path, series: Series, and_all_behind: bool) -> str:
+    """Refuses each request of a run in turn, and says how many there are, and how many want memory."""
+    right = folder.run(program, series.words, "0")
+    check_right(series, right)
+    wanting = 0
+    for request in range(1, MOST_REQUESTS):
+        refuse = f"{request}.." if and_all_behind else str(request)
+        answer = folder.run(program, series.words, refuse)
+        if wants_memory(answer) and answer.refused:
+            wanting += 1
+        elif answer[:4] != right[:4]:
+            raise Wrong(f"{series.title}, request {refuse}: {answer[:4]}")
+        if not answer.refused:
+            if wanting == 0:
+                raise Wrong(f"{series.title}: no request was wanted")
+            which = " and all behind it" if and_all_behind else ""
+            return f"{series.title}: {request - 1} requests{which} refused in turn, {wanting} times out of memory"
+    raise Wrong(f"{series.title}: more requests than may be")
+
+
+def refuse_calls(folder: Folder, program: Path) -> List[str]:
+    """Refuses each request of the program of calls in turn, and says how often each call wanted memory."""
+    right = folder.run(program, [], "0")
+    wanting: Dict[bytes, int] = {}
+    for request in range(1, MOST_REQUESTS):
+        answer = folder.run(program, [], str(request))
+        lines = answer.standard_output.splitlines(keepends=True)
+        said = [line for line in lines if line.endswith(b" wants memory\n")]
+        rest = b"".join(line for line in lines if line not in said)
+        if (answer.status, rest, answer.standard_error) != right[:3] or len(said) > answer.refused:
+            raise Wrong(f"calls, request {request}: {answer[:3]}")
+        for line in said:
+            wanting[line] = wanting.get(line, 0) + 1
+        if not answer.refused:
+            if set(wanting) != CALLS:
+                raise Wrong(f"calls: {wanting} wanted memory, and not {CALLS}")
+            return [f"calls: {request - 1} requests refused in turn"] + [
+                f"calls: {line.decode('ascii').rstrip()} at {count} of them" for line, count in wanting.items()]
+    raise Wrong("calls: more requests than may be")
+
+
+def arguments() -> argparse.Namespace:
+    parser = argparse.ArgumentParser(description="Refuses each request for memory in turn.")
+    parser.add_argument("--program", type=Path, default=DEFAULT_PROGRAM, help="the built program")
+    parser.add_argument("--calls", type=Path, default=DEFAULT_CALLS, help="the built program tests_memory")
+    return parser.parse_args()
+
+
+def run_all(folder: Folder, program: Path, calls: Path) -> None:
+    for series in SERIES:
+        for and_all_behind in (False, True):
+            print(refuse_in_turn(folder, program, series, and_all_behind), flush=True)
+    for line in refuse_calls(folder, calls):
+        print(line)
+
+
+def main() -> int:
+    chosen = arguments()
+    for program in (chosen.program, chosen.calls):
+        if not os.access(program, os.X_OK):
+            print(f"there is no program at {program}: build it with `make build calls`", file=sys.stderr)
+            return 2
+    program, calls = chosen.program.resolve(), chosen.calls.resolve()
+    scratch = tempfile.mkdtemp(prefix="refused_memory_")
+    try:
+        run_all(Folder(Path(scratch)), program, calls)
+    except Wrong as wrong:
+        print(f"WRONG {wrong}")
+        return 1
+    finally:
+        os.chdir(HERE)
+        shutil.rmtree(scratch)
+    return 0
+
+
+if __name__ == "__main__":
+    sys.exit(main())

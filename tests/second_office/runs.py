@@ -1,0 +1,94 @@
+"""Runs of the program on a project, and how their answers are compared with the second office's."""
+
+import os
+import re
+from pathlib import Path
+from typing import Dict, List, NamedTuple
+
+import office
+from projects import DEFAULT_LIMIT, Project
+
+ROOT = Path(__file__).resolve().parents[2]
+DEFAULT_PROGRAM = ROOT / "crates" / "height_office" / "out" / "height_office"
+LONGEST_PRINTED_TEXT = 300
+ENDS = (".heights.csv", ".certificate.csv", ".report.txt", ".heights.gsi")
+
+
+class Files(NamedTuple):
+    """A project in a folder: the words of the command line that name its inputs."""
+
+    folder: Path
+    words: List[str]
+
+
+# The files of a project
+
+
+def saved(project: Project, folder: Path) -> Files:
+    """Writes a project's inputs."""
+    words = ["--benchmarks", "benchmarks.csv"]
+    (folder / "benchmarks.csv").write_bytes(project.inputs.benchmarks)
+    if project.inputs.weights is not None:
+        (folder / "weights.csv").write_bytes(project.inputs.weights)
+        words += ["--weights", "weights.csv"]
+    for number, book in enumerate(project.inputs.books, start=1):
+        (folder / f"book_{number}.gsi").write_bytes(book)
+        words.append(f"book_{number}.gsi")
+    return Files(folder, words)
+
+
+def adjust_words(project: Project, files: Files) -> List[str]:
+    limit = [] if project.limit is None else ["--blunder", str(project.limit)]
+    return ["adjust", "--out", "own"] + limit + files.words
+
+
+def written(folder: Path) -> Dict[str, bytes]:
+    return {end: (folder / f"own{end}").read_bytes() for end in ENDS if os.path.exists(folder / f"own{end}")}
+
+
+def second_adjustment(project: Project) -> office.Answer:
+    """What the second office gives for a project."""
+    limit = DEFAULT_LIMIT if project.limit is None else project.limit
+    return office.adjust(project.inputs, limit * office.UNITS_IN_MICROMETRE)
+
+
+# Comparing
+
+
+def shortened(text: bytes) -> str:
+    if len(text) <= LONGEST_PRINTED_TEXT:
+        return repr(text)
+    return f"{text[:LONGEST_PRINTED_TEXT]!r}... ({len(text)} bytes)"
+
+
+def differ(what: str, own: object, second: object) -> List[str]:
+    if own == second:
+        return []
+    show = [shortened(text) if isinstance(text, bytes) else repr(text) for text in (own, second)]
+    return [f"{what}: program {show[0]}, second office {show[1]}"]
+
+
+def without_flows(certificate: bytes) -> bytes:
+    """A certificate with its flows left open."""
+    return re.sub(rb"^(F,[0-9]+),.*$", rb"\1,?", certificate, flags=re.MULTILINE)
+
+
+def compare_files(project: Project, own: Dict[str, bytes], second: Dict[str, bytes]) -> List[str]:
+    differences = differ("files", sorted(own), sorted(second))
+    if differences or not second:
+        return differences
+    for end in (".heights.csv", ".report.txt", ".heights.gsi"):
+        differences += differ(end, own[end], second[end])
+    certificate = own[".certificate.csv"]
+    differences += differ(".certificate.csv", without_flows(certificate), without_flows(second[".certificate.csv"]))
+    verdict = office.check(project.inputs, certificate)
+    return differences + differ("the second office's verdict on the program's flows", b"yes\n", verdict.standard_output)
+
+
+def outcome_of(command: str, answer: office.Answer) -> str:
+    """The command with its line, without the numbers and names in it."""
+    if command == "list" and answer.status == 0:
+        return "list: observations" if answer.standard_output.count(b"\n") > 1 else "list: header"
+    line = (answer.standard_output + answer.standard_error).decode("ascii").rstrip("\n")
+    line = re.sub(r" at .*| for .*", "", re.sub(r"(book|line|record|word) [0-9]+", r"\1 K", line))
+    return f"{command}: {line or 'files'}"
