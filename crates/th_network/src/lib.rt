@@ -31,8 +31,6 @@ mod networks;
 
 // What holds of the definitions alone.
 pub mod laws;
-#[cfg(test)]
-mod tests;
 
 pub use faults::NetFault;
 pub use limits::{MAX_OBSERVATIONS, MAX_POINTS};

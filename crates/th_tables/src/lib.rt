@@ -19,8 +19,6 @@ mod weights;
 
 // What holds of the definitions alone.
 pub mod laws;
-#[cfg(test)]
-mod tests;
 
 pub use benchmarks::{Benchmarks, read_benchmarks};
 pub use faults::{TableFault, TableKind};

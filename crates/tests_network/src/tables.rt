@@ -1,7 +1,7 @@
-use crate::*;
 use gsi_word::{Name, name_of};
 use std::alloc::AllocError;
 use std::process::Abort;
+use th_tables::{TableFault, TableKind, Weights, read_benchmarks, read_weights};
 
 /// A table of benchmarks, and one of its rows by its place; none past its end.
 type BenchmarkRow = (&'static [u8], usize, Option<(&'static [u8], i64)>);
