@@ -1,4 +1,4 @@
-ghost use Rattle.std.specs.Prelude.{◌≤◌, All, IfOk, IfSome, length};
+ghost use Rattle.std.specs.Prelude.{◌≡◌, ◌≤◌, ◌<ℤ◌, All, IfOk, IfSome, pos, length};
 ghost use Rattle.th_search.specs.Limits.{max_arcs};
 ghost use Rattle.th_search.specs.Walks.{IsArc, IsNegativeCycle};
 
@@ -35,11 +35,18 @@ pub(crate) fn cycle_in_front(
         cost += arc.cost;
         vertex = arc.head;
         if vertex == first.tail {
-            if cost < 0 {
-                return Ok(Some(walk));
-            }
-            return Ok(None);
+            return Ok(if_negative(walk, cost));
         }
     }
     Ok(None)
+}
+
+/// The walk, where it costs less than zero.
+fn if_negative(walk: Vec<u32>, cost: i64) -> Option<Vec<u32>>
+    ensures { IfSome result (λ cycle. (cycle.items ≡ walk.items) × (cost <ℤ pos 0)) }
+{
+    if cost < 0 {
+        return Some(walk);
+    }
+    None
 }
