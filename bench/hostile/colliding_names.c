@@ -2,9 +2,9 @@
 
        colliding_names COUNT BITS
 
-   The maps of names hash with a seed that is fixed, so whoever picks the names can look for such. Of a name the length is hashed, and
-   then byte after byte; here the lowest BITS bits of the 32 that a map uses are zero. Names have eight letters and digits, the first
-   of them a letter, so that each is its own reduced form. */
+   The maps of names hash with a seed that is fixed, so whoever picks the names can look for such. Of a name the length
+   is hashed, and then byte after byte; here the lowest BITS bits of the 32 that a map uses are zero. Names have eight
+   letters and digits, the first of them a letter, so that each is its own reduced form. */
 #include <stdint.h>
 #include <stdio.h>
 #include <stdlib.h>

@@ -1,8 +1,8 @@
 /* Stands before the C library's allocator and refuses requests of a program, counted from its `main` on.
 
-   REFUSE=N refuses request number N alone, REFUSE=N.. that one and all after it. Requests are calls of malloc, calloc, realloc and
-   the aligned ones; giving memory back is no request. At the first refusal a byte is written to descriptor 3, so that whoever runs
-   the program knows whether anything was refused. */
+   REFUSE=N refuses request number N alone, REFUSE=N.. that one and all after it. Requests are calls of malloc, calloc,
+   realloc and the aligned ones; giving memory back is no request. At the first refusal a byte is written to
+   descriptor 3, so that whoever runs the program knows whether anything was refused. */
 #define _GNU_SOURCE
 #include <dlfcn.h>
 #include <errno.h>
@@ -85,8 +85,8 @@ static int counted_main(int count, char **words, char **environment)
 }
 
 /* Called by the start of the program in place of the C library's. */
-int __libc_start_main(main_function *own_main, int count, char **words, void (*begin)(void), void (*end)(void), void (*unload)(void),
-                      void *stack_end)
+int __libc_start_main(main_function *own_main, int count, char **words, void (*begin)(void), void (*end)(void),
+                      void (*unload)(void), void *stack_end)
 {
     int (*start)(main_function *, int, char **, void (*)(void), void (*)(void), void (*)(void), void *)
         = dlsym(RTLD_NEXT, "__libc_start_main");

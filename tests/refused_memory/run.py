@@ -3,14 +3,16 @@
 
     run.py [--program PATH] [--calls PATH]
 
-The program lists, adjusts and checks two projects; of each run request 1 is refused, then request 2, and so on until a run asks for
-less: once that request alone, and once it and all behind it. A run that wants memory has to say `out of memory` and nothing else, to
-end with status 4 and to begin no file. Where the library makes up for a refusal, as of room that it only asks for ahead, the answer
-has to be the right one, all of it. The program `tests_memory` makes calls and makes them once more where they want memory: it has to
-say so, and the rest of what it prints may not change.
+The program lists, adjusts and checks two projects; of each run request 1 is refused, then request 2, and so on until
+a run asks for less: once that request alone, and once it and all behind it. A run that wants memory has to say `out
+of memory` and nothing else, to end with status 4 and to begin no file. Where the library makes up for a refusal, as
+of room that it only asks for ahead, the answer has to be the right one, all of it. The program `tests_memory` makes
+calls and makes them once more where they want memory: it has to say so, and the rest of what it prints may not
+change.
 
-Requests are counted and refused by `refusing_allocator.c`, which is compiled with `cc` and stands before the C library's allocator.
-Prints for each run how many requests there are and what was answered. Status 0 only where all is right.
+Requests are counted and refused by `refusing_allocator.c`, which is compiled with `cc` and stands before the C
+library's allocator. Prints for each run how many requests there are and what was answered. Status 0 only where all is
+right.
 """
 
 import argparse
@@ -32,21 +34,24 @@ NO_MEMORY = 4
 
 # Three sights from A to B, the last of them misread by a metre.
 MISREAD = (b"110001+0000000A 84..10+00000000 85..10+00000000 86..10+00100000 88..10+00001500 \n"
-           b"110002+0000000B 33..00+00002345 87..10+00001300 \n110003+0000000B 33..00+00002346 \n110004+0000000B 33..00+00003345 \n")
+           b"110002+0000000B 33..00+00002345 87..10+00001300 \n"
+           b"110003+0000000B 33..00+00002346 \n110004+0000000B 33..00+00003345 \n")
 MISREAD_LIST = b"number,from,to,difference\n1,A,B,2.54500000\n2,A,B,2.54600000\n3,A,B,3.54500000\n"
-MISREAD_HEIGHTS = b"point,height,low,high\nA,100.00000000,100.00000000,100.00000000\nB,102.54600000,102.54600000,102.54600000\n"
+MISREAD_HEIGHTS = (b"point,height,low,high\nA,100.00000000,100.00000000,100.00000000\n"
+                   b"B,102.54600000,102.54600000,102.54600000\n")
 # Three sides of a triangle that close, and a side that does not.
 TRIANGLE = (b"110001+0000000A 84..10+00000000 88..10+00001500 \n110002+0000000B 33..00+00001000 87..10+00001500 \n"
             b"110003+0000000B 84..10+00000000 88..10+00001500 \n110004+0000000C 33..00+00001000 87..10+00001500 \n"
             b"110005+0000000C 84..10+00000000 88..10+00001500 \n110006+0000000A 33..00-00002000 87..10+00001500 \n"
             b"110007+0000000A 84..10+00000000 88..10+00001500 \n110008+0000000C 33..00+00002500 87..10+00001500 \n")
 TRIANGLE_LIST = b"number,from,to,difference\n1,A,B,1.00000000\n2,B,C,1.00000000\n3,C,A,-2.00000000\n4,A,C,2.50000000\n"
-TRIANGLE_HEIGHTS = (b"point,height,low,high\nA,100.00000000,100.00000000,100.00000000\nB,101.00000000,101.00000000,101.00000000\n"
-                    b"C,102.00000000,102.00000000,102.00000000\n")
-TRIANGLE_CERTIFICATE = (b"kind,key,value\nV,1,4\nH,A,100.00000000\nH,B,101.00000000\nH,C,102.00000000\nF,1,0\nF,2,0\nF,3,1\nF,4,1\n"
-                        b"Z,cost,50000000\n")
-MISREAD_CERTIFICATE = (b"kind,key,value\nV,2,3\nH,A,100.00000000\nH,B,102.54600000\nL,A,100.00000000\nL,B,102.54600000\n"
-                       b"U,A,100.00000000\nU,B,102.54600000\nF,1,-1\nF,2,0\nF,3,1\nZ,cost,100000000\n")
+TRIANGLE_HEIGHTS = (b"point,height,low,high\nA,100.00000000,100.00000000,100.00000000\n"
+                    b"B,101.00000000,101.00000000,101.00000000\nC,102.00000000,102.00000000,102.00000000\n")
+TRIANGLE_CERTIFICATE = (b"kind,key,value\nV,1,4\nH,A,100.00000000\nH,B,101.00000000\nH,C,102.00000000\n"
+                        b"F,1,0\nF,2,0\nF,3,1\nF,4,1\nZ,cost,50000000\n")
+MISREAD_CERTIFICATE = (b"kind,key,value\nV,2,3\nH,A,100.00000000\nH,B,102.54600000\n"
+                       b"L,A,100.00000000\nL,B,102.54600000\nU,A,100.00000000\nU,B,102.54600000\n"
+                       b"F,1,-1\nF,2,0\nF,3,1\nZ,cost,100000000\n")
 INPUTS = {
     "misread.gsi": MISREAD,
     "triangle.gsi": TRIANGLE,
@@ -57,7 +62,8 @@ INPUTS = {
 }
 # The calls that are refused memory in turn.
 CALLS = {f"{call} wants memory\n".encode("ascii")
-         for call in ("Book::line", "BookFeed", "read_book", "read_benchmarks", "read_weights", "Network::build", "settle")}
+         for call in ("Book::line", "BookFeed", "read_book", "read_benchmarks", "read_weights", "Network::build",
+                      "settle")}
 TABLES = ["--benchmarks", "marks.csv", "--weights", "weights.csv"]
 
 
@@ -87,8 +93,10 @@ SERIES = (
            ("own.heights.csv", MISREAD_HEIGHTS)),
     Series("adjustment of a triangle", ["adjust"] + TABLES + ["--out", "own", "triangle.gsi"], b"",
            ("own.heights.csv", TRIANGLE_HEIGHTS)),
-    Series("check of a misread sight", ["check"] + TABLES + ["--certificate", "misread.csv", "misread.gsi"], b"yes\n", None),
-    Series("check of a triangle", ["check"] + TABLES + ["--certificate", "triangle.csv", "triangle.gsi"], b"yes\n", None),
+    Series("check of a misread sight", ["check"] + TABLES + ["--certificate", "misread.csv", "misread.gsi"], b"yes\n",
+           None),
+    Series("check of a triangle", ["check"] + TABLES + ["--certificate", "triangle.csv", "triangle.gsi"], b"yes\n",
+           None),
 )
 
 
@@ -105,13 +113,14 @@ class Folder:
     def __init__(self, path: Path) -> None:
         self.path = path
         self.allocator = path / "refusing_allocator.so"
-        subprocess.run(["cc", "-shared", "-fPIC", "-O1", "-o", str(self.allocator), str(HERE / "refusing_allocator.c")], check=True)
+        compiler = ["cc", "-shared", "-fPIC", "-O1", "-o", str(self.allocator), str(HERE / "refusing_allocator.c")]
+        subprocess.run(compiler, check=True)
         for name, text in INPUTS.items():
             (path / name).write_bytes(text)
         os.chdir(path)
 
     def run(self, program: Path, words: List[str], refuse: str) -> Answer:
-        """Runs a program, some of whose requests are refused: `3` the third alone, `3..` it and all behind it, `0` none."""
+        """Runs a program with requests refused: `3` the third alone, `3..` it and all behind it, `0` none."""
         for left in self.path.glob("own.*"):
             left.unlink()
         actions = [(os.POSIX_SPAWN_OPEN, 0, "/dev/null", os.O_RDONLY, 0)]
@@ -121,7 +130,8 @@ class Folder:
         process = os.posix_spawn(str(program), [str(program)] + words, environment, file_actions=actions)
         status = os.waitstatus_to_exitcode(os.waitpid(process, 0)[1])
         printed, said, refused = (Path(name).read_bytes() for name in ("stdout", "stderr", "refused"))
-        return Answer(status, printed, said, {left.name: left.read_bytes() for left in self.path.glob("own.*")}, refused != b"")
+        files = {left.name: left.read_bytes() for left in self.path.glob("own.*")}
+        return Answer(status, printed, said, files, refused != b"")
 
 
 # Comparing

@@ -4,14 +4,15 @@
     compare_mutated.py [--program PATH] [--inputs N] [--first K] [--seed S] [--workers W] [--minutes M]
     compare_mutated.py --each-byte [--program PATH] [--workers W]
 
-Each input is a small project with a mutated text, which the program lists, adjusts or checks: one run an input. Standard output,
-standard error, status and files have to be the second office's (of the certificate all but the flows, which have to show the
-heights). Whatever the second office says, a status is 0 to 5, a run that is refused prints nothing and begins no file, and no run
-takes more than a second of processor time. Input K of a seed is the same in every run, so a long series can be run in parts:
-inputs --first to --first + --inputs - 1, or as many as --minutes allow. Prints the seed, how many inputs came out which way, the
-longest run, and every difference, with the input saved in a folder that it names. With --each-byte the inputs are the beginnings of
-a book and of two certificates, and these with each byte changed to each other value. Status 0 only without a difference; 2 where
-the comparison could not be made.
+Each input is a small project with a mutated text, which the program lists, adjusts or checks: one run an input.
+Standard output, standard error, status and files have to be the second office's (of the certificate all but the
+flows, which have to show the heights). Whatever the second office says, a status is 0 to 5, a run that is refused
+prints nothing and begins no file, and no run takes more than a second of processor time. Input K of a seed is the
+same in every run, so a long series can be run in parts: inputs --first to --first + --inputs - 1, or as many as
+--minutes allow. Prints the seed, how many inputs came out which way, the longest run, and every difference, with the
+input saved in a folder that it names. With --each-byte the inputs are the beginnings of a book and of two
+certificates, and these with each byte changed to each other value. Status 0 only without a difference; 2 where the
+comparison could not be made.
 """
 
 import argparse
@@ -29,7 +30,8 @@ from typing import Dict, Iterator, List, NamedTuple, Optional, Tuple
 
 import office
 from mutated import COUNT_OF_CHANGES, Case, changed_case, random_case
-from runs import DEFAULT_PROGRAM, adjust_words, compare_files, differ, outcome_of, saved, second_adjustment, written
+from runs import (DEFAULT_PROGRAM, ENDS, adjust_words, compare_files, differ, outcome_of, saved, second_adjustment,
+                  written)
 
 DEFAULT_INPUTS = 1_000
 DEFAULT_SEED = 20_240_607
@@ -38,6 +40,8 @@ LARGEST_STATUS = 5
 MOST_SECONDS = 1.0
 PATIENCE_IN_SECONDS = 20
 INPUTS_AT_A_TIME = 200
+# How often a long series says how far it is, on standard error.
+INPUTS_A_REPORT = 10_000
 HERE = Path(".")
 
 
@@ -69,14 +73,16 @@ def run(program: str, words: List[str]) -> Run:
     with suppress(OSError):
         resource.prlimit(process, resource.RLIMIT_CPU, (PATIENCE_IN_SECONDS, PATIENCE_IN_SECONDS))
     _, ended, usage = os.wait4(process, 0)
-    answer = office.Answer(os.waitstatus_to_exitcode(ended), Path("stdout").read_bytes(), Path("stderr").read_bytes(), written(HERE))
+    printed, said = Path("stdout").read_bytes(), Path("stderr").read_bytes()
+    answer = office.Answer(os.waitstatus_to_exitcode(ended), printed, said, written(HERE))
     return Run(answer, usage.ru_utime + usage.ru_stime)
 
 
 def save_case(case: Case) -> List[str]:
     """Writes the inputs of a case, and gives the command line."""
-    for left in HERE.glob("own.*"):
-        left.unlink()
+    for end in ENDS:
+        with suppress(FileNotFoundError):
+            os.unlink(f"own{end}")
     files = saved(case.project, HERE)
     if case.command == "list":
         return ["list", files.words[-1]]
@@ -153,6 +159,8 @@ def joined(tallies: Iterator[Tally], end: Optional[float]) -> Tally:
         differences += tally.differences
         for words in tally.differences:
             print(words, flush=True)
+        if inputs % INPUTS_A_REPORT == 0:
+            print(f"{inputs} inputs", file=sys.stderr, flush=True)
         if end is not None and time.monotonic() > end:
             break
     return Tally(inputs, outcomes, slowest, differences)

@@ -1,8 +1,9 @@
 """Mutated inputs: small projects one of whose books, tables or certificates somebody has spoiled.
 
-Books are mutated as those of the second reader are. Tables and certificates get fields cut and exchanged, numbers at the limits of
-their formats and of machine words, names in other spellings, quotes, byte order marks and other line ends. All of it hangs on the
-`rng` alone. Most texts are mutated once, so that what is read behind a first fault is reached as well.
+Books are mutated as those of the second reader are. Tables and certificates get fields cut and exchanged, numbers at
+the limits of their formats and of machine words, names in other spellings, quotes, byte order marks and other line
+ends. All of it hangs on the `rng` alone. Most texts are mutated once, so that what is read behind a first fault is
+reached as well.
 """
 
 import re
@@ -21,11 +22,12 @@ Mutation = Callable[[Random, bytes], bytes]
 
 # Numbers at the limits of weights, counts, heights, flows and costs, of machine words, and beside them.
 LIMITS = tuple(number.encode("ascii") for number in (
-    "0", "-0", "+0", "1", "-1", "00001", "999", "1000", "1001", "9999", "10000", "-10000", "10000.00000001", "-10000.00000001",
-    "9999.99999999", "0.00000001", "-0.00000001", "0.000000001", "39999", "40000", "40001", "999999999", "-999999999",
-    "1000000000", "0999999999", "999999999.99999999", "-999999999.99999999", "99999999999999999", str(2**31), str(2**32 - 1),
-    str(2**32), str(2**63 - 1), str(-(2**63)), str(2**63), str(2**64 - 1), str(2**64), "9" * 30, "9" * 31, "0" * 30, "0" * 31,
-    str(2**127), str(2**128 - 1), str(2**128), "1e3", "0x10", "1_000", "--1", "1,5"))
+    "0", "-0", "+0", "1", "-1", "00001", "999", "1000", "1001", "9999", "10000", "-10000", "10000.00000001",
+    "-10000.00000001", "9999.99999999", "0.00000001", "-0.00000001", "0.000000001", "39999", "40000", "40001",
+    "999999999", "-999999999", "1000000000", "0999999999", "999999999.99999999", "-999999999.99999999",
+    "99999999999999999", str(2**31), str(2**32 - 1), str(2**32), str(2**63 - 1), str(-(2**63)), str(2**63),
+    str(2**64 - 1), str(2**64), "9" * 30, "9" * 31, "0" * 30, "0" * 31, str(2**127), str(2**128 - 1), str(2**128),
+    "1e3", "0x10", "1_000", "--1", "1,5"))
 SOME_WEIGHTS = b"from,to,weight\nA,B,2\n"
 NO_CERTIFICATE = b"kind,key,value\nV,2,0\nZ,cost,0\n"
 
@@ -42,7 +44,7 @@ class Case(NamedTuple):
 
 
 def on_field(wanted: Callable[[bytes], object], change: Mutation) -> Mutation:
-    """A mutation of a text from one of its fields that are wanted, seldom of the header's; without such a field it stays as it is."""
+    """A mutation of a text from one of its fields that are wanted, seldom of the header's; else the text as it is."""
 
     def mutate_field(rng: Random, text: bytes) -> bytes:
         # Fields with the commas and line ends between them, which stand at the odd places.
@@ -75,8 +77,9 @@ def quoted_field(rng: Random, field: bytes) -> bytes:
     doubled = field.replace(b'"', b'""')
     place = rng.randrange(len(field) + 1)
     return rng.choice((
-        b'"' + doubled + b'"', b'"' + doubled + b'"', b'"' + doubled, doubled + b'"', b'""' + doubled, b'"' + doubled + b'" ',
-        b' "' + doubled + b'"', b'"' + field[:place] + b'"' + field[place:], field[:place] + b'"' + field[place:] + b'"',
+        b'"' + doubled + b'"', b'"' + doubled + b'"', b'"' + doubled, doubled + b'"', b'""' + doubled,
+        b'"' + doubled + b'" ', b' "' + doubled + b'"', b'"' + field[:place] + b'"' + field[place:],
+        field[:place] + b'"' + field[place:] + b'"',
         b'"' + field[:place] + b"\n" + field[place:] + b'"', b'"' + field[:place] + b"," + field[place:] + b'"'))
 
 
@@ -108,8 +111,8 @@ def mark_inside(rng: Random, text: bytes) -> bytes:
 
 
 FIELD_MUTATIONS: Tuple[Mutation, ...] = (
-    on_field(is_number, number_at_limit), on_field(is_number, number_at_limit), on_field(len, other_spelling), on_field(len, cut_field),
-    on_field(len, quoted_field), exchange_fields, repeat_name)
+    on_field(is_number, number_at_limit), on_field(is_number, number_at_limit), on_field(len, other_spelling),
+    on_field(len, cut_field), on_field(len, quoted_field), exchange_fields, repeat_name)
 TABLE_MUTATIONS = 3 * FIELD_MUTATIONS + MISTAKES + (mark_inside, change_bytes, insert_bytes, cut_bytes)
 BOOK_MUTATIONS = MUTATIONS + 4 * GENTLE_MUTATIONS + (mark_byte_order, mark_inside)
 
@@ -147,7 +150,8 @@ INPUT_MUTATIONS = (with_book, with_book, with_benchmarks, with_weights)
 
 def listed_book(rng: Random, project: Project) -> Case:
     book = mostly_sensible_book(rng) if rng.random() < 0.5 else rng.choice(project.inputs.books)
-    return Case("list", project._replace(inputs=project.inputs._replace(books=[mutated(rng, book, BOOK_MUTATIONS)])), None)
+    inputs = project.inputs._replace(books=[mutated(rng, book, BOOK_MUTATIONS)])
+    return Case("list", project._replace(inputs=inputs), None)
 
 
 def adjusted_project(rng: Random, project: Project) -> Case:
@@ -183,13 +187,14 @@ SIGHT_BOOK = (b"110001+0000000A 84..10+00000000 85..10+00000000 86..10+00100000 
 TRIANGLE_BOOK = (b"110001+0000000A 84..10+00000000 88..10+00001500 \n110002+0000000B 33..00+00001000 87..10+00001500 \n"
                  b"110003+0000000B 84..10+00000000 88..10+00001500 \n110004+0000000C 33..00+00001000 87..10+00001500 \n"
                  b"110005+0000000C 84..10+00000000 88..10+00001500 \n110006+0000000A 33..00-00002000 87..10+00001500 \n"
-                 b"110007+0000000A 84..10+00000000 88..10+00001500 \n110008+0000000C 33..00+00002500 87..10+00001500 \n")
+                 b"110007+0000000A 84..10+00000000 88..10+00001500 \n"
+                 b"110008+0000000C 33..00+00002500 87..10+00001500 \n")
 TRIANGLE_HEIGHTS = b"H,A,100.00000000\nH,B,101.00000000\nH,C,102.00000000\n"
 TRIANGLE_FLOWS = b"F,1,0\nF,2,0\nF,3,1\nF,4,1\nZ,cost,50000000\n"
 TRIANGLE_CERTIFICATES = (
     b"kind,key,value\nV,1,4\n" + TRIANGLE_HEIGHTS + TRIANGLE_FLOWS,
-    b"kind,key,value\nV,2,4\n" + TRIANGLE_HEIGHTS + TRIANGLE_HEIGHTS.replace(b"H", b"L") + TRIANGLE_HEIGHTS.replace(b"H", b"U")
-    + TRIANGLE_FLOWS)
+    b"kind,key,value\nV,2,4\n" + TRIANGLE_HEIGHTS + TRIANGLE_HEIGHTS.replace(b"H", b"L")
+    + TRIANGLE_HEIGHTS.replace(b"H", b"U") + TRIANGLE_FLOWS)
 A_AT_100 = b"point,height\nA,100\n"
 
 

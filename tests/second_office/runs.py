@@ -1,7 +1,7 @@
 """Runs of the program on a project, and how their answers are compared with the second office's."""
 
-import os
 import re
+from contextlib import suppress
 from pathlib import Path
 from typing import Dict, List, NamedTuple
 
@@ -43,7 +43,11 @@ def adjust_words(project: Project, files: Files) -> List[str]:
 
 
 def written(folder: Path) -> Dict[str, bytes]:
-    return {end: (folder / f"own{end}").read_bytes() for end in ENDS if os.path.exists(folder / f"own{end}")}
+    files = {}
+    for end in ENDS:
+        with suppress(FileNotFoundError), open(f"{folder}/own{end}", "rb") as file:
+            files[end] = file.read()
+    return files
 
 
 def second_adjustment(project: Project) -> office.Answer:

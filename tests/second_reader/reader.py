@@ -21,6 +21,7 @@ MOST_WORDS = 64
 GSI_8_WIDTH = 15
 GSI_16_WIDTH = 23
 DIGITS = b"0123456789"
+PRINTABLE = bytes(range(0x20, 0x7F))
 DOT = b"."
 SPACE = b" "
 
@@ -121,11 +122,12 @@ def is_blank(line: bytes) -> bool:
 
 
 def is_made_of(text: bytes, allowed: bytes) -> bool:
-    return all(byte in allowed for byte in text)
+    # Stripping stops at the first byte from either end that is not allowed.
+    return text.strip(allowed) == b""
 
 
 def is_printable(text: bytes) -> bool:
-    return all(0x20 <= byte <= 0x7E for byte in text)
+    return is_made_of(text, PRINTABLE)
 
 
 def split_into_parts(spelling: bytes) -> Word:
