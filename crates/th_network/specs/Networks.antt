@@ -1,7 +1,9 @@
 use Rattle.std.specs.Prelude.{◌≡◌, ◌<◌, ◌≤◌, ℕ, ℤ, List, Option, All, length, map, unsigned_abs}
 use Rattle.th_book.specs.Observed.{Observed, IsBetweenPoints}
+use Rattle.th_tables.specs.Limits.{max_weight}
 use Rattle.th_tables.specs.Rows.{BenchmarkRows, WeightRows, height_of, weight_of}
 use Rattle.th_points.specs.Points.{points}
+use Rattle.th_points.specs.Ends.{ends_of}
 use Rattle.th_network.specs.Faults.{IsNetwork}
 use Rattle.th_network.specs.Vertices.{vertex_count}
 use Rattle.th_network.specs.Limits.{height_limit}
@@ -43,11 +45,18 @@ pub record AreAtPoints (survey : Survey) (heights : List ℤ) : Type 0 where
 abbrev pub AreInRange : Survey → (List ℕ → ℤ) → Type 0
 AreInRange survey heights = All (λ name. unsigned_abs (heights name) < height_limit) (points_of survey)
 
--- observations and benchmarks make a network, with these points, so many vertices, and these arcs
-pub record IsBuilt (observations : List Observed) (benchmarks : BenchmarkRows) (names : List (List ℕ)) (count : ℕ) (arcs : List Link) : Type 0 where
+-- a weight that an observation may have
+abbrev pub IsWeight : ℕ → Type 0
+IsWeight weight = (1 ≤ weight) × (weight ≤ max_weight)
+
+-- observations and benchmarks make a network, with these points and ends, and over these weights with the ones listed, so many vertices, and these arcs
+pub record IsBuilt (observations : List Observed) (benchmarks : BenchmarkRows) (weights : WeightRows) (names : List (List ℕ)) (ends : List (ℕ × ℕ)) (listed : List ℕ) (count : ℕ) (arcs : List Link) : Type 0 where
   pub network : IsNetwork observations benchmarks
   pub between : All IsBetweenPoints observations
   pub all_points : names ≡ points observations benchmarks
+  pub placed : ends ≡ ends_of observations benchmarks
+  pub weighed : listed ≡ map (λ o. weight_of weights o.station o.target) observations
+  pub light : All IsWeight listed
   pub vertices : count ≡ vertex_count observations benchmarks
   pub links : arcs ≡ map (link_of observations benchmarks) observations
   pub in_range : All (λ arc. unsigned_abs arc.diff ≤ largest_link_difference) arcs

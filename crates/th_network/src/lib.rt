@@ -22,9 +22,10 @@ mod neighbours;
 // The walk itself.
 mod anchors;
 
-// The vertices and the arcs between them.
+// The vertices and the arcs between them, and what the observations weigh.
 mod links;
 mod vertices;
+mod weights;
 
 // The network.
 mod networks;

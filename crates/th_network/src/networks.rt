@@ -5,6 +5,7 @@ ghost use Rattle.th_network.specs.Faults.{HasFault, IsNetwork};
 ghost use Rattle.th_network.specs.Limits.{max_observations, max_points};
 ghost use Rattle.th_network.specs.Links.{largest_link_difference};
 ghost use Rattle.th_network.specs.Networks.{IsBuilt, arcs_of, heights_of, points_of, vertices_of, weights_of};
+ghost use Rattle.th_points.specs.Ends.{ends_of};
 ghost use Rattle.th_network.specs.declared.faults.NetFault.TheVariants.{NoMemory, TooManyObservations};
 ghost use Rattle.th_tables.specs.Limits.{max_weight};
 ghost use Rattle.th_tables.specs.Rows.{height_of};
@@ -15,6 +16,7 @@ use crate::faults::NetFault;
 use crate::limits::{MAX_OBSERVATIONS, MAX_POINTS};
 use crate::links::{Link, links_of};
 use crate::vertices::Vertices;
+use crate::weights::weights_of;
 use gsi_word::Name;
 use indexmap::IndexSet;
 use std::alloc::Global;
@@ -24,13 +26,15 @@ use th_points::Points;
 use th_tables::{Benchmarks, Weights};
 
 /// The height network of some observations, over the tables of its benchmarks and weights, which it
-/// borrows: a height or a weight is looked up where it is asked for.
+/// borrows. The weight of each observation is looked up once, and so are the points where it ends.
 #[derive(Drop)]
 pub struct Network<'a> {
     observations: Vec<Observation>,
     benchmarks: &'a Benchmarks,
     weights: &'a Weights,
     points: IndexSet<Name>,
+    ends: Vec<(usize, usize)>,
+    listed: Vec<u32>,
     vertices: u32,
     arcs: Vec<Link>,
 }
@@ -48,7 +52,8 @@ impl<'a> Model for Network<'a> {
     } };
 
     ghost invariant = { λ network. IsBuilt network.observations.items network.benchmarks.now
-        network.points.keys network.vertices network.arcs.items };
+        network.weights.now network.points.keys network.ends.items network.listed.items
+        network.vertices network.arcs.items };
 }
 
 impl<'a> Network<'a> {
@@ -74,14 +79,18 @@ impl<'a> Network<'a> {
     {
         let Graph {
             points,
+            ends,
+            weights: listed,
             vertices,
             arcs,
-        } = graph_of(alloc, &observations, benchmarks)?;
+        } = graph_of(alloc, &observations, benchmarks, weights)?;
         Ok(Network {
             observations,
             benchmarks,
             weights,
             points,
+            ends,
+            listed,
             vertices,
             arcs,
         })
@@ -118,6 +127,15 @@ impl<'a> Network<'a> {
         &self.observations
     }
 
+    /// For each observation the places of its station and its target among the points, counted from 0.
+    pub fn ends(&self) -> &[(usize, usize)]
+        ensures ends { result.now ≡ ends_of self.now.observations self.now.benchmarks }
+        ensures within { All (λ pair. (pair.0 < length (points_of self.now))
+            × (pair.1 < length (points_of self.now))) result.now }
+    {
+        &self.ends
+    }
+
     /// The weight of observation `i`, counted from 0.
     pub fn weight(&self, i: usize) -> u32
         requires { i < length self.now.observations }
@@ -125,8 +143,7 @@ impl<'a> Network<'a> {
         ensures positive { 1 ≤ result }
         ensures in_range { result ≤ max_weight }
     {
-        let o = &self.observations[i];
-        self.weights.of(&o.station, &o.target)
+        self.listed[i]
     }
 
     /// How many vertices there are: 0 for all benchmarks, and one for each other point.
@@ -148,22 +165,26 @@ impl<'a> Network<'a> {
     }
 }
 
-/// The points of a network, how many vertices it has, and its arcs.
+/// The points of a network, where its observations end among them and what they weigh, how many
+/// vertices it has, and its arcs.
 #[derive(Drop)]
 struct Graph {
     points: IndexSet<Name>,
+    ends: Vec<(usize, usize)>,
+    weights: Vec<u32>,
     vertices: u32,
     arcs: Vec<Link>,
 }
 
-/// The graph that observations and benchmarks make, or the first fault that they have.
+/// The graph that observations, benchmarks and weights make, or the first fault that they have.
 fn graph_of(
     alloc: Global,
     observations: &[Observation],
     benchmarks: &Benchmarks,
+    weights: &Weights,
 ) -> Result<Graph, NetFault>
-    ensures graph { IfOk result (λ graph.
-        IsBuilt observations.now benchmarks.now graph.points.keys graph.vertices graph.arcs.items) }
+    ensures graph { IfOk result (λ graph. IsBuilt observations.now benchmarks.now weights.now
+        graph.points.keys graph.ends.items graph.weights.items graph.vertices graph.arcs.items) }
     ensures fault { IfErr result (λ fault.
         fault ≢ NoMemory → HasFault observations.now benchmarks.now fault) }
     ensures many { max_observations < length observations.now
@@ -181,8 +202,11 @@ fn graph_of(
     }
     let vertices = Vertices::of(alloc, points.names.as_slice(), benchmarks)?;
     let arcs = links_of(alloc, observations, benchmarks, &points, &vertices)?;
+    let weights = weights_of(alloc, observations, weights)?;
     Ok(Graph {
         points: points.names,
+        ends: points.ends,
+        weights,
         vertices: vertices.count,
         arcs,
     })

@@ -1,23 +1,43 @@
-use Rattle.std.proofs.Common.{◌≡◌, ℕ, ℤ, ◌<◌, ◌^◌, List, [], ◌∷◌, ◌++◌, All, unsigned_abs, arith, ap, sym, subst, ◌∙◌, w64, to_z, of_z}
-use Rattle.std.proofs.lemmas.Int.{ints}
-use Rattle.std.proofs.lemmas.List.Elements.{All-push}
+use Rattle.std.proofs.Common.{◌≡◌, ℕ, ℤ, ◌<◌, ◌^◌, ◌-ℤ◌, pos, List, [], ◌∷◌, ◌++◌, All, get_or, length, map, unsigned_abs, arith, ap, sym, subst, ◌∙◌, w64, to_z, of_z}
+use Rattle.std.proofs.lemmas.Int.{fits_signed_from_abs, ints, to_z-of_z}
+use Rattle.std.proofs.lemmas.List.{length-map}
+use Rattle.std.proofs.lemmas.List.Elements.{All-get_or, All-push}
 use Rattle.th_book.specs.Observed.{Observed}
+use Rattle.th_points.specs.Ends.{ends_in}
 use Rattle.th_network.specs.Heights.{heights_at, residual}
 use Rattle.th_network.specs.Networks.{points_of}
-use Rattle.th_blunders.proofs.PointPlaces.{residuals-more}
+use Rattle.th_blunders.proofs.PointPlaces.{residual_there, residuals-more}
 use Rattle.th_blunders.proofs.residual.residuals.Goals as goal
 
-pub loop-o-preserved : goal.loop-o-preserved
-loop-o-preserved c =
-    let o : Observed = c.o-item.result in
-    let heights : List ℕ → ℤ = heights_at (points_of c.args.network.now) c.args.heights.now in
-    let keys : c.in_ok-places.places.keys ≡ points_of c.args.network.now = c.in_ok-places.ensures ∙ c.points.ensures.points in
-    let value : c.residual.result ≡ residual o heights = c.residual.ensures.value ∙ ap (λ names. residual o (heights_at names c.args.heights.now)) keys in
-    let pushed : to_z w64 (of_z w64 c.residual.result) ≡ residual o heights = omega (arith, ints, value, c.residual.ensures.small) in
+-- a height at a place is kept in 64 bits
+plain : (heights : List ℤ) (place : ℕ) → All (λ height. unsigned_abs height < 10 ^ 17) heights → place < length heights → to_z w64 (of_z w64 (get_or heights place (pos 0))) ≡ get_or heights place (pos 0)
+plain heights place small within =
+    let bound : unsigned_abs (get_or heights place (pos 0)) < 10 ^ 17 = All-get_or (λ height. unsigned_abs height < 10 ^ 17) heights place (pos 0) within small in
+    to_z-of_z w64 (get_or heights place (pos 0)) (fits_signed_from_abs w64 (get_or heights place (pos 0)) (omega (arith, bound)))
+
+pub loop-i-preserved : goal.loop-i-preserved
+loop-i-preserved c =
+    let observations : List Observed = c.observations-observations.result.now in
+    let names : List (List ℕ) = points_of c.args.network.now in
+    let listed : List ℤ = c.args.heights.now in
+    let ends : List (ℕ × ℕ) = c.ends-ends.result.now in
+    let i : ℕ = c.loop-i.i in
+    let o : Observed = c.index-observations-i.result in
+    let placed : ends ≡ map (ends_in names) observations = c.ends-ends.ensures.ends ∙ ap (map (ends_in names)) (sym c.observations-observations.ensures.observations) in
+    let end : ℕ × ℕ = get_or ends i (0, 0) in
+    let count : i < length ends = omega (arith, c.loop-i-test.true, ap length placed, length-map observations (ends_in names)) in
+    let below : (end.0 < length names) × (end.1 < length names) = All-get_or (λ pair. (pair.0 < length names) × (pair.1 < length names)) ends i (0, 0) count c.ends-ends.ensures.within in
+    let from = plain listed end.0 c.requires.in_range (omega (arith, below.0, c.requires.one_for_each)) in
+    let to = plain listed end.1 c.requires.in_range (omega (arith, below.1, c.requires.one_for_each)) in
+    let value : c.residual.result ≡ residual o (heights_at names listed) =
+    c.residual.ensures.value
+    ∙ (λ j. o.difference -ℤ (to j -ℤ from j))
+    ∙ residual_there observations names listed ends i o c.loop-i-test.true c.index-observations-i.is placed in
+    let pushed : to_z w64 (of_z w64 c.residual.result) ≡ residual o (heights_at names listed) = omega (arith, ints, value, c.residual.ensures.small) in
     let small : unsigned_abs (to_z w64 (of_z w64 c.residual.result)) < 10 ^ 18 = omega (arith, ints, c.residual.ensures.small) in
     record {
-      values = c.in_ok-push.ensures.items ∙ (λ j. c.loop-o.invariant.values j ++ pushed j ∷ [])
-          ∙ sym (residuals-more c.observations-observations.result.now heights c.loop-o.o-index o c.loop-o-test.true c.o-item.is);
+      values = c.in_ok-push.ensures.items ∙ (λ j. c.loop-i.invariant.values j ++ pushed j ∷ [])
+          ∙ sym (residuals-more observations (heights_at names listed) i o c.loop-i-test.true c.index-observations-i.is);
       small = subst (All (λ residual. unsigned_abs residual < 10 ^ 18)) (sym c.in_ok-push.ensures.items)
-          (All-push (λ residual. unsigned_abs residual < 10 ^ 18) c.loop-o.residuals.items (to_z w64 (of_z w64 c.residual.result)) c.loop-o.invariant.small small);
+          (All-push (λ residual. unsigned_abs residual < 10 ^ 18) c.loop-i.residuals.items (to_z w64 (of_z w64 c.residual.result)) c.loop-i.invariant.small small);
     }

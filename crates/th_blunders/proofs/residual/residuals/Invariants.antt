@@ -4,9 +4,9 @@ use Rattle.th_network.specs.Networks.{points_of}
 use Rattle.th_blunders.specs.Residuals.{residuals}
 use Rattle.th_blunders.proofs.residual.residuals.Given as goal
 
-abbrev pub invariant-loop-o : goal.invariant-loop-o
-invariant-loop-o l =
+abbrev pub invariant-loop-i : goal.invariant-loop-i
+invariant-loop-i l =
     record {
-      values : l.residuals.items ≡ residuals (take l.o-index l.observations) (heights_at (points_of l.network) l.heights);
+      values : l.residuals.items ≡ residuals (take l.i l.observations) (heights_at (points_of l.network) l.heights);
       small : All (λ residual. unsigned_abs residual < 10 ^ 18) l.residuals.items;
     }

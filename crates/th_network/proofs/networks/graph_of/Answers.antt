@@ -32,6 +32,9 @@ returns-clause-graph c =
       };
       between = c.in_ok-arcs.ensures.between;
       all_points = c.in_ok-points.ensures.all;
+      placed = c.in_ok-points.ensures.placed;
+      weighed = c.in_ok-weights.ensures.value;
+      light = c.in_ok-weights.ensures.in_range;
       vertices = c.in_ok-vertices.ensures.count ∙ ap (λ names. count_by (is_free c.args.benchmarks.now) names + 1) (c.as_slice.ensures.keys ∙ c.in_ok-points.ensures.all);
       links = c.in_ok-arcs.ensures.links;
       in_range = c.in_ok-arcs.ensures.in_range;
