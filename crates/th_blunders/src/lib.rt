@@ -14,8 +14,6 @@ mod blunder;
 
 // what was observed there and back
 mod pairs;
-#[cfg(test)]
-mod tests;
 
 pub use blunder::blunders;
 pub use costs::cost;

@@ -23,8 +23,6 @@ mod reports;
 
 // What holds of the definitions alone.
 pub mod laws;
-#[cfg(test)]
-mod tests;
 
 pub use gsi::heights_gsi;
 pub use heights::heights_csv;

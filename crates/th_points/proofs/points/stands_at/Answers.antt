@@ -9,8 +9,7 @@ returns-in-Some c =
     let names = c.args.names.now in
     let there = c.in-Some.there.now in
     let name = c.args.name.now in
-    let at : slice_get names c.args.place ≡ Some there = slice_get-get_or names c.args.place there c.in-Some.ensures.lookup.3.0 ∙ ap Some (sym c.in-Some.ensures.lookup.1) in
-    (
+    let at : slice_get names c.args.place ≡ Some there = slice_get-get_or names c.args.place there c.in-Some.ensures.lookup.3.0 ∙ ap Some (sym c.in-Some.ensures.lookup.1) in (
       (λ equal. at ∙ ap Some ((bytes_eq-Decides there name).0 (sym c.eq.ensures ∙ equal))),
       (λ found. c.eq.ensures ∙ (bytes_eq-Decides there name).1 (sym (get_or_from_slice_get names c.args.place there there at) ∙ get_or_from_slice_get names c.args.place name there found)),
     )

@@ -1,6 +1,6 @@
 use Rattle.std.proofs.Common.{◌<◌, All, unsigned_abs}
 use Rattle.th_network.specs.Limits.{height_limit}
-use Rattle.th_report.proofs.tests.heights_of.Given as goal
+use Rattle.tests_report.proofs.networks.heights_of.Given as goal
 
 abbrev pub invariant-loop-height : goal.invariant-loop-height
 invariant-loop-height g l = All (λ height. unsigned_abs height < height_limit) l.heights.items

@@ -1,14 +1,10 @@
-ghost use Rattle.std.specs.Prelude.{◌<◌, All, unsigned_abs};
-ghost use Rattle.th_network.specs.Limits.{height_limit};
-ghost use Rattle.th_network.specs.Networks.{AreAtPoints};
-
-use crate::*;
+use crate::networks::{
+    AT_A, THERE_AND_BACK, THREE_SIGHTS, heights_at, long_book, network_of, tables_of,
+};
 use itoa::Buffer;
 use std::alloc::Global;
 use std::process::Abort;
-use th_book::read_book;
-use th_network::Network;
-use th_tables::{Benchmarks, Weights, read_benchmarks, read_weights};
+use th_report::{heights_csv, heights_gsi, report_text};
 
 /// A setup at A, and a sight to B.
 const ONE_SIGHT: &[u8] = b"110001+0000000A 84..10+00000000 88..10+00001500
@@ -20,63 +16,6 @@ const TWO_SIGHTS: &[u8] = b"110001+0000000A 84..10+00000000 88..10+00001500
 110002+0000000B 33..00+00002345 87..10+00001300
 110003+0000000B 33..00+00002347
 ";
-
-/// A setup at A, a sight to B, and two more, which are 1 mm and 1 m off.
-const THREE_SIGHTS: &[u8] = b"110001+0000000A 84..10+00000000 88..10+00001500
-110002+0000000B 33..00+00002345 87..10+00001300
-110003+0000000B 33..00+00002346
-110004+0000000B 33..00+00003345
-";
-
-/// A setup at A, a sight to B, a setup at B, and a sight back to A, which is 10 mm off.
-const THERE_AND_BACK: &[u8] = b"110001+0000000A 84..10+00000000 88..10+00001500
-110002+0000000B 33..00+00002345 87..10+00001300
-110003+0000000B 84..10+00000000 88..10+00001450
-110004+0000000A 33..00-00002705 87..10+00001300
-";
-
-/// The benchmark A, 100 m high.
-const AT_A: &[u8] = b"point,height\nA,100\n";
-
-/// The tables of a network.
-#[derive(Drop)]
-struct Tables {
-    benchmarks: Benchmarks,
-    weights: Weights,
-}
-
-fn tables_of(rt: &impl Abort, alloc: Global, benchmarks: &[u8], weights: &[u8]) -> Tables {
-    Tables {
-        benchmarks: read_benchmarks(alloc, benchmarks).expect(rt, "benchmarks"),
-        weights: read_weights(alloc, weights).expect(rt, "weights"),
-    }
-}
-
-fn network_of<'a>(rt: &impl Abort, alloc: Global, book: &[u8], tables: &'a Tables) -> Network<'a> {
-    let observations = read_book(alloc, 1, book).expect(rt, "a book");
-    Network::build(alloc, observations, &tables.benchmarks, &tables.weights).expect(rt, "a network")
-}
-
-/// Heights that are in range.
-fn heights_of(rt: &impl Abort, alloc: Global, units: &[i64]) -> Vec<i64>
-    ensures { All (λ height. unsigned_abs height < height_limit) result.items }
-{
-    let mut heights = Vec::new(alloc);
-    for height in units {
-        assert!(rt; height.unsigned_abs() < 100_000_000_000_000_000);
-        heights.push(*height).expect(rt, "memory");
-    }
-    heights
-}
-
-/// Heights at the points of a network.
-fn heights_at(rt: &impl Abort, alloc: Global, network: &Network, units: &[i64]) -> Vec<i64>
-    ensures { AreAtPoints network.now result.items }
-{
-    let heights = heights_of(rt, alloc, units);
-    assert_eq!(rt; heights.len(), network.points().len());
-    heights
-}
 
 /// A book, the tables of benchmarks and weights, the lowest and the highest heights in point order,
 /// and the heights file.
@@ -306,15 +245,6 @@ fn reports(rt: HostRuntime) {
     for row in &REPORTED {
         is_reported(&rt, rt.alloc(), row);
     }
-}
-
-/// As many observations as a network takes, there and back between A and B.
-fn long_book(rt: &impl Abort, alloc: Global) -> Vec<u8> {
-    let mut bytes = Vec::new(alloc);
-    for _turn in 0..20_000 {
-        bytes.extend_from_slice(THERE_AND_BACK).expect(rt, "memory");
-    }
-    bytes
 }
 
 /// A and 3,998 other benchmarks, with which a network of A and B has as many points as it takes.

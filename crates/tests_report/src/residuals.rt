@@ -1,25 +1,12 @@
 ghost use Rattle.std.specs.Prelude.{◌<◌, ◌^◌, All, unsigned_abs};
 
-use crate::*;
+use crate::networks::{
+    AT_A, THERE_AND_BACK, THREE_SIGHTS, heights_at, long_book, network_of, observations_of,
+    tables_of,
+};
 use std::alloc::Global;
 use std::process::Abort;
-use th_book::{Observation, read_book};
-use th_network::Network;
-use th_tables::{read_benchmarks, read_weights};
-
-/// A setup at A, a sight to B, a setup at B, and a sight back to A, which is 10 mm off.
-const THERE_AND_BACK: &[u8] = b"110001+0000000A 84..10+00000000 88..10+00001500
-110002+0000000B 33..00+00002345 87..10+00001300
-110003+0000000B 84..10+00000000 88..10+00001450
-110004+0000000A 33..00-00002705 87..10+00001300
-";
-
-/// A setup at A, a sight to B, and two more, which are 1 mm and 1 m off.
-const THREE_SIGHTS: &[u8] = b"110001+0000000A 84..10+00000000 88..10+00001500
-110002+0000000B 33..00+00002345 87..10+00001300
-110003+0000000B 33..00+00002346
-110004+0000000B 33..00+00003345
-";
+use th_blunders::{Opposite, blunders, cost, opposites, residuals};
 
 /// A sight to B twice, one back to A, and one to B again.
 const TWICE_AND_BACK: &[u8] = b"110001+0000000A 84..10+00000000 88..10+00001500
@@ -41,35 +28,13 @@ const THREE_POINTS: &[u8] = b"110001+0000000A 84..10+00000000 88..10+00001500
 110007+0000000A 33..00-00002705
 ";
 
-fn observations_of(rt: &impl Abort, alloc: Global, book: &[u8]) -> Vec<Observation> {
-    read_book(alloc, 1, book).expect(rt, "a book")
-}
-
-/// Heights that are in range.
-fn heights_of(rt: &impl Abort, alloc: Global, units: &[i64]) -> Vec<i64>
-    ensures { All (λ height. unsigned_abs height < 10 ^ 17) result.items }
-{
-    let mut heights = Vec::new(alloc);
-    for height in units {
-        assert!(rt; height.unsigned_abs() < 100_000_000_000_000_000);
-        heights.push(*height).expect(rt, "memory");
-    }
-    heights
-}
-
 /// The residuals of a book's observations at some heights, in the network in which A is 100 m high.
 fn residuals_at(rt: &impl Abort, alloc: Global, book: &[u8], units: &[i64]) -> Vec<i64>
     ensures { All (λ residual. unsigned_abs residual < 10 ^ 18) result.items }
 {
-    let heights = heights_of(rt, alloc, units);
-    let observations = observations_of(rt, alloc, book);
-    let benchmarks = read_benchmarks(alloc, b"point,height\nA,100\n").expect(rt, "benchmarks");
-    let weights = read_weights(alloc, b"").expect(rt, "weights");
-    let network = Network::build(alloc, observations, &benchmarks, &weights).expect(
-        rt,
-        "a network",
-    );
-    assert_eq!(rt; heights.len(), network.points().len());
+    let tables = tables_of(rt, alloc, AT_A, b"");
+    let network = network_of(rt, alloc, book, &tables);
+    let heights = heights_at(rt, alloc, &network, units);
     residuals(alloc, &network, &heights).expect(rt, "memory")
 }
 
@@ -174,15 +139,6 @@ fn observed_there_and_back(rt: HostRuntime) {
     }
 }
 
-/// As many observations as a network takes: each but the first goes back over the one before it.
-fn long_book(rt: &impl Abort, alloc: Global) -> Vec<u8> {
-    let mut bytes = Vec::new(alloc);
-    for _turn in 0..20_000 {
-        bytes.extend_from_slice(THERE_AND_BACK).expect(rt, "memory");
-    }
-    bytes
-}
-
 #[test]
 fn opposites_of_a_large_network(rt: HostRuntime) {
     let book = long_book(&rt, rt.alloc());
@@ -235,13 +191,8 @@ fn residuals_of(rt: &impl Abort, alloc: Global, units: &[i64]) -> Vec<i64>
 
 fn residuals_cost(rt: &impl Abort, alloc: Global, row: &Cost) {
     let (book, weights, units, wanted) = *row;
-    let observations = observations_of(rt, alloc, book);
-    let benchmarks = read_benchmarks(alloc, b"point,height\nA,100\n").expect(rt, "benchmarks");
-    let weights = read_weights(alloc, weights).expect(rt, "weights");
-    let network = Network::build(alloc, observations, &benchmarks, &weights).expect(
-        rt,
-        "a network",
-    );
+    let tables = tables_of(rt, alloc, AT_A, weights);
+    let network = network_of(rt, alloc, book, &tables);
     let residuals = residuals_of(rt, alloc, units);
     assert_eq!(rt; residuals.len(), network.observations().len());
     assert_eq!(rt; cost(&network, &residuals), wanted);
