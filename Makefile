@@ -6,7 +6,8 @@ PREFIX ?= /usr/local
 BOOK ?= examples/building_site.gsi
 LOG := build.log
 
-.PHONY: help run list build calls check test gate examples statuses documents compare office mutated each-byte memory hostile bench install clean
+.PHONY: help run list build calls check test gate examples statuses documents compare office mutated each-byte \
+	memory hostile bench install clean
 
 help:
 	@echo 'make run       prove and build the program, adjust an example project, show its report and check its certificate'
@@ -22,7 +23,7 @@ help:
 	@echo 'make office    compare the built program with the second office on random projects (PROJECTS=$(PROJECTS) SEED=$(SEED))'
 	@echo 'make mutated   the same on mutated books, tables and certificates (INPUTS=$(INPUTS) SEED=$(SEED)); a million take hours'
 	@echo 'make each-byte the same on each beginning and each changed byte of a book and two certificates (some minutes)'
-	@echo 'make memory    run the built program with each request for memory refused in turn, and the calls that `make calls` builds'
+	@echo 'make memory    run the built program, and the calls that `make calls` builds, with each request for memory refused'
 	@echo 'make hostile   time and memory of books, tables, certificates and networks that are made to cost time'
 	@echo 'make bench     throughput and peak memory: listing, networks, certificates, settling beside other solvers, adjusting'
 	@echo 'make install   copy the built program and its manual page below $(PREFIX)'
