@@ -11,8 +11,18 @@ use th_runs::{Refusal, run_check};
 const CERTIFICATE: &[u8] =
     b"kind,key,value\nV,1,4\nH,A,100.00000000\nH,B,101.00000000\nH,C,102.00000000\nF,1,0\nF,2,0\nF,3,1\nF,4,1\nZ,cost,50000000\n";
 
+/// Certificates that are accepted beside it: with the flows the other way round, with zeros in front,
+/// with its rows of heights in another order, and of the other version.
+const ACCEPTED: [&[u8]; 5] = [
+    CERTIFICATE,
+    b"kind,key,value\nV,1,4\nH,A,100\nH,B,101\nH,C,102\nF,1,-1\nF,2,-1\nF,3,0\nF,4,1\nZ,cost,50000000\n",
+    b"kind,key,value\nV,1,4\nH,00A,100\nH,B,101\nH,C,102\nF,01,-0\nF,2,0\nF,3,1\nF,4,1\nZ,cost,50000000\n",
+    b"kind,key,value\nV,1,4\nH,C,102\nH,A,100\nH,B,101\nF,1,0\nF,2,0\nF,3,1\nF,4,1\nZ,cost,50000000\n",
+    b"kind,key,value\nV,2,4\nH,A,100\nH,B,101\nH,C,102\nL,A,100\nL,B,101\nL,C,102\nU,A,100\nU,B,101\nU,C,102\nF,1,0\nF,2,0\nF,3,1\nF,4,1\nZ,cost,50000000\n",
+];
+
 /// Certificates that are refused, the line of the verdict, and why.
-const REFUSED: [(&[u8], &[u8], Reason); 7] = [
+const REFUSED: [(&[u8], &[u8], Reason); 8] = [
     (
         b"kind,key,value\nV,1,4\nH,A,100\nH,B,101\nH,C,102\nF,1,0\nF,2,0\nF,3,1\nF,4,2\nZ,cost,50000000\n",
         b"no: flow too large at 4\n",
@@ -44,6 +54,11 @@ const REFUSED: [(&[u8], &[u8], Reason); 7] = [
         Reason::NotSlack(2),
     ),
     (
+        b"kind,key,value\nV,2,4\nH,A,100\nH,B,101\nH,C,102\nL,A,100\nL,B,100.99999999\nL,C,102\nU,A,100\nU,B,101\nU,C,102\nF,1,0\nF,2,0\nF,3,1\nF,4,1\nZ,cost,50000000\n",
+        b"no: low not slack at 1\n",
+        Reason::LowNotSlack(1),
+    ),
+    (
         b"kind,key,value\nV,2,4\nH,A,100\nH,B,101\nH,C,102\nL,A,100\nL,B,101\nL,C,102\nU,A,100\nU,B,101.00000001\nU,C,102\nF,1,0\nF,2,0\nF,3,1\nF,4,1\nZ,cost,50000000\n",
         b"no: high not slack at 1\n",
         Reason::HighNotSlack(1),
@@ -52,8 +67,10 @@ const REFUSED: [(&[u8], &[u8], Reason); 7] = [
 
 #[test]
 fn accepts_and_refuses_certificates(rt: HostRuntime) {
-    let verdict = check(&rt, LOOP, A_AT_100, b"", CERTIFICATE, b"yes\n");
-    assert_eq!(rt; verdict, Ok(Verdict::Yes));
+    for certificate in ACCEPTED {
+        let verdict = check(&rt, LOOP, A_AT_100, b"", certificate, b"yes\n");
+        assert_eq!(rt; verdict, Ok(Verdict::Yes));
+    }
     for (certificate, line, reason) in REFUSED {
         let verdict = check(&rt, LOOP, A_AT_100, b"", certificate, line);
         assert_eq!(rt; verdict, Ok(Verdict::No(reason)));

@@ -1,6 +1,7 @@
 //! Inputs that are refused in the order in which they are read, and devices that fail.
 use crate::projects::{
-    A_AT_100, HELD_BEFORE, LIMIT, ONE_SIGHT, adjust, are_untouched, sink, sinks, source,
+    A_AT_100, FAULTY_BOOK, FAULTY_TABLE, HELD_BEFORE, LIMIT, ONE_SIGHT, adjust, are_untouched,
+    sink, sinks, source,
 };
 use gsi_word::name_of;
 use std::process::Abort;
@@ -10,24 +11,13 @@ use th_network::NetFault;
 use th_runs::{Input, Output, Outs, Refusal, run_adjust, run_check};
 use th_tables::{TableFault, TableKind};
 
-/// A book whose second line has no reflector height.
-const FAULTY_BOOK: &[u8] =
-    b"110001+0000000A 84..10+00000000 85..10+00000000 86..10+00100000 88..10+00001500 \n110002+0000000B 33..00+00002345 \n";
+/// The fault of the faulty book.
+const BOOK_FAULT: BookFault = BookFault {
+    line: 2,
+    kind: BookKind::NoReflectorHeight,
+};
 
-/// Its refusal as the first or the second book.
-fn faulty_book(number: u32) -> Refusal {
-    Refusal::Book(
-        number,
-        BookFault {
-            line: 2,
-            kind: BookKind::NoReflectorHeight,
-        },
-    )
-}
-
-/// A table whose header is wrong.
-const FAULTY_TABLE: &[u8] = b"point\n";
-
+/// The fault of the faulty table.
 const BAD_HEADER: TableFault = TableFault {
     row: 1,
     kind: TableKind::BadHeader,
@@ -47,7 +37,7 @@ fn the_first_input_that_is_refused_decides(rt: HostRuntime) {
         LIMIT,
         &mut outs,
     );
-    assert_eq!(rt; answer, Err(faulty_book(2)));
+    assert_eq!(rt; answer, Err(Refusal::Book(2, BOOK_FAULT)));
     assert!(rt; are_untouched(&outs));
 
     // The benchmarks were not read: their first read is still to fail.
@@ -139,6 +129,42 @@ fn a_read_of_a_book_that_fails_is_answered(rt: HostRuntime) {
             );
             assert!(rt; are_untouched(&outs), "read {fail_at}");
         }
+    }
+}
+
+/// A book, which of benchmarks, weights and certificate fail at their first read, and the refusal.
+type Order = (&'static [u8], Option<u128>, Option<u128>, Refusal);
+
+const ORDER: [Order; 4] = [
+    (FAULTY_BOOK, Some(1), Some(1), Refusal::Book(1, BOOK_FAULT)),
+    (
+        ONE_SIGHT,
+        Some(1),
+        Some(1),
+        Refusal::Read(Input::Benchmarks),
+    ),
+    (ONE_SIGHT, None, Some(1), Refusal::Read(Input::Weights)),
+    (ONE_SIGHT, None, None, Refusal::Read(Input::Certificate)),
+];
+
+#[test]
+fn a_check_takes_its_inputs_in_order(rt: HostRuntime) {
+    for (book, of_benchmarks, of_weights, refusal) in ORDER {
+        let mut books = [source(book)];
+        let mut benchmarks = TextSource::new(A_AT_100, 50, of_benchmarks);
+        let mut weights = Some(TextSource::new(b"", 50, of_weights));
+        let mut certificate = TextSource::new(b"kind,key,value\n", 50, Some(1));
+        let mut out = sink(&rt, None);
+        let answer = run_check(
+            rt.alloc(),
+            &mut books,
+            &mut benchmarks,
+            &mut weights,
+            &mut certificate,
+            &mut out,
+        );
+        assert_eq!(rt; answer, Err(refusal));
+        assert!(rt; out.bytes() == HELD_BEFORE);
     }
 }
 

@@ -14,3 +14,5 @@ mod lists;
 mod projects;
 #[cfg(test)]
 mod refusals;
+#[cfg(test)]
+mod reports;

@@ -127,7 +127,7 @@ fn line_ends_are_cr_lf_cr_and_lf(rt: HostRuntime) -> Result<(), Fail> {
 }
 
 /// A line that has a fault, what stands before it, and the line of the refusal.
-const FAULTS: [(&[u8], &[u8], &str); 17] = [
+const FAULTS: [(&[u8], &[u8], &str); 18] = [
     (b"", b"*", "book 1 line 2: B1 word 1: short"),
     (
         SETUP,
@@ -190,6 +190,7 @@ const FAULTS: [(&[u8], &[u8], &str); 17] = [
         "book 1 line 2: B7 too large",
     ),
     (b"", SIGHT, "book 1 line 2: B8 sight before setup"),
+    (SIGHT, SETUP, "book 1 line 1: B8 sight before setup"),
     (
         b"110001+0000000A 84..10+00000000 85..10+00000000 86..10+00100000 ",
         SIGHT,

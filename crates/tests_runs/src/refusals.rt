@@ -1,4 +1,7 @@
 //! The line of each refusal, and its status.
+use crate::projects::{
+    A_AT_100, FAULTY_BOOK, FAULTY_TABLE, ONE_SIGHT, adjust, are_untouched, sinks,
+};
 use gsi_word::name_of;
 use std::process::Abort;
 use th_book::{BookFault, BookKind};
@@ -109,4 +112,70 @@ fn each_refusal_has_a_line_and_a_status(rt: HostRuntime) {
 fn each_verdict_has_a_status(rt: HostRuntime) {
     assert_eq!(rt; status_of_verdict(&Verdict::Yes), 0);
     assert_eq!(rt; status_of_verdict(&Verdict::No(Reason::WrongCost)), 1);
+}
+
+/// A book, its benchmarks and weights, and the line of the refusal.
+const REFUSED_INPUTS: [(&[u8], &[u8], &[u8], &str); 9] = [
+    (
+        FAULTY_BOOK,
+        A_AT_100,
+        b"",
+        "book 1 line 2: B10 no reflector height",
+    ),
+    (
+        ONE_SIGHT,
+        b"point,height\n00A,100\nA,101\n",
+        b"",
+        "benchmarks record 3: E6 repeated",
+    ),
+    (
+        ONE_SIGHT,
+        b"point,height\nA,10000.00000001\n",
+        b"",
+        "benchmarks record 2: E4 bad height",
+    ),
+    (
+        ONE_SIGHT,
+        b"point,height\nA\n",
+        b"",
+        "benchmarks record 2: E2 field count",
+    ),
+    (
+        ONE_SIGHT,
+        b"point,height\n ,100\n",
+        b"",
+        "benchmarks record 2: E3 bad name",
+    ),
+    (ONE_SIGHT, b"", b"", "benchmarks record 1: E1 bad header"),
+    (
+        ONE_SIGHT,
+        A_AT_100,
+        b"from,to,weight\nA,B,0\n",
+        "weights record 2: E5 bad weight",
+    ),
+    (
+        ONE_SIGHT,
+        b"point,height\nZ,100\n",
+        b"",
+        "network: N3 no benchmark for A",
+    ),
+    (
+        FAULTY_BOOK,
+        FAULTY_TABLE,
+        FAULTY_TABLE,
+        "book 1 line 2: B10 no reflector height",
+    ),
+];
+
+#[test]
+fn inputs_are_refused_by_a_line(rt: HostRuntime) {
+    for (book, benchmarks, weights, line) in REFUSED_INPUTS {
+        let mut outs = sinks(&rt);
+        let answer = adjust(&rt, book, benchmarks, weights, &mut outs);
+        let refusal = answer.err().expect(&rt, "a refusal");
+        let said = format!(in rt.alloc(); "{refusal}").expect(&rt, "memory");
+        assert!(rt; said.as_str() == line, "{said}");
+        assert_eq!(rt; status_of(&refusal), 2, "{line}");
+        assert!(rt; are_untouched(&outs), "{line}");
+    }
 }

@@ -16,7 +16,7 @@ const NO_COMMAND: &str =
     "error: unrecognized subcommand 'k.gsi'\n\nUsage: height_office list <BOOK>\n       height_office adjust [OPTIONS] --benchmarks <FILE> --out <PREFIX> <BOOK>...\n       height_office check [OPTIONS] --benchmarks <FILE> --certificate <FILE> <BOOK>...\n       height_office < BOOK        (lists the book on standard input)\n\nFor more information, try '--help'.\n\n  tip: to list the book in a file, write 'height_office list FILE'\n";
 
 /// Command lines, and the plans that they name.
-const PLANS: [(&str, &str); 22] = [
+const PLANS: [(&str, &str); 23] = [
     ("height_office", "standard"),
     ("height_office list k.gsi", "list k.gsi"),
     ("height_office list -", "list -"),
@@ -91,20 +91,73 @@ const PLANS: [(&str, &str); 22] = [
         "height_office adjust 1 2 3 4 5 6 7 8 9 10 11 12 13 14 15 16 --benchmarks m --out p",
         "adjust 1 2 3 4 5 6 7 8 9 10 11 12 13 14 15 16 by m limit 2000000 out p",
     ),
+    (
+        "height_office check 1 2 3 4 5 6 7 8 9 10 11 12 13 14 15 16 --benchmarks m --certificate c",
+        "check 1 2 3 4 5 6 7 8 9 10 11 12 13 14 15 16 by m certificate c",
+    ),
 ];
 
 #[test]
 fn words_are_a_plan(rt: HostRuntime) {
     for (words, wanted) in PLANS {
-        let split = words_of(&rt, words);
-        match &plan(rt.alloc(), split.as_slice()) {
-            Ok(plan) => {
-                let shown = text_of(&rt, plan);
-                assert!(rt; shown.as_str() == wanted, "{shown}");
-            }
-            Err(_) => assert!(rt; false, "{words}"),
-        }
+        is_planned(&rt, words, wanted);
     }
+}
+
+fn is_planned(rt: &(impl AllocGlobal + Abort), words: &str, wanted: &str) {
+    let split = words_of(rt, words);
+    match &plan(rt.alloc(), split.as_slice()) {
+        Ok(plan) => {
+            let shown = text_of(rt, plan);
+            assert!(rt; shown.as_str() == wanted, "{shown}");
+        }
+        Err(_) => assert!(rt; false, "{words}"),
+    }
+}
+
+/// What stands behind `adjust` and behind `check`, in any order.
+const ADJUSTED: [&str; 5] = [
+    "--benchmarks m",
+    "--weights w",
+    "--blunder 500",
+    "--out p",
+    "a b",
+];
+
+const CHECKED: [&str; 4] = ["--benchmarks m", "--weights w", "--certificate c", "a b"];
+
+#[test]
+fn options_stand_in_every_order(rt: HostRuntime) {
+    for order in 0..120_usize {
+        let words = in_order(&rt, "height_office adjust", &ADJUSTED, order);
+        is_planned(&rt, words.as_str(), "adjust a b by m w limit 50000 out p");
+    }
+    for order in 0..24_usize {
+        let words = in_order(&rt, "height_office check", &CHECKED, order);
+        is_planned(&rt, words.as_str(), "check a b by m w certificate c");
+    }
+}
+
+/// A command with some parts behind it, in the order of this number.
+fn in_order(
+    rt: &(impl AllocGlobal + Abort),
+    command: &str,
+    parts: &[&str],
+    order: usize,
+) -> String {
+    let mut text = String::new(rt.alloc());
+    text.push_str(command).expect(rt, "memory");
+    let mut left = Vec::from_slice(rt.alloc(), parts).expect(rt, "memory");
+    let mut rest = order;
+    for _ in 0..parts.len() {
+        let count = left.len();
+        assert!(rt; count > 0);
+        text.push_str(" ").expect(rt, "memory");
+        text.push_str(left.remove(rest % count))
+            .expect(rt, "memory");
+        rest /= count;
+    }
+    text
 }
 
 /// A plan as the table of plans has it.
@@ -169,7 +222,7 @@ fn seventeen_books_are_too_many(rt: HostRuntime) {
 }
 
 /// Words that are no plan, and the kind of the error that `clap` answers.
-const WRONG_WORDS: [(&str, ErrorKind); 35] = [
+const WRONG_WORDS: [(&str, ErrorKind); 45] = [
     ("height_office list", ErrorKind::MissingRequiredArgument),
     ("height_office list a b", ErrorKind::UnknownArgument),
     ("height_office lisst a", ErrorKind::InvalidSubcommand),
@@ -216,7 +269,27 @@ const WRONG_WORDS: [(&str, ErrorKind); 35] = [
         ErrorKind::InvalidValue,
     ),
     (
+        "height_office adjust a --out p --benchmarks",
+        ErrorKind::InvalidValue,
+    ),
+    (
+        "height_office adjust a --benchmarks m --out p --weights",
+        ErrorKind::InvalidValue,
+    ),
+    (
+        "height_office adjust a --benchmarks m --out p --blunder",
+        ErrorKind::InvalidValue,
+    ),
+    (
         "height_office check a --benchmarks m --certificate",
+        ErrorKind::InvalidValue,
+    ),
+    (
+        "height_office check a --certificate c --benchmarks",
+        ErrorKind::InvalidValue,
+    ),
+    (
+        "height_office check a --benchmarks m --certificate c --weights",
         ErrorKind::InvalidValue,
     ),
     // Each is doubled.
@@ -240,9 +313,29 @@ const WRONG_WORDS: [(&str, ErrorKind); 35] = [
         "height_office check a --benchmarks m --certificate c --certificate c",
         ErrorKind::ArgumentConflict,
     ),
+    (
+        "height_office check a --benchmarks m --benchmarks m --certificate c",
+        ErrorKind::ArgumentConflict,
+    ),
+    (
+        "height_office check a --benchmarks m --weights w --weights w --certificate c",
+        ErrorKind::ArgumentConflict,
+    ),
     // An option of the other command.
     (
         "height_office check a --benchmarks m --certificate c --out p",
+        ErrorKind::UnknownArgument,
+    ),
+    (
+        "height_office check a --benchmarks m --certificate c --blunder 500",
+        ErrorKind::UnknownArgument,
+    ),
+    (
+        "height_office list a --benchmarks m",
+        ErrorKind::UnknownArgument,
+    ),
+    (
+        "height_office adjust a --benchmark m --out p",
         ErrorKind::UnknownArgument,
     ),
     (

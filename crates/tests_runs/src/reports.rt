@@ -1,0 +1,277 @@
+//! Projects that are adjusted, with the reports and the blocks that are printed.
+use crate::projects::{
+    A_AT_100, LIMIT, MISREAD_SIGHT, ONE_SIGHT, THERE_AND_BACK, TWICE_AND_BACK, sinks, source,
+};
+use std::process::Abort;
+use th_runs::run_adjust;
+
+/// A book, its benchmarks and weights, the limit of blunders, the report, and the heights as blocks.
+type Printed = (
+    &'static [u8],
+    &'static [u8],
+    &'static [u8],
+    i64,
+    &'static str,
+    &'static str,
+);
+
+const PRINTED: [Printed; 8] = [
+    // One sight.
+    (
+        ONE_SIGHT,
+        A_AT_100,
+        b"",
+        LIMIT,
+        "HEIGHT NETWORK REPORT
+points                                 2
+benchmarks                             1
+observations                           1
+cost                                   0
+blunder limit                 0.02000000
+
+POINT                           HEIGHT
+A                         100.00000000  B
+B                         102.54500000
+
+   NO  BK      LINE  FROM              TO                  WT              RESIDUAL
+    1   1         2  A                 B                    1            0.00000000
+
+blunders                               0
+
+opposites                              0
+",
+        "*110001+000000000000000A 83..48+0000000010000000 \r
+*110002+000000000000000B 83..48+0000000010254500 \r
+",
+    ),
+    // Of three sights the last is a blunder above 2 cm, and above a hair less than its residual,
+    // but not above just that.
+    (
+        MISREAD_SIGHT,
+        A_AT_100,
+        b"",
+        LIMIT,
+        "HEIGHT NETWORK REPORT
+points                                 2
+benchmarks                             1
+observations                           3
+cost                           100000000
+blunder limit                 0.02000000
+
+POINT                           HEIGHT
+A                         100.00000000  B
+B                         102.54600000
+
+   NO  BK      LINE  FROM              TO                  WT              RESIDUAL
+    1   1         2  A                 B                    1           -0.00100000
+    2   1         3  A                 B                    1            0.00000000
+    3   1         4  A                 B                    1            0.99900000  *
+
+blunders                               1
+    3   1         4  A                 B                    1            0.99900000  *
+
+opposites                              0
+",
+        "*110001+000000000000000A 83..48+0000000010000000 \r
+*110002+000000000000000B 83..48+0000000010254600 \r
+",
+    ),
+    (
+        MISREAD_SIGHT,
+        A_AT_100,
+        b"",
+        99_899_900,
+        "HEIGHT NETWORK REPORT
+points                                 2
+benchmarks                             1
+observations                           3
+cost                           100000000
+blunder limit                 0.99899900
+
+POINT                           HEIGHT
+A                         100.00000000  B
+B                         102.54600000
+
+   NO  BK      LINE  FROM              TO                  WT              RESIDUAL
+    1   1         2  A                 B                    1           -0.00100000
+    2   1         3  A                 B                    1            0.00000000
+    3   1         4  A                 B                    1            0.99900000  *
+
+blunders                               1
+    3   1         4  A                 B                    1            0.99900000  *
+
+opposites                              0
+",
+        "*110001+000000000000000A 83..48+0000000010000000 \r
+*110002+000000000000000B 83..48+0000000010254600 \r
+",
+    ),
+    (
+        MISREAD_SIGHT,
+        A_AT_100,
+        b"",
+        99_900_000,
+        "HEIGHT NETWORK REPORT
+points                                 2
+benchmarks                             1
+observations                           3
+cost                           100000000
+blunder limit                 0.99900000
+
+POINT                           HEIGHT
+A                         100.00000000  B
+B                         102.54600000
+
+   NO  BK      LINE  FROM              TO                  WT              RESIDUAL
+    1   1         2  A                 B                    1           -0.00100000
+    2   1         3  A                 B                    1            0.00000000
+    3   1         4  A                 B                    1            0.99900000
+
+blunders                               0
+
+opposites                              0
+",
+        "*110001+000000000000000A 83..48+0000000010000000 \r
+*110002+000000000000000B 83..48+0000000010254600 \r
+",
+    ),
+    // The least limit.
+    (
+        MISREAD_SIGHT,
+        A_AT_100,
+        b"",
+        0,
+        "HEIGHT NETWORK REPORT
+points                                 2
+benchmarks                             1
+observations                           3
+cost                           100000000
+blunder limit                 0.00000000
+
+POINT                           HEIGHT
+A                         100.00000000  B
+B                         102.54600000
+
+   NO  BK      LINE  FROM              TO                  WT              RESIDUAL
+    1   1         2  A                 B                    1           -0.00100000  *
+    2   1         3  A                 B                    1            0.00000000
+    3   1         4  A                 B                    1            0.99900000  *
+
+blunders                               2
+    1   1         2  A                 B                    1           -0.00100000  *
+    3   1         4  A                 B                    1            0.99900000  *
+
+opposites                              0
+",
+        "*110001+000000000000000A 83..48+0000000010000000 \r
+*110002+000000000000000B 83..48+0000000010254600 \r
+",
+    ),
+    // A sight back is set beside the one there.
+    (
+        THERE_AND_BACK,
+        A_AT_100,
+        b"from,to,weight\nA,B,3\n",
+        LIMIT,
+        "HEIGHT NETWORK REPORT
+points                                 2
+benchmarks                             1
+observations                           2
+cost                             1000000
+blunder limit                 0.02000000
+
+POINT                           HEIGHT
+A                         100.00000000  B
+B                         102.54500000
+
+   NO  BK      LINE  FROM              TO                  WT              RESIDUAL
+    1   1         2  A                 B                    3            0.00000000
+    2   1         4  B                 A                    1           -0.01000000
+
+blunders                               0
+
+opposites                              1
+    2      1  B                 A                          -0.01000000
+",
+        "*110001+000000000000000A 83..48+0000000010000000 \r
+*110002+000000000000000B 83..48+0000000010254500 \r
+",
+    ),
+    // Each sight is set beside the last one the other way round. The limit is the largest.
+    (
+        TWICE_AND_BACK,
+        A_AT_100,
+        b"",
+        100_000_000_000,
+        "HEIGHT NETWORK REPORT
+points                                 2
+benchmarks                             1
+observations                           4
+cost                             1000000
+blunder limit              1000.00000000
+
+POINT                           HEIGHT
+A                         100.00000000  B
+B                         102.54500000
+
+   NO  BK      LINE  FROM              TO                  WT              RESIDUAL
+    1   1         2  A                 B                    1            0.00000000
+    2   1         3  A                 B                    1            0.00000000
+    3   1         5  B                 A                    1           -0.01000000
+    4   1         7  A                 B                    1            0.00000000
+
+blunders                               0
+
+opposites                              2
+    3      2  B                 A                          -0.01000000
+    4      3  A                 B                          -0.01000000
+",
+        "*110001+000000000000000A 83..48+0000000010000000 \r
+*110002+000000000000000B 83..48+0000000010254500 \r
+",
+    ),
+    // No points.
+    (
+        b"",
+        b"point,height\n",
+        b"",
+        LIMIT,
+        "HEIGHT NETWORK REPORT
+points                                 0
+benchmarks                             0
+observations                           0
+cost                                   0
+blunder limit                 0.02000000
+
+POINT                           HEIGHT
+
+   NO  BK      LINE  FROM              TO                  WT              RESIDUAL
+
+blunders                               0
+
+opposites                              0
+",
+        "",
+    ),
+];
+
+#[test]
+fn prints_the_report_and_the_heights_as_blocks(rt: HostRuntime) {
+    for (book, benchmarks, weights, limit, report, blocks) in PRINTED {
+        let mut books = [source(book)];
+        let mut table = source(benchmarks);
+        let mut factors = Some(source(weights));
+        let mut outs = sinks(&rt);
+        let answer = run_adjust(
+            rt.alloc(),
+            &mut books,
+            &mut table,
+            &mut factors,
+            limit,
+            &mut outs,
+        );
+        assert_eq!(rt; answer, Ok(()), "{report}");
+        assert!(rt; outs.report.bytes() == report.as_bytes(), "{report}");
+        assert!(rt; outs.gsi.bytes() == blocks.as_bytes(), "{report}");
+    }
+}
