@@ -228,8 +228,7 @@ fn makes_networks(rt: HostRuntime) {
     }
 }
 
-/// One network from one book and both tables, which `tests/refused_memory` runs with each allocation
-/// refused in turn: the call that it was refused to then says so, by its name here.
+/// One network from one book and both tables.
 #[test]
 fn makes_one_network(rt: HostRuntime) {
     let alloc = rt.alloc();

@@ -5,7 +5,15 @@
 #[cfg(test)]
 mod adjustments;
 #[cfg(test)]
+mod changed_books;
+#[cfg(test)]
+mod changed_certificates;
+#[cfg(test)]
 mod checks;
+#[cfg(test)]
+mod devices;
+#[cfg(test)]
+mod extremes;
 #[cfg(test)]
 mod failures;
 #[cfg(test)]
