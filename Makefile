@@ -37,7 +37,7 @@ list: build
 
 # `rt run` is what builds; an empty book is listed on the way.
 build:
-	@echo 'proving and building $(PROGRAM): some minutes at first, seconds where nothing changed; the log is $(LOG)'
+	@echo 'proving and building $(PROGRAM): half an hour at first, seconds where nothing changed; the log is $(LOG)'
 	@cd crates/height_office && rt run < /dev/null > ../../$(LOG) 2>&1 || { tail -n 40 ../../$(LOG); exit 1; }
 
 # What `make memory` runs beside the program.
