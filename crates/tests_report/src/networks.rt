@@ -32,6 +32,7 @@ pub struct Tables {
     pub weights: Weights,
 }
 
+/// The tables that two texts say.
 pub fn tables_of(rt: &impl Abort, alloc: Global, benchmarks: &[u8], weights: &[u8]) -> Tables {
     Tables {
         benchmarks: read_benchmarks(alloc, benchmarks).expect(rt, "benchmarks"),
@@ -39,10 +40,12 @@ pub fn tables_of(rt: &impl Abort, alloc: Global, benchmarks: &[u8], weights: &[u
     }
 }
 
+/// The observations of a book without faults.
 pub fn observations_of(rt: &impl Abort, alloc: Global, book: &[u8]) -> Vec<Observation> {
     read_book(alloc, 1, book).expect(rt, "a book")
 }
 
+/// The network of a book over its tables.
 pub fn network_of<'a>(
     rt: &impl Abort,
     alloc: Global,
