@@ -1,9 +1,9 @@
 ghost use Rattle.std.specs.Prelude.{◌≡◌, ◌⊎◌, ◌<◌, ◌≤◌, ◌^◌, ◌+◌, [], Ok, Err, IfErr, IfOk, IfSome, bytes_eq, length, slice_get, unsigned_abs};
-ghost use Rattle.th_tables.specs.Fields.{benchmark_in};
+ghost use Rattle.th_tables.specs.Fields.{benchmark_in, is_benchmarks_header};
 ghost use Rattle.th_tables.specs.Rows.{AreBenchmarks, height_of};
 ghost use Rattle.th_units.specs.Lengths.{max_len};
 ghost use Rattle.th_tables.specs.Limits.{max_table};
-ghost use Rattle.th_tables.specs.Tables.{benchmarks_of, no_memory, rows_after, too_long};
+ghost use Rattle.th_tables.specs.Tables.{benchmarks_of, no_memory, rows_after, rows_under, too_long};
 
 use crate::faults::{TableFault, TableKind};
 use crate::fields::{benchmark_in, is_benchmarks_header};
@@ -65,9 +65,26 @@ pub fn read_benchmarks(alloc: Global, bytes: &[u8]) -> Result<Benchmarks, TableF
     if bytes.len() > MAX_TABLE {
         return Err(TableFault::TOO_LONG);
     }
-    let mut reader = RecordReader::open(alloc, bytes);
-    let mut record = Record::new(alloc);
-    if !reader.next(&mut record)? || !is_benchmarks_header(&record) {
+    read_table(
+        alloc,
+        &mut RecordReader::open(alloc, bytes),
+        &mut Record::new(alloc),
+    )
+}
+
+/// The benchmarks of the records of a table, the first of which is its header.
+fn read_table(
+    alloc: Global,
+    reader: &mut RecordReader<'_>,
+    record: &mut Record,
+) -> Result<Benchmarks, TableFault>
+    requires { length reader.old.records + 1 < 2 ^ 32 }
+    ensures table { IfOk result (λ table. rows_under bytes_eq benchmark_in is_benchmarks_header reader.old.records ≡ Ok table) }
+    ensures rows { IfOk result (λ table. AreBenchmarks table) }
+    ensures fault { IfErr result (λ fault. (fault ≡ no_memory)
+        ⊎ (rows_under bytes_eq benchmark_in is_benchmarks_header reader.old.records ≡ Err fault)) }
+{
+    if !reader.next(record)? || !is_benchmarks_header(record) {
         return Err(TableFault::BAD_HEADER);
     }
     read_rows(alloc, reader, record)
@@ -76,19 +93,19 @@ pub fn read_benchmarks(alloc: Global, bytes: &[u8]) -> Result<Benchmarks, TableF
 /// The benchmarks of the records that a reader has left, the first of which is record 2.
 fn read_rows(
     alloc: Global,
-    mut reader: RecordReader<'_>,
-    mut record: Record,
+    reader: &mut RecordReader<'_>,
+    record: &mut Record,
 ) -> Result<Benchmarks, TableFault>
-    requires { length reader.records + 2 < 2 ^ 32 }
-    ensures table { IfOk result (λ table. rows_after bytes_eq benchmark_in [] reader.entry.records ≡ Ok table) }
+    requires { length reader.old.records + 2 < 2 ^ 32 }
+    ensures table { IfOk result (λ table. rows_after bytes_eq benchmark_in [] reader.old.records ≡ Ok table) }
     ensures rows { IfOk result (λ table. AreBenchmarks table) }
-    ensures fault { IfErr result (λ fault. (fault ≡ no_memory) ⊎ (rows_after bytes_eq benchmark_in [] reader.entry.records ≡ Err fault)) }
+    ensures fault { IfErr result (λ fault. (fault ≡ no_memory) ⊎ (rows_after bytes_eq benchmark_in [] reader.old.records ≡ Err fault)) }
 {
     let mut heights = IndexMap::new(alloc);
     let mut row = 1;
-    'records: while reader.next(&mut record)? {
+    'records: while reader.next(record)? {
         row += 1;
-        let (name, height) = match benchmark_in(&record) {
+        let (name, height) = match benchmark_in(record) {
             Ok(benchmark) => benchmark,
             Err(kind) => return Err(TableFault { row, kind }),
         };

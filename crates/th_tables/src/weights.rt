@@ -1,8 +1,8 @@
 ghost use Rattle.std.specs.Prelude.{◌≡◌, ◌⊎◌, ◌<◌, ◌≤◌, ◌^◌, ◌+◌, [], Ok, Err, IfErr, IfOk, length};
-ghost use Rattle.th_tables.specs.Fields.{weighted_in};
+ghost use Rattle.th_tables.specs.Fields.{is_weights_header, weighted_in};
 ghost use Rattle.th_tables.specs.Limits.{max_table, max_weight};
 ghost use Rattle.th_tables.specs.Rows.{AreWeights, same_ends, weight_of};
-ghost use Rattle.th_tables.specs.Tables.{no_memory, rows_after, too_long, weights_of};
+ghost use Rattle.th_tables.specs.Tables.{no_memory, rows_after, rows_under, too_long, weights_of};
 
 use crate::faults::{TableFault, TableKind};
 use crate::fields::{is_weights_header, weighted_in};
@@ -72,9 +72,26 @@ pub fn read_weights(alloc: Global, bytes: &[u8]) -> Result<Weights, TableFault>
     if bytes.len() > MAX_TABLE {
         return Err(TableFault::TOO_LONG);
     }
-    let mut reader = RecordReader::open(alloc, bytes);
-    let mut record = Record::new(alloc);
-    if !reader.next(&mut record)? || !is_weights_header(&record) {
+    read_table(
+        alloc,
+        &mut RecordReader::open(alloc, bytes),
+        &mut Record::new(alloc),
+    )
+}
+
+/// The weights of the records of a table, the first of which is its header.
+fn read_table(
+    alloc: Global,
+    reader: &mut RecordReader<'_>,
+    record: &mut Record,
+) -> Result<Weights, TableFault>
+    requires { length reader.old.records + 1 < 2 ^ 32 }
+    ensures table { IfOk result (λ table. rows_under same_ends weighted_in is_weights_header reader.old.records ≡ Ok table) }
+    ensures rows { IfOk result (λ table. AreWeights table) }
+    ensures fault { IfErr result (λ fault. (fault ≡ no_memory)
+        ⊎ (rows_under same_ends weighted_in is_weights_header reader.old.records ≡ Err fault)) }
+{
+    if !reader.next(record)? || !is_weights_header(record) {
         return Err(TableFault::BAD_HEADER);
     }
     read_rows(alloc, reader, record)
@@ -83,19 +100,19 @@ pub fn read_weights(alloc: Global, bytes: &[u8]) -> Result<Weights, TableFault>
 /// The weights of the records that a reader has left, the first of which is record 2.
 fn read_rows(
     alloc: Global,
-    mut reader: RecordReader<'_>,
-    mut record: Record,
+    reader: &mut RecordReader<'_>,
+    record: &mut Record,
 ) -> Result<Weights, TableFault>
-    requires { length reader.records + 2 < 2 ^ 32 }
-    ensures table { IfOk result (λ table. rows_after same_ends weighted_in [] reader.entry.records ≡ Ok table) }
+    requires { length reader.old.records + 2 < 2 ^ 32 }
+    ensures table { IfOk result (λ table. rows_after same_ends weighted_in [] reader.old.records ≡ Ok table) }
     ensures rows { IfOk result (λ table. AreWeights table) }
-    ensures fault { IfErr result (λ fault. (fault ≡ no_memory) ⊎ (rows_after same_ends weighted_in [] reader.entry.records ≡ Err fault)) }
+    ensures fault { IfErr result (λ fault. (fault ≡ no_memory) ⊎ (rows_after same_ends weighted_in [] reader.old.records ≡ Err fault)) }
 {
     let mut weights = IndexMap::new(alloc);
     let mut row = 1;
-    'records: while reader.next(&mut record)? {
+    'records: while reader.next(record)? {
         row += 1;
-        let (ends, weight) = match weighted_in(&record) {
+        let (ends, weight) = match weighted_in(record) {
             Ok(weighted) => weighted,
             Err(kind) => return Err(TableFault { row, kind }),
         };

@@ -6,7 +6,7 @@ use Rattle.th_tables.proofs.benchmarks.read_rows.Given as goal
 
 abbrev pub invariant-records : goal.invariant-records
 invariant-records l = record {
-  read : ReadUpTo bytes_eq benchmark_in l.fn.reader.records l.reader.records l.heights.entries l.row;
+  read : ReadUpTo bytes_eq benchmark_in l.initial.reader.records l.reader.records l.heights.entries l.row;
   valid : AreBenchmarks l.heights.entries;
 }
 

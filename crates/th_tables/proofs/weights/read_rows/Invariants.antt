@@ -6,7 +6,7 @@ use Rattle.th_tables.proofs.weights.read_rows.Given as goal
 
 abbrev pub invariant-records : goal.invariant-records
 invariant-records l = record {
-  read : ReadUpTo same_ends weighted_in l.fn.reader.records l.reader.records l.weights.entries l.row;
+  read : ReadUpTo same_ends weighted_in l.initial.reader.records l.reader.records l.weights.entries l.row;
   valid : AreWeights l.weights.entries;
 }
 
