@@ -1,6 +1,6 @@
 ghost use Rattle.std.specs.Prelude.{◌≡◌, ◌⊎◌, ◌<◌, ◌^◌, ◌+◌, Ok, Err, IfErr, IfOk, length};
 ghost use Rattle.th_certificate.specs.Faults.{no_memory, too_long};
-ghost use Rattle.th_certificate.specs.Reading.{certificate_after, certificate_of, ended, in_version_2, is_header, longest_certificate};
+ghost use Rattle.th_certificate.specs.Reading.{certificate_after, certificate_in, certificate_of, ended, in_version_2, is_header, longest_certificate};
 
 use crate::certificates::Certificate;
 use crate::drafts::Draft;
@@ -24,18 +24,35 @@ pub fn read_certificate(alloc: Global, bytes: &[u8]) -> Result<Certificate, Cert
     if bytes.len() > MAX_CERTIFICATE {
         return Err(CertFault::TOO_LONG);
     }
-    let mut reader = RecordReader::open(alloc, bytes);
-    let mut record = Record::new(alloc);
-    if !reader.next(&mut record)? || !is_header(&record) {
+    read_records(
+        alloc,
+        &mut RecordReader::open(alloc, bytes),
+        &mut Record::new(alloc),
+    )
+}
+
+/// The certificate of records, the first of which is the header.
+fn read_records(
+    alloc: Global,
+    reader: &mut RecordReader,
+    record: &mut Record,
+) -> Result<Certificate, CertFault>
+    requires few { length reader.old.records + 2 < 2 ^ 32 }
+    ensures certificate { IfOk result (λ certificate.
+        certificate_in reader.old.records ≡ Ok certificate) }
+    ensures fault { IfErr result (λ fault.
+        (fault ≡ no_memory) ⊎ (certificate_in reader.old.records ≡ Err fault)) }
+{
+    if !reader.next(record)? || !is_header(record) {
         return Err(CertFault::BAD_HEADER);
     }
-    if !reader.next(&mut record)? {
+    if !reader.next(record)? {
         return Err(CertFault {
             row: 2,
             kind: CertKind::Truncated,
         });
     }
-    match Draft::begin(alloc, &record) {
+    match Draft::begin(alloc, record) {
         Ok(draft) => read_rows(reader, record, draft),
         Err(kind) => Err(CertFault { row: 2, kind }),
     }
@@ -55,26 +72,43 @@ fn is_header(fields: &Record) -> bool
 
 /// The certificate of a draft and the records that a reader has left, the first of which is record 3.
 fn read_rows(
-    mut reader: RecordReader,
-    mut record: Record,
+    reader: &mut RecordReader,
+    record: &mut Record,
     mut draft: Draft,
 ) -> Result<Certificate, CertFault>
-    requires few { length reader.records + 4 < 2 ^ 32 }
+    requires few { length reader.old.records + 4 < 2 ^ 32 }
     ensures certificate { IfOk result (λ certificate.
-        certificate_after reader.entry.records 3 draft ≡ Ok certificate) }
+        certificate_after reader.old.records 3 draft ≡ Ok certificate) }
     ensures fault { IfErr result (λ fault.
-        (fault ≡ no_memory) ⊎ (certificate_after reader.entry.records 3 draft ≡ Err fault)) }
+        (fault ≡ no_memory) ⊎ (certificate_after reader.old.records 3 draft ≡ Err fault)) }
+{
+    let row = add_rows(reader, record, &mut draft)?;
+    certificate_of_draft(row, draft)
+}
+
+/// Adds the records that a reader has left, the first of which is record 3, to a draft. Answers the
+/// number of the record after the last one.
+fn add_rows(
+    reader: &mut RecordReader,
+    record: &mut Record,
+    draft: &mut Draft,
+) -> Result<u32, CertFault>
+    requires few { length reader.old.records + 4 < 2 ^ 32 }
+    ensures ended { IfOk result (λ row.
+        certificate_after reader.old.records 3 draft.old ≡ ended row draft.new draft.new.cost) }
+    ensures fault { IfErr result (λ fault.
+        (fault ≡ no_memory) ⊎ (certificate_after reader.old.records 3 draft.old ≡ Err fault)) }
 {
     let mut row = 3;
-    'records: while reader.next(&mut record)? {
-        let statement = match draft.statement_of(&record) {
+    'records: while reader.next(record)? {
+        let statement = match draft.statement_of(record) {
             Ok(statement) => statement,
             Err(kind) => return Err(CertFault { row, kind }),
         };
         draft.add(statement)?;
         row += 1;
     }
-    certificate_of_draft(row, draft)
+    Ok(row)
 }
 
 /// The certificate of a draft at the end of the records, where the record after the last one has this
