@@ -62,9 +62,6 @@ not be read, or the answer not written";
 pub(crate) fn command_line<'a>(alloc: Global) -> Result<Command<'a>, AllocError>
     ensures { IfOk result (λ command. app_of command ≡ command_line) }
 {
-    let list = list_command(alloc)?;
-    let adjust = adjust_command(alloc)?;
-    let check = check_command(alloc)?;
     Command::new(alloc, "height_office")
         .about(
             "Adjusts networks of heights that total stations observed, by least absolute residuals",
@@ -73,9 +70,9 @@ pub(crate) fn command_line<'a>(alloc: Global) -> Result<Command<'a>, AllocError>
         .override_usage(USAGE)
         .after_help(AFTER_HELP)
         .subcommand_required(true)
-        .subcommand(list)?
-        .subcommand(adjust)?
-        .subcommand(check)
+        .subcommand(list_command(alloc)?)?
+        .subcommand(adjust_command(alloc)?)?
+        .subcommand(check_command(alloc)?)
 }
 
 /// `list BOOK`.
