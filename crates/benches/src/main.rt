@@ -6,7 +6,9 @@
 //! - `network`: the reading of a large book, the reading of its tables, and the building of their network;
 //! - `settle`, with a book, its benchmarks and its weights: settling, and finding the spans;
 //! - `certificate`: the writing, the reading and the checking of a certificate, beside the reading of its
-//!   book; it is written to a file, if one is named.
+//!   book; it is written to a file, if one is named;
+//! - `adjust`, with a book, its benchmarks, its weights and a prefix: each stage of an adjustment, which is
+//!   written to files of the prefix, and the listing of its book.
 //!
 //! The best time of each step is printed. Without two words nothing is done.
 #![tactic(auto)]
@@ -18,6 +20,7 @@ mod times;
 mod writing;
 
 // The measurements.
+mod adjust;
 mod certificate;
 mod network;
 mod settle;
@@ -36,6 +39,7 @@ fn main(rt: HostRuntime) -> Result<()> {
         "network" => network::measure(&rt, rt.alloc(), repeats),
         "settle" => settle::measure(&rt, rt.alloc(), repeats, files),
         "certificate" => certificate::measure(&rt, rt.alloc(), repeats, files),
-        _ => Err(anyhow!("network, settle or certificate")),
+        "adjust" => adjust::measure(&rt, rt.alloc(), repeats, files),
+        _ => Err(anyhow!("network, settle, certificate or adjust")),
     }
 }

@@ -23,7 +23,7 @@ pub fn text_of(alloc: Global, network: &Network, large: &Large) -> Result<Vec<u8
 }
 
 /// These heights, where they are in their range and there is one for each point.
-fn heights_of(alloc: Global, network: &Network, units: &[i64]) -> Result<Heights>
+pub fn heights_of(alloc: Global, network: &Network, units: &[i64]) -> Result<Heights>
     ensures { IfOk result (λ heights. AreAtPoints network.now heights) }
 {
     let mut heights = Vec::new(alloc);
@@ -40,7 +40,7 @@ fn heights_of(alloc: Global, network: &Network, units: &[i64]) -> Result<Heights
 }
 
 /// These flows, where they are in their range and there is one for each observation.
-fn flows_of(alloc: Global, network: &Network, units: &[i64]) -> Result<Flows>
+pub fn flows_of(alloc: Global, network: &Network, units: &[i64]) -> Result<Flows>
     ensures { IfOk result (λ flows. AreOfObservations network.now flows) }
 {
     let mut flows = Vec::new(alloc);
