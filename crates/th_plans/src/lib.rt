@@ -16,8 +16,6 @@ mod plans;
 // The words of the command line.
 mod command_lines;
 mod commands;
-#[cfg(test)]
-mod tests;
 
 pub use blunder_limits::Limit;
 pub use books::Books;

@@ -1,5 +1,5 @@
 use Rattle.std.proofs.Common.{◌≤◌, All, unsigned_abs}
-use Rattle.bench_certificate.proofs.writing.flows_of.Given as goal
+use Rattle.benches.proofs.writing.flows_of.Given as goal
 
 abbrev pub invariant-loop-flow : goal.invariant-loop-flow
 invariant-loop-flow l = All (λ flow. unsigned_abs flow ≤ 1000) l.flows.items

@@ -2,7 +2,7 @@ ghost use Rattle.std.specs.Prelude.{◌≡◌, ◌≤◌, All, IfOk, length, uns
 ghost use Rattle.th_certificate.specs.Texts.{AreOfObservations};
 ghost use Rattle.th_network.specs.Networks.{AreAtPoints};
 
-use crate::inputs::Inputs;
+use crate::large::Large;
 use anyhow::{Result, anyhow};
 use std::alloc::Global;
 use th_certificate::write_certificate;
@@ -10,20 +10,20 @@ use th_circulation::{Flows, Heights, Settled, Spans};
 use th_network::Network;
 
 /// The text of the certificate of a network, whose lowest and highest best heights are the heights.
-pub fn text_of(alloc: Global, network: &Network, inputs: &Inputs) -> Result<Vec<u8>> {
+pub fn text_of(alloc: Global, network: &Network, large: &Large) -> Result<Vec<u8>> {
     let settled = Settled {
-        heights: heights_of(alloc, network, &inputs.heights)?,
-        flows: flows_of(alloc, network, &inputs.flows)?,
+        heights: heights_of(alloc, network, &large.heights)?,
+        flows: flows_of(alloc, network, &large.flows)?,
     };
     let spans = Spans {
-        low: heights_of(alloc, network, &inputs.heights)?,
-        high: heights_of(alloc, network, &inputs.heights)?,
+        low: heights_of(alloc, network, &large.heights)?,
+        high: heights_of(alloc, network, &large.heights)?,
     };
     Ok(write_certificate(alloc, network, &settled, &spans)?)
 }
 
 /// These heights, where they are in their range and there is one for each point.
-fn heights_of(alloc: Global, network: &Network, units: &[i64]) -> Result<Heights>
+pub fn heights_of(alloc: Global, network: &Network, units: &[i64]) -> Result<Heights>
     ensures { IfOk result (λ heights. AreAtPoints network.now heights) }
 {
     let mut heights = Vec::new(alloc);
@@ -40,7 +40,7 @@ fn heights_of(alloc: Global, network: &Network, units: &[i64]) -> Result<Heights
 }
 
 /// These flows, where they are in their range and there is one for each observation.
-fn flows_of(alloc: Global, network: &Network, units: &[i64]) -> Result<Flows>
+pub fn flows_of(alloc: Global, network: &Network, units: &[i64]) -> Result<Flows>
     ensures { IfOk result (λ flows. AreOfObservations network.now flows) }
 {
     let mut flows = Vec::new(alloc);

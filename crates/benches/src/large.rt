@@ -1,5 +1,6 @@
 ghost use Rattle.std.specs.Prelude.{◌<◌, unsigned_abs};
 
+use crate::texts::Texts;
 use std::alloc::{AllocError, Global};
 use th_network::{MAX_OBSERVATIONS, MAX_POINTS};
 
@@ -19,37 +20,39 @@ const INSTRUMENT_OVER_REFLECTOR: i64 = 200;
 /// How far a blunder is off, in millimetres.
 const BLUNDER: i64 = 5_000;
 
-/// A book with a setup at each point and sights from it to the next ones, the tables of some
-/// benchmarks and of a weight for each pair of points, and the best heights with flows that show them.
+/// A network that is as large as one may be: a book with a setup at each point and sights from it to the
+/// next ones, the tables of some benchmarks and of a weight for each pair of points that is sighted, and
+/// the best heights with flows that show them.
 ///
 /// All points hang together by exact sights. The others come in pairs, the one too high by a blunder
 /// and the other too low by as much: their flows are the whole weight there and back.
 #[derive(Drop)]
-pub struct Inputs {
-    pub book: Vec<u8>,
-    pub benchmarks: Vec<u8>,
-    pub weights: Vec<u8>,
+pub struct Large {
+    pub texts: Texts,
     /// In the order of the points, in units of 10 nm.
     pub heights: Vec<i64>,
     /// In the order of the observations.
     pub flows: Vec<i64>,
 }
 
-impl Inputs {
-    /// The inputs of a network that is as large as one may be.
-    pub fn new(alloc: Global) -> Result<Inputs, AllocError> {
-        let mut inputs = Inputs {
+impl Large {
+    /// The network, point by point.
+    pub fn new(alloc: Global) -> Result<Large, AllocError> {
+        let texts = Texts {
             book: Vec::new(alloc),
             benchmarks: b"point,height\n".to_vec(alloc)?,
             weights: b"from,to,weight\n".to_vec(alloc)?,
+        };
+        let mut large = Large {
+            texts,
             heights: Vec::new(alloc),
             flows: Vec::new(alloc),
         };
         for point in 0..MAX_POINTS {
-            inputs.add_point(alloc, point)?;
-            inputs.add_setup(alloc, point)?;
+            large.add_point(alloc, point)?;
+            large.add_setup(alloc, point)?;
         }
-        Ok(inputs)
+        Ok(large)
     }
 
     /// Adds a point's height, and its row where it is a benchmark.
@@ -59,7 +62,7 @@ impl Inputs {
         if point % POINTS_PER_BENCHMARK == 0 {
             let (metres, rest) = (height / 1_000, height % 1_000);
             let row = format!(in alloc; "P{point:04},{metres}.{rest:03}\n")?;
-            self.benchmarks.extend_from_slice(row.as_bytes())?;
+            self.texts.benchmarks.extend_from_slice(row.as_bytes())?;
         }
         Ok(())
     }
@@ -71,12 +74,12 @@ impl Inputs {
         let setup = format!(in alloc;
             "110001+000P{point:04} 84..10+00000000 85..10+00000000 86..10+00100000 88..10+00001500 \n"
         )?;
-        self.book.extend_from_slice(setup.as_bytes())?;
+        self.texts.book.extend_from_slice(setup.as_bytes())?;
         for step in 1..=DIRECTIONS {
             let target = (point + step) % MAX_POINTS;
             let weight = 1 + (point + step) % 9;
             let row = format!(in alloc; "P{point:04},P{target:04},{weight}\n")?;
-            self.weights.extend_from_slice(row.as_bytes())?;
+            self.texts.weights.extend_from_slice(row.as_bytes())?;
             let rise = i64::from(height_of(target)) - i64::from(height_of(point));
             if step == 1 || step == DIRECTIONS {
                 self.add_sight(alloc, target, rise, 0)?;
@@ -100,7 +103,7 @@ impl Inputs {
     {
         let word = rise - INSTRUMENT_OVER_REFLECTOR;
         let line = format!(in alloc; "110002+000P{target:04} 33..00{word:+09} 87..10+00001300 \n")?;
-        self.book.extend_from_slice(line.as_bytes())?;
+        self.texts.book.extend_from_slice(line.as_bytes())?;
         self.flows.push(flow)?;
         Ok(())
     }

@@ -1,23 +1,15 @@
-//! Times the settling of a network, and the finding of the lowest and highest best heights.
-//!
-//! The words of the command line name the book, its benchmarks and its weights, and say how often to
-//! repeat. One line is printed: the best time of `settle` and that of `spans` in microseconds, the
-//! steps, the calls of the search, and what the flows gain, which is what the heights cost. Without
-//! words nothing is done.
-#![tactic(auto)]
-
+//! The settling of a network, and the finding of the lowest and highest best heights.
 ghost use Rattle.std.specs.Prelude.{◌≡◌, length};
 ghost use Rattle.th_network.specs.Circulation.{Circulation, Shows};
 ghost use Rattle.th_network.specs.Heights.{IsHeights, heights_at};
 ghost use Rattle.th_network.specs.Networks.{points_of};
 
-mod inputs;
-
-use anyhow::{Context, Result, anyhow};
-use inputs::Inputs;
+use crate::texts::Texts;
+use crate::times::keep_least;
+use anyhow::{Result, anyhow};
 use std::alloc::Global;
-use std::env;
-use std::rt::{Clock, Env};
+use std::fs;
+use std::rt::{Clock, Files};
 use std::time::{Duration, Instant};
 use th_circulation::{Settled, Steps, settle, spans};
 use th_network::Network;
@@ -26,29 +18,37 @@ use th_search::LabelSearch;
 /// How often a search is called more than steps are counted.
 const PHASES: u128 = 44;
 
-/// What one settling took and gave.
+/// What one settling took, the finding of the spans behind it, and what it gave.
 #[derive(Clone, Copy)]
 struct Run {
-    settling: Duration,
-    spanning: Duration,
+    times: [Duration; 2],
     steps: u128,
     gain: i128,
 }
 
-fn main(rt: HostRuntime) -> Result<()> {
-    let words: Vec<String> = env::args(&rt)?.collect(rt.alloc())?;
-    if words.len() != 5 {
-        return Ok(());
-    }
-    let repeats = words[4].parse::<u32>().context("how often to repeat")?;
-    let inputs = Inputs::read(&rt, words[1].as_str(), words[2].as_str(), words[3].as_str())?;
-    let best = best_run(&rt, rt.alloc(), inputs, repeats)?;
-    print_run(&rt, best)
+/// Reads a book, its benchmarks and its weights from the files, and prints one line: the best time of
+/// `settle` and that of `spans` in microseconds, the steps, the calls of the search, and what the flows
+/// gain, which is what the heights cost.
+pub fn measure<R: Clock + Files + Print + Alloc<A = Global>>(
+    rt: &R,
+    alloc: Global,
+    repeats: u32,
+    files: &[String],
+) -> Result<()> {
+    let [book, benchmarks, weights] = files else {
+        return Err(anyhow!("a book, benchmarks and weights"));
+    };
+    let texts = Texts {
+        book: fs::read(rt, book.as_str())?,
+        benchmarks: fs::read(rt, benchmarks.as_str())?,
+        weights: fs::read(rt, weights.as_str())?,
+    };
+    let run = best_run(rt, alloc, &texts, repeats)?;
+    print_run(rt, &run)
 }
 
-fn print_run(out: &impl Print, run: Run) -> Result<()> {
-    let settling = run.settling.as_micros();
-    let spanning = run.spanning.as_micros();
+fn print_run(out: &impl Print, run: &Run) -> Result<()> {
+    let [settling, spanning] = run.times.map(|time| time.as_micros());
     let steps = run.steps;
     let calls = steps.wrapping_add(PHASES);
     let gain = run.gain;
@@ -57,30 +57,14 @@ fn print_run(out: &impl Print, run: Run) -> Result<()> {
 }
 
 /// What the settlings of a network give, which is always the same, with the best times.
-fn best_run(clock: &impl Clock, alloc: Global, inputs: Inputs, repeats: u32) -> Result<Run> {
-    let Inputs {
-        observations,
-        benchmarks,
-        weights,
-    } = inputs;
-    let network = Network::build(alloc, observations, &benchmarks, &weights).map_err(|_| anyhow!(
-        "the network"
-    ))?;
+fn best_run(clock: &impl Clock, alloc: Global, texts: &Texts, repeats: u32) -> Result<Run> {
+    let tables = texts.tables(alloc)?;
+    let network = tables.network(alloc, texts.observations(alloc)?)?;
     let mut best = once(clock, alloc, &network)?;
     for _ in 0..repeats {
-        best = best_of(best, once(clock, alloc, &network)?);
+        keep_least(&mut best.times, &once(clock, alloc, &network)?.times);
     }
     Ok(best)
-}
-
-/// A run with the lesser time of each step.
-fn best_of(best: Run, run: Run) -> Run {
-    Run {
-        settling: best.settling.min(run.settling),
-        spanning: best.spanning.min(run.spanning),
-        steps: run.steps,
-        gain: run.gain,
-    }
 }
 
 /// Settles a network once, and finds its spans.
@@ -92,8 +76,7 @@ fn once(clock: &impl Clock, alloc: Global, network: &Network) -> Result<Run> {
     let settling = start.elapsed(clock)?;
     let spanning = time_of_spans(clock, alloc, network, &settled)?;
     Ok(Run {
-        settling,
-        spanning,
+        times: [settling, spanning],
         steps: steps.count(),
         gain: gain_of(network, &settled),
     })

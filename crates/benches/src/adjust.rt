@@ -1,0 +1,189 @@
+//! The stages of an adjustment, and beside them the listing of its book.
+ghost use Rattle.std.specs.Prelude.{◌≡◌, length};
+ghost use Rattle.th_network.specs.Circulation.{Circulation, Shows};
+ghost use Rattle.th_network.specs.Heights.{IsHeights, heights_at};
+ghost use Rattle.th_network.specs.Networks.{AreAtPoints, points_of};
+
+use crate::texts::{Tables, Texts};
+use crate::times::{keep_least, print_times};
+use crate::writing::{flows_of, heights_of};
+use anyhow::{Result, anyhow};
+use std::alloc::Global;
+use std::fs;
+use std::rt::{Clock, Files};
+use std::time::{Duration, Instant};
+use th_book::{Observation, read_book};
+use th_certificate::write_certificate;
+use th_circulation::{Settled, Spans, Steps, settle, spans};
+use th_network::Network;
+use th_report::{heights_csv, heights_gsi, list_text, report_text};
+use th_search::LabelSearch;
+
+/// What is timed.
+const STAGES: [&str; 7] = [
+    "reading", "network", "settling", "spans", "texts", "writing", "listing",
+];
+
+/// What the names of the written files end with.
+const ENDINGS: [&str; 4] = [
+    "heights.csv",
+    "certificate.csv",
+    "report.txt",
+    "heights.gsi",
+];
+
+/// The residual above which an observation is reported, in units of 10 nm: 1 mm.
+const LIMIT: i64 = 100_000;
+
+/// Adjusts the network of a book, its benchmarks and its weights as `height_office adjust` does, writes
+/// to files of a prefix, and prints the best time of each stage; the last is the listing of the book,
+/// with the reading and the writing that belong to it.
+pub fn measure<R: Clock + Files + Print + Alloc<A = Global>>(
+    rt: &R,
+    alloc: Global,
+    repeats: u32,
+    files: &[String],
+) -> Result<()> {
+    let [book, benchmarks, weights, prefix] = files else {
+        return Err(anyhow!("a book, benchmarks, weights and a prefix"));
+    };
+    let inputs = [book.as_str(), benchmarks.as_str(), weights.as_str()];
+    let mut best = once(rt, alloc, inputs, prefix.as_str())?;
+    for _ in 0..repeats {
+        keep_least(&mut best, &once(rt, alloc, inputs, prefix.as_str())?);
+    }
+    print_times(rt, &STAGES, &best)
+}
+
+/// Takes the time of each stage once.
+fn once<R: Clock + Files + Alloc<A = Global>>(
+    rt: &R,
+    alloc: Global,
+    inputs: [&str; 3],
+    prefix: &str,
+) -> Result<[Duration; 7]> {
+    let [book, benchmarks, weights] = inputs;
+    let listing = time_of_listing(rt, alloc, book, prefix)?;
+    let start = Instant::now(rt)?;
+    let texts = Texts {
+        book: fs::read(rt, book)?,
+        benchmarks: fs::read(rt, benchmarks)?,
+        weights: fs::read(rt, weights)?,
+    };
+    let observations = texts.observations(alloc)?;
+    let tables = texts.tables(alloc)?;
+    let reading = start.elapsed(rt)?;
+    let [network, settling, spans, texts, writing] = times_of_adjusting(
+        rt,
+        alloc,
+        observations,
+        &tables,
+        prefix,
+    )?;
+    Ok([reading, network, settling, spans, texts, writing, listing])
+}
+
+/// How long it takes to read a book, to make its list and to write that.
+fn time_of_listing<R: Clock + Files + Alloc<A = Global>>(
+    rt: &R,
+    alloc: Global,
+    book: &str,
+    prefix: &str,
+) -> Result<Duration> {
+    let start = Instant::now(rt)?;
+    let bytes = fs::read(rt, book)?;
+    let list = list_of(alloc, &bytes)?;
+    write_text(rt, alloc, prefix, "list.csv", &list)?;
+    let time = start.elapsed(rt)?;
+    Ok(time)
+}
+
+/// The list of a book.
+fn list_of(alloc: Global, bytes: &[u8]) -> Result<Vec<u8>> {
+    let observations = read_book(alloc, 1, bytes).map_err(|_| anyhow!("the book"))?;
+    Ok(list_text(alloc, &observations)?)
+}
+
+/// The times of the stages behind the reading.
+fn times_of_adjusting<R: Clock + Files>(
+    rt: &R,
+    alloc: Global,
+    observations: Vec<Observation>,
+    tables: &Tables,
+    prefix: &str,
+) -> Result<[Duration; 5]> {
+    let start = Instant::now(rt)?;
+    let network = tables.network(alloc, observations)?;
+    let building = start.elapsed(rt)?;
+    let start = Instant::now(rt)?;
+    let settled = settle(alloc, &network, &mut LabelSearch::new(), &mut Steps::new())?;
+    let settling = start.elapsed(rt)?;
+    let [spanning, printing, writing] = times_of_printing(rt, alloc, &network, &settled, prefix)?;
+    Ok([building, settling, spanning, printing, writing])
+}
+
+/// The times of the stages behind the settling.
+fn times_of_printing<R: Clock + Files>(
+    rt: &R,
+    alloc: Global,
+    network: &Network,
+    settled: &Settled,
+    prefix: &str,
+) -> Result<[Duration; 3]>
+    requires benchmarks { IsHeights network.now.benchmarks
+        (heights_at (points_of network.now) settled.now.heights) }
+    requires circulation { Circulation network.now.observations network.now.benchmarks
+        network.now.weights settled.now.flows }
+    requires shows { Shows network.now.observations network.now.weights settled.now.flows
+        (heights_at (points_of network.now) settled.now.heights) }
+    requires each { length settled.now.heights ≡ length (points_of network.now) }
+{
+    let start = Instant::now(rt)?;
+    let spans = spans(alloc, network, settled)?;
+    let spanning = start.elapsed(rt)?;
+    let start = Instant::now(rt)?;
+    let outputs = outputs_of(alloc, network, settled, &spans)?;
+    let printing = start.elapsed(rt)?;
+    let start = Instant::now(rt)?;
+    for (ending, text) in ENDINGS.iter().zip(&outputs) {
+        write_text(rt, alloc, prefix, ending, text)?;
+    }
+    let writing = start.elapsed(rt)?;
+    Ok([spanning, printing, writing])
+}
+
+/// The texts that are written of an adjustment, whose heights are the lowest ones.
+fn outputs_of(
+    alloc: Global,
+    network: &Network,
+    settled: &Settled,
+    spans: &Spans,
+) -> Result<[Vec<u8>; 4]>
+    requires low { AreAtPoints network.now spans.now.low }
+    requires high { AreAtPoints network.now spans.now.high }
+{
+    let low = spans.low.as_slice();
+    let printed = Settled {
+        heights: heights_of(alloc, network, low)?,
+        flows: flows_of(alloc, network, settled.flows.as_slice())?,
+    };
+    Ok([
+        heights_csv(alloc, network, low, spans.high.as_slice())?,
+        write_certificate(alloc, network, &printed, spans)?,
+        report_text(alloc, network, low, LIMIT)?,
+        heights_gsi(alloc, network, low)?,
+    ])
+}
+
+/// Writes a text to the file of a prefix and an ending.
+fn write_text(
+    files: &impl Files,
+    alloc: Global,
+    prefix: &str,
+    ending: &str,
+    text: &[u8],
+) -> Result<()> {
+    let name = format!(in alloc; "{prefix}.{ending}")?;
+    fs::write(files, name.as_str(), text)?;
+    Ok(())
+}

@@ -1,0 +1,208 @@
+use std::process::Abort;
+use std::test::Fail;
+use th_plans::{Inputs, Plan, plan};
+
+/// Command lines, and the plans that they name.
+const PLANS: [(&str, &str); 23] = [
+    ("height_office", "standard"),
+    ("height_office list k.gsi", "list k.gsi"),
+    ("height_office list -", "list -"),
+    ("height_office list ", "list "),
+    ("height_office list -- --out", "list --out"),
+    (
+        "height_office adjust --benchmarks m --weights w --blunder 500 --out p a b",
+        "adjust a b by m w limit 50000 out p",
+    ),
+    (
+        "height_office adjust a b --benchmarks m --weights w --blunder 500 --out p",
+        "adjust a b by m w limit 50000 out p",
+    ),
+    (
+        "height_office adjust --out p a --blunder 500 --weights w b --benchmarks m",
+        "adjust a b by m w limit 50000 out p",
+    ),
+    (
+        "height_office adjust a --weights w --benchmarks m b --out p --blunder 500",
+        "adjust a b by m w limit 50000 out p",
+    ),
+    (
+        "height_office adjust --blunder=500 --weights=w --out=p --benchmarks=m a b",
+        "adjust a b by m w limit 50000 out p",
+    ),
+    (
+        "height_office adjust --weights=w a --out p b --benchmarks=m --blunder 0500",
+        "adjust a b by m w limit 50000 out p",
+    ),
+    (
+        "height_office adjust --out p --benchmarks m --blunder +500 --weights w -- a b",
+        "adjust a b by m w limit 50000 out p",
+    ),
+    // What is left out has its default, and a prefix may be empty.
+    (
+        "height_office adjust --benchmarks b --out p k",
+        "adjust k by b limit 2000000 out p",
+    ),
+    (
+        "height_office adjust k --out  --benchmarks m",
+        "adjust k by m limit 2000000 out ",
+    ),
+    (
+        "height_office adjust k --out p --benchmarks m --blunder 0",
+        "adjust k by m limit 0 out p",
+    ),
+    (
+        "height_office adjust k --out p --benchmarks m --blunder=0000000000007",
+        "adjust k by m limit 700 out p",
+    ),
+    (
+        "height_office adjust k --out p --benchmarks m --blunder 1000000000",
+        "adjust k by m limit 100000000000 out p",
+    ),
+    (
+        "height_office check --benchmarks m --certificate c a b",
+        "check a b by m certificate c",
+    ),
+    (
+        "height_office check a b --certificate c --benchmarks m",
+        "check a b by m certificate c",
+    ),
+    (
+        "height_office check --certificate=c --weights=w a --benchmarks=m b",
+        "check a b by m w certificate c",
+    ),
+    (
+        "height_office check a --weights w --certificate c --benchmarks m -- -b",
+        "check a -b by m w certificate c",
+    ),
+    (
+        "height_office adjust 1 2 3 4 5 6 7 8 9 10 11 12 13 14 15 16 --benchmarks m --out p",
+        "adjust 1 2 3 4 5 6 7 8 9 10 11 12 13 14 15 16 by m limit 2000000 out p",
+    ),
+    (
+        "height_office check 1 2 3 4 5 6 7 8 9 10 11 12 13 14 15 16 --benchmarks m --certificate c",
+        "check 1 2 3 4 5 6 7 8 9 10 11 12 13 14 15 16 by m certificate c",
+    ),
+];
+
+#[test]
+fn words_are_a_plan(rt: HostRuntime) {
+    for (words, wanted) in PLANS {
+        is_planned(&rt, words, wanted);
+    }
+}
+
+fn is_planned(rt: &(impl AllocGlobal + Abort), words: &str, wanted: &str) {
+    let split = words_of(rt, words);
+    match &plan(rt.alloc(), split.as_slice()) {
+        Ok(plan) => {
+            let shown = text_of(rt, plan);
+            assert!(rt; shown.as_str() == wanted, "{shown}");
+        }
+        Err(_) => assert!(rt; false, "{words}"),
+    }
+}
+
+/// What stands behind `adjust` and behind `check`, in any order.
+const ADJUSTED: [&str; 5] = [
+    "--benchmarks m",
+    "--weights w",
+    "--blunder 500",
+    "--out p",
+    "a b",
+];
+
+const CHECKED: [&str; 4] = ["--benchmarks m", "--weights w", "--certificate c", "a b"];
+
+#[test]
+fn options_stand_in_every_order(rt: HostRuntime) {
+    for order in 0..120_usize {
+        let words = in_order(&rt, "height_office adjust", &ADJUSTED, order);
+        is_planned(&rt, words.as_str(), "adjust a b by m w limit 50000 out p");
+    }
+    for order in 0..24_usize {
+        let words = in_order(&rt, "height_office check", &CHECKED, order);
+        is_planned(&rt, words.as_str(), "check a b by m w certificate c");
+    }
+}
+
+/// A command with some parts behind it, in the order of this number.
+fn in_order(
+    rt: &(impl AllocGlobal + Abort),
+    command: &str,
+    parts: &[&str],
+    order: usize,
+) -> String {
+    let mut text = String::new(rt.alloc());
+    text.push_str(command).expect(rt, "memory");
+    let mut left = Vec::from_slice(rt.alloc(), parts).expect(rt, "memory");
+    let mut rest = order;
+    for _ in 0..parts.len() {
+        let count = left.len();
+        assert!(rt; count > 0);
+        text.push_str(" ").expect(rt, "memory");
+        text.push_str(left.remove(rest % count))
+            .expect(rt, "memory");
+        rest /= count;
+    }
+    text
+}
+
+/// A plan as the table of plans has it.
+fn text_of(rt: &(impl AllocGlobal + Abort), plan: &Plan<'_>) -> String {
+    match plan {
+        Plan::Standard => format!(in rt.alloc(); "standard").expect(rt, "memory"),
+        Plan::List { book } => format!(in rt.alloc(); "list {book}").expect(rt, "memory"),
+        Plan::Adjust {
+            inputs,
+            limit,
+            prefix,
+        } => {
+            let files = files_text(rt, inputs);
+            let limit = limit.get();
+            format!(in rt.alloc(); "adjust {files} limit {limit} out {prefix}").expect(rt, "memory")
+        }
+        Plan::Check {
+            inputs,
+            certificate,
+        } => {
+            let files = files_text(rt, inputs);
+            format!(in rt.alloc(); "check {files} certificate {certificate}").expect(rt, "memory")
+        }
+    }
+}
+
+/// The books, then the tables.
+fn files_text(rt: &(impl AllocGlobal + Abort), inputs: &Inputs<'_>) -> String {
+    let mut text = String::new(rt.alloc());
+    for name in inputs.books.names() {
+        text.push_str(name).expect(rt, "memory");
+        text.push_str(" ").expect(rt, "memory");
+    }
+    text.push_str("by ").expect(rt, "memory");
+    text.push_str(inputs.benchmarks).expect(rt, "memory");
+    if let Some(weights) = inputs.weights {
+        text.push_str(" ").expect(rt, "memory");
+        text.push_str(weights).expect(rt, "memory");
+    }
+    text
+}
+
+/// The words of a text, which single spaces part.
+pub fn words_of<'a>(rt: &(impl AllocGlobal + Abort), text: &'a str) -> Vec<&'a str> {
+    let mut words = Vec::new(rt.alloc());
+    for word in text.split(' ') {
+        words.push(word).expect(rt, "memory");
+    }
+    words
+}
+
+#[test]
+fn a_long_name_is_a_plan(rt: HostRuntime) -> Result<(), Fail> {
+    let mut listed = "list ".to_string(rt.alloc())?;
+    for _ in 0..512_u16 {
+        listed.push_str("01234567")?;
+    }
+    let words = format!(in rt.alloc(); "height_office {listed}")?;
+    is_planned(&rt, words.as_str(), listed.as_str());
+    Ok(())
+}

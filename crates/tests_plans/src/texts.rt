@@ -1,0 +1,75 @@
+use crate::faults::fault_of;
+use std::process::Abort;
+use th_plans::PlanFault;
+
+const LIMIT_TOO_LARGE: &str =
+    "error: invalid value '1000000001' for '--blunder <MICROMETRES>': 1000000001 is not in 0..=1000000000\n\nFor more information, try '--help'.\n";
+
+const OPTION_MISSING: &str =
+    "error: the following required arguments were not provided:\n  --benchmarks <FILE>\n\nUsage: height_office adjust --benchmarks <FILE> --out <PREFIX> <BOOK>...\n\nFor more information, try '--help'.\n";
+
+const OPTION_DOUBLED: &str =
+    "error: the argument '--out <PREFIX>' cannot be used multiple times\n\nUsage: height_office adjust [OPTIONS] --benchmarks <FILE> --out <PREFIX> <BOOK>...\n\nFor more information, try '--help'.\n";
+
+const NO_COMMAND: &str =
+    "error: unrecognized subcommand 'k.gsi'\n\nUsage: height_office list <BOOK>\n       height_office adjust [OPTIONS] --benchmarks <FILE> --out <PREFIX> <BOOK>...\n       height_office check [OPTIONS] --benchmarks <FILE> --certificate <FILE> <BOOK>...\n       height_office < BOOK        (lists the book on standard input)\n\nFor more information, try '--help'.\n\n  tip: to list the book in a file, write 'height_office list FILE'\n";
+
+/// Words that are no plan, and what is said of them.
+const SAID: [(&str, &str); 5] = [
+    ("height_office --version", "height_office 0.9.0\n"),
+    ("height_office k.gsi", NO_COMMAND),
+    ("height_office adjust a --out p", OPTION_MISSING),
+    (
+        "height_office adjust a --benchmarks m --out p --out q",
+        OPTION_DOUBLED,
+    ),
+    (
+        "height_office adjust a --benchmarks m --out p --blunder 1000000001",
+        LIMIT_TOO_LARGE,
+    ),
+];
+
+/// The text of a fault.
+fn text_of(rt: &(impl AllocGlobal + Abort), fault: &PlanFault) -> String {
+    format!(in rt.alloc(); "{fault}").expect(rt, "memory")
+}
+
+#[test]
+fn a_fault_shows_its_text(rt: HostRuntime) {
+    for (words, text) in SAID {
+        let shown = text_of(&rt, &fault_of(&rt, words));
+        assert!(rt; shown.as_str() == text, "{shown}");
+    }
+    let shown = text_of(&rt, &PlanFault::NoMemory);
+    assert!(rt; shown.as_str() == "out of memory\n");
+    let shown = text_of(&rt, &PlanFault::TooManyBooks);
+    assert!(rt;
+        shown.as_str() == "error: more than 16 books\n\nFor more information, try '--help'.\n"
+    );
+}
+
+/// Words that ask for help, and an example in it.
+const HELPS: [(&str, &str); 4] = [
+    (
+        "height_office --help",
+        "height_office adjust --benchmarks marks.csv --out dam monday.gsi tuesday.gsi",
+    ),
+    ("height_office list --help", "height_office list monday.gsi"),
+    (
+        "height_office adjust --help",
+        "height_office adjust --benchmarks marks.csv --weights weights.csv --out dam",
+    ),
+    (
+        "height_office check --help",
+        "height_office check --benchmarks marks.csv --certificate dam.certificate.csv",
+    ),
+];
+
+#[test]
+fn each_help_has_an_example_and_the_statuses(rt: HostRuntime) {
+    for (words, example) in HELPS {
+        let shown = text_of(&rt, &fault_of(&rt, words));
+        assert!(rt; shown.as_str().contains(example), "{shown}");
+        assert!(rt; shown.as_str().contains("Statuses:"), "{shown}");
+    }
+}
