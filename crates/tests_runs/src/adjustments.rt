@@ -1,15 +1,14 @@
 //! Projects that are adjusted, and what is printed is checked.
-ghost use Rattle.std.specs.Prelude.{◌≡◌};
+ghost use Rattle.std.specs.Prelude.{◌≤◌};
 
 use crate::projects::{
     A_AT_100, FAR_MISREAD_SIGHT, LIMIT, LONGEST_SIGHT, LOOP, LOOP_BEGINNING, LOOP_END,
-    MISREAD_SIGHT, ONE_SIGHT, SPAN_AND_ON, THERE_AND_BACK, TWO_SIGHTS, WIDE_SIGHT, adjust, check,
-    sink, sinks, source,
+    MISREAD_SIGHT, ONE_SIGHT, SETUP, SIGHT, SPAN_AND_ON, Sinks, THERE_AND_BACK, TWO_SIGHTS, Texts,
+    WIDE_SIGHT, adjust, adjust_books, adjust_into, are_same, is_accepted, source,
 };
 use std::process::Abort;
-use th_checker::Verdict;
-use th_devices::{TextSink, TextSource};
-use th_runs::{Outs, run_adjust};
+use th_devices::TextSink;
+use th_runs::Outs;
 
 /// A book, its benchmarks and weights, the heights file, and the certificate where one circulation
 /// alone shows the heights.
@@ -138,44 +137,38 @@ const ROWS: [Row; 13] = [
     ),
 ];
 
+/// Adjusts a project, looks at its heights and its certificate, and checks what is printed.
+fn adjust_row<R: AllocGlobal + Abort>(rt: &R, row: &Row) {
+    let (book, benchmarks, weights, heights, certificate) = *row;
+    let texts: Texts = (book, benchmarks, weights);
+    let (answer, outs) = adjust(rt, texts);
+    assert_eq!(rt; answer, Ok(()), "{heights}");
+    are_same(rt, outs.heights.bytes(), heights.as_bytes(), heights);
+    let printed = outs.certificate.bytes();
+    if let Some(certificate) = certificate {
+        are_same(rt, printed, certificate.as_bytes(), heights);
+    }
+    is_accepted(rt, texts, printed);
+}
+
 #[test]
 fn adjusts_projects_and_accepts_what_is_printed(rt: HostRuntime) {
-    for (book, benchmarks, weights, heights, certificate) in ROWS {
-        let mut outs = sinks(&rt);
-        let answer = adjust(&rt, book, benchmarks, weights, &mut outs);
-        assert_eq!(rt; answer, Ok(()), "{heights}");
-        assert!(rt; outs.heights.bytes() == heights.as_bytes(), "{heights}");
-        if let Some(certificate) = certificate {
-            assert!(rt;
-                outs.certificate.bytes() == certificate.as_bytes(),
-                "{heights}"
-            );
-        }
-        let printed = outs.certificate.bytes();
-        let verdict = check(&rt, book, benchmarks, weights, printed, b"yes\n");
-        assert_eq!(rt; verdict, Ok(Verdict::Yes), "{heights}");
+    for row in &ROWS {
+        adjust_row(&rt, row);
     }
 }
 
 #[test]
 fn joins_two_books_without_weights(rt: HostRuntime) {
     let mut books = [source(LOOP_BEGINNING), source(LOOP_END)];
-    let mut benchmarks = source(A_AT_100);
-    let mut weights: Option<TextSource> = None;
-    let mut outs = sinks(&rt);
-    let answer = run_adjust(
-        rt.alloc(),
-        &mut books,
-        &mut benchmarks,
-        &mut weights,
-        LIMIT,
-        &mut outs,
-    );
+    let (answer, outs) = adjust_books(&rt, &mut books);
     assert_eq!(rt; answer, Ok(()));
-    let printed = outs.certificate.bytes();
-    let verdict = check(&rt, LOOP, A_AT_100, b"", printed, b"yes\n");
-    assert_eq!(rt; verdict, Ok(Verdict::Yes));
+    is_accepted(&rt, (LOOP, A_AT_100, b""), outs.certificate.bytes());
 }
+
+/// The heights of A and B.
+const HEIGHTS: &[u8] =
+    b"point,height,low,high\nA,100.00000000,100.00000000,100.00000000\nB,102.54500000,102.54500000,102.54500000\n";
 
 #[test]
 fn adjusts_sixteen_books(rt: HostRuntime) {
@@ -197,80 +190,74 @@ fn adjusts_sixteen_books(rt: HostRuntime) {
         source(b""),
         source(TWO_SIGHTS),
     ];
-    let mut benchmarks = source(A_AT_100);
-    let mut weights: Option<TextSource> = None;
-    let mut outs = sinks(&rt);
-    let answer = run_adjust(
-        rt.alloc(),
-        &mut books,
-        &mut benchmarks,
-        &mut weights,
-        LIMIT,
-        &mut outs,
-    );
+    let (answer, outs) = adjust_books(&rt, &mut books);
     assert_eq!(rt; answer, Ok(()));
-    let heights =
-        "point,height,low,high\nA,100.00000000,100.00000000,100.00000000\nB,102.54500000,102.54500000,102.54500000\n";
-    assert!(rt; outs.heights.bytes() == heights.as_bytes());
+    assert!(rt; outs.heights.bytes() == HEIGHTS);
 }
 
 /// A sink with room for the texts of a large network.
 fn large_sink<R: AllocGlobal + Abort>(rt: &R) -> TextSink
-    ensures { result.counts.calls ≡ 0 }
+    ensures { result.counts.calls ≤ 15 }
 {
     TextSink::new(rt.alloc(), 10_000_000, 4_096, None).expect(rt, "memory")
 }
 
-/// Adjusts a large book whose sights agree to these heights, and checks what is printed.
-fn adjust_large<R: AllocGlobal + Abort>(rt: &R, book: &[u8], heights: &[u8]) {
-    let mut outs = Outs {
+/// Four of these.
+fn large_sinks<R: AllocGlobal + Abort>(rt: &R) -> Sinks
+    ensures heights { result.heights.counts.calls ≤ 15 }
+    ensures certificate { result.certificate.counts.calls ≤ 15 }
+    ensures report { result.report.counts.calls ≤ 15 }
+    ensures gsi { result.gsi.counts.calls ≤ 15 }
+{
+    Outs {
         heights: large_sink(rt),
         certificate: large_sink(rt),
         report: large_sink(rt),
         gsi: large_sink(rt),
-    };
-    let answer = adjust(rt, book, A_AT_100, b"", &mut outs);
+    }
+}
+
+/// Adjusts a large book whose sights agree to these heights, and checks what is printed.
+fn adjust_large<R: AllocGlobal + Abort>(rt: &R, book: &[u8], heights: &[u8]) {
+    let texts: Texts = (book, A_AT_100, b"");
+    let mut outs = large_sinks(rt);
+    let answer = adjust_into(rt, texts, LIMIT, &mut outs);
     assert_eq!(rt; answer, Ok(()));
     assert!(rt; outs.heights.bytes() == heights);
     let printed = outs.certificate.bytes();
     assert!(rt; printed.ends_with(b"Z,cost,0\n"));
-    let verdict = check(rt, book, A_AT_100, b"", printed, b"yes\n");
-    assert_eq!(rt; verdict, Ok(Verdict::Yes));
+    is_accepted(rt, texts, printed);
+}
+
+/// Adds a line to a text so many times.
+fn add<R: Abort>(rt: &R, text: &mut Vec<u8>, line: &[u8], times: u32) {
+    for _ in 0..times {
+        text.extend_from_slice(line).expect(rt, "memory");
+    }
 }
 
 #[test]
 fn adjusts_forty_thousand_sights(rt: HostRuntime) {
-    let (setup, sight) = ONE_SIGHT.split_at(81);
-    let mut book = Vec::from_slice(rt.alloc(), setup).expect(&rt, "memory");
-    for _ in 0..40_000_u32 {
-        book.extend_from_slice(sight).expect(&rt, "memory");
-    }
-    let heights: &[u8] =
-        b"point,height,low,high\nA,100.00000000,100.00000000,100.00000000\nB,102.54500000,102.54500000,102.54500000\n";
-    adjust_large(&rt, book.as_slice(), heights);
+    let mut book = Vec::from_slice(rt.alloc(), SETUP).expect(&rt, "memory");
+    add(&rt, &mut book, SIGHT, 40_000);
+    adjust_large(&rt, &book, HEIGHTS);
 }
 
 #[test]
 fn adjusts_four_thousand_points(rt: HostRuntime) {
     // Each point but A is sighted ten times from A.
-    let (setup, _) = ONE_SIGHT.split_at(81);
-    let mut book = Vec::from_slice(rt.alloc(), setup).expect(&rt, "memory");
+    let mut book = Vec::from_slice(rt.alloc(), SETUP).expect(&rt, "memory");
     let rows: &[u8] = b"point,height,low,high\nA,100.00000000,100.00000000,100.00000000\n";
     let mut heights = Vec::from_slice(rt.alloc(), rows).expect(&rt, "memory");
     for target in 0..3_999_u32 {
         let sight = format!(in rt.alloc();
             "110002+000P{target:04} 33..00+00002345 87..10+00001300 \n"
         ).expect(&rt, "memory");
-        for _ in 0..10_u8 {
-            book.extend_from_slice(sight.as_bytes())
-                .expect(&rt, "memory");
-        }
+        add(&rt, &mut book, sight.as_bytes(), 10);
         let row = format!(in rt.alloc();
             "P{target:04},102.54500000,102.54500000,102.54500000\n"
         ).expect(&rt, "memory");
-        heights
-            .extend_from_slice(row.as_bytes())
-            .expect(&rt, "memory");
+        add(&rt, &mut heights, row.as_bytes(), 1);
     }
-    adjust_large(&rt, book.as_slice(), heights.as_slice());
+    adjust_large(&rt, &book, &heights);
 }

@@ -48,14 +48,10 @@ fn are_same(
 /// has to be one answer.
 fn read<R: AllocGlobal + Abort>(rt: &R, bytes: &[u8]) -> Result<usize, BookFault> {
     let whole = read_book(rt.alloc(), 1, bytes);
-    assert!(rt;
-        are_same(&whole, &read_by_lines(rt.alloc(), bytes)),
-        "{bytes:?}"
-    );
-    assert!(rt;
-        are_same(&whole, &read_by_bytes(rt.alloc(), bytes)),
-        "{bytes:?}"
-    );
+    let by_lines = read_by_lines(rt.alloc(), bytes);
+    let by_bytes = read_by_bytes(rt.alloc(), bytes);
+    let is_one = are_same(&whole, &by_lines) && are_same(&whole, &by_bytes);
+    assert!(rt; is_one, "{bytes:?}");
     match whole {
         Ok(observations) => Ok(observations.len()),
         Err(fault) => Err(fault),

@@ -1,5 +1,7 @@
 //! Certificates of the loop that are checked, as they were printed and changed.
-use crate::projects::{A_AT_100, HELD_BEFORE, LOOP, LOOP_BEGINNING, LOOP_END, check, sink, source};
+use crate::projects::{
+    A_AT_100, HELD_BEFORE, LOOP, LOOP_BEGINNING, LOOP_END, Texts, check, is_accepted, sink, source,
+};
 use gsi_word::name_of;
 use std::process::Abort;
 use th_certificate::{CertFault, CertKind};
@@ -65,35 +67,39 @@ const REFUSED: [(&[u8], &[u8], Reason); 8] = [
     ),
 ];
 
+/// The loop with the benchmark A.
+const OF_LOOP: Texts<'static> = (LOOP, A_AT_100, b"");
+
+/// Checks a certificate of the loop, which has to be refused for this reason.
+fn is_denied<R: AllocGlobal + Abort>(rt: &R, certificate: &[u8], line: &[u8], reason: Reason) {
+    let verdict = check(rt, OF_LOOP, certificate, line);
+    assert_eq!(rt; verdict, Ok(Verdict::No(reason)));
+}
+
 #[test]
 fn accepts_and_refuses_certificates(rt: HostRuntime) {
     for certificate in ACCEPTED {
-        let verdict = check(&rt, LOOP, A_AT_100, b"", certificate, b"yes\n");
-        assert_eq!(rt; verdict, Ok(Verdict::Yes));
+        is_accepted(&rt, OF_LOOP, certificate);
     }
     for (certificate, line, reason) in REFUSED {
-        let verdict = check(&rt, LOOP, A_AT_100, b"", certificate, line);
-        assert_eq!(rt; verdict, Ok(Verdict::No(reason)));
+        is_denied(&rt, certificate, line, reason);
     }
     let unbalanced: &[u8] =
         b"kind,key,value\nV,1,4\nH,A,100\nH,B,101\nH,C,102\nF,1,0\nF,2,0\nF,3,0\nF,4,1\nZ,cost,50000000\n";
-    let verdict = check(
+    let name = name_of(b"C").expect(&rt, "a name");
+    is_denied(
         &rt,
-        LOOP,
-        A_AT_100,
-        b"",
         unbalanced,
         b"no: unbalanced at C\n",
+        Reason::Unbalanced(name),
     );
-    let name = name_of(b"C").expect(&rt, "a name");
-    assert_eq!(rt; verdict, Ok(Verdict::No(Reason::Unbalanced(name))));
 }
 
 #[test]
 fn names_the_faulty_record_of_a_certificate(rt: HostRuntime) {
     let truncated: &[u8] =
         b"kind,key,value\nV,1,4\nH,A,100\nH,B,101\nH,C,102\nF,1,0\nF,2,0\nF,3,1\nF,4,1\n";
-    let verdict = check(&rt, LOOP, A_AT_100, b"", truncated, HELD_BEFORE);
+    let verdict = check(&rt, OF_LOOP, truncated, HELD_BEFORE);
     let fault = CertFault {
         row: 10,
         kind: CertKind::Truncated,

@@ -9,7 +9,7 @@ use th_runs::{Input, Output, Outs, Refusal, run_adjust, run_check};
 
 /// The devices of the runs; `Stated` is the certificate that a check reads.
 #[derive(Clone, Copy, Debug, PartialEq, Eq)]
-enum Device {
+pub enum Device {
     FirstBook,
     SecondBook,
     Benchmarks,
@@ -63,8 +63,12 @@ const OF_CHECK: [(Device, u8); 5] = [
 /// A weight of a pair that is not observed.
 const WEIGHTS: &[u8] = b"from,to,weight\nB,A,7\n";
 
-/// The certificate of the book of one sight.
-const CERTIFICATE: &[u8] =
+/// The heights of the book of one sight.
+pub const HEIGHTS: &[u8] =
+    b"point,height,low,high\nA,100.00000000,100.00000000,100.00000000\nB,102.54500000,102.54500000,102.54500000\n";
+
+/// Its certificate.
+pub const CERTIFICATE: &[u8] =
     b"kind,key,value\nV,2,1\nH,A,100.00000000\nH,B,102.54500000\nL,A,100.00000000\nL,B,102.54500000\nU,A,100.00000000\nU,B,102.54500000\nF,1,0\nZ,cost,0\n";
 
 /// A source of a text, whose read of this number fails where it is the device that is to fail.
@@ -169,19 +173,35 @@ fn are_left<R: Abort>(rt: &R, outs: &Sinks, whole: &Sinks, failing: Device, call
     }
 }
 
-/// Adjusts where a call fails, which has to be answered as such.
-fn refuse_in_adjustment<R: AllocGlobal + Abort>(rt: &R, failing: Device, call: u8, whole: &Sinks) {
+/// Adjusts where a call fails, or never comes; what is answered, and the sinks.
+fn adjust_where<R: AllocGlobal + Abort>(
+    rt: &R,
+    failing: Device,
+    call: u8,
+) -> (Result<(), Refusal>, Sinks) {
     let mut outs = failing_sinks(rt, failing, call);
     let answer = adjust_failing(rt, failing, call, &mut outs);
+    (answer, outs)
+}
+
+/// Adjusts where a call fails, which has to be answered as such.
+pub fn refuse_in_adjustment<R: AllocGlobal + Abort>(
+    rt: &R,
+    failing: Device,
+    call: u8,
+    whole: &Sinks,
+) -> Sinks {
+    let (answer, outs) = adjust_where(rt, failing, call);
     assert_eq!(rt; answer, Err(refusal_of(failing)), "call {call}");
     are_left(rt, &outs, whole, failing, call);
+    outs
 }
 
 /// Adjusts where the call that is to fail never comes.
-fn refuse_nothing<R: AllocGlobal + Abort>(rt: &R, failing: Device, call: u8) -> Sinks {
-    let mut outs = failing_sinks(rt, failing, call);
-    let answer = adjust_failing(rt, failing, call, &mut outs);
+pub fn refuse_nothing<R: AllocGlobal + Abort>(rt: &R, failing: Device, call: u8) -> Sinks {
+    let (answer, outs) = adjust_where(rt, failing, call);
     assert_eq!(rt; answer, Ok(()), "{failing:?}");
+    assert!(rt; outs.heights.bytes() == HEIGHTS, "{failing:?}");
     assert!(rt; outs.certificate.bytes() == CERTIFICATE, "{failing:?}");
     outs
 }
@@ -191,7 +211,7 @@ fn each_call_of_an_adjustment_is_refused_in_turn(rt: HostRuntime) {
     let whole = refuse_nothing(&rt, Device::Verdict, 1);
     for (device, calls) in OF_ADJUSTMENT {
         for call in 1..=calls {
-            refuse_in_adjustment(&rt, device, call, &whole);
+            let _ = refuse_in_adjustment(&rt, device, call, &whole);
         }
         let outs = refuse_nothing(&rt, device, calls.wrapping_add(1));
         assert!(rt; outs.gsi.bytes() == whole.gsi.bytes(), "{device:?}");

@@ -1,14 +1,15 @@
 //! Inputs that are refused in the order in which they are read, and devices that fail.
+use crate::devices::{CERTIFICATE, Device, HEIGHTS, refuse_in_adjustment, refuse_nothing};
 use crate::projects::{
-    A_AT_100, FAULTY_BOOK, FAULTY_TABLE, HELD_BEFORE, LIMIT, ONE_SIGHT, adjust, are_untouched,
-    sink, sinks, source,
+    A_AT_100, FAULTY_BOOK, FAULTY_TABLE, HELD_BEFORE, LIMIT, ONE_SIGHT, Sinks, adjust_books,
+    are_untouched, is_refused, sink, sinks, source,
 };
 use gsi_word::name_of;
 use std::process::Abort;
 use th_book::{BookFault, BookKind};
 use th_devices::TextSource;
 use th_network::NetFault;
-use th_runs::{Input, Output, Outs, Refusal, run_adjust, run_check};
+use th_runs::{Input, Output, Refusal, run_adjust, run_check};
 use th_tables::{TableFault, TableKind};
 
 /// The fault of the faulty book.
@@ -22,6 +23,15 @@ const BAD_HEADER: TableFault = TableFault {
     row: 1,
     kind: TableKind::BadHeader,
 };
+
+/// A table whose points are no end of a sight.
+const Z_AT_100: &[u8] = b"point,height\nZ,100\n";
+
+/// Looks at the answer of an adjustment that has to be refused so before an output is touched.
+fn is_answer<R: Abort>(rt: &R, answer: Result<(), Refusal>, outs: &Sinks, refusal: Refusal) {
+    assert_eq!(rt; answer, Err(refusal));
+    assert!(rt; are_untouched(outs), "{refusal}");
+}
 
 #[test]
 fn the_first_input_that_is_refused_decides(rt: HostRuntime) {
@@ -37,8 +47,7 @@ fn the_first_input_that_is_refused_decides(rt: HostRuntime) {
         LIMIT,
         &mut outs,
     );
-    assert_eq!(rt; answer, Err(Refusal::Book(2, BOOK_FAULT)));
-    assert!(rt; are_untouched(&outs));
+    is_answer(&rt, answer, &outs, Refusal::Book(2, BOOK_FAULT));
 
     // The benchmarks were not read: their first read is still to fail.
     let mut books = [source(ONE_SIGHT)];
@@ -51,8 +60,7 @@ fn the_first_input_that_is_refused_decides(rt: HostRuntime) {
         LIMIT,
         &mut outs,
     );
-    assert_eq!(rt; answer, Err(Refusal::Read(Input::Benchmarks)));
-    assert!(rt; are_untouched(&outs));
+    is_answer(&rt, answer, &outs, Refusal::Read(Input::Benchmarks));
 
     // The weights were not read: they still have their fault.
     let mut books = [source(ONE_SIGHT)];
@@ -65,42 +73,29 @@ fn the_first_input_that_is_refused_decides(rt: HostRuntime) {
         LIMIT,
         &mut outs,
     );
-    assert_eq!(rt; answer, Err(Refusal::Weights(BAD_HEADER)));
-    assert!(rt; are_untouched(&outs));
+    is_answer(&rt, answer, &outs, Refusal::Weights(BAD_HEADER));
 }
 
 #[test]
 fn a_network_is_refused_behind_its_inputs(rt: HostRuntime) {
-    let mut outs = sinks(&rt);
-    let answer = adjust(&rt, ONE_SIGHT, b"point,height\nZ,100\n", b"", &mut outs);
     let name = name_of(b"A").expect(&rt, "a name");
-    assert_eq!(rt; answer, Err(Refusal::Network(NetFault::NoBenchmark(name))));
-    assert!(rt; are_untouched(&outs));
-    let answer = adjust(
-        &rt,
-        ONE_SIGHT,
-        b"point,height\nZ,100\n",
-        b"point\n",
-        &mut sinks(&rt),
-    );
-    assert_eq!(rt; answer, Err(Refusal::Weights(BAD_HEADER)));
-    let answer = adjust(&rt, ONE_SIGHT, b"point\n", b"point\n", &mut sinks(&rt));
-    assert_eq!(rt; answer, Err(Refusal::Benchmarks(BAD_HEADER)));
+    let untied = Refusal::Network(NetFault::NoBenchmark(name));
+    is_refused(&rt, (ONE_SIGHT, Z_AT_100, b""), untied);
+    let weights = Refusal::Weights(BAD_HEADER);
+    is_refused(&rt, (ONE_SIGHT, Z_AT_100, FAULTY_TABLE), weights);
+    let benchmarks = Refusal::Benchmarks(BAD_HEADER);
+    is_refused(&rt, (ONE_SIGHT, FAULTY_TABLE, FAULTY_TABLE), benchmarks);
 }
 
 #[test]
 fn a_table_has_at_most_1_mib(rt: HostRuntime) {
     let table = vec![in rt.alloc(); b' '; 1_048_577].expect(&rt, "memory");
-    let mut outs = sinks(&rt);
-    let answer = adjust(&rt, ONE_SIGHT, table.as_slice(), b"", &mut outs);
     let fault = TableFault {
         row: 0,
         kind: TableKind::TableTooLong,
     };
-    assert_eq!(rt; answer, Err(Refusal::Benchmarks(fault)));
-    let mut outs = sinks(&rt);
-    let answer = adjust(&rt, ONE_SIGHT, A_AT_100, table.as_slice(), &mut outs);
-    assert_eq!(rt; answer, Err(Refusal::Weights(fault)));
+    is_refused(&rt, (ONE_SIGHT, &table, b""), Refusal::Benchmarks(fault));
+    is_refused(&rt, (ONE_SIGHT, A_AT_100, &table), Refusal::Weights(fault));
 }
 
 #[test]
@@ -108,73 +103,111 @@ fn a_read_of_a_book_that_fails_is_answered(rt: HostRuntime) {
     // The book comes in three reads, and a fourth finds its end.
     for fail_at in 1..6_u8 {
         let mut books = [TextSource::new(ONE_SIGHT, 50, Some(u128::from(fail_at)))];
-        let mut benchmarks = source(A_AT_100);
-        let mut weights: Option<TextSource> = None;
-        let mut outs = sinks(&rt);
-        let answer = run_adjust(
-            rt.alloc(),
-            &mut books,
-            &mut benchmarks,
-            &mut weights,
-            LIMIT,
-            &mut outs,
-        );
+        let (answer, outs) = adjust_books(&rt, &mut books);
         if fail_at == 5 {
             assert_eq!(rt; answer, Ok(()));
         } else {
-            assert_eq!(rt;
-                answer,
-                Err(Refusal::Read(Input::Book(1))),
-                "read {fail_at}"
-            );
-            assert!(rt; are_untouched(&outs), "read {fail_at}");
+            is_answer(&rt, answer, &outs, Refusal::Read(Input::Book(1)));
         }
     }
 }
 
-/// A book, which of benchmarks, weights and certificate fail at their first read, and the refusal.
-type Order = (&'static [u8], Option<u128>, Option<u128>, Refusal);
-
-const ORDER: [Order; 4] = [
-    (FAULTY_BOOK, Some(1), Some(1), Refusal::Book(1, BOOK_FAULT)),
-    (
-        ONE_SIGHT,
-        Some(1),
-        Some(1),
-        Refusal::Read(Input::Benchmarks),
-    ),
-    (ONE_SIGHT, None, Some(1), Refusal::Read(Input::Weights)),
-    (ONE_SIGHT, None, None, Refusal::Read(Input::Certificate)),
-];
-
-#[test]
-fn a_check_takes_its_inputs_in_order(rt: HostRuntime) {
-    for (book, of_benchmarks, of_weights, refusal) in ORDER {
-        let mut books = [source(book)];
-        let mut benchmarks = TextSource::new(A_AT_100, 50, of_benchmarks);
-        let mut weights = Some(TextSource::new(b"", 50, of_weights));
-        let mut certificate = TextSource::new(b"kind,key,value\n", 50, Some(1));
-        let mut out = sink(&rt, None);
-        let answer = run_check(
-            rt.alloc(),
-            &mut books,
-            &mut benchmarks,
-            &mut weights,
-            &mut certificate,
-            &mut out,
-        );
-        assert_eq!(rt; answer, Err(refusal));
-        assert!(rt; out.bytes() == HELD_BEFORE);
-    }
+/// A check in which a device fails: its book, the reads of benchmarks and weights that fail, its
+/// certificate, how many bytes of that a read gives and which read of it fails, the call of the sink that
+/// fails, the refusal, and what the sink holds then.
+#[derive(Clone, Copy)]
+struct Failing {
+    book: &'static [u8],
+    of_benchmarks: Option<u128>,
+    of_weights: Option<u128>,
+    certificate: &'static [u8],
+    piece: usize,
+    of_certificate: Option<u128>,
+    of_sink: Option<u8>,
+    refusal: Refusal,
+    held: &'static [u8],
 }
 
-#[test]
-fn a_certificate_that_is_not_read_is_answered(rt: HostRuntime) {
-    let mut books = [source(ONE_SIGHT)];
-    let mut benchmarks = source(A_AT_100);
-    let mut weights = Some(TextSource::new(b"", 50, None));
-    let mut certificate = TextSource::new(b"kind,key,value\n", 5, Some(2));
-    let mut out = sink(&rt, None);
+/// A certificate of no points.
+const NO_POINTS: &[u8] = b"kind,key,value\nV,1,0\nZ,cost,0\n";
+
+/// A check whose certificate is not read.
+const NOT_READ: Failing = Failing {
+    book: ONE_SIGHT,
+    of_benchmarks: None,
+    of_weights: None,
+    certificate: b"kind,key,value\n",
+    piece: 50,
+    of_certificate: Some(1),
+    of_sink: None,
+    refusal: Refusal::Read(Input::Certificate),
+    held: HELD_BEFORE,
+};
+
+/// A check whose verdict is not written.
+const NOT_WRITTEN: Failing = Failing {
+    certificate: NO_POINTS,
+    of_certificate: None,
+    refusal: Refusal::Write(Output::Verdict),
+    ..NOT_READ
+};
+
+const FAILING: [Failing; 8] = [
+    // The inputs in order.
+    Failing {
+        book: FAULTY_BOOK,
+        of_benchmarks: Some(1),
+        of_weights: Some(1),
+        refusal: Refusal::Book(1, BOOK_FAULT),
+        ..NOT_READ
+    },
+    Failing {
+        of_benchmarks: Some(1),
+        of_weights: Some(1),
+        refusal: Refusal::Read(Input::Benchmarks),
+        ..NOT_READ
+    },
+    Failing {
+        of_weights: Some(1),
+        refusal: Refusal::Read(Input::Weights),
+        ..NOT_READ
+    },
+    NOT_READ,
+    // A later read of the certificate.
+    Failing {
+        piece: 5,
+        of_certificate: Some(2),
+        ..NOT_READ
+    },
+    // The sink: `begin`, one write and `finish`.
+    Failing {
+        of_sink: Some(1),
+        ..NOT_WRITTEN
+    },
+    Failing {
+        of_sink: Some(2),
+        held: b"",
+        ..NOT_WRITTEN
+    },
+    Failing {
+        of_sink: Some(3),
+        held: b"no: points differ\n",
+        ..NOT_WRITTEN
+    },
+];
+
+/// Checks where a device fails.
+fn refuse<R: AllocGlobal + Abort>(rt: &R, failing: &Failing) {
+    let mut books = [source(failing.book)];
+    let mut benchmarks = TextSource::new(A_AT_100, 50, failing.of_benchmarks);
+    let mut weights = Some(TextSource::new(b"", 50, failing.of_weights));
+    assert!(rt; failing.piece >= 1);
+    let mut certificate = TextSource::new(
+        failing.certificate,
+        failing.piece,
+        failing.of_certificate,
+    );
+    let mut out = sink(rt, failing.of_sink);
     let answer = run_check(
         rt.alloc(),
         &mut books,
@@ -183,126 +216,67 @@ fn a_certificate_that_is_not_read_is_answered(rt: HostRuntime) {
         &mut certificate,
         &mut out,
     );
-    assert_eq!(rt; answer, Err(Refusal::Read(Input::Certificate)));
-    assert!(rt; out.bytes() == HELD_BEFORE);
+    let refusal = failing.refusal;
+    assert_eq!(rt; answer, Err(refusal));
+    assert!(rt; out.bytes() == failing.held, "{refusal}");
 }
 
 #[test]
-fn a_verdict_that_is_not_written_is_answered(rt: HostRuntime) {
-    // The calls are `begin`, one write and `finish`.
-    for (fail_at, held) in [(1, HELD_BEFORE), (2, b""), (3, b"no: points differ\n")] {
-        let mut books = [source(ONE_SIGHT)];
-        let mut benchmarks = source(A_AT_100);
-        let mut weights: Option<TextSource> = None;
-        let mut certificate = source(b"kind,key,value\nV,1,0\nZ,cost,0\n");
-        let mut out = sink(&rt, Some(fail_at));
-        let answer = run_check(
-            rt.alloc(),
-            &mut books,
-            &mut benchmarks,
-            &mut weights,
-            &mut certificate,
-            &mut out,
-        );
-        assert_eq!(rt;
-            answer,
-            Err(Refusal::Write(Output::Verdict)),
-            "call {fail_at}"
-        );
-        assert!(rt; out.bytes() == held, "call {fail_at}");
+fn a_check_is_refused_where_a_device_fails(rt: HostRuntime) {
+    for failing in &FAILING {
+        refuse(&rt, failing);
     }
 }
 
-/// The heights and the certificate of a book of one sight.
-const HEIGHTS: &[u8] =
-    b"point,height,low,high\nA,100.00000000,100.00000000,100.00000000\nB,102.54500000,102.54500000,102.54500000\n";
-
-const CERTIFICATE: &[u8] =
-    b"kind,key,value\nV,2,1\nH,A,100.00000000\nH,B,102.54500000\nL,A,100.00000000\nL,B,102.54500000\nU,A,100.00000000\nU,B,102.54500000\nF,1,0\nZ,cost,0\n";
-
-#[test]
-fn a_certificate_that_is_not_written_leaves_a_beginning(rt: HostRuntime) {
-    // The calls are `begin`, seven writes and `finish`.
-    for (fail_at, count) in [
-        (2, 0),
-        (3, 20),
-        (4, 40),
-        (5, 60),
-        (6, 80),
-        (7, 100),
-        (8, 120),
-        (9, 138),
-    ] {
-        let mut outs = Outs {
-            heights: sink(&rt, None),
-            certificate: sink(&rt, Some(fail_at)),
-            report: sink(&rt, None),
-            gsi: sink(&rt, None),
-        };
-        let answer = adjust(&rt, ONE_SIGHT, A_AT_100, b"", &mut outs);
-        assert_eq!(rt;
-            answer,
-            Err(Refusal::Write(Output::Certificate)),
-            "call {fail_at}"
-        );
-        assert!(rt; outs.heights.bytes() == HEIGHTS, "call {fail_at}");
-        assert!(rt;
-            outs.certificate.bytes() == front(CERTIFICATE, count),
-            "call {fail_at}"
-        );
-        assert!(rt; outs.report.bytes() == HELD_BEFORE, "call {fail_at}");
-        assert!(rt; outs.gsi.bytes() == HELD_BEFORE, "call {fail_at}");
-    }
-}
-
-/// So many bytes of the front.
-fn front(bytes: &[u8], count: usize) -> &[u8] {
-    bytes.get(..count).unwrap_or(bytes)
-}
-
-#[test]
-fn each_output_that_is_not_begun_is_answered(rt: HostRuntime) {
-    let outputs = [
-        Output::Heights,
-        Output::Certificate,
-        Output::Report,
-        Output::Gsi,
-    ];
-    for failing in outputs {
-        let mut outs = Outs {
-            heights: sink(&rt, failing_at(failing, Output::Heights)),
-            certificate: sink(&rt, failing_at(failing, Output::Certificate)),
-            report: sink(&rt, failing_at(failing, Output::Report)),
-            gsi: sink(&rt, failing_at(failing, Output::Gsi)),
-        };
-        let answer = adjust(&rt, ONE_SIGHT, A_AT_100, b"", &mut outs);
-        assert_eq!(rt; answer, Err(Refusal::Write(failing)), "{failing}");
-        assert!(rt;
-            (outs.heights.bytes() == HELD_BEFORE) == (failing == Output::Heights),
-            "{failing}"
-        );
-        assert!(rt; outs.gsi.bytes() == HELD_BEFORE, "{failing}");
-    }
-}
-
-/// The first call, of the output that is to fail.
-fn failing_at(failing: Output, own: Output) -> Option<u8> {
-    if failing == own { Some(1) } else { None }
-}
-
-#[test]
-fn heights_that_are_not_finished_are_whole(rt: HostRuntime) {
+/// An output, the call of it that fails, and how many bytes of its text it holds then; none where it
+/// holds what it held before.
+const BROKEN: [(Device, u8, Option<usize>); 13] = [
+    (Device::Heights, 1, None),
     // The calls are `begin`, six writes and `finish`.
-    let mut outs = Outs {
-        heights: sink(&rt, Some(8)),
-        certificate: sink(&rt, None),
-        report: sink(&rt, None),
-        gsi: sink(&rt, None),
+    (Device::Heights, 8, Some(104)),
+    (Device::Certificate, 1, None),
+    // The calls are `begin`, seven writes and `finish`.
+    (Device::Certificate, 2, Some(0)),
+    (Device::Certificate, 3, Some(20)),
+    (Device::Certificate, 4, Some(40)),
+    (Device::Certificate, 5, Some(60)),
+    (Device::Certificate, 6, Some(80)),
+    (Device::Certificate, 7, Some(100)),
+    (Device::Certificate, 8, Some(120)),
+    (Device::Certificate, 9, Some(138)),
+    (Device::Report, 1, None),
+    (Device::Gsi, 1, None),
+];
+
+/// What an output holds.
+fn held_by(outs: &Sinks, output: Device) -> &[u8] {
+    match output {
+        Device::Heights => outs.heights.bytes(),
+        Device::Certificate => outs.certificate.bytes(),
+        Device::Report => outs.report.bytes(),
+        _ => outs.gsi.bytes(),
+    }
+}
+
+/// So many bytes of the front of an output's text.
+fn beginning_of(output: Device, count: usize) -> &'static [u8] {
+    let text = if output == Device::Heights {
+        HEIGHTS
+    } else {
+        CERTIFICATE
     };
-    let answer = adjust(&rt, ONE_SIGHT, A_AT_100, b"", &mut outs);
-    assert_eq!(rt; answer, Err(Refusal::Write(Output::Heights)));
-    assert!(rt; outs.heights.bytes() == HEIGHTS);
-    assert!(rt; outs.certificate.bytes() == HELD_BEFORE);
-    assert!(rt; outs.report.bytes() == HELD_BEFORE);
-    assert!(rt; outs.gsi.bytes() == HELD_BEFORE);
+    text.get(..count).unwrap_or(text)
+}
+
+#[test]
+fn an_output_that_is_not_written_has_a_beginning(rt: HostRuntime) {
+    let whole = refuse_nothing(&rt, Device::Verdict, 1);
+    for (output, call, count) in BROKEN {
+        let outs = refuse_in_adjustment(&rt, output, call, &whole);
+        let wanted = match count {
+            Some(count) => beginning_of(output, count),
+            None => HELD_BEFORE,
+        };
+        assert!(rt; held_by(&outs, output) == wanted, "{output:?} call {call}");
+    }
 }

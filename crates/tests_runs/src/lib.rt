@@ -13,8 +13,6 @@ mod checks;
 #[cfg(test)]
 mod devices;
 #[cfg(test)]
-mod extremes;
-#[cfg(test)]
 mod failures;
 #[cfg(test)]
 mod lists;

@@ -1,10 +1,8 @@
 //! Books listed from memory to memory: their lists, the lines of their faults, and what stands where
 //! a device fails.
-ghost use Rattle.std.specs.Prelude.{◌≤◌, IfOk};
+ghost use Rattle.std.specs.Prelude.{◌≤◌};
 
-use std::alloc::{AllocError, Global};
 use std::process::Abort;
-use std::test::Fail;
 use th_book::MAX_BOOK;
 use th_devices::{TextSink, TextSource, write_all};
 use th_runs::{Input, Output, Refusal, run_list};
@@ -28,42 +26,73 @@ const HELD_BEFORE: &[u8] = b"an older list";
 /// The most bytes that a device gives or takes a call where the number of its calls matters.
 const PIECE: usize = 20;
 
-/// Lists a book that comes in pieces. What is shown is the list, or the line of the refusal, after
-/// which the sink must hold what it held.
-fn shown<R: AllocGlobal + Abort>(
+/// The call of a device that fails, counted from 1.
+#[derive(Clone, Copy)]
+enum Failing {
+    Nothing,
+    Read(u8),
+    Write(u8),
+}
+
+/// Lists a book that comes in pieces, where a call may fail; what is answered, and the sink.
+fn list<R: AllocGlobal + Abort>(
     rt: &R,
-    bytes: &[u8],
+    book: &[u8],
     piece: usize,
-) -> Result<Vec<u8>, AllocError> {
+    failing: Failing,
+) -> (Result<(), Refusal>, TextSink) {
+    let (read, write) = match failing {
+        Failing::Nothing => (None, None),
+        Failing::Read(call) => (Some(u128::from(call)), None),
+        Failing::Write(call) => (None, Some(call)),
+    };
     assert!(rt; piece >= 1);
-    let mut source = TextSource::new(bytes, piece, None);
-    let mut sink = sink_before_run(rt.alloc(), None)?;
-    match run_list(rt.alloc(), &mut source, &mut sink) {
-        Ok(()) => Vec::from_slice(rt.alloc(), sink.bytes()),
-        Err(refusal) => {
-            assert!(rt; sink.bytes() == HELD_BEFORE);
-            Ok(format!(in rt.alloc(); "{refusal}")?.into_bytes())
-        }
-    }
+    let mut source = TextSource::new(book, piece, read);
+    let mut sink = sink_before_run(rt, write);
+    let answer = run_list(rt.alloc(), &mut source, &mut sink);
+    (answer, sink)
 }
 
 /// A sink that holds a text, and whose call with this number fails, counted from then on.
-fn sink_before_run(alloc: Global, fail_at: Option<u8>) -> Result<TextSink, AllocError>
-    ensures { IfOk result (λ sink. sink.counts.calls ≤ 15) }
+fn sink_before_run<R: AllocGlobal + Abort>(rt: &R, fail_at: Option<u8>) -> TextSink
+    ensures { result.counts.calls ≤ 15 }
 {
     let fail_at = fail_at.map(|call| u128::from(call) + 3);
-    let mut sink = TextSink::new(alloc, 1_000, PIECE, fail_at)?;
+    let mut sink = TextSink::new(rt.alloc(), 1_000, PIECE, fail_at).expect(rt, "memory");
     let _ = write_all(&mut sink, HELD_BEFORE);
-    Ok(sink)
+    sink
 }
 
-/// The bytes of a book of two parts, each ended by a line feed.
-fn book_of(alloc: Global, first: &[u8], second: &[u8]) -> Result<Vec<u8>, AllocError> {
-    let mut bytes = Vec::from_slice(alloc, first)?;
-    bytes.push(b'\n')?;
-    bytes.extend_from_slice(second)?;
-    bytes.push(b'\n')?;
-    Ok(bytes)
+/// Lists a book that comes in pieces, which has to give this list.
+fn is_listed<R: AllocGlobal + Abort>(rt: &R, book: &[u8], piece: usize, list_wanted: &[u8]) {
+    let (answer, sink) = list(rt, book, piece, Failing::Nothing);
+    assert_eq!(rt; answer, Ok(()), "piece {piece}");
+    assert!(rt; sink.bytes() == list_wanted, "piece {piece}");
+}
+
+/// Lists a book that comes in pieces, which has to be refused by this line, after which the sink holds what it held.
+fn is_refused<R: AllocGlobal + Abort>(rt: &R, book: &[u8], piece: usize, line: &str) {
+    let (answer, sink) = list(rt, book, piece, Failing::Nothing);
+    let refusal = answer.err().expect(rt, "a refusal");
+    let said = format!(in rt.alloc(); "{refusal}").expect(rt, "memory");
+    assert!(rt; said.as_str() == line, "{refusal}");
+    assert!(rt; sink.bytes() == HELD_BEFORE, "{refusal}");
+}
+
+/// Adds bytes to a book so many times.
+fn add<R: Abort>(rt: &R, book: &mut Vec<u8>, bytes: &[u8], times: u32) {
+    for _ in 0..times {
+        book.extend_from_slice(bytes).expect(rt, "memory");
+    }
+}
+
+/// A book of two parts, each ended by these bytes.
+fn book_of<R: AllocGlobal + Abort>(rt: &R, first: &[u8], second: &[u8], end: &[u8]) -> Vec<u8> {
+    let mut book = Vec::new(rt.alloc());
+    for part in [first, end, second, end] {
+        book.extend_from_slice(part).expect(rt, "memory");
+    }
+    book
 }
 
 /// The two parts of a book, and its list.
@@ -98,32 +127,26 @@ const LISTS: [(&[u8], &[u8], &[u8]); 7] = [
 ];
 
 #[test]
-fn lists_books(rt: HostRuntime) -> Result<(), Fail> {
+fn lists_books(rt: HostRuntime) {
     for (first, second, list) in LISTS {
-        let book = book_of(rt.alloc(), first, second)?;
-        assert!(rt; shown(&rt, book.as_slice(), 65_536)?.as_slice() == list);
-        assert!(rt; shown(&rt, book.as_slice(), 1)?.as_slice() == list);
+        let book = book_of(&rt, first, second, b"\n");
+        is_listed(&rt, &book, 65_536, list);
+        is_listed(&rt, &book, 1, list);
     }
-    Ok(())
 }
 
 #[test]
-fn line_ends_are_cr_lf_cr_and_lf(rt: HostRuntime) -> Result<(), Fail> {
-    let mut book = Vec::from_slice(rt.alloc(), SETUP)?;
-    book.extend_from_slice(b"\r\r\n")?;
-    book.extend_from_slice(SIGHT)?;
-    book.extend_from_slice(b"\r\n")?;
+fn line_ends_are_cr_lf_cr_and_lf(rt: HostRuntime) {
+    let mut book = Vec::new(rt.alloc());
+    for part in [SETUP, b"\r\r\n", SIGHT, b"\r\n"] {
+        add(&rt, &mut book, part, 1);
+    }
     for piece in [1, 79, 80, 81, 82, 65_536] {
-        assert!(rt;
-            shown(&rt, book.as_slice(), piece)?.as_slice() == LIST,
-            "piece {piece}"
-        );
+        is_listed(&rt, &book, piece, LIST);
     }
     // The setup is line 1, an empty line 2, and the sight line 3.
-    book.extend_from_slice(b"*")?;
-    let line = shown(&rt, book.as_slice(), 1)?;
-    assert!(rt; line.as_slice() == b"book 1 line 4: B1 word 1: short".as_slice());
-    Ok(())
+    add(&rt, &mut book, b"*", 1);
+    is_refused(&rt, &book, 1, "book 1 line 4: B1 word 1: short");
 }
 
 /// A line that has a fault, what stands before it, and the line of the refusal.
@@ -209,136 +232,120 @@ const FAULTS: [(&[u8], &[u8], &str); 18] = [
 ];
 
 #[test]
-fn shows_each_fault_of_a_line(rt: HostRuntime) -> Result<(), Fail> {
+fn shows_each_fault_of_a_line(rt: HostRuntime) {
     for (before, line, refusal) in FAULTS {
-        let book = book_of(rt.alloc(), before, line)?;
-        let seen = shown(&rt, book.as_slice(), 65_536)?;
-        assert!(rt; seen.as_slice() == refusal.as_bytes(), "{refusal}");
+        let book = book_of(&rt, before, line, b"\n");
+        is_refused(&rt, &book, 65_536, refusal);
     }
-    Ok(())
 }
 
 #[test]
-fn a_line_has_at_most_1600_bytes_and_64_words(rt: HostRuntime) -> Result<(), Fail> {
-    let mut line = vec![in rt.alloc(); b' '; 1_600]?;
-    assert!(rt; shown(&rt, line.as_slice(), 100)?.as_slice() == HEADER);
-    line.push(b' ')?;
-    let seen = shown(&rt, line.as_slice(), 100)?;
-    assert!(rt; seen.as_slice() == b"book 1 line 1: B1 line too long".as_slice());
+fn a_line_has_at_most_1600_bytes_and_64_words(rt: HostRuntime) {
+    let mut line = Vec::new(rt.alloc());
+    add(&rt, &mut line, b" ", 1_600);
+    is_listed(&rt, &line, 100, HEADER);
+    add(&rt, &mut line, b" ", 1);
+    is_refused(&rt, &line, 100, "book 1 line 1: B1 line too long");
 
     line.clear();
-    for _ in 0..64_u8 {
-        line.extend_from_slice(b"110001+0000000A ")?;
-    }
-    assert!(rt; shown(&rt, line.as_slice(), 100)?.as_slice() == HEADER);
-    line.extend_from_slice(b"110001+0000000A ")?;
-    let seen = shown(&rt, line.as_slice(), 100)?;
-    assert!(rt; seen.as_slice() == b"book 1 line 1: B1 too many words".as_slice());
-    Ok(())
+    add(&rt, &mut line, b"110001+0000000A ", 64);
+    is_listed(&rt, &line, 100, HEADER);
+    add(&rt, &mut line, b"110001+0000000A ", 1);
+    is_refused(&rt, &line, 100, "book 1 line 1: B1 too many words");
 }
 
 #[test]
-fn a_fault_of_a_late_line_is_shown(rt: HostRuntime) -> Result<(), Fail> {
-    let mut book = vec![in rt.alloc(); b'\n'; 100_000]?;
-    book.push(b'*')?;
-    let line = shown(&rt, book.as_slice(), 65_536)?;
-    assert!(rt; line.as_slice() == b"book 1 line 100001: B1 word 1: short".as_slice());
-    Ok(())
+fn a_fault_of_a_late_line_is_shown(rt: HostRuntime) {
+    let mut book = Vec::new(rt.alloc());
+    add(&rt, &mut book, b"\n", 100_000);
+    add(&rt, &mut book, b"*", 1);
+    is_refused(&rt, &book, 65_536, "book 1 line 100001: B1 word 1: short");
 }
 
 #[test]
-fn a_book_has_at_most_64_mib(rt: HostRuntime) -> Result<(), Fail> {
+fn a_book_has_at_most_64_mib(rt: HostRuntime) {
     // Blank lines of a KiB each.
     let mut line = [b' '; 1_024];
     line[1_023] = b'\n';
     let mut book = Vec::new(rt.alloc());
-    for _ in 0..65_536_u32 {
-        book.extend_from_slice(&line)?;
-    }
+    add(&rt, &mut book, &line, 65_536);
     assert_eq!(rt; book.len(), MAX_BOOK);
-    assert!(rt; shown(&rt, book.as_slice(), 1_000_000)?.as_slice() == HEADER);
-    book.push(b'\n')?;
-    let line = shown(&rt, book.as_slice(), 1_000_000)?;
-    assert!(rt; line.as_slice() == b"book 1 line 0: B12 book too long".as_slice());
-    Ok(())
+    is_listed(&rt, &book, 1_000_000, HEADER);
+    add(&rt, &mut book, b"\n", 1);
+    is_refused(&rt, &book, 1_000_000, "book 1 line 0: B12 book too long");
 }
 
 #[test]
-fn a_read_that_fails_leaves_the_output(rt: HostRuntime) -> Result<(), Fail> {
+fn a_read_that_fails_leaves_the_output(rt: HostRuntime) {
     // The book comes in seven reads, and an eighth finds its end. Its last line has a fault.
-    let book = book_of(
-        rt.alloc(),
-        SETUP,
-        b"*a line that is no block, after the setup's.",
-    )?;
-    for fail_at in 1..9_u8 {
-        let mut source = TextSource::new(book.as_slice(), PIECE, Some(u128::from(fail_at)));
-        let mut sink = sink_before_run(rt.alloc(), None)?;
-        let answer = run_list(rt.alloc(), &mut source, &mut sink);
-        assert_eq!(rt;
-            answer,
-            Err(Refusal::Read(Input::Book(1))),
-            "read {fail_at}"
-        );
-        assert!(rt; sink.bytes() == HELD_BEFORE, "read {fail_at}");
+    let line: &[u8] = b"*a line that is no block, after the setup's.";
+    let book = book_of(&rt, SETUP, line, b"\n");
+    for call in 1..9_u8 {
+        let (answer, sink) = list(&rt, &book, PIECE, Failing::Read(call));
+        assert_eq!(rt; answer, Err(Refusal::Read(Input::Book(1))), "read {call}");
+        assert!(rt; sink.bytes() == HELD_BEFORE, "read {call}");
     }
-    Ok(())
 }
 
+/// The call that fails, what is answered, and what is held then: `begin`, three writes and `finish`,
+/// and no further call.
+const BROKEN: [(u8, Result<(), Refusal>, &[u8]); 6] = [
+    (1, Err(Refusal::Write(Output::List)), HELD_BEFORE),
+    (2, Err(Refusal::Write(Output::List)), b""),
+    (
+        3,
+        Err(Refusal::Write(Output::List)),
+        b"number,from,to,diffe",
+    ),
+    (
+        4,
+        Err(Refusal::Write(Output::List)),
+        b"number,from,to,difference\n1,A,B,2.545000",
+    ),
+    (5, Err(Refusal::Write(Output::List)), LIST),
+    (6, Ok(()), LIST),
+];
+
 #[test]
-fn a_write_that_fails_leaves_a_beginning(rt: HostRuntime) -> Result<(), Fail> {
-    let book = book_of(rt.alloc(), SETUP, SIGHT)?;
-    // The call that fails, and what is held then: `begin`, three writes and `finish`.
-    for (fail_at, held) in [
-        (1, HELD_BEFORE),
-        (2, b""),
-        (3, b"number,from,to,diffe"),
-        (4, b"number,from,to,difference\n1,A,B,2.545000"),
-        (5, LIST),
-    ] {
-        let mut source = TextSource::new(book.as_slice(), PIECE, None);
-        let mut sink = sink_before_run(rt.alloc(), Some(fail_at))?;
-        let answer = run_list(rt.alloc(), &mut source, &mut sink);
-        assert_eq!(rt; answer, Err(Refusal::Write(Output::List)), "call {fail_at}");
-        assert!(rt; sink.bytes() == held, "call {fail_at}");
+fn a_write_that_fails_leaves_a_beginning(rt: HostRuntime) {
+    let book = book_of(&rt, SETUP, SIGHT, b"\n");
+    for (call, wanted, held) in BROKEN {
+        let (answer, sink) = list(&rt, &book, PIECE, Failing::Write(call));
+        assert_eq!(rt; answer, wanted, "call {call}");
+        assert!(rt; sink.bytes() == held, "call {call}");
     }
-    let mut source = TextSource::new(book.as_slice(), PIECE, None);
-    let mut sink = sink_before_run(rt.alloc(), Some(6))?;
+}
+
+/// Lists a book into a sink that takes a byte a write.
+fn is_long<R: AllocGlobal + Abort>(rt: &R, book: &[u8], piece: usize, list: &[u8]) {
+    assert!(rt; piece >= 1);
+    let mut source = TextSource::new(book, piece, None);
+    let mut sink = TextSink::new(rt.alloc(), 3_000_000, 1, None).expect(rt, "memory");
     assert_eq!(rt; run_list(rt.alloc(), &mut source, &mut sink), Ok(()));
-    assert!(rt; sink.bytes() == LIST);
-    Ok(())
+    assert!(rt; sink.bytes() == list, "piece {piece}");
 }
 
 #[test]
-fn a_long_book_comes_in_very_many_reads(rt: HostRuntime) -> Result<(), Fail> {
-    let mut book = Vec::from_slice(rt.alloc(), SETUP)?;
-    let mut list = Vec::from_slice(rt.alloc(), HEADER)?;
+fn a_long_book_comes_in_very_many_reads(rt: HostRuntime) {
+    let mut book = Vec::new(rt.alloc());
+    let mut list = Vec::new(rt.alloc());
+    add(&rt, &mut book, SETUP, 1);
+    add(&rt, &mut list, HEADER, 1);
     for number in 1..100_001_u32 {
-        book.push(b'\n')?;
-        book.extend_from_slice(SIGHT)?;
-        let row = format!(in rt.alloc(); "{number},A,B,2.54500000\n")?;
-        list.extend_from_slice(row.as_bytes())?;
+        add(&rt, &mut book, b"\n", 1);
+        add(&rt, &mut book, SIGHT, 1);
+        let row = format!(in rt.alloc(); "{number},A,B,2.54500000\n").expect(&rt, "memory");
+        add(&rt, &mut list, row.as_bytes(), 1);
     }
     for piece in [1, 4_095, 4_096, 4_097] {
-        let mut source = TextSource::new(book.as_slice(), piece, None);
-        let mut sink = TextSink::new(rt.alloc(), 3_000_000, 1, None)?;
-        assert_eq!(rt; run_list(rt.alloc(), &mut source, &mut sink), Ok(()));
-        assert!(rt; sink.bytes() == list.as_slice(), "piece {piece}");
+        is_long(&rt, &book, piece, &list);
     }
-    Ok(())
 }
 
 #[test]
-fn a_book_is_listed_however_it_is_cut(rt: HostRuntime) -> Result<(), Fail> {
-    let mut book = Vec::from_slice(rt.alloc(), SETUP)?;
-    book.extend_from_slice(b"\r\n")?;
-    book.extend_from_slice(SIGHT)?;
-    book.extend_from_slice(b"\r\n")?;
+fn a_book_is_listed_however_it_is_cut(rt: HostRuntime) {
+    let book = book_of(&rt, SETUP, SIGHT, b"\r\n");
     for piece in 1..133_usize {
-        assert!(rt;
-            shown(&rt, book.as_slice(), piece)?.as_slice() == LIST,
-            "piece {piece}"
-        );
+        is_listed(&rt, &book, piece, LIST);
     }
-    Ok(())
 }

@@ -1,5 +1,5 @@
 //! Projects: books, tables and what they are adjusted to, worked by hand.
-ghost use Rattle.std.specs.Prelude.{◌≡◌, ◌≤◌};
+ghost use Rattle.std.specs.Prelude.{◌≡◌, ◌≤◌, All, length};
 
 use std::process::Abort;
 use th_checker::Verdict;
@@ -12,7 +12,14 @@ pub type Sinks = Outs<TextSink, TextSink, TextSink, TextSink>;
 /// A limit of 2 cm.
 pub const LIMIT: i64 = 2_000_000;
 
-/// A setup on A, and a sight to B.
+/// A setup on A.
+pub const SETUP: &[u8] =
+    b"110001+0000000A 84..10+00000000 85..10+00000000 86..10+00100000 88..10+00001500 \n";
+
+/// A sight to B.
+pub const SIGHT: &[u8] = b"110002+0000000B 33..00+00002345 87..10+00001300 \n";
+
+/// That setup and that sight.
 pub const ONE_SIGHT: &[u8] =
     b"110001+0000000A 84..10+00000000 85..10+00000000 86..10+00100000 88..10+00001500 \n110002+0000000B 33..00+00002345 87..10+00001300 \n";
 
@@ -69,6 +76,9 @@ pub const FAULTY_TABLE: &[u8] = b"point\n";
 /// The benchmark A at 100 m.
 pub const A_AT_100: &[u8] = b"point,height\nA,100\n";
 
+/// A book, its benchmarks and its weights.
+pub type Texts<'a> = (&'a [u8], &'a [u8], &'a [u8]);
+
 /// A source of a text, a few bytes a read.
 pub fn source(text: &[u8]) -> TextSource<'_>
     ensures { result.counts.calls ≡ 0 }
@@ -112,12 +122,11 @@ pub fn are_untouched(outs: &Sinks) -> bool {
         && outs.gsi.bytes() == HELD_BEFORE
 }
 
-/// Adjusts one book over a benchmark table, and weights where there are some.
-pub fn adjust<R: AllocGlobal + Abort>(
+/// Adjusts one book over a benchmark table and weights into these sinks, for blunders above this limit.
+pub fn adjust_into<R: AllocGlobal + Abort>(
     rt: &R,
-    book: &[u8],
-    benchmarks: &[u8],
-    weights: &[u8],
+    texts: Texts<'_>,
+    limit: i64,
     outs: &mut Sinks,
 ) -> Result<(), Refusal>
     requires heights { outs.old.heights.counts.calls ≤ 15 }
@@ -125,6 +134,7 @@ pub fn adjust<R: AllocGlobal + Abort>(
     requires report { outs.old.report.counts.calls ≤ 15 }
     requires gsi { outs.old.gsi.counts.calls ≤ 15 }
 {
+    let (book, benchmarks, weights) = texts;
     let mut books = [source(book)];
     let mut table = source(benchmarks);
     let mut factors = Some(source(weights));
@@ -133,21 +143,61 @@ pub fn adjust<R: AllocGlobal + Abort>(
         &mut books,
         &mut table,
         &mut factors,
-        LIMIT,
+        limit,
         outs,
     )
+}
+
+/// Adjusts one book; what is answered, and the sinks.
+pub fn adjust<R: AllocGlobal + Abort>(rt: &R, texts: Texts<'_>) -> (Result<(), Refusal>, Sinks) {
+    let mut outs = sinks(rt);
+    let answer = adjust_into(rt, texts, LIMIT, &mut outs);
+    (answer, outs)
+}
+
+/// Adjusts books without weights.
+pub fn adjust_books<R: AllocGlobal + Abort>(
+    rt: &R,
+    books: &mut [TextSource<'_>],
+) -> (Result<(), Refusal>, Sinks)
+    requires few { length books.old ≤ 16 }
+    requires calls { All (λ book. book.counts.calls ≡ 0) books.old }
+{
+    let mut benchmarks = source(A_AT_100);
+    let mut weights: Option<TextSource> = None;
+    let mut outs = sinks(rt);
+    let answer = run_adjust(
+        rt.alloc(),
+        books,
+        &mut benchmarks,
+        &mut weights,
+        LIMIT,
+        &mut outs,
+    );
+    (answer, outs)
+}
+
+/// Adjusts one book, which has to be refused so before an output is touched.
+pub fn is_refused<R: AllocGlobal + Abort>(rt: &R, texts: Texts<'_>, refusal: Refusal) {
+    let (answer, outs) = adjust(rt, texts);
+    assert_eq!(rt; answer, Err(refusal));
+    assert!(rt; are_untouched(&outs), "{refusal}");
+}
+
+/// Looks at bytes, which have to be these; `row` names them where they are not.
+pub fn are_same<R: Abort>(rt: &R, found: &[u8], wanted: &[u8], row: &str) {
+    assert!(rt; found == wanted, "{row}");
 }
 
 /// Checks a certificate against one book and its tables. What the sink holds has to be the line of
 /// the verdict.
 pub fn check<R: AllocGlobal + Abort>(
     rt: &R,
-    book: &[u8],
-    benchmarks: &[u8],
-    weights: &[u8],
+    texts: Texts<'_>,
     certificate: &[u8],
     line: &[u8],
 ) -> Result<Verdict, Refusal> {
+    let (book, benchmarks, weights) = texts;
     let mut books = [source(book)];
     let mut table = source(benchmarks);
     let mut factors = Some(source(weights));
@@ -163,4 +213,10 @@ pub fn check<R: AllocGlobal + Abort>(
     );
     assert!(rt; out.bytes() == line);
     answer
+}
+
+/// Checks a certificate, which has to be accepted.
+pub fn is_accepted<R: AllocGlobal + Abort>(rt: &R, texts: Texts<'_>, certificate: &[u8]) {
+    let verdict = check(rt, texts, certificate, b"yes\n");
+    assert_eq!(rt; verdict, Ok(Verdict::Yes), "{certificate:?}");
 }

@@ -1,6 +1,6 @@
 //! The line of each refusal, and its status.
 use crate::projects::{
-    A_AT_100, FAULTY_BOOK, FAULTY_TABLE, ONE_SIGHT, adjust, are_untouched, sinks,
+    A_AT_100, FAULTY_BOOK, FAULTY_TABLE, ONE_SIGHT, Texts, adjust, are_untouched,
 };
 use gsi_word::name_of;
 use std::process::Abort;
@@ -96,16 +96,20 @@ fn line_of<R: AllocGlobal + Abort>(rt: &R, refusal: &Refusal) -> String {
     format!(in rt.alloc(); "{refusal}").expect(rt, "memory")
 }
 
+/// Looks at the line of a refusal and its status.
+fn is_said<R: AllocGlobal + Abort>(rt: &R, refusal: &Refusal, line: &[u8], status: u8) {
+    assert!(rt; line_of(rt, refusal).as_bytes() == line, "{refusal}");
+    assert_eq!(rt; status_of(refusal), status, "{refusal}");
+}
+
 #[test]
 fn each_refusal_has_a_line_and_a_status(rt: HostRuntime) {
     for (refusal, line, status) in ROWS {
-        assert!(rt; line_of(&rt, &refusal).as_bytes() == line, "{refusal}");
-        assert_eq!(rt; status_of(&refusal), status, "{refusal}");
+        is_said(&rt, &refusal, line, status);
     }
     let name = name_of(b"A").expect(&rt, "a name");
     let refusal = Refusal::Network(NetFault::NoBenchmark(name));
-    assert!(rt; line_of(&rt, &refusal).as_str() == "network: N3 no benchmark for A");
-    assert_eq!(rt; status_of(&refusal), 2);
+    is_said(&rt, &refusal, b"network: N3 no benchmark for A", 2);
 }
 
 #[test]
@@ -168,14 +172,8 @@ const REFUSED_INPUTS: [(&[u8], &[u8], &[u8], &[u8]); 9] = [
 ];
 
 /// The line and the status of the refusal that an adjustment answers, which has to touch no output.
-fn refusal_of<R: AllocGlobal + Abort>(
-    rt: &R,
-    book: &[u8],
-    benchmarks: &[u8],
-    weights: &[u8],
-) -> (String, u8) {
-    let mut outs = sinks(rt);
-    let answer = adjust(rt, book, benchmarks, weights, &mut outs);
+fn refusal_of<R: AllocGlobal + Abort>(rt: &R, texts: Texts<'_>) -> (String, u8) {
+    let (answer, outs) = adjust(rt, texts);
     assert!(rt; are_untouched(&outs));
     let refusal = answer.err().expect(rt, "a refusal");
     (line_of(rt, &refusal), status_of(&refusal))
@@ -184,7 +182,7 @@ fn refusal_of<R: AllocGlobal + Abort>(
 #[test]
 fn inputs_are_refused_by_a_line(rt: HostRuntime) {
     for (book, benchmarks, weights, line) in REFUSED_INPUTS {
-        let (said, status) = refusal_of(&rt, book, benchmarks, weights);
+        let (said, status) = refusal_of(&rt, (book, benchmarks, weights));
         assert!(rt; said.as_bytes() == line, "{said}");
         assert_eq!(rt; status, 2, "{said}");
     }

@@ -1,9 +1,9 @@
 //! Projects that are adjusted, with the reports and the blocks that are printed.
 use crate::projects::{
-    A_AT_100, LIMIT, MISREAD_SIGHT, ONE_SIGHT, THERE_AND_BACK, TWICE_AND_BACK, sinks, source,
+    A_AT_100, LIMIT, LONGEST_SIGHT, MISREAD_SIGHT, ONE_SIGHT, THERE_AND_BACK, TWICE_AND_BACK,
+    adjust_into, are_same, sinks,
 };
 use std::process::Abort;
-use th_runs::run_adjust;
 
 /// A book, its benchmarks and weights, the limit of blunders, the report, and the heights as blocks.
 type Printed = (
@@ -15,7 +15,7 @@ type Printed = (
     &'static str,
 );
 
-const PRINTED: [Printed; 8] = [
+const PRINTED: [Printed; 10] = [
     // One sight.
     (
         ONE_SIGHT,
@@ -230,6 +230,62 @@ opposites                              2
 *110002+000000000000000B 83..48+0000000010254500 \r
 ",
     ),
+    // The longest difference, and the largest residual.
+    (
+        LONGEST_SIGHT,
+        A_AT_100,
+        b"",
+        LIMIT,
+        "HEIGHT NETWORK REPORT
+points                                 2
+benchmarks                             1
+observations                           1
+cost                                   0
+blunder limit                 0.02000000
+
+POINT                           HEIGHT
+A                         100.00000000  B
+B                       30100.00000000
+
+   NO  BK      LINE  FROM              TO                  WT              RESIDUAL
+    1   1         2  A                 B                    1            0.00000000
+
+blunders                               0
+
+opposites                              0
+",
+        "*110001+000000000000000A 83..48+0000000010000000 \r
+*110002+000000000000000B 83..48+0000003010000000 \r
+",
+    ),
+    (
+        LONGEST_SIGHT,
+        b"point,height\nA,10000\nB,-10000\n",
+        b"",
+        LIMIT,
+        "HEIGHT NETWORK REPORT
+points                                 2
+benchmarks                             2
+observations                           1
+cost                       5000000000000
+blunder limit                 0.02000000
+
+POINT                           HEIGHT
+A                       10000.00000000  B
+B                      -10000.00000000  B
+
+   NO  BK      LINE  FROM              TO                  WT              RESIDUAL
+    1   1         2  A                 B                    1        50000.00000000  *
+
+blunders                               1
+    1   1         2  A                 B                    1        50000.00000000  *
+
+opposites                              0
+",
+        "*110001+000000000000000A 83..48+0000001000000000 \r
+*110002+000000000000000B 83..48-0000001000000000 \r
+",
+    ),
     // No points.
     (
         b"",
@@ -255,23 +311,19 @@ opposites                              0
     ),
 ];
 
+/// Adjusts a project, and looks at its report and its blocks.
+fn print_row<R: AllocGlobal + Abort>(rt: &R, row: &Printed) {
+    let (book, benchmarks, weights, limit, report, blocks) = *row;
+    let mut outs = sinks(rt);
+    let answer = adjust_into(rt, (book, benchmarks, weights), limit, &mut outs);
+    assert_eq!(rt; answer, Ok(()), "{report}");
+    are_same(rt, outs.report.bytes(), report.as_bytes(), report);
+    are_same(rt, outs.gsi.bytes(), blocks.as_bytes(), report);
+}
+
 #[test]
 fn prints_the_report_and_the_heights_as_blocks(rt: HostRuntime) {
-    for (book, benchmarks, weights, limit, report, blocks) in PRINTED {
-        let mut books = [source(book)];
-        let mut table = source(benchmarks);
-        let mut factors = Some(source(weights));
-        let mut outs = sinks(&rt);
-        let answer = run_adjust(
-            rt.alloc(),
-            &mut books,
-            &mut table,
-            &mut factors,
-            limit,
-            &mut outs,
-        );
-        assert_eq!(rt; answer, Ok(()), "{report}");
-        assert!(rt; outs.report.bytes() == report.as_bytes(), "{report}");
-        assert!(rt; outs.gsi.bytes() == blocks.as_bytes(), "{report}");
+    for row in &PRINTED {
+        print_row(&rt, row);
     }
 }
