@@ -1,12 +1,12 @@
 //! Books that come in pieces: the rows of the other books, each cutting of a book, books of the most
 //! bytes and of many sights, and want of memory.
-use crate::book_tests::{
+use crate::books::{
     DIFFERENCES, FAULTS, P, Row, S, SEEN, SIX_LINES, Seen, are_seen, fault_at, is_answer, is_empty,
     is_too_long, joined,
 };
-use crate::*;
 use std::alloc::Global;
 use std::process::Abort;
+use th_book::{BookFault, BookFeed, BookKind, Observation, read_book};
 
 /// Feeds a book in pieces of this size.
 fn fed(

@@ -1,0 +1,24 @@
+//! Tests of `th_units`, `gsi_word`, `gsi_block` and `th_book`: lengths and their texts, words and
+//! names, lines and blocks, and what books give or which faults they have.
+//!
+//! They stand in a crate of their own since a crate is proved a second time with its tests. They use
+//! public calls alone.
+#![tactic(auto)]
+
+// Lengths, and the words that hold them.
+#[cfg(test)]
+mod units;
+#[cfg(test)]
+mod words;
+
+// The lines of a text, and the blocks of lines.
+#[cfg(test)]
+mod blocks;
+#[cfg(test)]
+mod lines;
+
+// Books by their lines, whole, and by pieces of their bytes.
+#[cfg(test)]
+mod books;
+#[cfg(test)]
+mod feeds;
