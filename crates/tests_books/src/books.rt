@@ -1,10 +1,10 @@
-//! Books given line by line and whole: worked rows, faults, and what stands after a fault or want of
-//! memory.
+//! Books given line by line, whole and in pieces: worked rows, faults, and what stands after a fault or
+//! want of memory.
 use gsi_block::{BlockFault, LineCursor};
 use gsi_word::WordFault;
 use std::alloc::Global;
 use std::process::Abort;
-use th_book::{Book, BookFault, BookKind, MAX_BOOK, Observation, read_book};
+use th_book::{Book, BookFault, BookFeed, BookKind, MAX_BOOK, Observation, read_book};
 
 /// A setup at A with an instrument height of 1.500 m.
 pub const S: &[u8] =
@@ -20,7 +20,7 @@ pub const P: &[u8] = b"110002+0000000B 33..00+00002345 87..10+00001300 ";
 pub type Seen = (&'static [u8], &'static [u8], i64, u32);
 
 /// The lines of a book, and its observations or the line and kind of its fault.
-pub type Row = (
+type Row = (
     &'static [&'static [u8]],
     Result<&'static [Seen], (u32, BookKind)>,
 );
@@ -28,7 +28,7 @@ pub type Row = (
 /// What S and P give.
 pub const SEEN: Seen = (b"A", b"B", 254_500_000, 2);
 
-pub const DIFFERENCES: [Row; 15] = [
+const DIFFERENCES: [Row; 15] = [
     (&[], Ok(&[])),
     (&[S, P], Ok(&[SEEN])),
     (
@@ -186,7 +186,7 @@ const LINES: [(&[u8], BlockFault); 5] = [
     ),
 ];
 
-pub const FAULTS: [Row; 24] = [
+const FAULTS: [Row; 24] = [
     (
         &[S, P, b"87..10+00001300 87..10+00001300 "],
         Err((3, BookKind::RepeatedWord)),
@@ -342,7 +342,7 @@ fn line_by_line(
 }
 
 /// The bytes of some lines, each ended by a line feed.
-pub fn joined(rt: &impl Abort, alloc: Global, lines: &[&[u8]]) -> Vec<u8> {
+fn joined(rt: &impl Abort, alloc: Global, lines: &[&[u8]]) -> Vec<u8> {
     let mut bytes = Vec::new(alloc);
     for line in lines {
         bytes.extend_from_slice(line).expect(rt, "memory");
@@ -351,12 +351,28 @@ pub fn joined(rt: &impl Abort, alloc: Global, lines: &[&[u8]]) -> Vec<u8> {
     bytes
 }
 
-/// A book gives what is wanted, line by line and whole.
+/// Feeds a book in pieces of this size.
+pub fn fed(
+    rt: &impl Abort,
+    alloc: Global,
+    bytes: &[u8],
+    piece: usize,
+) -> Result<Vec<Observation>, BookFault> {
+    assert!(rt; piece >= 1);
+    let mut feed = BookFeed::new(alloc, 7);
+    for bytes in bytes.chunks(piece) {
+        let _ = feed.feed(bytes);
+    }
+    feed.finish()
+}
+
+/// A book gives what is wanted, line by line, whole and in pieces of 7 bytes.
 fn gives(rt: &impl Abort, alloc: Global, row: &Row) {
     let (lines, wanted) = row;
     is_answer(rt, line_by_line(rt, alloc, lines), wanted);
     let bytes = joined(rt, alloc, lines);
     is_answer(rt, read_book(alloc, 7, &bytes), wanted);
+    is_answer(rt, fed(rt, alloc, &bytes, 7), wanted);
 }
 
 #[test]

@@ -1,9 +1,21 @@
-//! Tests of `th_units`, `gsi_word`, `gsi_block` and `th_book`: lengths and their texts, words and
-//! names, lines and blocks, and what books give or which faults they have.
+//! Tests of the crates that read bytes: what devices give and take, the records of a text, lengths and
+//! their texts, words and names, lines and blocks, and what books give or which faults they have.
 //!
 //! They stand in a crate of their own since a crate is proved a second time with its tests. They use
 //! public calls alone.
 #![tactic(auto)]
+
+// Sources and sinks.
+#[cfg(test)]
+mod devices;
+#[cfg(test)]
+mod failing_files;
+#[cfg(test)]
+mod files;
+
+// Records and rows.
+#[cfg(test)]
+mod records;
 
 // Lengths, and the words that hold them.
 #[cfg(test)]

@@ -1,6 +1,6 @@
-use crate::*;
 use std::process::Abort;
 use std::test::Fail;
+use th_csv::{Record, RecordReader, RowWriter};
 
 /// A text, and the fields of its records.
 type TextRow = (&'static [u8], &'static [&'static [&'static [u8]]]);
