@@ -22,12 +22,6 @@ mod writing;
 // what holds of the definitions alone
 pub mod laws;
 
-// rows
-#[cfg(test)]
-mod block_tests;
-#[cfg(test)]
-mod line_tests;
-
 pub use blocks::Block;
 pub use cursor::LineCursor;
 pub use faults::BlockFault;

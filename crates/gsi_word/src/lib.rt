@@ -22,8 +22,6 @@ mod values;
 
 // what holds of the definitions alone
 pub mod laws;
-#[cfg(test)]
-mod tests;
 
 pub use faults::{LengthFault, WordFault};
 pub use limits::{MAX_NAME, MAX_WORD};

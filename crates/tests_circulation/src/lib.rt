@@ -1,9 +1,14 @@
-//! Tests of `th_circulation` over the searches of `th_search` and over strange ones: what rows of
-//! surveys are settled to, networks of size, and small networks against plain references.
+//! Tests of `th_search`, and of `th_circulation` over its searches and over strange ones: what the
+//! searches answer, what rows of surveys are settled to, networks of size, and small networks against
+//! plain references.
 //!
 //! They stand in a crate of their own since a crate is proved a second time with its tests. They use
 //! public calls alone, and take their wanted values from worked surveys.
 #![tactic(auto)]
+
+// What searches answer.
+#[cfg(test)]
+mod answers;
 
 // The networks, the searches, and the settling of one over the other.
 #[cfg(test)]

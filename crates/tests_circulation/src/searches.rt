@@ -195,7 +195,7 @@ fn sink(potentials: &mut [i64], room: u64)
 }
 
 /// How many arcs the cycle of an answer has, 0 for potentials.
-fn cycle_len(found: &Found) -> usize {
+pub fn cycle_len(found: &Found) -> usize {
     match found {
         Found::Potentials(_) => 0,
         Found::Cycle(cycle) => cycle.len(),

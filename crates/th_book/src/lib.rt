@@ -38,12 +38,6 @@ mod feeds;
 // What holds of the definitions alone.
 pub mod laws;
 
-// Rows.
-#[cfg(test)]
-mod book_tests;
-#[cfg(test)]
-mod feed_tests;
-
 pub use books::{Book, read_book};
 pub use faults::{BookFault, BookKind};
 pub use feeds::BookFeed;

@@ -16,8 +16,6 @@ mod writing;
 // What both answer, and what holds of both.
 mod faults;
 pub mod laws;
-#[cfg(test)]
-mod tests;
 
 pub use fields::Record;
 pub use reading::RecordReader;

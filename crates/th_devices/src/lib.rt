@@ -20,8 +20,6 @@ mod transfer;
 
 // What holds of the definitions.
 pub mod laws;
-#[cfg(test)]
-mod tests;
 
 pub use devices::{Counts, Failed, Sink, Source};
 pub use files::{FileSink, FileSource};

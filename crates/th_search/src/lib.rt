@@ -24,8 +24,6 @@ mod passes;
 // The search over a table of levels.
 mod level_search;
 mod levels;
-#[cfg(test)]
-mod tests;
 
 pub use arcs::{Arc, are_arcs};
 pub use label_search::LabelSearch;

@@ -21,8 +21,6 @@ mod metres;
 
 // what holds of the definitions alone
 pub mod laws;
-#[cfg(test)]
-mod tests;
 
 pub use faults::LenFault;
 pub use lengths::{Len, are_digits, is_digit, to_len};

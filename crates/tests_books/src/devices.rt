@@ -1,14 +1,14 @@
-//! What no clause says: that calls succeed where memory is ample, and what real files do.
-use crate::files::{flush_opened, read_some};
-use crate::*;
+//! What no clause says of sources and sinks in memory and of standard output: that calls succeed where
+//! memory is ample, and what stands behind a call that fails.
 use std::cell::Cell;
 use std::fmt::Display;
-use std::io::{Read, Write};
+use std::io;
 use std::test::Fail;
-use std::{fs, io};
+use th_devices::{Failed, ReadFault, StandardOutput, TextSink, TextSource, read_all, write_all};
 
 /// A text of 70 bytes.
-const TEXT: &[u8] = b"kind,key,value\nV,1,1\nH,A,100.00000000\nH,B,102.54500000\nF,1,0\nZ,cost,0\n";
+pub const TEXT: &[u8] =
+    b"kind,key,value\nV,1,1\nH,A,100.00000000\nH,B,102.54500000\nF,1,0\nZ,cost,0\n";
 
 #[test]
 fn reads_to_the_end_or_past_the_limit(rt: HostRuntime) {
@@ -60,96 +60,6 @@ fn a_call_that_fails_leaves_a_beginning(rt: HostRuntime) -> Result<(), Fail> {
     assert_eq!(rt; write_all(&mut sink, TEXT), Err(Failed));
     assert_eq!(rt; sink.bytes().len(), 69);
     Ok(())
-}
-
-#[test]
-fn a_file_is_written_and_read_back(rt: HostRuntime) {
-    let name = "written.csv";
-    let mut sink = FileSink::new(&rt, name);
-    assert_eq!(rt;
-        write_all(
-            &mut sink,
-            b"a text that is longer than the one which is written over it, by some bytes"
-        ),
-        Ok(())
-    );
-    assert_eq!(rt; write_all(&mut sink, TEXT), Ok(()));
-    let mut source = FileSource::new(&rt, name);
-    let bytes = read_all(rt.alloc(), &mut source, 100);
-    let bytes = bytes.ok().expect(&rt, "the file");
-    assert!(rt; bytes.as_slice() == TEXT);
-    assert!(rt; fs::remove_file(&rt, name).is_ok());
-}
-
-#[test]
-fn a_file_that_cannot_be_opened_fails_its_call(rt: HostRuntime) {
-    let mut source = FileSource::new(&rt, "no-such-folder/book.gsi");
-    let answer = read_all(rt.alloc(), &mut source, 100);
-    assert!(rt; matches!(answer, Err(ReadFault::Failed)));
-    let mut sink = FileSink::new(&rt, "no-such-folder/heights.csv");
-    assert_eq!(rt; write_all(&mut sink, TEXT), Err(Failed));
-}
-
-#[test]
-fn a_finished_file_is_written_on(rt: HostRuntime) {
-    let name = "written_on.csv";
-    let mut sink = FileSink::new(&rt, name);
-    assert_eq!(rt; write_all(&mut sink, TEXT), Ok(()));
-    assert_eq!(rt; sink.write(b""), Ok(0));
-    assert_eq!(rt; sink.write(b"Z"), Ok(1));
-    assert_eq!(rt; sink.finish(), Ok(()));
-    let mut source = FileSource::new(&rt, name);
-    assert_eq!(rt; source.read(&mut []), Ok(0));
-    let bytes = read_all(rt.alloc(), &mut source, 100);
-    let bytes = bytes.ok().expect(&rt, "the file");
-    assert_eq!(rt; bytes.len(), 71);
-    assert!(rt; bytes.starts_with(TEXT));
-    assert!(rt; fs::remove_file(&rt, name).is_ok());
-}
-
-/// An open file whose first call fails.
-#[derive(Drop)]
-struct FailsAtFirst {
-    calls: u32,
-}
-
-impl FailsAtFirst {
-    fn call(&mut self) -> io::Result<()> {
-        self.calls = self.calls.saturating_add(1);
-        if self.calls == 1 {
-            return Err(io::Error::from(io::ErrorKind::BrokenPipe));
-        }
-        Ok(())
-    }
-}
-
-impl Read for FailsAtFirst {
-    fn read(&mut self, _buf: &mut [u8]) -> io::Result<usize> {
-        self.call()?;
-        Ok(0)
-    }
-}
-
-impl Write for FailsAtFirst {
-    fn write(&mut self, _buf: &[u8]) -> io::Result<usize> {
-        self.call()?;
-        Ok(0)
-    }
-
-    fn flush(&mut self) -> io::Result<()> {
-        self.call()
-    }
-}
-
-#[test]
-fn what_the_system_fails_is_not_tried_again(rt: HostRuntime) {
-    let mut file = FailsAtFirst { calls: 0 };
-    let mut into = [0u8; 4];
-    assert_eq!(rt; read_some(&mut file, &mut into), Err(Failed));
-    assert_eq!(rt; read_some(&mut file, &mut into), Ok(0));
-    let mut file = Some(FailsAtFirst { calls: 0 });
-    assert_eq!(rt; flush_opened(&mut file), Err(Failed));
-    assert_eq!(rt; flush_opened(&mut file), Ok(()));
 }
 
 /// A standard output that takes a byte a call, and fails once it is full.
@@ -208,32 +118,4 @@ fn a_long_text_comes_and_goes_in_very_many_calls(rt: HostRuntime) -> Result<(), 
     assert_eq!(rt; write_all(&mut sink, bytes.as_slice()), Ok(()));
     assert!(rt; sink.bytes() == text.as_slice());
     Ok(())
-}
-
-#[test]
-fn a_long_file_is_written_and_read_back(rt: HostRuntime) -> Result<(), Fail> {
-    let name = "long.csv";
-    let text = vec![in rt.alloc(); b'x'; 1_000_000]?;
-    let mut sink = FileSink::new(&rt, name);
-    assert_eq!(rt; write_all(&mut sink, text.as_slice()), Ok(()));
-    let mut source = FileSource::new(&rt, name);
-    let bytes = read_all(rt.alloc(), &mut source, 2_000_000);
-    let bytes = bytes.ok().expect(&rt, "the file");
-    assert!(rt; bytes.as_slice() == text.as_slice());
-    assert!(rt; fs::remove_file(&rt, name).is_ok());
-    Ok(())
-}
-
-#[test]
-fn a_failed_read_leaves_its_slice(rt: HostRuntime) {
-    let mut source = TextSource::new(TEXT, 20, Some(1));
-    let mut into = [7u8; 4];
-    assert_eq!(rt; source.read(&mut into), Err(Failed));
-    assert!(rt; into == [7; 4]);
-    let mut source = FileSource::new(&rt, "no-such-folder/book.gsi");
-    assert_eq!(rt; source.read(&mut into), Err(Failed));
-    assert!(rt; into == [7; 4]);
-    let mut file = FailsAtFirst { calls: 0 };
-    assert_eq!(rt; read_some(&mut file, &mut into), Err(Failed));
-    assert!(rt; into == [7; 4]);
 }

@@ -1,34 +1,34 @@
-//! Books given line by line and whole: worked rows, faults, and what stands after a fault or want of
-//! memory.
-use crate::*;
+//! Books given line by line, whole and in pieces: worked rows, faults, and what stands after a fault or
+//! want of memory.
 use gsi_block::{BlockFault, LineCursor};
 use gsi_word::WordFault;
 use std::alloc::Global;
 use std::process::Abort;
+use th_book::{Book, BookFault, BookFeed, BookKind, MAX_BOOK, Observation, read_book};
 
 /// A setup at A with an instrument height of 1.500 m.
-pub(crate) const S: &[u8] =
+pub const S: &[u8] =
     b"110001+0000000A 84..10+00000000 85..10+00000000 86..10+00100000 88..10+00001500 ";
 
 /// The same without its instrument height.
 const S_WITHOUT_HEIGHT: &[u8] = b"110001+0000000A 84..10+00000000 85..10+00000000 86..10+00100000 ";
 
 /// A sight to B with a reflector height of 1.300 m.
-pub(crate) const P: &[u8] = b"110002+0000000B 33..00+00002345 87..10+00001300 ";
+pub const P: &[u8] = b"110002+0000000B 33..00+00002345 87..10+00001300 ";
 
 /// An observation's ends and difference, and its line.
-pub(crate) type Seen = (&'static [u8], &'static [u8], i64, u32);
+pub type Seen = (&'static [u8], &'static [u8], i64, u32);
 
 /// The lines of a book, and its observations or the line and kind of its fault.
-pub(crate) type Row = (
+type Row = (
     &'static [&'static [u8]],
     Result<&'static [Seen], (u32, BookKind)>,
 );
 
 /// What S and P give.
-pub(crate) const SEEN: Seen = (b"A", b"B", 254_500_000, 2);
+pub const SEEN: Seen = (b"A", b"B", 254_500_000, 2);
 
-pub(crate) const DIFFERENCES: [Row; 15] = [
+const DIFFERENCES: [Row; 15] = [
     (&[], Ok(&[])),
     (&[S, P], Ok(&[SEEN])),
     (
@@ -186,7 +186,7 @@ const LINES: [(&[u8], BlockFault); 5] = [
     ),
 ];
 
-pub(crate) const FAULTS: [Row; 24] = [
+const FAULTS: [Row; 24] = [
     (
         &[S, P, b"87..10+00001300 87..10+00001300 "],
         Err((3, BookKind::RepeatedWord)),
@@ -284,12 +284,12 @@ pub(crate) const FAULTS: [Row; 24] = [
     ),
 ];
 
-pub(crate) fn fault_at(line: u32, kind: BookKind) -> BookFault {
+pub fn fault_at(line: u32, kind: BookKind) -> BookFault {
     BookFault { line, kind }
 }
 
 /// The observations are those wanted, of book 7.
-pub(crate) fn are_seen(rt: &impl Abort, observations: &[Observation], wanted: &[Seen]) {
+pub fn are_seen(rt: &impl Abort, observations: &[Observation], wanted: &[Seen]) {
     assert_eq!(rt; observations.len(), wanted.len());
     for (observation, seen) in observations.iter().zip(wanted) {
         let (station, target) = observation.ends();
@@ -304,7 +304,7 @@ pub(crate) fn are_seen(rt: &impl Abort, observations: &[Observation], wanted: &[
     }
 }
 
-pub(crate) fn is_answer(
+pub fn is_answer(
     rt: &impl Abort,
     answer: Result<Vec<Observation>, BookFault>,
     wanted: &Result<&[Seen], (u32, BookKind)>,
@@ -342,7 +342,7 @@ fn line_by_line(
 }
 
 /// The bytes of some lines, each ended by a line feed.
-pub(crate) fn joined(rt: &impl Abort, alloc: Global, lines: &[&[u8]]) -> Vec<u8> {
+fn joined(rt: &impl Abort, alloc: Global, lines: &[&[u8]]) -> Vec<u8> {
     let mut bytes = Vec::new(alloc);
     for line in lines {
         bytes.extend_from_slice(line).expect(rt, "memory");
@@ -351,12 +351,28 @@ pub(crate) fn joined(rt: &impl Abort, alloc: Global, lines: &[&[u8]]) -> Vec<u8>
     bytes
 }
 
-/// A book gives what is wanted, line by line and whole.
+/// Feeds a book in pieces of this size.
+pub fn fed(
+    rt: &impl Abort,
+    alloc: Global,
+    bytes: &[u8],
+    piece: usize,
+) -> Result<Vec<Observation>, BookFault> {
+    assert!(rt; piece >= 1);
+    let mut feed = BookFeed::new(alloc, 7);
+    for bytes in bytes.chunks(piece) {
+        let _ = feed.feed(bytes);
+    }
+    feed.finish()
+}
+
+/// A book gives what is wanted, line by line, whole and in pieces of 7 bytes.
 fn gives(rt: &impl Abort, alloc: Global, row: &Row) {
     let (lines, wanted) = row;
     is_answer(rt, line_by_line(rt, alloc, lines), wanted);
     let bytes = joined(rt, alloc, lines);
     is_answer(rt, read_book(alloc, 7, &bytes), wanted);
+    is_answer(rt, fed(rt, alloc, &bytes, 7), wanted);
 }
 
 #[test]
@@ -404,7 +420,7 @@ fn lines_of_spaces(rt: HostRuntime) {
 }
 
 /// A book has no observations and no fault.
-pub(crate) fn is_empty(rt: &impl Abort, answer: Result<Vec<Observation>, BookFault>) {
+pub fn is_empty(rt: &impl Abort, answer: Result<Vec<Observation>, BookFault>) {
     match answer {
         Ok(observations) => assert!(rt; observations.is_empty()),
         Err(fault) => panic!(rt; "{fault:?}"),
@@ -412,7 +428,7 @@ pub(crate) fn is_empty(rt: &impl Abort, answer: Result<Vec<Observation>, BookFau
 }
 
 /// A book is too long.
-pub(crate) fn is_too_long(rt: &impl Abort, answer: Result<Vec<Observation>, BookFault>) {
+pub fn is_too_long(rt: &impl Abort, answer: Result<Vec<Observation>, BookFault>) {
     match answer {
         Ok(_) => panic!(rt; "a book that is too long"),
         Err(fault) => assert_eq!(rt; fault, fault_at(0, BookKind::BookTooLong)),
@@ -444,7 +460,7 @@ fn fault_is_kept(rt: HostRuntime) {
 }
 
 /// A setup and five sights.
-pub(crate) const SIX_LINES: &[u8] = b"110001+0000000A 84..10+00000000 88..10+00001500
+pub const SIX_LINES: &[u8] = b"110001+0000000A 84..10+00000000 88..10+00001500
 110002+0000000B 33..00+00002345 87..10+00001300
 110003+0000000B 33..00+00002345
 110004+0000000B 33..00+00002345

@@ -1,5 +1,5 @@
 use Rattle.std.proofs.Common.{length}
-use Rattle.gsi_block.proofs.line_tests.bytes_in_lines.Given as goal
+use Rattle.tests_books.proofs.lines.bytes_in_lines.Given as goal
 
 abbrev pub decreases-loop-line : goal.decreases-loop-line
 decreases-loop-line l = length l.cursor

@@ -1,5 +1,5 @@
 use Rattle.std.proofs.Common.{◌≤◌}
-use Rattle.gsi_block.proofs.line_tests.given_lines.Given as goal
+use Rattle.tests_books.proofs.lines.given_lines.Given as goal
 
 abbrev pub invariant-loop-place : goal.invariant-loop-place
 invariant-loop-place l = l.begun ≤ l.place

@@ -1,5 +1,7 @@
-use crate::*;
 use arrayvec::ArrayVec;
+use gsi_word::{
+    LengthFault, Width, Word, WordFault, length_of, name_of, read_word, two_digit, write_word,
+};
 use std::alloc::AllocError;
 use std::collections::HashMap;
 use std::process::Abort;

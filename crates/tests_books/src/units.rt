@@ -1,5 +1,5 @@
-use crate::*;
 use std::process::Abort;
+use th_units::{LenFault, metre_text, parse_metres, short_number, to_len, unit_of};
 
 /// What a sign, digits and a unit's code give: units and metres, or the fault.
 type Conversion = (

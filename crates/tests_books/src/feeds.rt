@@ -1,44 +1,11 @@
-//! Books that come in pieces: the rows of the other books, each cutting of a book, books of the most
-//! bytes and of many sights, and want of memory.
-use crate::book_tests::{
-    DIFFERENCES, FAULTS, P, Row, S, SEEN, SIX_LINES, Seen, are_seen, fault_at, is_answer, is_empty,
-    is_too_long, joined,
+//! Books that come in pieces: pieces of each size, books of the most bytes and of many sights, and want
+//! of memory.
+use crate::books::{
+    P, S, SEEN, SIX_LINES, Seen, are_seen, fault_at, fed, is_answer, is_empty, is_too_long,
 };
-use crate::*;
 use std::alloc::Global;
 use std::process::Abort;
-
-/// Feeds a book in pieces of this size.
-fn fed(
-    rt: &impl Abort,
-    alloc: Global,
-    bytes: &[u8],
-    piece: usize,
-) -> Result<Vec<Observation>, BookFault> {
-    assert!(rt; piece >= 1);
-    let mut feed = BookFeed::new(alloc, 7);
-    for bytes in bytes.chunks(piece) {
-        let _ = feed.feed(bytes);
-    }
-    feed.finish()
-}
-
-/// A book that comes in pieces of 7 bytes gives what is wanted.
-fn gives_in_pieces(rt: &impl Abort, alloc: Global, row: &Row) {
-    let (lines, wanted) = row;
-    let bytes = joined(rt, alloc, lines);
-    is_answer(rt, fed(rt, alloc, &bytes, 7), wanted);
-}
-
-#[test]
-fn books_in_pieces(rt: HostRuntime) {
-    for row in &DIFFERENCES {
-        gives_in_pieces(&rt, rt.alloc(), row);
-    }
-    for row in &FAULTS {
-        gives_in_pieces(&rt, rt.alloc(), row);
-    }
-}
+use th_book::{BookFeed, BookKind, read_book};
 
 /// S, CR, CR LF, P, CR LF: the second line is empty.
 fn two_lines_apart(rt: &impl Abort, alloc: Global) -> Vec<u8> {

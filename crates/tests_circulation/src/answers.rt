@@ -1,9 +1,12 @@
-ghost use Rattle.std.specs.Prelude.{◌≤◌};
+//! What both searches answer: worked rows, small networks that look random, and the largest ones.
+ghost use Rattle.std.specs.Prelude.{◌<◌, ◌≤◌};
 
-use crate::*;
+use crate::randoms::Random;
+use crate::searches::cycle_len;
 use std::alloc::{AllocError, Global};
 use std::process::Abort;
 use std::test::Fail;
+use th_search::{Arc, Found, LabelSearch, LevelSearch, MAX_ARCS, MAX_VERTICES, Search, are_arcs};
 
 const fn arc(tail: u32, head: u32, cost: i64) -> Arc {
     Arc { tail, head, cost }
@@ -106,14 +109,6 @@ fn potentials_of(found: &Found) -> Option<&[i64]> {
     }
 }
 
-/// How many arcs the cycle of an answer has, 0 for potentials.
-fn cycle_len(found: &Found) -> usize {
-    match found {
-        Found::Potentials(_) => 0,
-        Found::Cycle(cycle) => cycle.len(),
-    }
-}
-
 #[test]
 fn rows_are_answered_by_both(rt: HostRuntime) -> Result<(), Fail> {
     for (row, (n, all, potentials)) in ROWS.iter().enumerate() {
@@ -137,42 +132,17 @@ fn rows_are_answered_by_both(rt: HostRuntime) -> Result<(), Fail> {
     Ok(())
 }
 
-/// Numbers that look random: a linear congruential generator (Knuth's MMIX).
-#[derive(Drop)]
-struct Random {
-    state: u64,
-}
-
-impl Random {
-    /// A number below `most`, or 0 where that is 0.
-    fn below(&mut self, most: u32) -> u32
-        ensures { result ≤ most }
-    {
-        self.state = self
-            .state
-            .wrapping_mul(6_364_136_223_846_793_005)
-            .wrapping_add(1_442_695_040_888_963_407);
-        if most == 0 {
-            return 0;
-        }
-        ((self.state >> 33) % u64::from(most)) as u32
+/// Arcs among `n` vertices, fewer than three for each, that cost from -4 to 8.
+fn random_arcs(alloc: Global, random: &mut Random, n: u32) -> Result<Vec<Arc>, AllocError>
+    requires some { 1 ≤ n }
+    requires few { n ≤ 7 }
+{
+    let mut arcs = Vec::new(alloc);
+    for _ in 0..random.below(3 * n) {
+        let cost = i64::from(random.below(13)) - 4;
+        arcs.push(arc(random.below(n), random.below(n), cost))?;
     }
-
-    /// Arcs among `n` vertices, that cost from `least` to `least + 12`.
-    fn arcs(
-        &mut self,
-        alloc: Global,
-        n: u32,
-        count: u32,
-        least: i64,
-    ) -> Result<Vec<Arc>, AllocError> {
-        let mut arcs = Vec::new(alloc);
-        for _ in 0..count {
-            let cost = i64::from(self.below(13)).wrapping_add(least);
-            arcs.push(arc(self.below(n), self.below(n), cost))?;
-        }
-        Ok(arcs)
-    }
+    Ok(arcs)
 }
 
 #[test]
@@ -181,8 +151,7 @@ fn small_graphs_are_answered_alike(rt: HostRuntime) -> Result<(), Fail> {
     let mut cycles = 0u32;
     for graph in 0..600u32 {
         let n = 1 + random.below(7);
-        let count = random.below(3 * n);
-        let arcs = random.arcs(rt.alloc(), n, count, -4)?;
+        let arcs = random_arcs(rt.alloc(), &mut random, n)?;
         let labels = by_labels(&rt, rt.alloc(), n, &arcs)?;
         let levels = by_levels(&rt, rt.alloc(), n, &arcs)?;
         assert!(rt;

@@ -1,5 +1,5 @@
 use Rattle.std.proofs.Common.{length}
-use Rattle.gsi_block.proofs.line_tests.take_piece.Given as goal
+use Rattle.tests_books.proofs.lines.take_piece.Given as goal
 
 abbrev pub decreases-loop-rest : goal.decreases-loop-rest
 decreases-loop-rest l = length l.rest

@@ -1,4 +1,4 @@
-use crate::{LineCursor, Lines};
+use gsi_block::{LineCursor, Lines};
 use std::alloc::{AllocError, Global};
 use std::process::Abort;
 use std::test::Fail;

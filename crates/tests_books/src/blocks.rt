@@ -1,5 +1,5 @@
-use crate::*;
 use arrayvec::ArrayVec;
+use gsi_block::{Block, BlockFault, Lines, read_block, read_words, write_block};
 use gsi_word::{Width, Word, WordFault};
 use std::alloc::{AllocError, Global};
 use std::process::Abort;
