@@ -1,20 +1,15 @@
 use gsi_word::name_of;
-use std::alloc::{AllocError, Global};
+use std::alloc::Global;
 use std::process::Abort;
-use std::test::Fail;
-use th_book::read_book;
+use th_book::{Observation, read_book};
 use th_network::{Link, NetFault, Network};
-use th_tables::{read_benchmarks, read_weights};
+use th_tables::{Benchmarks, Weights, read_benchmarks, read_weights};
 
 /// A setup at A, and a sight from it to B.
 const SETUP: &[u8] =
     b"110001+0000000A 84..10+00000000 85..10+00000000 86..10+00100000 88..10+00001500 \n";
 
 const SIGHT: &[u8] = b"110002+0000000B 33..00+00002345 87..10+00001300 \n";
-
-/// That setup and that sight.
-const SETUP_AND_SIGHT: &[u8] =
-    b"110001+0000000A 84..10+00000000 85..10+00000000 86..10+00100000 88..10+00001500 \n110002+0000000B 33..00+00002345 87..10+00001300 \n";
 
 /// A further setup at B, and a sight from it back to A.
 const BACK: &[u8] =
@@ -35,7 +30,7 @@ type Made = (
     &'static [(Link, u32)],
 );
 
-const MADE: [Made; 7] = [
+const MADE: [Made; 8] = [
     (
         [SETUP, SIGHT, b""],
         b"point,height\nA,100\n",
@@ -49,6 +44,21 @@ const MADE: [Made; 7] = [
                 diff: 10_254_500_000,
             },
             1,
+        )],
+    ),
+    (
+        [SETUP, SIGHT, b""],
+        b"point,height\nA,100\n",
+        b"from,to,weight\nA,B,3\n",
+        &[(b"A", Some(10_000_000_000)), (b"B", None)],
+        2,
+        &[(
+            Link {
+                tail: 0,
+                head: 1,
+                diff: 10_254_500_000,
+            },
+            3,
         )],
     ),
     (
@@ -162,20 +172,65 @@ const UNTIED: [Untied; 5] = [
     ([SETUP, SIGHT, APART], b"point,height\nD,100\n", b"A"),
 ];
 
-fn joined(alloc: Global, parts: &[&[u8]]) -> Result<Vec<u8>, AllocError> {
+/// Adds lines to a text so many times.
+fn add(rt: &impl Abort, text: &mut Vec<u8>, lines: &[u8], times: u32) {
+    for _ in 0..times {
+        text.extend_from_slice(lines).expect(rt, "memory");
+    }
+}
+
+/// The parts of a book, joined.
+fn joined(rt: &impl Abort, alloc: Global, parts: &[&[u8]]) -> Vec<u8> {
     let mut bytes = Vec::new(alloc);
     for part in parts {
-        bytes.extend_from_slice(part)?;
+        add(rt, &mut bytes, part, 1);
     }
-    Ok(bytes)
+    bytes
+}
+
+/// The observations of a book.
+fn observations_of(rt: &impl Abort, alloc: Global, book: &[u8]) -> Vec<Observation> {
+    read_book(alloc, 1, book).expect(rt, "a book")
+}
+
+/// A table of benchmarks and a table of weights.
+fn tables_of(
+    rt: &impl Abort,
+    alloc: Global,
+    benchmarks: &[u8],
+    weights: &[u8],
+) -> (Benchmarks, Weights) {
+    let benchmarks = read_benchmarks(alloc, benchmarks).expect(rt, "benchmarks");
+    let weights = read_weights(alloc, weights).expect(rt, "weights");
+    (benchmarks, weights)
+}
+
+/// The network of observations over tables.
+fn network_of<'a>(
+    rt: &impl Abort,
+    alloc: Global,
+    observations: Vec<Observation>,
+    tables: &'a (Benchmarks, Weights),
+) -> Network<'a> {
+    Network::build(alloc, observations, &tables.0, &tables.1).expect(rt, "a network")
 }
 
 /// The fault of the network of a book and a table of benchmarks without weights, if it has one.
-fn fault_of(alloc: Global, rt: &impl Abort, book: &[u8], benchmarks: &[u8]) -> Option<NetFault> {
-    let observations = read_book(alloc, 1, book).expect(rt, "a book");
-    let benchmarks = read_benchmarks(alloc, benchmarks).expect(rt, "benchmarks");
-    let weights = read_weights(alloc, b"").expect(rt, "weights");
+fn fault_of(rt: &impl Abort, alloc: Global, book: &[u8], benchmarks: &[u8]) -> Option<NetFault> {
+    let observations = observations_of(rt, alloc, book);
+    let (benchmarks, weights) = tables_of(rt, alloc, benchmarks, b"");
     Network::build(alloc, observations, &benchmarks, &weights).err()
+}
+
+/// Looks at the fault of a book and a table of benchmarks, or that there is none.
+fn has_fault(
+    rt: &impl Abort,
+    alloc: Global,
+    book: &[u8],
+    benchmarks: &[u8],
+    wanted: Option<NetFault>,
+) {
+    assert_eq!(rt; fault_of(rt, alloc, book, benchmarks), wanted);
 }
 
 /// The points of a network, and their heights as benchmarks.
@@ -207,14 +262,10 @@ fn has_weights(rt: &impl Abort, network: &Network, links: &[(Link, u32)]) {
 
 fn makes(rt: &impl Abort, alloc: Global, row: &Made) {
     let (book, benchmarks, weights, points, vertices, links) = *row;
-    let book = joined(alloc, &book).expect(rt, "memory");
-    let observations = read_book(alloc, 1, &book).expect(rt, "a book");
-    let benchmarks = read_benchmarks(alloc, benchmarks).expect(rt, "benchmarks");
-    let weights = read_weights(alloc, weights).expect(rt, "weights");
-    let network = Network::build(alloc, observations, &benchmarks, &weights).expect(
-        rt,
-        "a network",
-    );
+    let book = joined(rt, alloc, &book);
+    let observations = observations_of(rt, alloc, &book);
+    let tables = tables_of(rt, alloc, benchmarks, weights);
+    let network = network_of(rt, alloc, observations, &tables);
     has_points(rt, &network, points);
     has_links(rt, &network, links);
     has_weights(rt, &network, links);
@@ -228,36 +279,21 @@ fn makes_networks(rt: HostRuntime) {
     }
 }
 
-/// One network from one book and both tables.
 #[test]
-fn makes_one_network(rt: HostRuntime) {
-    let alloc = rt.alloc();
-    let observations = read_book(alloc, 1, SETUP_AND_SIGHT).expect(&rt, "read_book");
-    let benchmarks = read_benchmarks(alloc, b"point,height\nA,100\n").expect(
-        &rt,
-        "read_benchmarks",
-    );
-    let weights = read_weights(alloc, b"from,to,weight\nA,B,3\n").expect(&rt, "read_weights");
-    let network = Network::build(alloc, observations, &benchmarks, &weights).expect(&rt, "build");
-    assert_eq!(rt; network.vertices(), 2);
-}
-
-#[test]
-fn names_the_first_untied_point(rt: HostRuntime) -> Result<(), Fail> {
+fn names_the_first_untied_point(rt: HostRuntime) {
     for (parts, benchmarks, name) in &UNTIED {
-        let book = joined(rt.alloc(), parts)?;
+        let book = joined(&rt, rt.alloc(), parts);
         let name = name_of(name).expect(&rt, "a name");
-        let fault = fault_of(rt.alloc(), &rt, &book, benchmarks);
-        assert_eq!(rt; fault, Some(NetFault::NoBenchmark(name)));
+        let wanted = Some(NetFault::NoBenchmark(name));
+        has_fault(&rt, rt.alloc(), &book, benchmarks, wanted);
     }
-    Ok(())
 }
 
 /// A fault, and how it is said.
 type Said = (NetFault, &'static str);
 
 #[test]
-fn says_faults(rt: HostRuntime) -> Result<(), Fail> {
+fn says_faults(rt: HostRuntime) {
     let point = name_of(b"00A 1 ").expect(&rt, "a name");
     let said: [Said; 4] = [
         (NetFault::TooManyObservations, "N1 too many observations"),
@@ -266,60 +302,57 @@ fn says_faults(rt: HostRuntime) -> Result<(), Fail> {
         (NetFault::NoMemory, "out of memory"),
     ];
     for (fault, text) in &said {
-        let line = format!(in rt.alloc(); "{fault}")?;
+        let line = format!(in rt.alloc(); "{fault}").expect(&rt, "memory");
         assert_eq!(rt; line.as_str(), *text);
     }
-    Ok(())
 }
+
+/// The benchmark A, and one that no sight has.
+const A_AT_100: &[u8] = b"point,height\nA,100\n";
+
+const Z_AT_100: &[u8] = b"point,height\nZ,100\n";
 
 /// 40,000 observations of one pair are taken, and 40,001 are too many.
 #[test]
-fn takes_so_many_observations(rt: HostRuntime) -> Result<(), Fail> {
-    let mut book = joined(rt.alloc(), &[SETUP])?;
-    for _ in 0..40_000 {
-        book.extend_from_slice(SIGHT)?;
-    }
-    assert_eq!(rt;
-        fault_of(rt.alloc(), &rt, &book, b"point,height\nA,100\n"),
-        None
-    );
-    book.extend_from_slice(SIGHT)?;
-    let fault = fault_of(rt.alloc(), &rt, &book, b"point,height\nZ,100\n");
-    assert_eq!(rt; fault, Some(NetFault::TooManyObservations));
-    Ok(())
+fn takes_so_many_observations(rt: HostRuntime) {
+    let mut book = joined(&rt, rt.alloc(), &[SETUP]);
+    add(&rt, &mut book, SIGHT, 40_000);
+    has_fault(&rt, rt.alloc(), &book, A_AT_100, None);
+    add(&rt, &mut book, SIGHT, 1);
+    let wanted = Some(NetFault::TooManyObservations);
+    has_fault(&rt, rt.alloc(), &book, Z_AT_100, wanted);
 }
 
 /// A and 3,999 targets are taken, and A and 4,000 are too many.
 #[test]
-fn takes_so_many_points(rt: HostRuntime) -> Result<(), Fail> {
-    let mut book = joined(rt.alloc(), &[SETUP])?;
+fn takes_so_many_points(rt: HostRuntime) {
+    let mut book = joined(&rt, rt.alloc(), &[SETUP]);
     for k in 1..=3_999 {
-        let sight = format!(in rt.alloc(); "110002+{k:08} 33..00+00002345 87..10+00001300 \n")?;
-        book.extend_from_slice(sight.as_bytes())?;
+        let sight = format!(in rt.alloc();
+            "110002+{k:08} 33..00+00002345 87..10+00001300 \n"
+        ).expect(&rt, "memory");
+        add(&rt, &mut book, sight.as_bytes(), 1);
     }
-    assert_eq!(rt;
-        fault_of(rt.alloc(), &rt, &book, b"point,height\nA,100\n"),
-        None
+    has_fault(&rt, rt.alloc(), &book, A_AT_100, None);
+    add(&rt, &mut book, SIGHT, 1);
+    has_fault(
+        &rt,
+        rt.alloc(),
+        &book,
+        Z_AT_100,
+        Some(NetFault::TooManyPoints),
     );
-    book.extend_from_slice(SIGHT)?;
-    let fault = fault_of(rt.alloc(), &rt, &book, b"point,height\nZ,100\n");
-    assert_eq!(rt; fault, Some(NetFault::TooManyPoints));
-    Ok(())
 }
 
 /// 4,000 benchmarks are taken, and 4,001 are too many.
 #[test]
-fn takes_so_many_benchmarks(rt: HostRuntime) -> Result<(), Fail> {
-    let mut table = joined(rt.alloc(), &[b"point,height\n"])?;
+fn takes_so_many_benchmarks(rt: HostRuntime) {
+    let mut table = joined(&rt, rt.alloc(), &[b"point,height\n"]);
     for k in 1..=4_000 {
-        let row = format!(in rt.alloc(); "{k},1\n")?;
-        table.extend_from_slice(row.as_bytes())?;
+        let row = format!(in rt.alloc(); "{k},1\n").expect(&rt, "memory");
+        add(&rt, &mut table, row.as_bytes(), 1);
     }
-    assert_eq!(rt; fault_of(rt.alloc(), &rt, b"", &table), None);
-    table.extend_from_slice(b"A,1\n")?;
-    assert_eq!(rt;
-        fault_of(rt.alloc(), &rt, b"", &table),
-        Some(NetFault::TooManyPoints)
-    );
-    Ok(())
+    has_fault(&rt, rt.alloc(), b"", &table, None);
+    add(&rt, &mut table, b"A,1\n", 1);
+    has_fault(&rt, rt.alloc(), b"", &table, Some(NetFault::TooManyPoints));
 }

@@ -1,7 +1,7 @@
 use gsi_word::{Name, name_of};
-use std::alloc::AllocError;
+use std::alloc::Global;
 use std::process::Abort;
-use th_tables::{TableFault, TableKind, Weights, read_benchmarks, read_weights};
+use th_tables::{Benchmarks, TableFault, TableKind, Weights, read_benchmarks, read_weights};
 
 /// A table of benchmarks, and one of its rows by its place; none past its end.
 type BenchmarkRow = (&'static [u8], usize, Option<(&'static [u8], i64)>);
@@ -156,25 +156,59 @@ fn named(rt: &impl Abort, bytes: &[u8]) -> Name {
     name_of(bytes).expect(rt, "a name")
 }
 
+fn benchmarks_of(rt: &impl Abort, alloc: Global, table: &[u8]) -> Benchmarks {
+    read_benchmarks(alloc, table).expect(rt, "benchmarks")
+}
+
+fn weights_of(rt: &impl Abort, alloc: Global, table: &[u8]) -> Weights {
+    read_weights(alloc, table).expect(rt, "weights")
+}
+
+/// Looks at a row of benchmarks by its place, or that there is none.
+fn is_row(rt: &impl Abort, benchmarks: &Benchmarks, k: usize, wanted: Option<(Name, i64)>) {
+    assert_eq!(rt; benchmarks.entry(k), wanted, "row {k}");
+}
+
+/// Looks at the height of a benchmark, or that there is none.
+fn is_height(rt: &impl Abort, benchmarks: &Benchmarks, name: &[u8], wanted: Option<i64>) {
+    assert_eq!(rt; benchmarks.height_of(&named(rt, name)), wanted, "{name:?}");
+}
+
+/// Looks at the weight of a pair.
+fn is_weight(rt: &impl Abort, weights: &Weights, pair: (&[u8], &[u8]), wanted: u32) {
+    let (station, target) = pair;
+    let weight = weights.of(&named(rt, station), &named(rt, target));
+    assert_eq!(rt; weight, wanted, "{station:?} to {target:?}");
+}
+
+/// Looks at the fault of a table of benchmarks.
+fn has_fault(rt: &impl Abort, alloc: Global, table: &[u8], wanted: TableFault) {
+    let fault = read_benchmarks(alloc, table).err();
+    assert_eq!(rt; fault, Some(wanted));
+}
+
+/// Looks at the fault of a table of weights.
+fn has_weight_fault(rt: &impl Abort, alloc: Global, table: &[u8], wanted: TableFault) {
+    let fault = read_weights(alloc, table).err();
+    assert_eq!(rt; fault, Some(wanted));
+}
+
 #[test]
 fn rows_of_benchmarks(rt: HostRuntime) {
     for (table, k, wanted) in &BENCHMARK_ROWS {
-        let benchmarks = read_benchmarks(rt.alloc(), table).expect(&rt, "benchmarks");
+        let benchmarks = benchmarks_of(&rt, rt.alloc(), table);
         let wanted = wanted.map(|(name, height)| (named(&rt, name), height));
-        assert_eq!(rt; benchmarks.entry(*k), wanted, "row {k} of {table:?}");
+        is_row(&rt, &benchmarks, *k, wanted);
     }
 }
 
 #[test]
 fn heights_of_benchmarks(rt: HostRuntime) {
     let table = b"point,height\nA,100\n00B,-2.5\n";
-    let benchmarks = read_benchmarks(rt.alloc(), table).expect(&rt, "benchmarks");
-    assert_eq!(rt;
-        benchmarks.height_of(&named(&rt, b"0A ")),
-        Some(10_000_000_000)
-    );
-    assert_eq!(rt; benchmarks.height_of(&named(&rt, b"B")), Some(-250_000_000));
-    assert_eq!(rt; benchmarks.height_of(&named(&rt, b"C")), None);
+    let benchmarks = benchmarks_of(&rt, rt.alloc(), table);
+    is_height(&rt, &benchmarks, b"0A ", Some(10_000_000_000));
+    is_height(&rt, &benchmarks, b"B", Some(-250_000_000));
+    is_height(&rt, &benchmarks, b"C", None);
 }
 
 #[test]
@@ -184,23 +218,17 @@ fn faults_of_benchmarks(rt: HostRuntime) {
             row: *row,
             kind: *kind,
         };
-        assert_eq!(rt;
-            read_benchmarks(rt.alloc(), table).err(),
-            Some(wanted),
-            "{table:?}"
-        );
+        has_fault(&rt, rt.alloc(), table, wanted);
     }
 }
 
 #[test]
 fn weights_of_pairs(rt: HostRuntime) {
     for (table, station, target, wanted) in &WEIGHTS {
-        let weights = read_weights(rt.alloc(), table).expect(&rt, "weights");
-        let weight = weights.of(&named(&rt, station), &named(&rt, target));
-        assert_eq!(rt; weight, *wanted, "{station:?} to {target:?} of {table:?}");
+        let weights = weights_of(&rt, rt.alloc(), table);
+        is_weight(&rt, &weights, (station, target), *wanted);
     }
-    let none = Weights::empty(rt.alloc());
-    assert_eq!(rt; none.of(&named(&rt, b"A"), &named(&rt, b"B")), 1);
+    is_weight(&rt, &Weights::empty(rt.alloc()), (b"A", b"B"), 1);
 }
 
 #[test]
@@ -210,51 +238,45 @@ fn faults_of_weights(rt: HostRuntime) {
             row: *row,
             kind: *kind,
         };
-        assert_eq!(rt;
-            read_weights(rt.alloc(), table).err(),
-            Some(wanted),
-            "{table:?}"
-        );
+        has_weight_fault(&rt, rt.alloc(), table, wanted);
     }
+}
+
+/// A table of so many rows, each of them a number of six digits and this end.
+fn long_table(rt: &impl Abort, alloc: Global, header: &[u8], rows: u32, end: &str) -> Vec<u8> {
+    let mut table = Vec::from_slice(alloc, header).expect(rt, "memory");
+    for k in 0..rows {
+        let row = format!(in alloc; "{k:06}{end}").expect(rt, "memory");
+        table.extend_from_slice(row.as_bytes()).expect(rt, "memory");
+    }
+    table
 }
 
 /// A table of 1 MiB, all of it rows, is read to its last one; a byte more is too much.
 #[test]
-fn reads_full_benchmarks(rt: HostRuntime) -> Result<(), AllocError> {
-    let mut table = Vec::from_slice(rt.alloc(), b"point,height\n")?;
-    for k in 0..116_507_u32 {
-        let row = format!(in rt.alloc(); "{k:06},1\n")?;
-        table.extend_from_slice(row.as_bytes())?;
-    }
+fn reads_full_benchmarks(rt: HostRuntime) {
+    let mut table = long_table(&rt, rt.alloc(), b"point,height\n", 116_507, ",1\n");
     assert_eq!(rt; table.len(), 1_048_576);
-    let benchmarks = read_benchmarks(rt.alloc(), &table).expect(&rt, "benchmarks");
+    let benchmarks = benchmarks_of(&rt, rt.alloc(), &table);
     let last = named(&rt, b"116506");
-    assert_eq!(rt; benchmarks.entry(116_506), Some((last, 100_000_000)));
-    assert_eq!(rt; benchmarks.entry(116_507), None);
-    assert_eq!(rt; benchmarks.height_of(&last), Some(100_000_000));
+    is_row(&rt, &benchmarks, 116_506, Some((last, 100_000_000)));
+    is_row(&rt, &benchmarks, 116_507, None);
+    is_height(&rt, &benchmarks, b"116506", Some(100_000_000));
 
-    table.push(b'\n')?;
-    let fault = read_benchmarks(rt.alloc(), &table).err();
-    assert_eq!(rt; fault, Some(TOO_LONG));
-    Ok(())
+    table.push(b'\n').expect(&rt, "memory");
+    has_fault(&rt, rt.alloc(), &table, TOO_LONG);
 }
 
 #[test]
-fn reads_full_weights(rt: HostRuntime) -> Result<(), AllocError> {
-    let mut table = Vec::from_slice(rt.alloc(), b"from,to,weight\n")?;
-    for k in 0..95_323_u32 {
-        let row = format!(in rt.alloc(); "{k:06},B,2\n")?;
-        table.extend_from_slice(row.as_bytes())?;
-    }
-    table.resize(1_048_576, b'\n')?;
-    let weights = read_weights(rt.alloc(), &table).expect(&rt, "weights");
-    let target = named(&rt, b"B");
-    assert_eq!(rt; weights.of(&named(&rt, b"95322"), &target), 2);
-    assert_eq!(rt; weights.of(&named(&rt, b"95323"), &target), 1);
+fn reads_full_weights(rt: HostRuntime) {
+    let mut table = long_table(&rt, rt.alloc(), b"from,to,weight\n", 95_323, ",B,2\n");
+    table.resize(1_048_576, b'\n').expect(&rt, "memory");
+    let weights = weights_of(&rt, rt.alloc(), &table);
+    is_weight(&rt, &weights, (b"95322", b"B"), 2);
+    is_weight(&rt, &weights, (b"95323", b"B"), 1);
 
-    table.push(b'\n')?;
-    assert_eq!(rt; read_weights(rt.alloc(), &table).err(), Some(TOO_LONG));
-    Ok(())
+    table.push(b'\n').expect(&rt, "memory");
+    has_weight_fault(&rt, rt.alloc(), &table, TOO_LONG);
 }
 
 /// A fault, and how it is said.
@@ -270,14 +292,13 @@ const SAID: [(u32, TableKind, &str); 8] = [
 ];
 
 #[test]
-fn says_faults(rt: HostRuntime) -> Result<(), AllocError> {
+fn says_faults(rt: HostRuntime) {
     for (row, kind, text) in &SAID {
         let fault = TableFault {
             row: *row,
             kind: *kind,
         };
-        let line = format!(in rt.alloc(); "{fault}")?;
+        let line = format!(in rt.alloc(); "{fault}").expect(&rt, "memory");
         assert_eq!(rt; line.as_str(), *text);
     }
-    Ok(())
 }
