@@ -7,6 +7,7 @@ use std::process::Abort;
 use th_certificate::{CertFault, CertKind};
 use th_checker::{Reason, Verdict};
 use th_devices::TextSource;
+use th_network::NetFault;
 use th_runs::{Refusal, run_check};
 
 /// A certificate of the loop.
@@ -105,6 +106,20 @@ fn names_the_faulty_record_of_a_certificate(rt: HostRuntime) {
         kind: CertKind::Truncated,
     };
     assert_eq!(rt; verdict, Err(Refusal::Certificate(fault)));
+}
+
+#[test]
+fn a_network_is_refused_behind_its_certificate(rt: HostRuntime) {
+    let untied: Texts<'_> = (LOOP, b"point,height\nZ,100\n", b"");
+    let verdict = check(&rt, untied, b"kind,key\n", HELD_BEFORE);
+    let fault = CertFault {
+        row: 1,
+        kind: CertKind::BadHeader,
+    };
+    assert_eq!(rt; verdict, Err(Refusal::Certificate(fault)));
+    let name = name_of(b"A").expect(&rt, "a name");
+    let verdict = check(&rt, untied, CERTIFICATE, HELD_BEFORE);
+    assert_eq!(rt; verdict, Err(Refusal::Network(NetFault::NoBenchmark(name))));
 }
 
 #[test]
