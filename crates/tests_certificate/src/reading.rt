@@ -124,19 +124,26 @@ fn has_spans(
     }
 }
 
+/// What a text says that is a certificate.
+pub fn certificate_of(rt: &impl Abort, alloc: Global, text: &[u8]) -> Certificate {
+    read_certificate(alloc, text).expect(rt, "a certificate")
+}
+
+/// Compares what a certificate says with its row.
+fn says(rt: &impl Abort, certificate: &Certificate, said: &Said) {
+    let text = said.text;
+    assert_eq!(rt; certificate.version(), said.version, "{text:?}");
+    assert!(rt; states(rt, certificate.heights(), said.heights), "{text:?}");
+    assert!(rt; has_spans(rt, certificate, said.spans), "{text:?}");
+    assert!(rt; certificate.flows() == said.flows, "{text:?}");
+    assert_eq!(rt; certificate.cost(), said.cost, "{text:?}");
+}
+
 #[test]
 fn certificates_are_read(rt: HostRuntime) {
     for said in &SAID {
-        let text = said.text;
-        let certificate = read_certificate(rt.alloc(), text).expect(&rt, "a certificate");
-        assert_eq!(rt; certificate.version(), said.version, "{text:?}");
-        assert!(rt;
-            states(&rt, certificate.heights(), said.heights),
-            "{text:?}"
-        );
-        assert!(rt; has_spans(&rt, &certificate, said.spans), "{text:?}");
-        assert!(rt; certificate.flows() == said.flows, "{text:?}");
-        assert_eq!(rt; certificate.cost(), said.cost, "{text:?}");
+        let certificate = certificate_of(&rt, rt.alloc(), said.text);
+        says(&rt, &certificate, said);
     }
 }
 
@@ -206,10 +213,11 @@ const FAULTS_UNDER_HEADER: [Row; 45] = [
     ),
 ];
 
-fn has_fault(rt: &impl Abort, alloc: Global, text: &[u8], wanted: &str) {
+/// Reads a text, whose fault has to be said so.
+pub fn has_fault(rt: &impl Abort, alloc: Global, text: &[u8], wanted: &str) {
     let fault = read_certificate(alloc, text).err().expect(rt, "a fault");
     let said = fault.to_string(alloc).expect(rt, "memory");
-    assert_eq!(rt; said.as_str(), wanted, "{text:?}");
+    assert_eq!(rt; said.as_str(), wanted);
 }
 
 #[test]

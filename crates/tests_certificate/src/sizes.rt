@@ -1,9 +1,8 @@
-use crate::surveys::{ROUND, verdict_on};
+use crate::reading::{certificate_of, has_fault};
+use crate::surveys::{ROUND, observations_of, verdict_on};
 use crate::writing::{Best, written};
 use std::alloc::Global;
 use std::process::Abort;
-use th_book::read_book;
-use th_certificate::read_certificate;
 
 /// How many points there are beside A, each of which is sighted from A.
 const TARGETS: u32 = 3_999;
@@ -80,7 +79,7 @@ fn largest_certificate_is_written(rt: HostRuntime) {
 #[test]
 fn largest_certificate_is_accepted(rt: HostRuntime) {
     let book = largest_book(&rt, rt.alloc());
-    let observations = read_book(rt.alloc(), 1, &book).expect(&rt, "observations");
+    let observations = observations_of(&rt, rt.alloc(), 1, &book);
     let text = largest_certificate(&rt, rt.alloc());
     let verdict = verdict_on(&rt, rt.alloc(), &observations, &ROUND, &text);
     assert_eq!(rt; verdict.as_str(), "yes");
@@ -97,12 +96,8 @@ fn longest_certificate_is_read(rt: HostRuntime) {
         text.push(b'\n').expect(&rt, "memory");
     }
     assert_eq!(rt; text.len(), 8_388_608);
-    let certificate = read_certificate(rt.alloc(), &text).expect(&rt, "a certificate");
+    let certificate = certificate_of(&rt, rt.alloc(), &text);
     assert_eq!(rt; certificate.flows().len(), 40_000);
     text.push(b'\n').expect(&rt, "memory");
-    let fault = read_certificate(rt.alloc(), &text)
-        .err()
-        .expect(&rt, "a fault");
-    let said = fault.to_string(rt.alloc()).expect(&rt, "memory");
-    assert_eq!(rt; said.as_str(), "record 0: C6 too large");
+    has_fault(&rt, rt.alloc(), &text, "record 0: C6 too large");
 }

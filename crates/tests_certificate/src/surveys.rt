@@ -3,7 +3,7 @@ use std::process::Abort;
 use th_book::{Observation, read_book};
 use th_certificate::{Certificate, read_certificate};
 use th_checker::check;
-use th_tables::{read_benchmarks, read_weights};
+use th_tables::{Benchmarks, Weights, read_benchmarks, read_weights};
 
 /// A book, and the tables of its benchmarks and its weights.
 #[derive(Drop)]
@@ -60,9 +60,26 @@ pub const NOTHING: Survey = Survey {
     weights: b"",
 };
 
+/// The observations of a book.
+pub fn observations_of(
+    rt: &impl Abort,
+    alloc: Global,
+    number: u32,
+    book: &[u8],
+) -> Vec<Observation> {
+    read_book(alloc, number, book).expect(rt, "observations")
+}
+
+/// A survey's tables.
+pub fn tables_of(rt: &impl Abort, alloc: Global, tables: &Survey) -> (Benchmarks, Weights) {
+    let benchmarks = read_benchmarks(alloc, tables.benchmarks).expect(rt, "benchmarks");
+    let weights = read_weights(alloc, tables.weights).expect(rt, "weights");
+    (benchmarks, weights)
+}
+
 /// What is answered for the text of a certificate of a survey.
 pub fn answer(rt: &impl Abort, alloc: Global, survey: &Survey, text: &[u8]) -> String {
-    let observations = read_book(alloc, 1, survey.book).expect(rt, "observations");
+    let observations = observations_of(rt, alloc, 1, survey.book);
     verdict_on(rt, alloc, &observations, survey, text)
 }
 
@@ -89,8 +106,7 @@ fn verdict_of(
     tables: &Survey,
     certificate: &Certificate,
 ) -> String {
-    let benchmarks = read_benchmarks(alloc, tables.benchmarks).expect(rt, "benchmarks");
-    let weights = read_weights(alloc, tables.weights).expect(rt, "weights");
+    let (benchmarks, weights) = tables_of(rt, alloc, tables);
     assert!(rt; observations.len() <= 40_000);
     let verdict = check(alloc, observations, &benchmarks, &weights, certificate);
     verdict

@@ -1,8 +1,7 @@
 use crate::certificates::{Changes, OF_FIXED, OF_NOTHING, OF_PAIR, OF_ROUND, changed};
 use crate::surveys::{
-    A_AT_100, FIXED, NOTHING, PAIR, ROUND, ROUND_BOOK, Survey, answer, verdict_on,
+    A_AT_100, FIXED, NOTHING, PAIR, ROUND, ROUND_BOOK, Survey, answer, observations_of, verdict_on,
 };
-use th_book::read_book;
 
 /// What is changed in a certificate, and what is answered then.
 type Row = (Changes, &'static str);
@@ -215,8 +214,8 @@ fn beginnings_are_answered(rt: HostRuntime) {
 fn two_books_are_answered_as_one(rt: HostRuntime) {
     let first = ROUND_BOOK.get(..196).expect(&rt, "four lines");
     let second = ROUND_BOOK.get(196..).expect(&rt, "four lines");
-    let mut observations = read_book(rt.alloc(), 1, first).expect(&rt, "observations");
-    let more = read_book(rt.alloc(), 2, second).expect(&rt, "observations");
+    let mut observations = observations_of(&rt, rt.alloc(), 1, first);
+    let more = observations_of(&rt, rt.alloc(), 2, second);
     assert_eq!(rt; observations.len(), 2);
     observations.extend_from_slice(&more).expect(&rt, "memory");
     let text = changed(&rt, rt.alloc(), &OF_ROUND, &[]);

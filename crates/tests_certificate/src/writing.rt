@@ -1,15 +1,16 @@
 ghost use Rattle.std.specs.Prelude.{◌<◌, ◌≤◌, All, unsigned_abs};
+ghost use Rattle.th_certificate.specs.Texts.{AreOfObservations};
 ghost use Rattle.th_network.specs.Limits.{height_limit};
+ghost use Rattle.th_network.specs.Networks.{AreAtPoints};
 
 use crate::certificates::{OF_NOTHING, OF_PAIR, changed};
-use crate::surveys::{NOTHING, PAIR, Survey};
+use crate::surveys::{NOTHING, PAIR, Survey, observations_of, tables_of};
 use std::alloc::Global;
 use std::process::Abort;
-use th_book::read_book;
 use th_certificate::write_certificate;
 use th_circulation::{Flows, Heights, Settled, Spans};
 use th_network::Network;
-use th_tables::{read_benchmarks, read_weights};
+use th_tables::{Benchmarks, Weights};
 
 /// Lowest heights, highest heights and flows, in the order of the points and of the observations.
 #[derive(Drop)]
@@ -27,30 +28,46 @@ pub fn written(
     tables: &Survey,
     best: &Best<'_>,
 ) -> Vec<u8> {
-    let observations = read_book(alloc, 1, book).expect(rt, "observations");
-    let benchmarks = read_benchmarks(alloc, tables.benchmarks).expect(rt, "benchmarks");
-    let weights = read_weights(alloc, tables.weights).expect(rt, "weights");
-    let network = Network::build(alloc, observations, &benchmarks, &weights).expect(
-        rt,
-        "a network",
-    );
-    let heights = heights_of(rt, alloc, best.low);
-    let low = heights_of(rt, alloc, best.low);
-    let high = heights_of(rt, alloc, best.high);
-    let flows = flows_of(rt, alloc, best.flows);
-    assert_eq!(rt; heights.len(), network.points().len());
-    assert_eq!(rt; low.len(), network.points().len());
-    assert_eq!(rt; high.len(), network.points().len());
-    assert_eq!(rt; flows.len(), network.observations().len());
+    let tables = tables_of(rt, alloc, tables);
+    let network = network_of(rt, alloc, book, &tables);
     let settled = Settled {
-        heights: Heights::new(heights),
-        flows: Flows::new(flows),
+        heights: heights_at(rt, alloc, &network, best.low),
+        flows: flows_at(rt, alloc, &network, best.flows),
     };
     let spans = Spans {
-        low: Heights::new(low),
-        high: Heights::new(high),
+        low: heights_at(rt, alloc, &network, best.low),
+        high: heights_at(rt, alloc, &network, best.high),
     };
     write_certificate(alloc, &network, &settled, &spans).expect(rt, "memory")
+}
+
+/// The network of a book and tables.
+fn network_of<'a>(
+    rt: &impl Abort,
+    alloc: Global,
+    book: &[u8],
+    tables: &'a (Benchmarks, Weights),
+) -> Network<'a> {
+    let observations = observations_of(rt, alloc, 1, book);
+    Network::build(alloc, observations, &tables.0, &tables.1).expect(rt, "a network")
+}
+
+/// Heights in range, one for each point.
+fn heights_at(rt: &impl Abort, alloc: Global, network: &Network, units: &[i64]) -> Heights
+    ensures { AreAtPoints network.now result }
+{
+    let heights = heights_of(rt, alloc, units);
+    assert_eq!(rt; heights.len(), network.points().len());
+    Heights::new(heights)
+}
+
+/// Flows in range, one for each observation.
+fn flows_at(rt: &impl Abort, alloc: Global, network: &Network, units: &[i64]) -> Flows
+    ensures { AreOfObservations network.now result }
+{
+    let flows = flows_of(rt, alloc, units);
+    assert_eq!(rt; flows.len(), network.observations().len());
+    Flows::new(flows)
 }
 
 /// Heights that are in range.
