@@ -5,13 +5,13 @@ ghost use Rattle.th_network.specs.Heights.{IsHeights, heights_at};
 ghost use Rattle.th_network.specs.Networks.{AreAtPoints, points_of};
 
 use crate::texts::{Tables, Texts};
-use crate::times::{keep_least, print_times};
+use crate::times::{Watch, keep_least, print_times};
 use crate::writing::{flows_of, heights_of};
 use anyhow::{Result, anyhow};
 use std::alloc::Global;
 use std::fs;
 use std::rt::{Clock, Files};
-use std::time::{Duration, Instant};
+use std::time::Duration;
 use th_book::{Observation, read_book};
 use th_certificate::write_certificate;
 use th_circulation::{Settled, Spans, Steps, settle, spans};
@@ -64,7 +64,7 @@ fn once<R: Clock + Files + Alloc<A = Global>>(
 ) -> Result<[Duration; 7]> {
     let [book, benchmarks, weights] = inputs;
     let listing = time_of_listing(rt, alloc, book, prefix)?;
-    let start = Instant::now(rt)?;
+    let watch = Watch::start(rt);
     let texts = Texts {
         book: fs::read(rt, book)?,
         benchmarks: fs::read(rt, benchmarks)?,
@@ -72,7 +72,7 @@ fn once<R: Clock + Files + Alloc<A = Global>>(
     };
     let observations = texts.observations(alloc)?;
     let tables = texts.tables(alloc)?;
-    let reading = start.elapsed(rt)?;
+    let reading = watch.time(rt);
     let [network, settling, spans, texts, writing] = times_of_adjusting(
         rt,
         alloc,
@@ -90,11 +90,11 @@ fn time_of_listing<R: Clock + Files + Alloc<A = Global>>(
     book: &str,
     prefix: &str,
 ) -> Result<Duration> {
-    let start = Instant::now(rt)?;
+    let watch = Watch::start(rt);
     let bytes = fs::read(rt, book)?;
     let list = list_of(alloc, &bytes)?;
     write_text(rt, alloc, prefix, "list.csv", &list)?;
-    let time = start.elapsed(rt)?;
+    let time = watch.time(rt);
     Ok(time)
 }
 
@@ -112,12 +112,12 @@ fn times_of_adjusting<R: Clock + Files>(
     tables: &Tables,
     prefix: &str,
 ) -> Result<[Duration; 5]> {
-    let start = Instant::now(rt)?;
+    let watch = Watch::start(rt);
     let network = tables.network(alloc, observations)?;
-    let building = start.elapsed(rt)?;
-    let start = Instant::now(rt)?;
+    let building = watch.time(rt);
+    let watch = Watch::start(rt);
     let settled = settle(alloc, &network, &mut LabelSearch::new(), &mut Steps::new())?;
-    let settling = start.elapsed(rt)?;
+    let settling = watch.time(rt);
     let [spanning, printing, writing] = times_of_printing(rt, alloc, &network, &settled, prefix)?;
     Ok([building, settling, spanning, printing, writing])
 }
@@ -138,17 +138,17 @@ fn times_of_printing<R: Clock + Files>(
         (heights_at (points_of network.now) settled.now.heights) }
     requires each { length settled.now.heights ≡ length (points_of network.now) }
 {
-    let start = Instant::now(rt)?;
+    let watch = Watch::start(rt);
     let spans = spans(alloc, network, settled)?;
-    let spanning = start.elapsed(rt)?;
-    let start = Instant::now(rt)?;
+    let spanning = watch.time(rt);
+    let watch = Watch::start(rt);
     let outputs = outputs_of(alloc, network, settled, &spans)?;
-    let printing = start.elapsed(rt)?;
-    let start = Instant::now(rt)?;
+    let printing = watch.time(rt);
+    let watch = Watch::start(rt);
     for (ending, text) in ENDINGS.iter().zip(&outputs) {
         write_text(rt, alloc, prefix, ending, text)?;
     }
-    let writing = start.elapsed(rt)?;
+    let writing = watch.time(rt);
     Ok([spanning, printing, writing])
 }
 

@@ -1,13 +1,13 @@
 //! The writing, the reading and the checking of a certificate, beside the reading of its book.
 use crate::large::Large;
 use crate::texts::Tables;
-use crate::times::{keep_least, print_times};
+use crate::times::{Watch, keep_least, print_times};
 use crate::writing::text_of;
 use anyhow::{Result, anyhow};
 use std::alloc::Global;
 use std::fs;
 use std::rt::{Clock, Files};
-use std::time::{Duration, Instant};
+use std::time::Duration;
 use th_book::Observation;
 use th_certificate::{Certificate, read_certificate};
 use th_checker::{Verdict, check};
@@ -50,9 +50,9 @@ fn once(
 ) -> Result<[Duration; 4]> {
     let (text, writing) = timed_writing(clock, alloc, large, tables)?;
     let (certificate, reading) = timed_reading(clock, alloc, &text)?;
-    let start = Instant::now(clock)?;
+    let watch = Watch::start(clock);
     let observations = large.texts.observations(alloc)?;
-    let book = start.elapsed(clock)?;
+    let book = watch.time(clock);
     let checking = timed_checking(clock, alloc, &observations, tables, &certificate)?;
     Ok([book, writing, reading, checking])
 }
@@ -66,9 +66,9 @@ fn timed_writing(
     tables: &Tables,
 ) -> Result<(Vec<u8>, Duration)> {
     let network = tables.network(alloc, large.texts.observations(alloc)?)?;
-    let start = Instant::now(clock)?;
+    let watch = Watch::start(clock);
     let text = text_of(alloc, &network, large)?;
-    let time = start.elapsed(clock)?;
+    let time = watch.time(clock);
     Ok((text, time))
 }
 
@@ -78,9 +78,9 @@ fn timed_reading(
     alloc: Global,
     text: &[u8],
 ) -> Result<(Certificate, Duration)> {
-    let start = Instant::now(clock)?;
+    let watch = Watch::start(clock);
     let certificate = read_certificate(alloc, text).map_err(|_| anyhow!("the certificate"))?;
-    let time = start.elapsed(clock)?;
+    let time = watch.time(clock);
     Ok((certificate, time))
 }
 
@@ -95,7 +95,7 @@ fn timed_checking(
     if observations.len() > MAX_OBSERVATIONS {
         return Err(anyhow!("too many observations"));
     }
-    let start = Instant::now(clock)?;
+    let watch = Watch::start(clock);
     let verdict = check(
         alloc,
         observations,
@@ -103,7 +103,7 @@ fn timed_checking(
         &tables.weights,
         certificate,
     )?;
-    let time = start.elapsed(clock)?;
+    let time = watch.time(clock);
     match verdict {
         Verdict::Yes => Ok(time),
         Verdict::No(reason) => Err(anyhow!("{reason}")),

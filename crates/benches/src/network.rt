@@ -1,11 +1,11 @@
 //! The reading of a large book, the reading of its tables, and the building of their network.
 use crate::large::Large;
 use crate::texts::Texts;
-use crate::times::{keep_least, print_times};
+use crate::times::{Watch, keep_least, print_times};
 use anyhow::Result;
 use std::alloc::Global;
 use std::rt::Clock;
-use std::time::{Duration, Instant};
+use std::time::Duration;
 
 /// What is timed, in this order.
 const STEPS: [&str; 3] = ["read_book", "read tables", "Network::build"];
@@ -22,15 +22,15 @@ pub fn measure<R: Clock + Print>(rt: &R, alloc: Global, repeats: u32) -> Result<
 
 /// Takes the time of each step once.
 fn once(clock: &impl Clock, alloc: Global, texts: &Texts) -> Result<[Duration; 3]> {
-    let start = Instant::now(clock)?;
+    let watch = Watch::start(clock);
     let observations = texts.observations(alloc)?;
-    let book = start.elapsed(clock)?;
-    let start = Instant::now(clock)?;
+    let book = watch.time(clock);
+    let watch = Watch::start(clock);
     let tables = texts.tables(alloc)?;
-    let reading = start.elapsed(clock)?;
-    let start = Instant::now(clock)?;
+    let reading = watch.time(clock);
+    let watch = Watch::start(clock);
     let network = tables.network(alloc, observations)?;
-    let building = start.elapsed(clock)?;
+    let building = watch.time(clock);
     drop(network);
     Ok([book, reading, building])
 }

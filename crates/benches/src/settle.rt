@@ -5,12 +5,12 @@ ghost use Rattle.th_network.specs.Heights.{IsHeights, heights_at};
 ghost use Rattle.th_network.specs.Networks.{points_of};
 
 use crate::texts::Texts;
-use crate::times::keep_least;
+use crate::times::{Watch, keep_least};
 use anyhow::{Result, anyhow};
 use std::alloc::Global;
 use std::fs;
 use std::rt::{Clock, Files};
-use std::time::{Duration, Instant};
+use std::time::Duration;
 use th_circulation::{Settled, Steps, settle, spans};
 use th_network::Network;
 use th_search::LabelSearch;
@@ -71,9 +71,9 @@ fn best_run(clock: &impl Clock, alloc: Global, texts: &Texts, repeats: u32) -> R
 fn once(clock: &impl Clock, alloc: Global, network: &Network) -> Result<Run> {
     let mut search = LabelSearch::new();
     let mut steps = Steps::new();
-    let start = Instant::now(clock)?;
+    let watch = Watch::start(clock);
     let settled = settle(alloc, network, &mut search, &mut steps)?;
-    let settling = start.elapsed(clock)?;
+    let settling = watch.time(clock);
     let spanning = time_of_spans(clock, alloc, network, &settled)?;
     Ok(Run {
         times: [settling, spanning],
@@ -97,9 +97,9 @@ fn time_of_spans(
         (heights_at (points_of network.now) settled.now.heights) }
     requires each { length settled.now.heights ≡ length (points_of network.now) }
 {
-    let start = Instant::now(clock)?;
+    let watch = Watch::start(clock);
     let _spans = spans(alloc, network, settled)?;
-    let time = start.elapsed(clock)?;
+    let time = watch.time(clock);
     Ok(time)
 }
 

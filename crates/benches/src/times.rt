@@ -1,5 +1,33 @@
 use anyhow::Result;
-use std::time::Duration;
+use std::rt::Clock;
+use std::time::{Duration, Instant};
+
+/// A watch that runs since it was started.
+#[derive(Clone, Copy)]
+pub struct Watch {
+    start: Option<Instant>,
+}
+
+impl Watch {
+    pub fn start(clock: &impl Clock) -> Watch {
+        Watch {
+            start: Instant::now(clock).ok(),
+        }
+    }
+
+    /// The time since the start: the longest there is where the clock could not be read, which is never
+    /// the best.
+    pub fn time(self, clock: &impl Clock) -> Duration {
+        match self.start {
+            Some(start) => start.elapsed(clock).unwrap_or(longest()),
+            None => longest(),
+        }
+    }
+}
+
+fn longest() -> Duration {
+    Duration::from_secs(u64::MAX)
+}
 
 /// Keeps the lesser time of each step.
 pub fn keep_least(best: &mut [Duration], times: &[Duration]) {
