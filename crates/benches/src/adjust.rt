@@ -1,9 +1,7 @@
 //! The stages of an adjustment, and beside them the listing of its book.
-ghost use Rattle.std.specs.Prelude.{◌≡◌, length};
-ghost use Rattle.th_network.specs.Circulation.{Circulation, Shows};
-ghost use Rattle.th_network.specs.Heights.{IsHeights, heights_at};
-ghost use Rattle.th_network.specs.Networks.{AreAtPoints, points_of};
+ghost use Rattle.th_network.specs.Networks.{AreAtPoints};
 
+use crate::answers::{Answer, timed_answer};
 use crate::texts::{Tables, Texts};
 use crate::times::{Watch, keep_least, print_times};
 use crate::writing::{flows_of, heights_of};
@@ -14,10 +12,9 @@ use std::rt::{Clock, Files};
 use std::time::Duration;
 use th_book::{Observation, read_book};
 use th_certificate::write_certificate;
-use th_circulation::{Settled, Spans, Steps, settle, spans};
+use th_circulation::Settled;
 use th_network::Network;
 use th_report::{heights_csv, heights_gsi, list_text, report_text};
-use th_search::LabelSearch;
 
 /// What is timed.
 const STAGES: [&str; 7] = [
@@ -115,53 +112,45 @@ fn times_of_adjusting<R: Clock + Files>(
     let watch = Watch::start(rt);
     let network = tables.network(alloc, observations)?;
     let building = watch.time(rt);
-    let watch = Watch::start(rt);
-    let settled = settle(alloc, &network, &mut LabelSearch::new(), &mut Steps::new())?;
-    let settling = watch.time(rt);
-    let [spanning, printing, writing] = times_of_printing(rt, alloc, &network, &settled, prefix)?;
-    Ok([building, settling, spanning, printing, writing])
+    let answer = timed_answer(rt, alloc, &network)?;
+    let [printing, writing] = times_of_printing(rt, alloc, &network, &answer, prefix)?;
+    Ok([
+        building,
+        answer.settling,
+        answer.spanning,
+        printing,
+        writing,
+    ])
 }
 
-/// The times of the stages behind the settling.
+/// The times of the stages behind the spans.
 fn times_of_printing<R: Clock + Files>(
     rt: &R,
     alloc: Global,
     network: &Network,
-    settled: &Settled,
+    answer: &Answer,
     prefix: &str,
-) -> Result<[Duration; 3]>
-    requires benchmarks { IsHeights network.now.benchmarks
-        (heights_at (points_of network.now) settled.now.heights) }
-    requires circulation { Circulation network.now.observations network.now.benchmarks
-        network.now.weights settled.now.flows }
-    requires shows { Shows network.now.observations network.now.weights settled.now.flows
-        (heights_at (points_of network.now) settled.now.heights) }
-    requires each { length settled.now.heights ≡ length (points_of network.now) }
+) -> Result<[Duration; 2]>
+    requires low { AreAtPoints network.now answer.now.spans.low }
+    requires high { AreAtPoints network.now answer.now.spans.high }
 {
     let watch = Watch::start(rt);
-    let spans = spans(alloc, network, settled)?;
-    let spanning = watch.time(rt);
-    let watch = Watch::start(rt);
-    let outputs = outputs_of(alloc, network, settled, &spans)?;
+    let outputs = outputs_of(alloc, network, answer)?;
     let printing = watch.time(rt);
     let watch = Watch::start(rt);
     for (ending, text) in ENDINGS.iter().zip(&outputs) {
         write_text(rt, alloc, prefix, ending, text)?;
     }
     let writing = watch.time(rt);
-    Ok([spanning, printing, writing])
+    Ok([printing, writing])
 }
 
 /// The texts that are written of an adjustment, whose heights are the lowest ones.
-fn outputs_of(
-    alloc: Global,
-    network: &Network,
-    settled: &Settled,
-    spans: &Spans,
-) -> Result<[Vec<u8>; 4]>
-    requires low { AreAtPoints network.now spans.now.low }
-    requires high { AreAtPoints network.now spans.now.high }
+fn outputs_of(alloc: Global, network: &Network, answer: &Answer) -> Result<[Vec<u8>; 4]>
+    requires low { AreAtPoints network.now answer.now.spans.low }
+    requires high { AreAtPoints network.now answer.now.spans.high }
 {
+    let Answer { settled, spans, .. } = answer;
     let low = spans.low.as_slice();
     let printed = Settled {
         heights: heights_of(alloc, network, low)?,

@@ -14,6 +14,7 @@
 #![tactic(auto)]
 
 // What is measured.
+mod answers;
 mod large;
 mod texts;
 mod times;

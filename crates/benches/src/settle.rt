@@ -1,19 +1,14 @@
 //! The settling of a network, and the finding of the lowest and highest best heights.
-ghost use Rattle.std.specs.Prelude.{◌≡◌, length};
-ghost use Rattle.th_network.specs.Circulation.{Circulation, Shows};
-ghost use Rattle.th_network.specs.Heights.{IsHeights, heights_at};
-ghost use Rattle.th_network.specs.Networks.{points_of};
-
+use crate::answers::timed_answer;
 use crate::texts::Texts;
-use crate::times::{Watch, keep_least};
+use crate::times::keep_least;
 use anyhow::{Result, anyhow};
 use std::alloc::Global;
 use std::fs;
 use std::rt::{Clock, Files};
 use std::time::Duration;
-use th_circulation::{Settled, Steps, settle, spans};
+use th_circulation::Settled;
 use th_network::Network;
-use th_search::LabelSearch;
 
 /// How often a search is called more than steps are counted.
 const PHASES: u128 = 44;
@@ -69,38 +64,12 @@ fn best_run(clock: &impl Clock, alloc: Global, texts: &Texts, repeats: u32) -> R
 
 /// Settles a network once, and finds its spans.
 fn once(clock: &impl Clock, alloc: Global, network: &Network) -> Result<Run> {
-    let mut search = LabelSearch::new();
-    let mut steps = Steps::new();
-    let watch = Watch::start(clock);
-    let settled = settle(alloc, network, &mut search, &mut steps)?;
-    let settling = watch.time(clock);
-    let spanning = time_of_spans(clock, alloc, network, &settled)?;
+    let answer = timed_answer(clock, alloc, network)?;
     Ok(Run {
-        times: [settling, spanning],
-        steps: steps.count(),
-        gain: gain_of(network, &settled),
+        times: [answer.settling, answer.spanning],
+        steps: answer.steps,
+        gain: gain_of(network, &answer.settled),
     })
-}
-
-/// How long it takes to find the spans of what is settled.
-fn time_of_spans(
-    clock: &impl Clock,
-    alloc: Global,
-    network: &Network,
-    settled: &Settled,
-) -> Result<Duration>
-    requires benchmarks { IsHeights network.now.benchmarks
-        (heights_at (points_of network.now) settled.now.heights) }
-    requires circulation { Circulation network.now.observations network.now.benchmarks
-        network.now.weights settled.now.flows }
-    requires shows { Shows network.now.observations network.now.weights settled.now.flows
-        (heights_at (points_of network.now) settled.now.heights) }
-    requires each { length settled.now.heights ≡ length (points_of network.now) }
-{
-    let watch = Watch::start(clock);
-    let _spans = spans(alloc, network, settled)?;
-    let time = watch.time(clock);
-    Ok(time)
 }
 
 /// What the flows gain: the sum of each flow times its difference.
