@@ -9,6 +9,7 @@ pub struct Watch {
 }
 
 impl Watch {
+    /// A watch that starts now.
     pub fn start(clock: &impl Clock) -> Watch {
         Watch {
             start: Instant::now(clock).ok(),

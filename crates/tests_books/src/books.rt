@@ -284,6 +284,7 @@ const FAULTS: [Row; 24] = [
     ),
 ];
 
+/// A fault of a line.
 pub fn fault_at(line: u32, kind: BookKind) -> BookFault {
     BookFault { line, kind }
 }
@@ -304,6 +305,7 @@ pub fn are_seen(rt: &impl Abort, observations: &[Observation], wanted: &[Seen]) 
     }
 }
 
+/// The answer is the one wanted: observations of book 7, or a fault of a line.
 pub fn is_answer(
     rt: &impl Abort,
     answer: Result<Vec<Observation>, BookFault>,
