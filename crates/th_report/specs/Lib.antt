@@ -3,3 +3,4 @@ pub mod Heights
 pub mod Columns
 pub mod Reports
 pub mod Gsi
+pub mod Inside

@@ -1,12 +1,16 @@
 //! Text that grows, column by column and line by line.
-ghost use Rattle.std.specs.Prelude.{◌≡◌, ◌++◌, [], OnOk, decimal, replicate};
+ghost use Rattle.std.specs.Prelude.{◌≡◌, ◌≤◌, ◌++◌, [], OnOk, decimal, replicate};
 ghost use Rattle.th_units.specs.Metres.{metres};
 ghost use Rattle.th_report.specs.Columns.{gap, left_in, line_end, right_in};
+ghost use Rattle.th_report.specs.Inside.Widths.{widest};
 
 use itoa::Buffer;
 use std::alloc::{AllocError, Global};
 use std::marker::Model;
 use th_units::metre_text;
+
+/// Spaces for the widest column.
+const SPACES: [u8; 26] = [b' '; 26];
 
 /// A text to which columns and line ends are added.
 #[derive(Drop)]
@@ -48,17 +52,16 @@ impl Page {
 
     /// Adds spaces.
     fn add_spaces(&mut self, count: usize) -> Result<(), AllocError>
+        requires { count ≤ widest }
         ensures { OnOk result (self.new ≡ self.old ++ replicate count 32) }
     {
-        for _ in 0..count {
-            self.bytes.push(b' ')?;
-        }
-        Ok(())
+        self.add(&SPACES[..count])
     }
 
     /// Adds a text with spaces after it, `width` bytes in all.
     #[tactic(auto, unfolding(crate::specs::Columns::left_in))]
     pub(crate) fn left(&mut self, width: usize, text: &[u8]) -> Result<(), AllocError>
+        requires { width ≤ widest }
         ensures { OnOk result (self.new ≡ self.old ++ left_in width text.now) }
     {
         self.add(text)?;
@@ -68,6 +71,7 @@ impl Page {
     /// Adds a text with spaces before it, `width` bytes in all.
     #[tactic(auto, unfolding(crate::specs::Columns::right_in))]
     pub(crate) fn right(&mut self, width: usize, text: &[u8]) -> Result<(), AllocError>
+        requires { width ≤ widest }
         ensures { OnOk result (self.new ≡ self.old ++ right_in width text.now) }
     {
         self.add_spaces(width.saturating_sub(text.len()))?;
@@ -76,6 +80,7 @@ impl Page {
 
     /// Adds a number with spaces before it, `width` bytes in all.
     pub(crate) fn right_number(&mut self, width: usize, number: u64) -> Result<(), AllocError>
+        requires { width ≤ widest }
         ensures { OnOk result (self.new ≡ self.old ++ right_in width (decimal number)) }
     {
         let mut digits = Buffer::new();
@@ -84,6 +89,7 @@ impl Page {
 
     /// Adds a length in metres with spaces before it, `width` bytes in all.
     pub(crate) fn right_metres(&mut self, width: usize, units: i64) -> Result<(), AllocError>
+        requires { width ≤ widest }
         ensures { OnOk result (self.new ≡ self.old ++ right_in width (metres units)) }
     {
         let text = metre_text(units);
