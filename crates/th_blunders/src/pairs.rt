@@ -31,7 +31,7 @@ pub fn opposites(alloc: Global, observations: &[Observation]) -> Result<Vec<Oppo
     ensures { IfOk result (λ opposites. opposites.items ≡ opposites_of observations.now) }
 {
     let mut opposites = Vec::new(alloc);
-    let mut latest = IndexMap::new(alloc);
+    let mut latest = IndexMap::with_capacity(alloc, observations.len())?;
     for (i, o) in observations.iter().enumerate() {
         let number = i as u32 + 1;
         if let Some(opposite) = opposite_in(number, o, &latest) {

@@ -1,5 +1,5 @@
 //! Text that grows, column by column and line by line.
-ghost use Rattle.std.specs.Prelude.{◌≡◌, ◌≤◌, ◌++◌, [], OnOk, decimal, replicate};
+ghost use Rattle.std.specs.Prelude.{◌≡◌, ◌≤◌, ◌+◌, ◌++◌, [], IfOk, OnOk, decimal, replicate};
 ghost use Rattle.th_units.specs.Metres.{metres};
 ghost use Rattle.th_report.specs.Columns.{gap, left_in, line_end, right_in};
 ghost use Rattle.th_report.specs.Inside.Widths.{widest};
@@ -11,6 +11,12 @@ use th_units::metre_text;
 
 /// Spaces for the widest column.
 const SPACES: [u8; 26] = [b' '; 26];
+
+/// How many bytes a line of a table has as a rule.
+pub(crate) const LINE: usize = 88;
+
+/// How many spaces stand between neighbouring columns.
+const GAP: usize = 2;
 
 /// A text to which columns and line ends are added.
 #[derive(Drop)]
@@ -36,11 +42,34 @@ impl Page {
         }
     }
 
+    /// An empty text with room for so many bytes.
+    pub(crate) fn with_room(alloc: Global, bytes: usize) -> Result<Page, AllocError>
+        ensures { IfOk result (λ page. page ≡ []) }
+    {
+        Ok(Page {
+            bytes: Vec::with_capacity(alloc, bytes)?,
+        })
+    }
+
     /// The text.
     pub(crate) fn into_bytes(self) -> Vec<u8>
         ensures { result.items ≡ self }
     {
         self.bytes
+    }
+
+    /// The text so far.
+    pub(crate) fn as_bytes(&self) -> &[u8]
+        ensures { result.now ≡ self.now }
+    {
+        &self.bytes
+    }
+
+    /// Drops the text so far.
+    pub(crate) fn clear(&mut self)
+        ensures { self.new ≡ [] }
+    {
+        self.bytes.clear()
     }
 
     /// Adds bytes.
@@ -75,6 +104,26 @@ impl Page {
         ensures { OnOk result (self.new ≡ self.old ++ right_in width text.now) }
     {
         self.add_spaces(width.saturating_sub(text.len()))?;
+        self.add(text)
+    }
+
+    /// Adds a text as `left` does, and the spaces before the next column.
+    #[tactic(auto, using(crate::proofs::ColumnLemmas::gap_after), unfolding(crate::specs::Columns::left_in))]
+    pub(crate) fn left_gap(&mut self, width: usize, text: &[u8]) -> Result<(), AllocError>
+        requires { width + 2 ≤ widest }
+        ensures { OnOk result (self.new ≡ self.old ++ left_in width text.now ++ gap) }
+    {
+        self.add(text)?;
+        self.add_spaces(width.saturating_sub(text.len()) + GAP)
+    }
+
+    /// Adds the spaces after the column before, and a text as `right` does.
+    #[tactic(auto, using(crate::proofs::ColumnLemmas::gap_before), unfolding(crate::specs::Columns::right_in))]
+    pub(crate) fn gap_right(&mut self, width: usize, text: &[u8]) -> Result<(), AllocError>
+        requires { width + 2 ≤ widest }
+        ensures { OnOk result (self.new ≡ self.old ++ gap ++ right_in width text.now) }
+    {
+        self.add_spaces(GAP + width.saturating_sub(text.len()))?;
         self.add(text)
     }
 

@@ -55,8 +55,7 @@ fn write_point(page: &mut Page, name: &Name, height: i64, fixed: bool) -> Result
 fn write_columns(page: &mut Page, name: &[u8], height: &[u8], mark: &[u8]) -> Result<(), AllocError>
     ensures { OnOk result (page.new ≡ page.old ++ point_columns name.now height.now mark.now) }
 {
-    page.left(16, name)?;
-    page.gap()?;
+    page.left_gap(16, name)?;
     page.right(20, height)?;
     page.add(mark)?;
     page.end_line()

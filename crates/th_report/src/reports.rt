@@ -4,7 +4,7 @@ ghost use Rattle.th_network.specs.Heights.{heights_at};
 ghost use Rattle.th_network.specs.Networks.{AreAtPoints, points_of};
 ghost use Rattle.th_report.specs.Reports.{adjusted_part, observed_part, report_text};
 
-use crate::columns::Page;
+use crate::columns::{LINE, Page};
 use crate::heads::write_head;
 use crate::opposite_lists::write_opposites;
 use crate::point_tables::write_points;
@@ -31,11 +31,17 @@ pub fn report_text(
         (heights_at (points_of network.now) heights.now) limit) }
 {
     let residuals = residuals(alloc, network, heights)?;
-    let mut page = Page::new(alloc);
+    let mut page = Page::with_room(alloc, room_for(network))?;
     let cost = cost(network, &residuals);
     write_adjusted(&mut page, network, heights, cost, limit)?;
     write_observed(alloc, &mut page, network, &residuals, limit)?;
     Ok(page.into_bytes())
+}
+
+/// How many bytes the report on a network has at most as a rule: a line for each point, and two for
+/// each observation, which may be a blunder.
+fn room_for(network: &Network) -> usize {
+    LINE * (network.points().len() + 2 * network.observations().len())
 }
 
 /// Writes what was adjusted: the title with the numbers, and the points.
@@ -58,7 +64,7 @@ fn write_adjusted(
 }
 
 /// Writes what was observed: the residuals, the blunders and the opposites.
-#[tactic(auto, unfolding(crate::specs::Reports::observed_part))]
+#[tactic(auto, unfolding(crate::specs::Reports::observed_part, crate::specs::Reports::blunder_lines))]
 fn write_observed(
     alloc: Global,
     page: &mut Page,
@@ -72,9 +78,9 @@ fn write_observed(
 {
     // its points say that a network has few observations
     let _ = network.points();
-    write_residuals(page, network, residuals, limit)?;
+    let blunders = write_residuals(alloc, page, network, residuals, limit)?;
     page.end_line()?;
-    write_blunders(alloc, page, network, residuals, limit)?;
+    write_blunders(alloc, page, residuals, limit, blunders)?;
     page.end_line()?;
     write_opposites(alloc, page, network.observations())
 }

@@ -1,11 +1,11 @@
 //! The table of residuals, and the blunders among them.
-ghost use Rattle.std.specs.Prelude.{◌≡◌, ◌<◌, ◌≤◌, ◌^◌, ◌++◌, All, OnOk, length, unsigned_abs};
+ghost use Rattle.std.specs.Prelude.{◌≡◌, ◌<◌, ◌≤◌, ◌^◌, ◌++◌, All, IfOk, OnOk, codes, decimal, length, unsigned_abs};
 ghost use Rattle.std.specs.List.{flat_map};
 ghost use Rattle.th_network.specs.Limits.{max_observations};
-ghost use Rattle.th_report.specs.Reports.{blunder_lines, blunder_mark, blunder_rows, end_columns, ends_of, line_in, place_columns, place_of, residual_columns, residual_header, residual_line, residual_lines, residual_of, residual_rows};
-ghost use Rattle.th_blunders.specs.Blunders.{is_blunder};
+ghost use Rattle.th_report.specs.Reports.{blunder_mark, blunder_rows, end_columns, ends_of, label_line, line_in, place_columns, place_of, residual_columns, residual_header, residual_line, residual_lines, residual_of, residual_rows};
+ghost use Rattle.th_blunders.specs.Blunders.{blunders, is_blunder};
 
-use crate::columns::Page;
+use crate::columns::{LINE, Page};
 use crate::heads::write_count;
 use itoa::Buffer;
 use std::alloc::{AllocError, Global};
@@ -14,91 +14,80 @@ use th_book::Observation;
 use th_network::Network;
 use th_units::metre_text;
 
-/// Writes the table of residuals, which are listed in the order of the observations.
+/// Writes the table of residuals, which are listed in the order of the observations, and gives the
+/// lines of those that are blunders.
 #[tactic(auto, unfolding(crate::specs::Reports::residual_lines))]
 pub(crate) fn write_residuals(
+    alloc: Global,
     page: &mut Page,
     network: &Network,
     residuals: &[i64],
     limit: i64,
-) -> Result<(), AllocError>
+) -> Result<Page, AllocError>
+    requires few { length residuals.now ≤ max_observations }
     requires each { length residuals.now ≡ length network.now.observations }
     requires small { All (λ residual. unsigned_abs residual < 10 ^ 18) residuals.now }
-    ensures { OnOk result (page.new ≡ page.old ++ residual_lines network.now residuals.now limit) }
+    ensures table { OnOk result (page.new ≡ page.old ++ residual_lines network.now residuals.now limit) }
+    ensures blunders { IfOk result (λ lines. lines ≡ flat_map (line_in network.now limit)
+        (blunder_rows network.now residuals.now limit)) }
 {
     write_header(page)?;
-    write_rows(page, network, residuals, limit)
+    let mut blunders = Page::with_room(alloc, residuals.len() * LINE)?;
+    write_rows(alloc, page, &mut blunders, network, residuals, limit)?;
+    Ok(blunders)
 }
 
-/// Writes the line of each observation.
+/// Writes the line of each observation, and those of the blunders to a page of their own too.
 fn write_rows(
+    alloc: Global,
     page: &mut Page,
+    blunders: &mut Page,
     network: &Network,
     residuals: &[i64],
     limit: i64,
 ) -> Result<(), AllocError>
     requires each { length residuals.now ≡ length network.now.observations }
     requires small { All (λ residual. unsigned_abs residual < 10 ^ 18) residuals.now }
-    ensures { OnOk result (page.new ≡ page.old ++ flat_map (line_in network.now limit)
+    ensures table { OnOk result (page.new ≡ page.old ++ flat_map (line_in network.now limit)
         (residual_rows network.now residuals.now)) }
+    ensures blunders { OnOk result (blunders.new ≡ blunders.old ++ flat_map (line_in network.now limit)
+        (blunder_rows network.now residuals.now limit)) }
 {
+    let mut line = Page::new(alloc);
     for (i, o) in network.observations().iter().enumerate() {
+        line.clear();
         write_residual(
-            page,
+            &mut line,
             i as u64 + 1,
             o,
             network.weight(i),
             residuals[i],
             limit,
         )?;
-    }
-    Ok(())
-}
-
-/// Writes the count of the blunders, and the lines of the table of residuals that are theirs.
-#[tactic(auto, unfolding(crate::specs::Reports::blunder_lines))]
-pub(crate) fn write_blunders(
-    alloc: Global,
-    page: &mut Page,
-    network: &Network,
-    residuals: &[i64],
-    limit: i64,
-) -> Result<(), AllocError>
-    requires few { length residuals.now ≤ max_observations }
-    requires each { length residuals.now ≡ length network.now.observations }
-    requires small { All (λ residual. unsigned_abs residual < 10 ^ 18) residuals.now }
-    ensures { OnOk result (page.new ≡ page.old ++ blunder_lines network.now residuals.now limit) }
-{
-    let numbers = blunders(alloc, residuals, limit)?;
-    write_count(page, b"blunders", numbers.len())?;
-    write_blunder_rows(page, network, residuals, limit)
-}
-
-/// Writes the line of each observation that is a blunder.
-fn write_blunder_rows(
-    page: &mut Page,
-    network: &Network,
-    residuals: &[i64],
-    limit: i64,
-) -> Result<(), AllocError>
-    requires each { length residuals.now ≡ length network.now.observations }
-    requires small { All (λ residual. unsigned_abs residual < 10 ^ 18) residuals.now }
-    ensures { OnOk result (page.new ≡ page.old ++ flat_map (line_in network.now limit)
-        (blunder_rows network.now residuals.now limit)) }
-{
-    for (i, o) in network.observations().iter().enumerate() {
+        page.add(line.as_bytes())?;
         if residuals[i].abs() > limit {
-            write_residual(
-                page,
-                i as u64 + 1,
-                o,
-                network.weight(i),
-                residuals[i],
-                limit,
-            )?;
+            blunders.add(line.as_bytes())?;
         }
     }
     Ok(())
+}
+
+/// Writes the count of the blunders, and their lines.
+pub(crate) fn write_blunders(
+    alloc: Global,
+    page: &mut Page,
+    residuals: &[i64],
+    limit: i64,
+    lines: Page,
+) -> Result<(), AllocError>
+    requires few { length residuals.now ≤ max_observations }
+    requires small { All (λ residual. unsigned_abs residual < 10 ^ 18) residuals.now }
+    ensures { OnOk result (page.new ≡ page.old
+        ++ label_line (codes "blunders") (decimal (length (blunders limit residuals.now))) ++ lines) }
+{
+    let numbers = blunders(alloc, residuals, limit)?;
+    write_count(page, b"blunders", numbers.len())?;
+    page.add(lines.as_bytes())
 }
 
 /// Writes the names of the columns.
@@ -188,10 +177,8 @@ fn write_place_columns(
     ensures { OnOk result (page.new ≡ page.old ++ place_columns number.now book.now line.now) }
 {
     page.right(5, number)?;
-    page.gap()?;
-    page.right(2, book)?;
-    page.gap()?;
-    page.right(8, line)?;
+    page.gap_right(2, book)?;
+    page.gap_right(8, line)?;
     page.gap()
 }
 
@@ -200,10 +187,8 @@ fn write_place_columns(
 fn write_end_columns(page: &mut Page, station: &[u8], target: &[u8]) -> Result<(), AllocError>
     ensures { OnOk result (page.new ≡ page.old ++ end_columns station.now target.now) }
 {
-    page.left(16, station)?;
-    page.gap()?;
-    page.left(16, target)?;
-    page.gap()
+    page.left_gap(16, station)?;
+    page.left_gap(16, target)
 }
 
 /// Writes the last columns, of what is left of an observation.
@@ -217,8 +202,7 @@ fn write_residual_columns(
     ensures { OnOk result (page.new ≡ page.old ++ residual_columns weight.now residual.now mark.now) }
 {
     page.right(4, weight)?;
-    page.gap()?;
-    page.right(20, residual)?;
+    page.gap_right(20, residual)?;
     page.add(mark)?;
     page.end_line()
 }

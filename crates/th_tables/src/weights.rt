@@ -13,6 +13,9 @@ use std::alloc::Global;
 use std::marker::Model;
 use th_csv::{Record, RecordReader};
 
+/// How many bytes a row has as a rule.
+const ROW: usize = 16;
+
 /// The weights of observations by their station and target, in the order of their table.
 #[derive(Debug, Drop)]
 pub struct Weights {
@@ -74,14 +77,16 @@ pub fn read_weights(alloc: Global, bytes: &[u8]) -> Result<Weights, TableFault>
     }
     read_table(
         alloc,
+        bytes.len() / ROW,
         &mut RecordReader::open(alloc, bytes),
         &mut Record::new(alloc),
     )
 }
 
-/// The weights of the records of a table, the first of which is its header.
+/// The weights of the records of a table, the first of which is its header, with room for so many.
 fn read_table(
     alloc: Global,
+    room: usize,
     reader: &mut RecordReader<'_>,
     record: &mut Record,
 ) -> Result<Weights, TableFault>
@@ -94,12 +99,14 @@ fn read_table(
     if !reader.next(record)? || !is_weights_header(record) {
         return Err(TableFault::BAD_HEADER);
     }
-    read_rows(alloc, reader, record)
+    read_rows(alloc, room, reader, record)
 }
 
-/// The weights of the records that a reader has left, the first of which is record 2.
+/// The weights of the records that a reader has left, the first of which is record 2, with room for
+/// so many.
 fn read_rows(
     alloc: Global,
+    room: usize,
     reader: &mut RecordReader<'_>,
     record: &mut Record,
 ) -> Result<Weights, TableFault>
@@ -108,7 +115,7 @@ fn read_rows(
     ensures rows { IfOk result (λ table. AreWeights table) }
     ensures fault { IfErr result (λ fault. (fault ≡ no_memory) ⊎ (rows_after same_ends weighted_in [] reader.old.records ≡ Err fault)) }
 {
-    let mut weights = IndexMap::new(alloc);
+    let mut weights = IndexMap::with_capacity(alloc, room)?;
     let mut row = 1;
     'records: while reader.next(record)? {
         row += 1;
