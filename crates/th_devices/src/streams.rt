@@ -102,10 +102,10 @@ impl<'a, R: Print> Sink for StandardOutput<'a, R> {
         ensures begun { IsOutputBegun self.old self.new result }
         ensures done { is_ok result ≡ true }
     {
-        let answer = Ok(());
+        let begun = Ok(());
         self.finished = false;
-        self.counts.count(&answer);
-        answer
+        self.counts.count(&begun);
+        begun
     }
 
     fn write(&mut self, bytes: &[u8]) -> Result<usize, Failed> {
@@ -120,10 +120,10 @@ impl<'a, R: Print> Sink for StandardOutput<'a, R> {
         ensures finish { IsOutputFinish self.old self.new result }
         ensures done { is_ok result ≡ true }
     {
-        let answer = Ok(());
+        let finished = Ok(());
         self.finished = true;
-        self.counts.count(&answer);
-        answer
+        self.counts.count(&finished);
+        finished
     }
 
     ghost failures_are_calls = { λ sink. sink.counts.failures_are_calls };
