@@ -1,5 +1,6 @@
 ghost use Rattle.std.specs.Prelude.{◌≡◌, ◌↔◌, ◌<◌, ◌≤◌, IsTrue, IsNone, IfSome, length, map};
 ghost use Rattle.gsi_word.specs.Words.{parts_of};
+ghost use Rattle.gsi_block.specs.Limits.{max_words};
 ghost use Rattle.gsi_block.specs.Spelled.{AreSpelled, AreSpelled-prop};
 
 use crate::limits::MAX_WORDS;
@@ -13,7 +14,7 @@ pub struct Block<'a> {
     pub(crate) width: Width,
     pub(crate) words: ArrayVec<Word<'a>, MAX_WORDS>,
     ghost some: { 0 < length words.items },
-    ghost few: { length words.items ≤ 64 },
+    ghost few: { length words.items ≤ max_words },
     ghost spelled: { AreSpelled width (map parts_of words.items) } by { AreSpelled-prop width (map parts_of words.items) },
 }
 
@@ -50,7 +51,7 @@ impl<'a> Block<'a> {
     pub fn words(&self) -> &[Word<'a>]
         ensures words { map parts_of result.now ≡ (block_parts self.now).words }
         ensures some { 0 < length result.now }
-        ensures few { length result.now ≤ 64 }
+        ensures few { length result.now ≤ max_words }
         ensures spelled { AreSpelled (block_parts self.now).width (block_parts self.now).words }
     {
         self.words.as_slice()

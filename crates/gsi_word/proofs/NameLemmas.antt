@@ -9,7 +9,8 @@ use Rattle.std.proofs.Math.Seq.{take-append_seam}
 use Rattle.std.proofs.lemmas.List.Folds.{list_all-append, prefix_len-append}
 use Rattle.std.proofs.lemmas.List.Sums.{prefix_len_stops, prefix_len-drop_no, prefix_len-drop_all, suffix_len-take_no}
 use Rattle.gsi_word.specs.Bytes.{is_data, is_padding, is_space, is_zero}
-use Rattle.gsi_word.specs.Names.{max_name, name_of, reduced, without_leading, without_trailing}
+use Rattle.gsi_word.specs.Names.{name_of, reduced, without_leading, without_trailing}
+use Rattle.gsi_word.specs.Limits.{max_name}
 use Rattle.gsi_word.specs.Inside.PaddedNames.{IsPaddedName}
 use Rattle.gsi_word.specs.declared.limits.TheConstants.{MAX_NAME}
 

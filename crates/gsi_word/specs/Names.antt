@@ -1,6 +1,7 @@
 use Rattle.std.specs.Prelude.{ℕ, ◌-◌, ◌==◌, ◌&&◌, not, nat_eq, Bool, List, [], ◌∷◌, length, Option, Some, None, if◌then◌else◌, nat_lt, take, drop}
 use Rattle.std.specs.Cmp.Lexicographic.{pointwise}
 use Rattle.std.specs.List.{list_all, list_any, prefix_len, suffix_len}
+use Rattle.gsi_word.specs.Limits.{max_name}
 use Rattle.gsi_word.specs.Bytes.{is_data, is_padding, is_space, is_zero}
 
 -- bytes without their leading run of zeros and spaces, in any order
@@ -14,10 +15,6 @@ without_trailing bytes = take (length bytes - suffix_len is_space bytes) bytes
 -- the reduced form of some data, before it is asked whether it is empty or too long
 abbrev pub reduced : List ℕ → List ℕ
 reduced bytes = without_trailing (without_leading bytes)
-
--- the most bytes that a name has
-abbrev pub max_name : ℕ
-max_name = 16
 
 -- The name of some data is its reduced form, or `0` where only zeros and spaces were there, at least one zero.
 -- There is none where there is no byte or only spaces, a byte that is not printable, or more than sixteen bytes are left,

@@ -13,7 +13,8 @@ use std::hash::{Hash, Hasher};
 use std::marker::Model;
 use std::{fmt, str};
 
-/// A point's name in reduced form: 1 to 16 printable bytes, compared as bytes and hashed as one write.
+/// A point's name in reduced form: 1 to `MAX_NAME` printable bytes, compared as bytes and hashed as
+/// one write.
 #[derive(Clone, Copy)]
 pub struct Name {
     bytes: [u8; MAX_NAME],

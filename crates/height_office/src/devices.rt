@@ -6,7 +6,7 @@ ghost use Rattle.th_runs.specs.Adjusted.{AreOutputs, OutTexts};
 ghost use Rattle.th_runs.specs.Checked.{IsRight, verdict_on};
 ghost use Rattle.th_runs.specs.Inputs.{Claim, MakesNetwork, Meets, given, given_if_any, givens, owed_for_claim, owed_for_survey};
 ghost use Rattle.th_runs.specs.Refusals.{IsStatusOfRun, status_of, status_of_verdict};
-ghost use Rattle.th_runs.specs.Runs.{HasFault, HoldsList};
+ghost use Rattle.th_runs.specs.Runs.{BookHasFault, HoldsList};
 ghost use Rattle.th_runs.specs.Writes.{IsWrittenFor};
 
 use th_devices::{Sink, Source};
@@ -26,7 +26,7 @@ pub(crate) fn list<R: AllocGlobal + Eprint, S: Source, K: Sink>(
     ensures listed { result ≡ DONE
         → HoldsList 1 (S.left book.old) (K.held out.old) (K.held out.new) }
     ensures finished { result ≡ DONE → K.is_finished out.new ≡ true }
-    ensures refused { result ≡ INPUT_REFUSED → HasFault 1 (S.left book.old) }
+    ensures refused { result ≡ INPUT_REFUSED → BookHasFault 1 (S.left book.old) }
     ensures fails { (result ≡ DEVICE_FAILED) ↔ ((S.failures book.old < S.failures book.new)
         ⊎ (K.failures out.old < K.failures out.new)) }
     ensures status { IsStatusOfRun result }

@@ -323,7 +323,7 @@ fn takes_so_many_observations(rt: HostRuntime) {
     has_fault(&rt, rt.alloc(), &book, Z_AT_100, wanted);
 }
 
-/// A and 3,999 targets are taken, and A and 4,000 are too many.
+/// A and 3,999 targets are taken, and A and 4,000 are too many, also where none is a benchmark.
 #[test]
 fn takes_so_many_points(rt: HostRuntime) {
     let mut book = joined(&rt, rt.alloc(), &[SETUP]);
@@ -335,13 +335,10 @@ fn takes_so_many_points(rt: HostRuntime) {
     }
     has_fault(&rt, rt.alloc(), &book, A_AT_100, None);
     add(&rt, &mut book, SIGHT, 1);
-    has_fault(
-        &rt,
-        rt.alloc(),
-        &book,
-        Z_AT_100,
-        Some(NetFault::TooManyPoints),
-    );
+    for benchmark in [A_AT_100, Z_AT_100] {
+        let wanted = Some(NetFault::TooManyPoints);
+        has_fault(&rt, rt.alloc(), &book, benchmark, wanted);
+    }
 }
 
 /// 4,000 benchmarks are taken, and 4,001 are too many.

@@ -7,7 +7,8 @@ use Rattle.gsi_block.specs.Blocks.{block_at}
 use Rattle.gsi_block.specs.Lines.{lines_of}
 use Rattle.gsi_block.specs.Pieces.{LineState, cut_line, cut_lines, lines_due}
 use Rattle.th_book.specs.Observed.{Observed}
-use Rattle.th_book.specs.Books.{answer_of, book_answer, lines_answer, longest_book, too_long}
+use Rattle.th_book.specs.Books.{answer_of, book_answer, lines_answer, too_long}
+use Rattle.th_book.specs.Limits.{max_book}
 use Rattle.th_book.specs.Due.{BookState, IsRefused, IsTaken, IsWanting, due}
 use Rattle.th_book.specs.Feeds.{FeedState, IsWantingIn, IsWithin, feed_due}
 use Rattle.th_book.specs.Inside.Feeds.{AreTaken, IsGiven}
@@ -24,8 +25,8 @@ cut_read law (line ∷ lines) =
 -- a new feed owes what its bytes give
 pub new_feed_due : (number : ℕ) (book : BookState) (lines : LineState) → ((line : List ℕ) → block_at (cut_line line) ≡ block_at line) → ((given : List (List ℕ)) → due book given ≡ lines_answer number given) → ((text : List ℕ) → lines_due lines text ≡ cut_lines (lines_of text)) → (bytes : List ℕ) → feed_due (record { book = book; lines = lines; bytes = 0; wanting = None }) bytes ≡ book_answer number bytes
 new_feed_due number book lines law owes cut bytes =
-    ap (λ size. cond (nat_lt longest_book size) (Err too_long) (due book (lines_due lines bytes))) (zero-add (length bytes))
-    ∙ ap (λ (given : Result (List Observed) BookFault). cond (nat_lt longest_book (length bytes)) (Err too_long) given)
+    ap (λ size. cond (nat_lt max_book size) (Err too_long) (due book (lines_due lines bytes))) (zero-add (length bytes))
+    ∙ ap (λ (given : Result (List Observed) BookFault). cond (nat_lt max_book (length bytes)) (Err too_long) given)
     (ap (due book) (cut bytes) ∙ owes (cut_lines (lines_of bytes)) ∙ ap (answer_of number) (cut_read law (lines_of bytes)))
 
 -- and has no more lines due than bytes
@@ -93,7 +94,7 @@ IsTaking-more old_book old_lines book after lines new piece rest line many is gi
 }
 
 -- while a line is given, there are fewer before it than a book may have
-pub next_within : (old_book : BookState) (old_lines : LineState) (book : BookState) (lines new : LineState) (piece rest line : List ℕ) (many : ℕ) → IsTaking old_book old_lines book lines piece rest → ((later : List ℕ) → lines_due lines (take many rest ++ later) ≡ line ∷ lines_due new later) → old_book.lines + length (lines_due old_lines piece) ≤ longest_book → book.lines < longest_book
+pub next_within : (old_book : BookState) (old_lines : LineState) (book : BookState) (lines new : LineState) (piece rest line : List ℕ) (many : ℕ) → IsTaking old_book old_lines book lines piece rest → ((later : List ℕ) → lines_due lines (take many rest ++ later) ≡ line ∷ lines_due new later) → old_book.lines + length (lines_due old_lines piece) ≤ max_book → book.lines < max_book
 next_within old_book old_lines book lines new piece rest line many is gives within =
     let text = ap (λ (own : List ℕ). length (lines_due old_lines own)) (next_cut piece is.front rest many is.cut) in
     omega (arith, text, within, next_counted old_book old_lines book lines new piece rest line many is gives (drop many rest))
@@ -126,27 +127,27 @@ IsTaking-end old_book old_lines book lines new piece rest is keeps = record {
     whole later = sym (append_assoc is.front rest later) ∙ ap (λ (own : List ℕ). own ++ later) (sym is.cut)
 
 -- a book that is too long stays so
-pub fed_long : (old new : FeedState) (piece : List ℕ) → longest_book < old.bytes + length piece → longest_book < new.bytes → (later : List ℕ) → feed_due new later ≡ feed_due old (piece ++ later)
+pub fed_long : (old new : FeedState) (piece : List ℕ) → max_book < old.bytes + length piece → max_book < new.bytes → (later : List ℕ) → feed_due new later ≡ feed_due old (piece ++ later)
 fed_long old new piece was is later =
-    ap (λ long. cond long (Err too_long) (due new.book (lines_due new.lines later))) (lt-ltb longest_book (new.bytes + length later) (omega (arith, is)))
-    ∙ ap (λ long. cond long (Err too_long) (due old.book (lines_due old.lines (piece ++ later)))) (sym (lt-ltb longest_book (old.bytes + length (piece ++ later)) (omega (arith, was, length-append piece later))))
+    ap (λ long. cond long (Err too_long) (due new.book (lines_due new.lines later))) (lt-ltb max_book (new.bytes + length later) (omega (arith, is)))
+    ∙ ap (λ long. cond long (Err too_long) (due old.book (lines_due old.lines (piece ++ later)))) (sym (lt-ltb max_book (old.bytes + length (piece ++ later)) (omega (arith, was, length-append piece later))))
 
 -- a piece that was taken keeps what is due
 pub fed_short : (old new : FeedState) (piece : List ℕ) → new.bytes ≡ old.bytes + length piece → AreTaken old.book old.lines new.book new.lines piece → (later : List ℕ) → feed_due new later ≡ feed_due old (piece ++ later)
 fed_short old new piece size taken later =
-    ap (λ (given : Result (List Observed) BookFault). cond (nat_lt longest_book (new.bytes + length later)) (Err too_long) given) (taken.keeps later)
-    ∙ ap (λ many. cond (nat_lt longest_book many) (Err too_long) (due old.book (lines_due old.lines (piece ++ later)))) same
+    ap (λ (given : Result (List Observed) BookFault). cond (nat_lt max_book (new.bytes + length later)) (Err too_long) given) (taken.keeps later)
+    ∙ ap (λ many. cond (nat_lt max_book many) (Err too_long) (due old.book (lines_due old.lines (piece ++ later)))) same
   where
     same : new.bytes + length later ≡ old.bytes + length (piece ++ later)
     same = omega (arith, size, length-append piece later)
 
 -- what is due at the end of a book that is not too long
-pub end_due : (feed : FeedState) (lines : List (List ℕ)) → feed.bytes ≤ longest_book → lines_due feed.lines [] ≡ lines → feed_due feed [] ≡ due feed.book lines
+pub end_due : (feed : FeedState) (lines : List (List ℕ)) → feed.bytes ≤ max_book → lines_due feed.lines [] ≡ lines → feed_due feed [] ≡ due feed.book lines
 end_due feed lines short left =
-    ap (λ long. cond long (Err too_long) (due feed.book (lines_due feed.lines []))) (le-ltb longest_book (feed.bytes + 0) (omega (arith, short)))
+    ap (λ long. cond long (Err too_long) (due feed.book (lines_due feed.lines []))) (le-ltb max_book (feed.bytes + 0) (omega (arith, short)))
     ∙ ap (due feed.book) left
 
 -- a last line that has no end is one that a book may have
-pub last_within : (feed : FeedState) (line : List ℕ) → feed.wanting ≡ None → feed.bytes ≤ longest_book → IsWithin feed → lines_due feed.lines [] ≡ line ∷ [] → feed.book.lines < longest_book
+pub last_within : (feed : FeedState) (line : List ℕ) → feed.wanting ≡ None → feed.bytes ≤ max_book → IsWithin feed → lines_due feed.lines [] ≡ line ∷ [] → feed.book.lines < max_book
 last_within feed line none short within left =
     omega (arith, within.counted none short [], ap length left)

@@ -1,5 +1,6 @@
 use Rattle.std.specs.Prelude.{ℕ, ℤ, ◌+◌, ◌+ℤ◌, ◌-ℤ◌, pos, List, [], Option, Some, None, Result, Ok, Err, if◌then◌else◌, filter, length, map, nat_lt, unwrap_or}
 use Rattle.std.specs.List.{range_with_len}
+use Rattle.th_book.specs.Limits.{max_book}
 use Rattle.gsi_block.specs.Lines.{lines_of}
 use Rattle.gsi_block.specs.Blocks.{block_at}
 use Rattle.th_book.specs.Observed.{Observed}
@@ -48,10 +49,6 @@ answer_of book parsed = answer (first_fault parsed) (observations_of book parsed
 abbrev pub lines_answer : ℕ → List (List ℕ) → Result (List Observed) BookFault
 lines_answer book lines = answer_of book (map block_at lines)
 
--- the most bytes that a book has: 64 MiB
-abbrev pub longest_book : ℕ
-longest_book = 67108864
-
 -- the fault of a book that is too long
 abbrev pub too_long : BookFault
 too_long = record { line = 0; kind = BookTooLong }
@@ -59,4 +56,4 @@ too_long = record { line = 0; kind = BookTooLong }
 -- what the bytes of a book give; a book that is too long is that before all else
 abbrev pub book_answer : ℕ → List ℕ → Result (List Observed) BookFault
 book_answer book bytes =
-    if nat_lt longest_book (length bytes) then Err too_long else lines_answer book (lines_of bytes)
+    if nat_lt max_book (length bytes) then Err too_long else lines_answer book (lines_of bytes)

@@ -1,7 +1,8 @@
 use Rattle.std.specs.Prelude.{◌≡◌, ◌≤◌, ℕ, ◌+◌, List, [], ◌∷◌, ◌++◌, Option, Some, None, IfSome, Result, Err, if◌then◌else◌, length, nat_lt}
 use Rattle.gsi_block.specs.Pieces.{LineState, lines_due}
 use Rattle.th_book.specs.Observed.{Observed}
-use Rattle.th_book.specs.Books.{longest_book, too_long}
+use Rattle.th_book.specs.Books.{too_long}
+use Rattle.th_book.specs.Limits.{max_book}
 use Rattle.th_book.specs.Due.{BookState, EndsWithSight, due}
 use Rattle.th_book.specs.declared.faults.BookFault.{BookFault}
 use Rattle.th_book.specs.declared.faults.BookKind.TheVariants.{NoMemory}
@@ -18,7 +19,7 @@ pub record FeedState : Type 0 where
 -- That the book is too long comes before all else.
 abbrev pub feed_due : FeedState → List ℕ → Result (List Observed) BookFault
 feed_due feed later =
-    if nat_lt longest_book (feed.bytes + length later) then Err too_long else due feed.book (lines_due feed.lines later)
+    if nat_lt max_book (feed.bytes + length later) then Err too_long else due feed.book (lines_due feed.lines later)
 
 -- a piece was taken: what was due with it before it is due now, whatever bytes follow, and memory was not wanting
 pub record IsFed (old new : FeedState) (piece : List ℕ) : Type 0 where
@@ -48,5 +49,5 @@ StopsAt old new piece = StopsUnless old.wanting old new piece
 
 -- What each feed keeps. No more lines were counted, and are still due, than bytes came; and what was met is a want of memory.
 pub record IsWithin (feed : FeedState) : Type 0 where
-  pub counted : feed.wanting ≡ None → feed.bytes ≤ longest_book → (later : List ℕ) → feed.book.lines + length (lines_due feed.lines later) ≤ feed.bytes + length later
+  pub counted : feed.wanting ≡ None → feed.bytes ≤ max_book → (later : List ℕ) → feed.book.lines + length (lines_due feed.lines later) ≤ feed.bytes + length later
   pub lasting : IfSome feed.wanting (λ fault. fault.kind ≡ NoMemory)

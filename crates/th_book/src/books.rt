@@ -1,7 +1,8 @@
 ghost use Rattle.std.specs.Prelude.{◌≡◌, ◌≢◌, ◌<◌, ◌≤◌, [], List, ℕ, None, length, take, IfErr, IfOk, IsSome, OnErr, OnOk};
 ghost use Rattle.gsi_block.specs.Lines.{lines_of};
 ghost use Rattle.gsi_word.specs.Words.{result_map};
-ghost use Rattle.th_book.specs.Books.{lines_answer, book_answer, longest_book, too_long};
+ghost use Rattle.th_book.specs.Books.{lines_answer, book_answer, too_long};
+ghost use Rattle.th_book.specs.Limits.{max_book};
 ghost use Rattle.th_book.specs.Faults.{fault_in};
 ghost use Rattle.th_book.specs.Due.{due, empty, EndsWithSight, IsTaken, IsRefused, IsWanting};
 ghost use Rattle.th_book.specs.Inside.Feeds.{IsGiven};
@@ -68,7 +69,7 @@ impl Book {
     /// answered where the room for one more observation was refused, and is not kept: the book is as
     /// before the line, which may be given again.
     pub fn line(&mut self, line: &[u8]) -> Result<(), BookFault>
-        requires { self.old.lines < longest_book }
+        requires { self.old.lines < max_book }
         ensures taken { OnOk result (IsTaken self.old self.new line.now) }
         ensures refused { IfErr result
             (λ fault. fault.kind ≢ BookKind.NoMemory → IsRefused self.old self.new line.now fault) }
@@ -85,7 +86,7 @@ impl Book {
         line: &'a [u8],
         words: &mut ArrayVec<Word<'a>, MAX_WORDS>,
     ) -> Result<(), BookFault>
-        requires { self.old.lines < longest_book }
+        requires { self.old.lines < max_book }
         ensures taken { OnOk result (IsTaken self.old self.new line.now) }
         ensures refused { IfErr result
             (λ fault. fault.kind ≢ BookKind.NoMemory → IsRefused self.old self.new line.now fault) }
@@ -107,7 +108,7 @@ impl Book {
 
     /// Counts an empty line, which says nothing, unless a fault came before it.
     pub(crate) fn pass_empty(&mut self)
-        requires { self.old.lines < longest_book }
+        requires { self.old.lines < max_book }
         ensures { IsGiven self.old self.new [] }
     {
         if self.fault.is_none() {
@@ -140,7 +141,7 @@ impl Book {
 
     /// Takes what a line without a fault leaves.
     fn take(&mut self, step: &Step) -> Result<(), BookFault>
-        requires { self.old.lines < longest_book }
+        requires { self.old.lines < max_book }
         ensures taken { OnOk result (self.new ≡ state_with self.old step.now self.new.room) }
         ensures room { OnOk result (self.old.room ≤ self.new.room) }
         ensures wanting { IfErr result
@@ -165,7 +166,7 @@ impl Book {
 
     /// Keeps a fault of the next line.
     fn refuse(&mut self, kind: BookKind) -> BookFault
-        requires room { self.old.lines < longest_book }
+        requires room { self.old.lines < max_book }
         requires lasting { kind ≢ BookKind.NoMemory }
         ensures fault { result ≡ fault_in self.old.lines kind }
         ensures kept { self.new ≡ state_refusing self.old kind }
@@ -189,7 +190,7 @@ pub fn read_book(alloc: Global, book: u32, bytes: &[u8]) -> Result<Vec<Observati
         (λ observations. book_answer book bytes.now ≡ Ok observations.items) }
     ensures fault { IfErr result
         (λ fault. fault.kind ≢ BookKind.NoMemory → book_answer book bytes.now ≡ Err fault) }
-    ensures too_long { longest_book < length bytes.now → result ≡ Err too_long }
+    ensures too_long { max_book < length bytes.now → result ≡ Err too_long }
     ensures wanting { IfErr result
         (λ fault. fault.kind ≡ BookKind.NoMemory
         → EndsWithSight (lines_answer book (take fault.line (lines_of bytes.now))) fault.line) }

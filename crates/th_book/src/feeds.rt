@@ -1,6 +1,7 @@
 ghost use Rattle.std.specs.Prelude.{◌≡◌, ◌≢◌, ◌<◌, ◌≤◌, ◌+◌, [], List, ℕ, None, length, IfErr, IfOk, IfSome, IsErr, OnErr, OnOk, OnSome};
 ghost use Rattle.gsi_block.specs.Pieces.{lines_due};
-ghost use Rattle.th_book.specs.Books.{book_answer, longest_book, too_long};
+ghost use Rattle.th_book.specs.Books.{book_answer, too_long};
+ghost use Rattle.th_book.specs.Limits.{max_book};
 ghost use Rattle.th_book.specs.Due.{EndsWithSight, IsRefused, IsTaken, IsWanting};
 ghost use Rattle.th_book.specs.Feeds.{feed_due, IsFed, IsWantingIn, StopsAt};
 ghost use Rattle.th_book.specs.Inside.Feeds.{AreTaken, IsGiven};
@@ -86,7 +87,7 @@ impl BookFeed {
         ensures ok { IfOk result (λ observations. feed_due self [] ≡ Ok observations.items) }
         ensures fault { IfErr result (λ fault. fault.kind ≢ BookKind.NoMemory → feed_due self [] ≡ Err fault) }
         ensures lasting { IfSome self.wanting (λ fault. result ≡ Err fault) }
-        ensures too_long { self.wanting ≡ None → longest_book < self.bytes → result ≡ Err too_long }
+        ensures too_long { self.wanting ≡ None → max_book < self.bytes → result ≡ Err too_long }
         ensures wanting { IfErr result (λ fault. fault.kind ≡ BookKind.NoMemory → self.wanting ≡ None
             → EndsWithSight (feed_due self []) fault.line) }
         ensures full { IfErr result (λ fault. fault.kind ≡ BookKind.NoMemory → self.wanting ≡ None
@@ -116,7 +117,7 @@ impl BookFeed {
 
 /// Gives a book each line that ends in a piece.
 fn take_lines(book: &mut Book, lines: &mut Lines, piece: &[u8]) -> Result<(), BookFault>
-    requires { book.old.lines + length (lines_due lines.old piece.now) ≤ longest_book }
+    requires { book.old.lines + length (lines_due lines.old piece.now) ≤ max_book }
     ensures taken { OnOk result (AreTaken book.old lines.old book.new lines.new piece.now) }
     ensures wanting { IfErr result (IsWantingIn book.old lines.old book.new lines.new piece.now) }
 {
@@ -139,7 +140,7 @@ fn give<'p>(
     rest: &'p [u8],
     words: &mut ArrayVec<Word<'p>, MAX_WORDS>,
 ) -> Result<(), BookFault>
-    requires { book.old.lines < longest_book }
+    requires { book.old.lines < max_book }
     ensures given { OnOk result (IsGiven book.old book.new line.now) }
     ensures kind { IfErr result (λ fault. fault.kind ≡ BookKind.NoMemory) }
     ensures wanting { IfErr result (IsWanting book.old book.new line.now) }
@@ -165,7 +166,7 @@ fn read_line<'p>(
     rest: &'p [u8],
     words: &mut ArrayVec<Word<'p>, MAX_WORDS>,
 ) -> Result<(), BookFault>
-    requires { book.old.lines < longest_book }
+    requires { book.old.lines < max_book }
     ensures taken { OnOk result (IsTaken book.old book.new line.now) }
     ensures refused { IfErr result
         (λ fault. fault.kind ≢ BookKind.NoMemory → IsRefused book.old book.new line.now fault) }

@@ -8,3 +8,6 @@ pub mod ReadRows
 pub mod SurveyLemmas
 pub mod TextLengths
 pub mod RoundTrip
+pub mod RowLemmas
+pub mod RowsHeard
+pub mod RowsRead

@@ -12,7 +12,8 @@ use Rattle.th_units.proofs.Digits.{digit_bounds, list_all-get_or}
 use Rattle.th_units.proofs.MetreTexts.{value-metres}
 use Rattle.th_certificate.specs.Certified.{cost_limit}
 use Rattle.th_network.specs.Limits.{height_limit}
-use Rattle.th_certificate.specs.Numbers.{cost_in, count_in, flow_in, height_from, height_in, most_flows, writes}
+use Rattle.th_certificate.specs.Numbers.{cost_in, count_in, flow_in, height_from, height_in, writes}
+use Rattle.th_certificate.specs.Limits.{max_flows}
 use Rattle.th_certificate.specs.declared.faults.CertKind.TheVariants.{BadNumber, TooLarge}
 
 is_digit_from_bounds : (byte : ℕ) → 48 ≤ byte → byte ≤ 57 → is_digit byte ≡ true
@@ -52,12 +53,12 @@ short_test text most short = grind (arith, nat_tests)
 same_test : (m n : ℕ) → m ≡ n → (m == n) ≡ true
 same_test m n same = grind (arith, nat_tests)
 
-pub count_in-decimal : (n : ℕ) → n ≤ most_flows → count_in (decimal n) ≡ Ok n
+pub count_in-decimal : (n : ℕ) → n ≤ max_flows → count_in (decimal n) ≡ Ok n
 count_in-decimal n few =
     let written = decimal_written n 9 (omega arith) (omega arith) (omega arith) (omega arith) in
-    let within : nat_le (number (decimal n)) most_flows ≡ true = let value = written.value in grind (arith, nat_tests) in
-    ap (λ form. if form then (if nat_le (length (decimal n)) 9 && nat_le (number (decimal n)) most_flows then Ok (number (decimal n)) else Err TooLarge) else Err BadNumber) written.are
-    ∙ ap (λ short. if short && nat_le (number (decimal n)) most_flows then Ok (number (decimal n)) else Err TooLarge) (short_test (decimal n) 9 written.short)
+    let within : nat_le (number (decimal n)) max_flows ≡ true = let value = written.value in grind (arith, nat_tests) in
+    ap (λ form. if form then (if nat_le (length (decimal n)) 9 && nat_le (number (decimal n)) max_flows then Ok (number (decimal n)) else Err TooLarge) else Err BadNumber) written.are
+    ∙ ap (λ short. if short && nat_le (number (decimal n)) max_flows then Ok (number (decimal n)) else Err TooLarge) (short_test (decimal n) 9 written.short)
     ∙ ap (λ short. if short then Ok (number (decimal n)) else Err TooLarge) within
     ∙ ap Ok written.value
 
@@ -91,7 +92,7 @@ flow_written place key field digits negative size key_is digits_are minus bare =
     ∙ ap (λ negative. Ok (signed negative (number digits))) minus
     ∙ ap (λ size. Ok (signed negative size)) digits_are.value
 
-pub flow_in-decimal : (place : ℕ) (flow : ℤ) → place ≤ most_flows → unsigned_abs flow ≤ 1000 → flow_in place (decimal place) (signed_decimal flow) ≡ Ok flow
+pub flow_in-decimal : (place : ℕ) (flow : ℤ) → place ≤ max_flows → unsigned_abs flow ≤ 1000 → flow_in place (decimal place) (signed_decimal flow) ≡ Ok flow
 flow_in-decimal place (pos size) few small =
     let key = decimal_written place 9 (omega arith) (omega arith) (omega arith) (omega arith) in
     let digits = decimal_written size 9 (omega arith) (omega arith) (omega arith) (omega arith) in

@@ -11,7 +11,8 @@ use Rattle.th_units.specs.Metres.{metres}
 use Rattle.th_csv.specs.Records.{Fields}
 use Rattle.th_certificate.specs.Certified.{HeightRows, rows_at}
 use Rattle.th_network.specs.Limits.{height_limit}
-use Rattle.th_certificate.specs.Numbers.{cost_in, flow_in, height_in, most_flows}
+use Rattle.th_certificate.specs.Numbers.{cost_in, flow_in, height_in}
+use Rattle.th_certificate.specs.Limits.{max_flows}
 use Rattle.th_certificate.specs.Reading.{after, certificate_after, ended}
 use Rattle.th_certificate.specs.Statements.{Draft, new_name, row_in, row_of, row_with, said, states, with_statement}
 use Rattle.th_certificate.specs.Texts.{cost_row, flow_row, height_row}
@@ -68,13 +69,13 @@ flowing version count heights low high flows = record { version = version; count
 
 module _ (version count : ℕ) (heights low high : HeightRows) where
   -- a flow, where there is room for one
-  says_flow : (flows : List ℤ) (key number : List ℕ) → length flows < count → said (flowing version count heights low high flows) (codes "F") key number ≡ states Flow (flow_in (length flows + 1) key number)
+  pub says_flow : (flows : List ℤ) (key number : List ℕ) → length flows < count → said (flowing version count heights low high flows) (codes "F") key number ≡ states Flow (flow_in (length flows + 1) key number)
   says_flow flows key number room =
       let test : nat_lt (length flows) count ≡ true = grind (arith, nat_tests) in
       ap (λ b. if b then states Flow (flow_in (length flows + 1) key number) else Err BadKind) test
 
   -- the flows, one after the other
-  pub flows_read : (done todo : List ℤ) (rest : List Fields) (number : ℕ) → length done + length todo ≤ count → count ≤ most_flows → AllByRecursion (λ flow. unsigned_abs flow ≤ 1000) todo
+  pub flows_read : (done todo : List ℤ) (rest : List Fields) (number : ℕ) → length done + length todo ≤ count → count ≤ max_flows → AllByRecursion (λ flow. unsigned_abs flow ≤ 1000) todo
       → certificate_after (map flow_row (enumerate_from (length done + 1) todo) ++ rest) number (flowing version count heights low high done)
       ≡ certificate_after rest (number + length todo) (flowing version count heights low high (done ++ todo))
   flows_read done [] rest number few counts each =

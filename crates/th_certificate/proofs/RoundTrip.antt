@@ -14,7 +14,8 @@ use Rattle.th_certificate.specs.Certified.{HeightRows}
 use Rattle.th_network.specs.Limits.{height_limit}
 use Rattle.th_certificate.specs.Faults.{too_long}
 use Rattle.th_certificate.specs.Numbers.{count_in}
-use Rattle.th_certificate.specs.Reading.{after, certificate_after, certificate_in, certificate_of, longest_certificate}
+use Rattle.th_certificate.specs.Reading.{after, certificate_after, certificate_in, certificate_of}
+use Rattle.th_certificate.specs.Limits.{max_certificate}
 use Rattle.th_certificate.specs.Statements.{begun, counted, empty_draft}
 use Rattle.th_certificate.specs.Texts.{AreOfObservations, IsCertifiable, cost_of, cost_row, end_rows, flow_row, header_row, height_row, heights_at_points, rows_of_version_1, rows_of_version_2, text_of_version_1, text_of_version_2, version_row}
 use Rattle.th_certificate.specs.declared.statements.Statement.TheVariants.{Height, Low, High}
@@ -27,7 +28,7 @@ use Rattle.th_certificate.proofs.TextLengths.{IsShortRow, length-csv_text, short
 read_text : (rows : List Fields) → AllByRecursion IsShortRow rows → AllByRecursion HasField rows → IsUnmarked (csv_text rows) → length rows ≤ 60000 → certificate_of (csv_text rows) ≡ certificate_in rows
 read_text rows short fields unmarked few =
     let bound = length-csv_text rows short in
-    let within : nat_lt longest_certificate (length (csv_text rows)) ≡ false = grind (arith, nat_tests) in
+    let within : nat_lt max_certificate (length (csv_text rows)) ≡ false = grind (arith, nat_tests) in
     ap (λ long. if long then Err too_long else certificate_in (records_of (csv_text rows))) within ∙ ap certificate_in (records_of_csv_text rows (All-from_recursion HasField rows fields) unmarked)
 
 -- two facts of each element

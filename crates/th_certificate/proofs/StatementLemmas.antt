@@ -13,7 +13,7 @@ use Rattle.th_certificate.specs.declared.statements.Statement.{Statement}
 use Rattle.th_certificate.specs.declared.statements.Statement.TheVariants.{Flow, Cost}
 use Rattle.th_certificate.proofs.NumberLemmas.{cost_small, flow_small, height_small, second_of}
 
-none_there : {X : Type 0} (found : Option X) → is_some found ≡ false → found ≡ None
+pub none_there : {X : Type 0} (found : Option X) → is_some found ≡ false → found ≡ None
 none_there None h = refl
 none_there (Some x) h = cc h
 
@@ -30,14 +30,14 @@ new_row rows (Some name) number row h = by (is_some (lookup (bytes_eq name) rows
         subst (λ (row : List ℕ × ℤ). IsNewRow rows row.0 row.1) same (record { new = none_there (lookup (bytes_eq name) rows) is; in_range = height_small number height is' })
 
 -- what holds of each thing that is read holds of the statement of it
-states_of : {A : Type 0} (make : A → Statement) (read : Result A CertKind) (statement : Statement) (P : Statement → Type 0) → states make read ≡ Ok statement → ((it : A) → read ≡ Ok it → P (make it)) → P statement
+pub states_of : {A : Type 0} (make : A → Statement) (read : Result A CertKind) (statement : Statement) (P : Statement → Type 0) → states make read ≡ Ok statement → ((it : A) → read ≡ Ok it → P (make it)) → P statement
 states_of make (Err kind) statement P h each = cc h
 states_of make (Ok it) statement P h each =
     let same : make it ≡ statement = cc in
     subst P same (each it refl)
 
 -- one of two
-either_of : (test : Bool) (first second : Result Statement CertKind) (statement : Statement) (P : Type 0) → (if test then first else second) ≡ Ok statement
+pub either_of : (test : Bool) (first second : Result Statement CertKind) (statement : Statement) (P : Type 0) → (if test then first else second) ≡ Ok statement
     → (test ≡ true → first ≡ Ok statement → P) → (second ≡ Ok statement → P) → P
 either_of true first second statement P h a b = a refl h
 either_of false first second statement P h a b = b h

@@ -8,14 +8,15 @@ use Rattle.std.proofs.lemmas.Fmt.{length-decimal-le_wide}
 use Rattle.std.proofs.lemmas.List.Concat.{flat_map-cons}
 use Rattle.csv.specs.Writing.{default_writer, escaped, field_text, fields_text, is_blank, needs_quotes, quoted}
 use Rattle.gsi_word.specs.Bytes.{is_data, is_zero}
-use Rattle.gsi_word.specs.Names.{max_name, name_of, reduced}
+use Rattle.gsi_word.specs.Names.{name_of, reduced}
+use Rattle.gsi_word.specs.Limits.{max_name}
 use Rattle.th_units.specs.Metres.{last_digits, metres, size_in_metres}
 use Rattle.th_units.proofs.Digits.{length-last_digits}
 use Rattle.th_csv.specs.Records.{Fields}
 use Rattle.th_csv.specs.Texts.{csv_text, row_text}
 use Rattle.th_certificate.specs.Certified.{cost_limit, rows_at}
 use Rattle.th_network.specs.Limits.{height_limit}
-use Rattle.th_certificate.specs.Numbers.{most_flows}
+use Rattle.th_certificate.specs.Limits.{max_flows}
 use Rattle.th_certificate.specs.Texts.{cost_row, flow_row, header_row, height_row, version_row}
 use Rattle.th_certificate.proofs.ReadRows.{IsReadable}
 
@@ -110,7 +111,7 @@ short_flows first (flow ∷ flows) few each = (
   short_flows (first + 1) flows (omega arith) each.1,
 )
 
-pub short_version : (version : List ℕ) (count : ℕ) → length version ≤ 1 → count ≤ most_flows → IsShortRow (version_row version count)
+pub short_version : (version : List ℕ) (count : ℕ) → length version ≤ 1 → count ≤ max_flows → IsShortRow (version_row version count)
 short_version version count one few = short_row (codes "V") version (decimal count) (omega (arith, length-decimal-le_wide 5 count (omega arith) (omega arith) (omega arith)))
 
 pub short_cost : (cost : ℕ) → cost < cost_limit → IsShortRow (cost_row cost)

@@ -1,7 +1,9 @@
+pub mod Limits
 pub mod Certified
 pub mod Faults
 pub mod Numbers
 pub mod Statements
 pub mod Reading
 pub mod Texts
+pub mod Rows
 pub mod Inside

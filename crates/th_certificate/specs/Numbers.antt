@@ -1,15 +1,12 @@
 -- The numbers of a certificate. Digits are counted as they stand, zeros in front among them.
 use Rattle.std.specs.Prelude.{ℕ, ℤ, ◌&&◌, ◌==◌, Bool, List, length, Result, Ok, Err, if◌then◌else◌, nat_le}
+use Rattle.th_certificate.specs.Limits.{max_flows}
 use Rattle.th_units.specs.Lengths.{are_digits, number, signed}
 use Rattle.th_units.specs.Metres.{has_minus, value, without_sign}
 use Rattle.th_units.specs.declared.faults.LenFault.{LenFault}
 use Rattle.th_units.specs.declared.faults.LenFault.TheVariants.{NotDigits, TooLarge as LongMetres}
 use Rattle.th_certificate.specs.declared.faults.CertKind.{CertKind}
 use Rattle.th_certificate.specs.declared.faults.CertKind.TheVariants.{BadNumber, TooLarge}
-
--- the most observations that a certificate may count
-abbrev pub most_flows : ℕ
-most_flows = 40000
 
 -- a length in metres that is read, or what is wrong with its text
 abbrev pub height_from : Result ℤ LenFault → Result ℤ CertKind
@@ -24,7 +21,7 @@ height_in field = height_from (value field)
 -- the count of observations: one to nine digits, at most 40,000
 abbrev pub count_in : List ℕ → Result ℕ CertKind
 count_in field =
-    if are_digits field then (if nat_le (length field) 9 && nat_le (number field) most_flows then Ok (number field) else Err TooLarge) else Err BadNumber
+    if are_digits field then (if nat_le (length field) 9 && nat_le (number field) max_flows then Ok (number field) else Err TooLarge) else Err BadNumber
 
 -- whether a field has the digits of just this number, however many zeros before it
 abbrev pub writes : List ℕ → ℕ → Bool

@@ -1,5 +1,6 @@
 -- The certificate that bytes stand for.
 use Rattle.std.specs.Prelude.{ℕ, ◌+◌, ◌&&◌, ◌==◌, Bool, false, List, [], ◌∷◌, length, Option, Some, None, Result, Ok, Err, if◌then◌else◌, bytes_eq, codes, nat_lt}
+use Rattle.th_certificate.specs.Limits.{max_certificate}
 use Rattle.th_csv.specs.Records.{Fields, records_of}
 use Rattle.th_certificate.specs.Certified.{Certified, HeightRows}
 use Rattle.th_certificate.specs.Faults.{too_long}
@@ -49,10 +50,6 @@ abbrev pub certificate_in : List Fields → Result Certified CertFault
 certificate_in [] = Err (record { row = 1; kind = BadHeader })
 certificate_in (this ∷ rest) = if is_header this then certificate_under rest else Err (record { row = 1; kind = BadHeader })
 
--- how many bytes a certificate has at most
-abbrev pub longest_certificate : ℕ
-longest_certificate = 8388608
-
 -- the certificate that bytes stand for, or its first fault
 abbrev pub certificate_of : List ℕ → Result Certified CertFault
-certificate_of bytes = if nat_lt longest_certificate (length bytes) then Err too_long else certificate_in (records_of bytes)
+certificate_of bytes = if nat_lt max_certificate (length bytes) then Err too_long else certificate_in (records_of bytes)

@@ -12,6 +12,7 @@ use Rattle.th_network.specs.Faults.{IsNetwork}
 use Rattle.th_network.specs.Heights.{cost}
 use Rattle.th_network.specs.Networks.{Survey, points_of}
 use Rattle.th_certificate.specs.Certified.{HeightRows, rows_at}
+use Rattle.th_tables.specs.Limits.{max_weight}
 
 -- the row of a name and its height in metres, under the letter of its kind
 abbrev pub height_row : List ℕ → List ℕ × ℤ → Fields
@@ -69,7 +70,7 @@ text_of_version_2 survey heights low high flows = csv_text (rows_of_version_2 su
 -- a flow for each observation, at most 1,000 in size
 pub record AreOfObservations (survey : Survey) (flows : List ℤ) : Type 0 where
   pub each : length flows ≡ length survey.observations
-  pub in_range : All (λ flow. unsigned_abs flow ≤ 1000) flows
+  pub in_range : All (λ flow. unsigned_abs flow ≤ max_weight) flows
 
 -- what holds of each network: it has no fault, the observations and the weights are in their ranges, and each point has a name in reduced form
 pub record IsCertifiable (survey : Survey) : Type 0 where

@@ -1,9 +1,22 @@
 //! Laws of the definitions: what they say of one another. They compute nothing.
 
-ghost use Rattle.std.specs.Prelude.{◌≡◌, ℕ, ℤ, List, None, Ok, Some};
+ghost use Rattle.std.specs.Prelude.{◌≡◌, ◌≤◌, ◌↔◌, ℕ, ℤ, List, None, Ok, Some, length};
+ghost use Rattle.th_csv.specs.Records.{records_of};
 ghost use Rattle.th_network.specs.Networks.{AreInRange, Survey};
+ghost use Rattle.th_certificate.specs.Certified.{Certified};
 ghost use Rattle.th_certificate.specs.Reading.{certificate_of};
+ghost use Rattle.th_certificate.specs.Limits.{max_certificate};
+ghost use Rattle.th_certificate.specs.Rows.{IsCertificate};
 ghost use Rattle.th_certificate.specs.Texts.{AreOfObservations, IsCertifiable, cost_of, heights_at_points, text_of_version_1, text_of_version_2};
+
+/// Bytes are read as a certificate just where they are not too many and their records are its rows:
+/// the header, the version with the count of flows, the heights, in version 2 the lowest and the
+/// highest, the flows, and the cost.
+pub fn certificate_is_its_rows()
+    ensures { (bytes : List ℕ) (certified : Certified)
+        → (certificate_of bytes ≡ Ok certified)
+        ↔ ((length bytes ≤ max_certificate) × IsCertificate (records_of bytes) certified) }
+{}
 
 /// The text of version 1 is read as the certificate with just these heights, flows and their cost.
 pub fn text_of_version_1_is_read_back()

@@ -1,6 +1,7 @@
 ghost use Rattle.std.specs.Prelude.{◌≡◌, ◌⊎◌, ◌<◌, ◌^◌, ◌+◌, Ok, Err, IfErr, IfOk, length};
 ghost use Rattle.th_certificate.specs.Faults.{no_memory, too_long};
-ghost use Rattle.th_certificate.specs.Reading.{certificate_after, certificate_in, certificate_of, ended, in_version_2, is_header, longest_certificate};
+ghost use Rattle.th_certificate.specs.Reading.{certificate_after, certificate_in, certificate_of, ended, in_version_2, is_header};
+ghost use Rattle.th_certificate.specs.Limits.{max_certificate};
 
 use crate::certificates::Certificate;
 use crate::drafts::Draft;
@@ -19,7 +20,7 @@ use th_csv::{Record, RecordReader};
 pub fn read_certificate(alloc: Global, bytes: &[u8]) -> Result<Certificate, CertFault>
     ensures certificate { IfOk result (λ certificate. certificate_of bytes.now ≡ Ok certificate) }
     ensures fault { IfErr result (λ fault. (fault ≡ no_memory) ⊎ (certificate_of bytes.now ≡ Err fault)) }
-    ensures too_long { longest_certificate < length bytes.now → result ≡ Err too_long }
+    ensures too_long { max_certificate < length bytes.now → result ≡ Err too_long }
 {
     if bytes.len() > MAX_CERTIFICATE {
         return Err(CertFault::TOO_LONG);

@@ -1,6 +1,7 @@
 ghost use Rattle.std.specs.Prelude.{◌≡◌, ◌&&◌, ◌<◌, ◌≤◌, ◌==◌, ℕ, pos, ◌^◌, ◌+ℤ◌, ◌-ℤ◌, All, IfOk, find, get_or, is_none, length, map, not, slice_get, slice_set, unsigned_abs};
 ghost use Rattle.std.specs.List.{zip};
 ghost use Rattle.std.specs.Ordering.{int_eq};
+ghost use Rattle.th_network.specs.Limits.{max_observations};
 ghost use Rattle.th_tables.specs.Rows.{height_of};
 ghost use Rattle.th_certificate.specs.Certified.{AreFlows, flow_limit};
 ghost use Rattle.th_checker.specs.Inside.Tests.{AreBalances, AreBelow, first_place};
@@ -17,7 +18,7 @@ pub(crate) fn balances_of(
     flows: &[i64],
 ) -> Result<Vec<i64>, AllocError>
     requires each { length flows.now ≡ length ends.now }
-    requires few { length ends.now ≤ 40000 }
+    requires few { length ends.now ≤ max_observations }
     requires within { All (AreBelow points) ends.now }
     requires in_range { AreFlows flows.now }
     ensures { IfOk result (λ balances. AreBalances points (zip ends.now flows.now) balances.items) }
@@ -30,7 +31,7 @@ pub(crate) fn balances_of(
 /// Takes each flow from its station's balance, and gives it to that of its target.
 fn add_all(balances: &mut [i64], ends: &[(usize, usize)], flows: &[i64])
     requires each { length flows.now ≡ length ends.now }
-    requires few { length ends.now ≤ 40000 }
+    requires few { length ends.now ≤ max_observations }
     requires within { All (AreBelow (length balances.old)) ends.now }
     requires in_range { AreFlows flows.now }
     requires zero { (place : ℕ) → get_or balances.old place (pos 0) ≡ pos 0 }

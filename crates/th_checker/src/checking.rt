@@ -1,5 +1,6 @@
 ghost use Rattle.std.specs.Prelude.{◌≡◌, ◌≤◌, All, IfOk, IfSome, length};
 ghost use Rattle.std.specs.List.{zip};
+ghost use Rattle.th_network.specs.Limits.{max_observations};
 ghost use Rattle.th_points.specs.Ends.{ArePoints};
 ghost use Rattle.th_certificate.specs.Certified.{AreFlows};
 ghost use Rattle.th_checker.specs.Inside.Tests.{AreHeightsAt, AreMaps, listed_in, slack_verdict_at, span_not_slack_at};
@@ -24,7 +25,7 @@ pub fn check(
     weights: &Weights,
     certificate: &Certificate,
 ) -> Result<Verdict, AllocError>
-    requires { length observations.now ≤ 40000 }
+    requires { length observations.now ≤ max_observations }
     ensures { IfOk result (λ verdict. verdict
         ≡ verdict_of observations.now benchmarks.now weights.now certificate.now) }
 {
@@ -60,7 +61,7 @@ fn check_flows(
     points: &Points,
     maps: &Maps,
 ) -> Result<Verdict, AllocError>
-    requires few { length observations.now ≤ 40000 }
+    requires few { length observations.now ≤ max_observations }
     requires each { length certificate.now.flows ≡ length observations.now }
     requires points { ArePoints observations.now benchmarks.now points.now.names.keys points.now.ends.items }
     requires maps { AreMaps points.now.names.keys certificate.now maps.now }
@@ -95,7 +96,7 @@ fn check_slack(
     certificate: &Certificate,
     maps: &Maps,
 ) -> Result<Verdict, AllocError>
-    requires few { length weights.now ≤ 40000 }
+    requires few { length weights.now ≤ max_observations }
     requires each { length certificate.now.flows ≡ length weights.now }
     requires observations { length observations.now ≡ length weights.now }
     requires ends { length ends.now ≡ length observations.now }
@@ -133,7 +134,7 @@ fn span_not_slack(
     flows: &[i64],
     span: &Option<Vec<i64>>,
 ) -> Result<Option<u32>, AllocError>
-    requires few { length weights.now ≤ 40000 }
+    requires few { length weights.now ≤ max_observations }
     requires each { length flows.now ≡ length weights.now }
     requires flows { AreFlows flows.now }
     requires observations { length observations.now ≡ length weights.now }

@@ -1,6 +1,7 @@
 ghost use Rattle.std.specs.Prelude.{◌≡◌, ◌≤◌, ◌<◌, ◌*◌, ◌-ℤ◌, All, IfOk, length, map, nat_lt, not, sum_by, unsigned_abs};
 ghost use Rattle.std.specs.List.{position_from, zip};
 ghost use Rattle.std.specs.Ordering.{int_eq};
+ghost use Rattle.th_network.specs.Limits.{max_observations};
 ghost use Rattle.th_book.specs.Observed.{largest_difference};
 ghost use Rattle.th_tables.specs.Rows.{weight_of};
 ghost use Rattle.th_certificate.specs.Certified.{AreFlows, flow_limit};
@@ -66,7 +67,7 @@ fn residual(difference: i64, from: i64, to: i64) -> i64
 /// The number, from 1, of the first flow that is above its weight in size.
 pub(crate) fn first_too_large(weights: &[u32], flows: &[i64]) -> Option<u32>
     requires each { length flows.now ≡ length weights.now }
-    requires few { length weights.now ≤ 40000 }
+    requires few { length weights.now ≤ max_observations }
     requires in_range { AreFlows flows.now }
     ensures { result ≡ position_from (λ pair. nat_lt pair.0 (unsigned_abs pair.1)) 1 (zip weights.now flows.now) }
 {
@@ -83,7 +84,7 @@ pub(crate) fn first_too_large(weights: &[u32], flows: &[i64]) -> Option<u32>
 pub(crate) fn first_not_slack(weights: &[u32], residuals: &[i64], flows: &[i64]) -> Option<u32>
     requires each { length flows.now ≡ length weights.now }
     requires residual { length residuals.now ≡ length weights.now }
-    requires few { length weights.now ≤ 40000 }
+    requires few { length weights.now ≤ max_observations }
     requires flows { AreFlows flows.now }
     requires residuals { All (λ r. unsigned_abs r ≤ most_residual) residuals.now }
     ensures { result ≡ position_from (λ it. not (is_slack_at it)) 1 (zip weights.now (zip residuals.now flows.now)) }
@@ -110,7 +111,7 @@ fn is_slack(weight: u32, residual: i64, flow: i64) -> bool
 /// The sum of the weighted sizes of residuals.
 pub(crate) fn cost_of(weights: &[u32], residuals: &[i64]) -> u128
     requires each { length residuals.now ≡ length weights.now }
-    requires few { length weights.now ≤ 40000 }
+    requires few { length weights.now ≤ max_observations }
     requires residuals { All (λ r. unsigned_abs r ≤ most_residual) residuals.now }
     ensures { result ≡ sum_by (λ pair. pair.0 * unsigned_abs pair.1) (zip weights.now residuals.now) }
 {

@@ -8,6 +8,7 @@ use Rattle.std.proofs.lemmas.Slice.Zip.{AllZip-long}
 use Rattle.std.specs.Prelude.{slice_index_or}
 use Rattle.th_network.specs.declared.links.Link.{Link}
 use Rattle.th_search.specs.Potentials.{value_at}
+use Rattle.th_circulation.specs.Inside.Bounds.{height_bound}
 use Rattle.th_circulation.specs.declared.slots.Slot.{Slot}
 use Rattle.th_circulation.specs.Inside.Flows.{AreBounded}
 use Rattle.th_circulation.specs.Inside.Cycles.{HasRoom, link_at}
@@ -20,11 +21,11 @@ pub ends_at : (vertices : ℕ) (links : List Link) (weights : List ℕ) (slot : 
 ends_at vertices links weights slot graph within = graph.ends slot.place (record { tail = 0; head = 0; diff = pos 0 }) within
 
 pub record IsNear (high low diff : ℤ) : Type 0 where
-  pub high_near : unsigned_abs high ≤ 2500000000000
-  pub low_near : unsigned_abs low ≤ 2500000000000
+  pub high_near : unsigned_abs high ≤ height_bound
+  pub low_near : unsigned_abs low ≤ height_bound
   pub diff_near : unsigned_abs diff ≤ 5000000000000
 
-pub near_at : (vertices : ℕ) (links : List Link) (weights : List ℕ) (heights diffs : List ℤ) (slot : Slot) → IsGraph vertices links weights → AreWithin vertices 2500000000000 heights → AreWithin (length links) 5000000000000 diffs → slot.place < length links → IsNear (value_at heights (link_at links slot).head) (value_at heights (link_at links slot).tail) (slice_index_or diffs slot.place (pos 0))
+pub near_at : (vertices : ℕ) (links : List Link) (weights : List ℕ) (heights diffs : List ℤ) (slot : Slot) → IsGraph vertices links weights → AreWithin vertices height_bound heights → AreWithin (length links) 5000000000000 diffs → slot.place < length links → IsNear (value_at heights (link_at links slot).head) (value_at heights (link_at links slot).tail) (slice_index_or diffs slot.place (pos 0))
 near_at vertices links weights heights diffs slot graph near_heights near_diffs within =
     let ends = ends_at vertices links weights slot graph within in
     let each = near_heights.each in

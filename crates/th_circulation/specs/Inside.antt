@@ -1,3 +1,4 @@
+pub mod Bounds
 -- what private functions say to one another
 pub mod Flows
 pub mod Cycles

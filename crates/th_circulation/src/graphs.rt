@@ -1,5 +1,8 @@
 ghost use Rattle.std.specs.Prelude.{◌≡◌, ◌↔◌, ◌<◌, ◌≤◌, ◌≤ℤ◌, ℕ, All, pos, length, slice_index_or, unsigned_abs};
+ghost use Rattle.th_circulation.specs.Inside.Bounds.{height_bound};
 ghost use Rattle.th_circulation.specs.Inside.Graphs.{AreWithin, IsGraph};
+ghost use Rattle.th_search.specs.Limits.{max_cost};
+ghost use Rattle.th_tables.specs.Limits.{max_weight};
 
 use crate::slots::Slot;
 use th_network::{Link, Network};
@@ -27,7 +30,7 @@ impl<'a> Graph<'a> {
     pub fn of(network: &'a Network, weights: &'a [u32]) -> Graph<'a>
         requires network { IsNetwork network.now.observations network.now.benchmarks }
         requires weights { weights.now ≡ weights_of network.now }
-        requires light { All (λ weight. weight ≤ 1000) weights.now }
+        requires light { All (λ weight. weight ≤ max_weight) weights.now }
         ensures vertices { result.vertices ≡ vertices_of network.now }
         ensures links { result.links.now ≡ arcs_of network.now }
         ensures weights { result.weights.now ≡ weights_of network.now }
@@ -61,7 +64,7 @@ impl<'a> Graph<'a> {
     pub fn arc(&self, differences: &[i64], heights: &[i64], slot: Slot) -> Arc
         requires place { slot.place < length self.now.links.now }
         requires differences { AreWithin (length self.now.links.now) 5000000000000 differences.now }
-        requires heights { AreWithin self.now.vertices 2500000000000 heights.now }
+        requires heights { AreWithin self.now.vertices height_bound heights.now }
         ensures arc { result ≡ arc_of self.now.links.now differences.now (value_at heights.now) slot }
         ensures in_range { IsArc self.now.vertices result }
     {
@@ -86,10 +89,10 @@ impl<'a> Graph<'a> {
     fn residual(&self, differences: &[i64], heights: &[i64], slot: Slot) -> i64
         requires place { slot.place < length self.now.links.now }
         requires differences { AreWithin (length self.now.links.now) 5000000000000 differences.now }
-        requires heights { AreWithin self.now.vertices 2500000000000 heights.now }
+        requires heights { AreWithin self.now.vertices height_bound heights.now }
         ensures residual { result ≡ residual (value_at heights.now) (link_at self.now.links.now slot)
             (slice_index_or differences.now slot.place (pos 0)) }
-        ensures small { unsigned_abs result ≤ 10000000000000 }
+        ensures small { unsigned_abs result ≤ max_cost }
     {
         let link = self.links[slot.place as usize];
         let rise = heights[link.head as usize] - heights[link.tail as usize];

@@ -1,4 +1,5 @@
 ghost use Rattle.std.specs.Prelude.{◌≡◌, ◌≤◌, ℕ, ◌-ℤ◌};
+ghost use Rattle.th_circulation.specs.Inside.Bounds.{height_bound, raised_bound};
 ghost use Rattle.th_circulation.specs.Inside.Graphs.{AreWithin};
 ghost use Rattle.th_search.specs.Potentials.{value_at};
 
@@ -6,10 +7,10 @@ use crate::guide::Guide;
 
 /// Raises the height of each vertex by as much as its potential is below 0.
 pub(crate) fn raise(heights: &mut [i64], potentials: &[i64], vertices: u32)
-    requires heights { AreWithin vertices 2500000000000 heights.old }
+    requires heights { AreWithin vertices height_bound heights.old }
     requires potentials { AreWithin vertices 40000000000000000 potentials.now }
     ensures each { (v : ℕ) → value_at heights.new v ≡ value_at heights.old v -ℤ value_at potentials.now v }
-    ensures within { AreWithin vertices 40002500000000000 heights.new }
+    ensures within { AreWithin vertices raised_bound heights.new }
 {
     for (vertex, &potential) in potentials.iter().enumerate() {
         heights[vertex] -= potential;
@@ -19,8 +20,8 @@ pub(crate) fn raise(heights: &mut [i64], potentials: &[i64], vertices: u32)
 /// Doubles the heights above vertex 0, as far as costs that they reduce stay in range.
 pub(crate) fn double(heights: &mut [i64], vertices: u32)
     requires some { 1 ≤ vertices }
-    requires heights { AreWithin vertices 40002500000000000 heights.old }
-    ensures within { AreWithin vertices 2500000000000 heights.new }
+    requires heights { AreWithin vertices raised_bound heights.old }
+    ensures within { AreWithin vertices height_bound heights.new }
 {
     let level = heights[0];
     for height in heights.iter_mut() {
@@ -30,8 +31,8 @@ pub(crate) fn double(heights: &mut [i64], vertices: u32)
 
 /// Takes the heights of a guide, as far as costs that they reduce stay in range.
 pub(crate) fn take(heights: &mut [i64], guide: &Guide, vertices: u32)
-    requires heights { AreWithin vertices 2500000000000 heights.old }
-    ensures within { AreWithin vertices 2500000000000 heights.new }
+    requires heights { AreWithin vertices height_bound heights.old }
+    ensures within { AreWithin vertices height_bound heights.new }
 {
     for (vertex, height) in heights.iter_mut().enumerate() {
         *height = guide

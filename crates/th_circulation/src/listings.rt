@@ -1,5 +1,6 @@
 ghost use Rattle.std.specs.Prelude.{◌≡◌, ◌+◌, ◌*◌, ◌<◌, ◌≤◌, ◌++◌, ◌∷◌, [], Contains, IfOk, length};
 ghost use Rattle.std.specs.Vec.{vec_capacity, vec_len};
+ghost use Rattle.th_circulation.specs.Inside.Bounds.{height_bound};
 ghost use Rattle.th_circulation.specs.Inside.Cycles.{HasRoom};
 ghost use Rattle.th_circulation.specs.Inside.Flows.{AreBounded};
 ghost use Rattle.th_circulation.specs.declared.slots.Slot.{Slot as ASlot};
@@ -55,7 +56,7 @@ impl Listing {
     )
         requires place { slot.place < length graph.now.links.now }
         requires differences { AreWithin (length graph.now.links.now) 5000000000000 differences.now }
-        requires heights { AreWithin graph.now.vertices 2500000000000 heights.now }
+        requires heights { AreWithin graph.now.vertices height_bound heights.now }
         requires flows { AreBounded graph.now.weights.now flows.now }
         requires arcs { vec_len self.old.slots < vec_capacity self.old.arcs }
         requires slots { vec_len self.old.slots < vec_capacity self.old.slots }
@@ -78,7 +79,7 @@ impl Listing {
     /// Lists all residual arcs, at costs that the heights reduce.
     pub fn list_all(&mut self, graph: &Graph, differences: &[i64], heights: &[i64], flows: &[i64])
         requires differences { AreWithin (length graph.now.links.now) 5000000000000 differences.now }
-        requires heights { AreWithin graph.now.vertices 2500000000000 heights.now }
+        requires heights { AreWithin graph.now.vertices height_bound heights.now }
         requires flows { AreBounded graph.now.weights.now flows.now }
         requires arcs { 2 * length graph.now.links.now ≤ vec_capacity self.old.arcs }
         requires slots { 2 * length graph.now.links.now ≤ vec_capacity self.old.slots }
@@ -118,7 +119,7 @@ impl Listing {
         slots: &[Slot],
     )
         requires differences { AreWithin (length graph.now.links.now) 5000000000000 differences.now }
-        requires heights { AreWithin graph.now.vertices 2500000000000 heights.now }
+        requires heights { AreWithin graph.now.vertices height_bound heights.now }
         requires flows { AreBounded graph.now.weights.now flows.now }
         requires arcs { 2 * length graph.now.links.now ≤ vec_capacity self.old.arcs }
         requires slots { 2 * length graph.now.links.now ≤ vec_capacity self.old.slots }

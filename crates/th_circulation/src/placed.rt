@@ -1,4 +1,5 @@
 ghost use Rattle.std.specs.Prelude.{◌≡◌, ◌<◌, All, length, unsigned_abs};
+ghost use Rattle.th_circulation.specs.Inside.Bounds.{raised_bound};
 ghost use Rattle.th_circulation.specs.Inside.Graphs.{AreWithin};
 ghost use Rattle.th_circulation.specs.Inside.Placed.{ArePlaced};
 ghost use Rattle.th_network.specs.Limits.{height_limit};
@@ -10,7 +11,7 @@ use th_network::Network;
 /// Lists the height of each point: a benchmark's own, and of another point how far its vertex is above
 /// vertex 0.
 pub(crate) fn place(network: &Network, heights: &[i64], listed: &mut [i64])
-    requires heights { AreWithin (vertices_of network.now) 40002500000000000 heights.now }
+    requires heights { AreWithin (vertices_of network.now) raised_bound heights.now }
     requires each { length listed.old ≡ length (points_of network.now) }
     ensures placed { ArePlaced network.now.observations network.now.benchmarks (value_at heights.now)
         listed.new }

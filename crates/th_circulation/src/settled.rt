@@ -30,14 +30,6 @@ impl Heights {
     {
         self.units.as_slice()
     }
-
-    /// The list of the heights, given back as it is.
-    pub fn into_vec(self) -> Vec<i64>
-        ensures { result.items ≡ self }
-    {
-        let Heights { units } = self;
-        units
-    }
 }
 
 /// A flow for each observation of a network, in their order.
@@ -67,14 +59,6 @@ impl Flows {
         ensures { result.now ≡ self.now }
     {
         self.flows.as_slice()
-    }
-
-    /// The list of the flows, given back as it is.
-    pub fn into_vec(self) -> Vec<i64>
-        ensures { result.items ≡ self }
-    {
-        let Flows { flows } = self;
-        flows
     }
 }
 

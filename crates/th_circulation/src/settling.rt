@@ -1,4 +1,5 @@
 ghost use Rattle.std.specs.Prelude.{◌≡◌, ◌⊎◌, ◌+◌, ◌*◌, ◌<◌, ◌≤◌, All, IfOk, OnErr, OnOk, length, sum, unsigned_abs};
+ghost use Rattle.th_circulation.specs.Inside.Bounds.{raised_bound};
 ghost use Rattle.th_circulation.specs.Inside.Flows.{IsFlow, ShowsLinks, residuals};
 ghost use Rattle.th_circulation.specs.Inside.Graphs.{AreWithin};
 ghost use Rattle.th_circulation.specs.Inside.Phases.{differences_in};
@@ -9,6 +10,7 @@ ghost use Rattle.th_network.specs.Faults.{IsNetwork};
 ghost use Rattle.th_network.specs.Heights.{IsHeights, heights_at};
 ghost use Rattle.th_network.specs.Networks.{arcs_of, points_of, vertices_of, weights_of};
 ghost use Rattle.th_search.specs.Potentials.{value_at};
+ghost use Rattle.th_tables.specs.Limits.{max_weight};
 
 use crate::graphs::Graph;
 use crate::placed::place;
@@ -22,9 +24,9 @@ use th_search::Search;
 /// Finds heights of the points of a network that cost least, and the circulation that shows it.
 ///
 /// A step is one cycle that was cancelled. The search is called once for each step, and once for each
-/// of 44 phases; where all is settled at once, it is asked of no arcs for the phases that are left. All memory but the search's is taken before its first call: where memory is refused,
-/// either the search refused it, in its last call, or nothing was counted. The network may be settled
-/// again afterwards.
+/// of 44 phases; where all is settled at once, it is asked of no arcs for the phases that are left.
+/// All memory but the search's is taken before its first call: where memory is refused, either the
+/// search refused it once, or nothing was counted. The network may be settled again afterwards.
 pub fn settle<S: Search>(
     alloc: Global,
     network: &Network,
@@ -81,13 +83,13 @@ fn settle_weighted<'a, S: Search>(
 ) -> Result<Workspace, AllocError>
     requires network { IsNetwork network.now.observations network.now.benchmarks }
     requires weights { weights.now ≡ weights_of network.now }
-    requires light { All (λ weight. weight ≤ 1000) weights.now }
+    requires light { All (λ weight. weight ≤ max_weight) weights.now }
     requires calls { S.calls search.old ≤ max_counted }
     requires steps { steps.old ≤ max_counted }
     ensures flow { IfOk result (λ work.
         IsFlow (arcs_of network.now) (weights_of network.now) work.flows.items) }
     ensures heights { IfOk result (λ work.
-        AreWithin (vertices_of network.now) 40002500000000000 work.heights.items) }
+        AreWithin (vertices_of network.now) raised_bound work.heights.items) }
     ensures shown { IfOk result (λ work. ShowsLinks (weights_of network.now) work.flows.items
         (residuals (arcs_of network.now) (differences_in 0 (arcs_of network.now))
         (value_at work.heights.items))) }
@@ -113,7 +115,7 @@ fn settle_weighted<'a, S: Search>(
 /// The weights of the observations of a network.
 fn list_weights(alloc: Global, network: &Network) -> Result<Vec<u32>, AllocError>
     ensures weights { IfOk result (λ weights. weights.items ≡ weights_of network.now) }
-    ensures light { IfOk result (λ weights. All (λ weight. weight ≤ 1000) weights.items) }
+    ensures light { IfOk result (λ weights. All (λ weight. weight ≤ max_weight) weights.items) }
 {
     let count = network.observations().len();
     let mut weights = Vec::with_capacity(alloc, count)?;

@@ -1,4 +1,5 @@
 ghost use Rattle.std.specs.Prelude.{◌≡◌, ℕ, IfOk, length};
+ghost use Rattle.th_circulation.specs.Inside.Bounds.{raised_bound};
 ghost use Rattle.th_circulation.specs.Extremes.{High, Low};
 ghost use Rattle.th_circulation.specs.Inside.Distances.{AreTight, farthest, opposite};
 ghost use Rattle.th_circulation.specs.Inside.Graphs.{AreWithin};
@@ -98,7 +99,7 @@ fn opposites(alloc: Global, distances: &[i64], vertices: u32) -> Result<Vec<i64>
     requires { AreWithin vertices farthest distances.now }
     ensures each { IfOk result (λ heights. (v : ℕ)
         → value_at heights.items v ≡ opposite (value_at distances.now) v) }
-    ensures within { IfOk result (λ heights. AreWithin vertices 40002500000000000 heights.items) }
+    ensures within { IfOk result (λ heights. AreWithin vertices raised_bound heights.items) }
 {
     let mut heights = vec![in alloc; 0i64; vertices as usize]?;
     raise(&mut heights, distances, vertices);

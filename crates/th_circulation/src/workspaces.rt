@@ -1,6 +1,7 @@
 ghost use Rattle.std.specs.Prelude.{◌≡◌, ◌+◌, ◌<◌, ◌≤◌, ◌≤ℤ◌, ◌+ℤ◌, ◌-◌, ◌*◌, ◌⊎◌, ◌^◌, pos, IfOk, MatchBool, OnErr, OnOk, length, replicate, sum};
 ghost use Rattle.std.specs.Bool.{OnTrue};
 ghost use Rattle.std.specs.Vec.{vec_capacity};
+ghost use Rattle.th_circulation.specs.Inside.Bounds.{height_bound, raised_bound};
 ghost use Rattle.th_circulation.specs.Inside.Flows.{IsFlow, ShowsLinks, gain, residuals};
 ghost use Rattle.th_circulation.specs.Inside.Graphs.{AreWithin};
 ghost use Rattle.th_circulation.specs.Inside.Listings.{AreResidual, HasAllBefore};
@@ -8,6 +9,7 @@ ghost use Rattle.th_circulation.specs.Inside.Phases.{differences_in};
 ghost use Rattle.th_circulation.specs.Inside.Proposals.{HasNoPotentials};
 ghost use Rattle.th_circulation.specs.Inside.Workspaces.{IsNear, IsReady};
 ghost use Rattle.th_circulation.specs.Limits.{max_counted};
+ghost use Rattle.th_search.specs.Limits.{max_vertices};
 ghost use Rattle.th_search.specs.Answers.{refusals_in};
 ghost use Rattle.th_search.specs.Potentials.{value_at};
 
@@ -45,7 +47,7 @@ impl Workspace {
         ensures differences { IfOk result (λ work.
             length work.differences.items ≡ length graph.now.links.now) }
         ensures heights { IfOk result (λ work.
-            AreWithin graph.now.vertices 40002500000000000 work.heights.items) }
+            AreWithin graph.now.vertices raised_bound work.heights.items) }
         ensures flow { IfOk result (λ work.
             IsFlow graph.now.links.now graph.now.weights.now work.flows.items) }
         ensures none { IfOk result (λ work.
@@ -79,14 +81,14 @@ impl Workspace {
         steps: &mut Steps,
     ) -> Result<(), AllocError>
         requires differences { length self.old.differences.items ≡ length graph.now.links.now }
-        requires heights { AreWithin graph.now.vertices 40002500000000000 self.old.heights.items }
+        requires heights { AreWithin graph.now.vertices raised_bound self.old.heights.items }
         requires flow { IsFlow graph.now.links.now graph.now.weights.now self.old.flows.items }
         requires arcs { 2 * length graph.now.links.now ≤ vec_capacity self.old.listing.arcs }
         requires slots { 2 * length graph.now.links.now ≤ vec_capacity self.old.listing.slots }
         requires calls { S.calls search.old ≤ max_counted }
         requires steps { steps.old ≤ max_counted }
         ensures flow { IsFlow graph.now.links.now graph.now.weights.now self.new.flows.items }
-        ensures heights { OnOk result (AreWithin graph.now.vertices 40002500000000000
+        ensures heights { OnOk result (AreWithin graph.now.vertices raised_bound
             self.new.heights.items) }
         ensures shown { OnOk result (ShowsLinks graph.now.weights.now self.new.flows.items
             (residuals graph.now.links.now (differences_in 0 graph.now.links.now)
@@ -116,14 +118,14 @@ impl Workspace {
         steps: &mut Steps,
     ) -> Result<bool, AllocError>
         requires differences { length self.old.differences.items ≡ length graph.now.links.now }
-        requires heights { AreWithin graph.now.vertices 40002500000000000 self.old.heights.items }
+        requires heights { AreWithin graph.now.vertices raised_bound self.old.heights.items }
         requires flow { IsFlow graph.now.links.now graph.now.weights.now self.old.flows.items }
         requires arcs { 2 * length graph.now.links.now ≤ vec_capacity self.old.listing.arcs }
         requires slots { 2 * length graph.now.links.now ≤ vec_capacity self.old.listing.slots }
         requires calls { S.calls search.old ≤ max_counted }
         requires steps { steps.old ≤ max_counted }
         ensures differences { self.new.differences.items ≡ differences_in 0 graph.now.links.now }
-        ensures heights { OnOk result (AreWithin graph.now.vertices 40002500000000000
+        ensures heights { OnOk result (AreWithin graph.now.vertices raised_bound
             self.new.heights.items) }
         ensures flow { IsFlow graph.now.links.now graph.now.weights.now self.new.flows.items }
         ensures arcs { vec_capacity self.old.listing.arcs ≤ vec_capacity self.new.listing.arcs }
@@ -159,14 +161,14 @@ impl Workspace {
         steps: &mut Steps,
     ) -> Result<(), AllocError>
         requires differences { length self.old.differences.items ≡ length graph.now.links.now }
-        requires heights { AreWithin graph.now.vertices 40002500000000000 self.old.heights.items }
+        requires heights { AreWithin graph.now.vertices raised_bound self.old.heights.items }
         requires none { self.old.flows.items ≡ replicate (length graph.now.links.now) (pos 0) }
         requires arcs { 2 * length graph.now.links.now ≤ vec_capacity self.old.listing.arcs }
         requires slots { 2 * length graph.now.links.now ≤ vec_capacity self.old.listing.slots }
         requires calls { S.calls search.old ≤ 2 * max_counted }
         requires steps { steps.old ≤ 2 * max_counted }
         ensures flow { IsFlow graph.now.links.now graph.now.weights.now self.new.flows.items }
-        ensures heights { OnOk result (AreWithin graph.now.vertices 40002500000000000
+        ensures heights { OnOk result (AreWithin graph.now.vertices raised_bound
             self.new.heights.items) }
         ensures shown { OnOk result (ShowsLinks graph.now.weights.now self.new.flows.items
             (residuals graph.now.links.now (differences_in 0 graph.now.links.now)
@@ -206,11 +208,11 @@ impl Workspace {
         ensures calls { S.calls search.new ≡ S.calls search.old + 1 }
         ensures refusals { S.refusals search.new ≡ S.refusals search.old + refusals_in result }
         ensures answer { IfOk result (λ cancelled. MatchBool cancelled
-            (AreWithin graph.now.vertices 2500000000000 self.new.heights.items
+            (AreWithin graph.now.vertices height_bound self.new.heights.items
             × (steps.new ≡ steps.old + 1)
             × ((gain self.old.flows.items self.old.differences.items +ℤ pos 1)
             ≤ℤ gain self.new.flows.items self.old.differences.items))
-            (AreWithin graph.now.vertices 40002500000000000 self.new.heights.items
+            (AreWithin graph.now.vertices raised_bound self.new.heights.items
             × (steps.new ≡ steps.old)
             × (self.new.flows.items ≡ self.old.flows.items)
             × ShowsLinks graph.now.weights.now self.new.flows.items (residuals graph.now.links.now
@@ -239,7 +241,7 @@ impl Workspace {
             self.old.differences.items self.old.heights.items self.old.flows.items
             (vec_capacity self.old.listing.arcs) (vec_capacity self.old.listing.slots) }
         ensures differences { self.new.differences.items ≡ self.old.differences.items }
-        ensures heights { AreWithin graph.now.vertices 2500000000000 self.new.heights.items }
+        ensures heights { AreWithin graph.now.vertices height_bound self.new.heights.items }
         ensures flows { self.new.flows.items ≡ self.old.flows.items }
         ensures arcs { vec_capacity self.old.listing.arcs ≤ vec_capacity self.new.listing.arcs }
         ensures slots { vec_capacity self.old.listing.slots ≤ vec_capacity self.new.listing.slots }
@@ -301,9 +303,9 @@ impl Workspace {
     fn start_phase(&mut self, graph: &Graph, phase: u32)
         requires phase { phase ≤ 43 }
         requires differences { length self.old.differences.items ≡ length graph.now.links.now }
-        requires heights { AreWithin graph.now.vertices 40002500000000000 self.old.heights.items }
+        requires heights { AreWithin graph.now.vertices raised_bound self.old.heights.items }
         ensures differences { self.new.differences.items ≡ differences_in phase graph.now.links.now }
-        ensures heights { AreWithin graph.now.vertices 2500000000000 self.new.heights.items }
+        ensures heights { AreWithin graph.now.vertices height_bound self.new.heights.items }
         ensures flows { self.new.flows.items ≡ self.old.flows.items }
         ensures arcs { vec_capacity self.new.listing.arcs ≡ vec_capacity self.old.listing.arcs }
         ensures slots { vec_capacity self.new.listing.slots ≡ vec_capacity self.old.listing.slots }
@@ -345,7 +347,7 @@ impl Workspace {
             +ℤ pos (steps.new - steps.old)) ≤ℤ gain self.new.flows.items self.old.differences.items }
         ensures calls { S.calls search.new + steps.old ≡ S.calls search.old + steps.new + 1 }
         ensures refusals { S.refusals search.new ≡ S.refusals search.old + refusals_in result }
-        ensures shown { OnOk result (AreWithin graph.now.vertices 40002500000000000 self.new.heights.items
+        ensures shown { OnOk result (AreWithin graph.now.vertices raised_bound self.new.heights.items
             × ShowsLinks graph.now.weights.now self.new.flows.items (residuals graph.now.links.now
             self.old.differences.items (value_at self.new.heights.items))) }
     {
@@ -358,7 +360,7 @@ impl Workspace {
 /// left for them.
 fn skip_phases<S: Search>(alloc: Global, vertices: u32, search: &mut S) -> Result<(), AllocError>
     requires some { 1 ≤ vertices }
-    requires few { vertices ≤ 4001 }
+    requires few { vertices ≤ max_vertices }
     requires calls { S.calls search.old + 43 < 1000000000000000000000000000000000000 }
     ensures calls { OnOk result (S.calls search.new ≡ S.calls search.old + 43) }
     ensures few { S.calls search.new ≤ S.calls search.old + 43 }

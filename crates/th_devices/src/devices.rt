@@ -14,7 +14,9 @@ pub struct Failed;
 /// How often a device was called, and how many of these calls failed.
 #[derive(Clone, Copy, Debug)]
 pub struct Counts {
+    /// How often the device was called.
     pub calls: u128,
+    /// How many of these calls failed.
     pub failures: u128,
     ghost failures_are_calls: { failures ≤ calls },
 }

@@ -4,7 +4,7 @@ ghost use Rattle.th_points.specs.Ends.{ArePoints};
 ghost use Rattle.th_network.specs.Inside.Numbered.{AreVertices};
 ghost use Rattle.th_network.specs.Links.{base as base_of, largest_link_difference, link_difference, link_of};
 ghost use Rattle.th_points.specs.Points.{points as points_of};
-ghost use Rattle.th_units.specs.Lengths.{max_len};
+ghost use Rattle.th_units.specs.Limits.{max_len};
 
 use crate::vertices::Vertices;
 use gsi_word::Name;

@@ -9,7 +9,7 @@ ghost use Rattle.th_points.specs.Ends.{ends_of};
 ghost use Rattle.th_network.specs.declared.faults.NetFault.TheVariants.{NoMemory, TooManyObservations};
 ghost use Rattle.th_tables.specs.Limits.{max_weight};
 ghost use Rattle.th_tables.specs.Rows.{height_of};
-ghost use Rattle.th_units.specs.Lengths.{max_len};
+ghost use Rattle.th_units.specs.Limits.{max_len};
 
 use crate::anchors::first_untied;
 use crate::faults::NetFault;

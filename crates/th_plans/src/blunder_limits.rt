@@ -7,7 +7,8 @@ use std::marker::Model;
 /// The units of 10 nm in a micrometre.
 const UNITS_IN_MICROMETRE: i64 = 100;
 
-/// The size above which a residual is reported as a blunder, in units of 10 nm: 0 to 100,000,000,000.
+/// The size above which a residual is reported as a blunder, in units of 10 nm: from 0 to that of
+/// `MAX_BLUNDER`.
 #[derive(Clone, Copy, Debug, PartialEq, Eq)]
 pub struct Limit {
     units: i64,

@@ -2,7 +2,8 @@
 ghost use Rattle.std.specs.Prelude.{◌≡◌, ◌≤◌, ◌<◌, All, IfErr, IfOk, IfSome, Ok, OnOk, false, is_some, length};
 ghost use Rattle.th_devices.specs.Limits.{calls_before};
 ghost use Rattle.th_runs.specs.Adjusted.{AreOutputs, ArePrinted, IsAnswer, OutTexts};
-ghost use Rattle.th_runs.specs.Inputs.{IsNetRefusal, IsOwed, MakesNetwork, Meets, given, given_if_any, givens, owed_for_survey, surveyed};
+ghost use Rattle.th_runs.specs.Inputs.{IsOwed, MakesNetwork, Meets, given, given_if_any, givens, owed_for_survey, surveyed};
+ghost use Rattle.th_runs.specs.Inside.Refused.{IsNetRefusal};
 ghost use Rattle.th_runs.specs.Reads.{EachBook, IfPresent, IsNamed, IsReadFor, refused};
 ghost use Rattle.th_runs.specs.Writes.{IsWritten, IsWrittenFor};
 ghost use Rattle.th_certificate.specs.Texts.{IsCertifiable};

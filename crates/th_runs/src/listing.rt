@@ -1,6 +1,6 @@
 //! A run that lists the observations of one book.
 ghost use Rattle.std.specs.Prelude.{◌≡◌, ◌≢◌, ◌+◌, ◌<◌, ◌≤◌, IfErr, OnOk, Err, true};
-ghost use Rattle.th_book.specs.Books.{longest_book};
+ghost use Rattle.th_book.specs.Limits.{max_book};
 ghost use Rattle.th_runs.specs.Runs.{HoldsList, HoldsListBeginning, IsCalledForList, IsRefusalOf, failed_reads, failed_writes};
 ghost use Rattle.th_devices.specs.Limits.{calls_before};
 ghost use Rattle.th_devices.specs.Transfer.{Advances};
@@ -36,8 +36,8 @@ pub fn run_list<S: Source, K: Sink>(alloc: Global, book: &mut S, out: &mut K) ->
     // How often the output is called, and how far the book is read.
     ensures writes { IfErr result (λ refusal. refusal ≡ Refusal.Write Output.List)
         → IsCalledForList 1 (S.left book.old) (K.calls out.old) (K.calls out.new) }
-    ensures stands { Advances (longest_book + 1) (S.left book.old) (S.left book.new) }
-    ensures reads { S.calls book.new ≤ S.calls book.old + longest_book + 1 }
+    ensures stands { Advances (max_book + 1) (S.left book.old) (S.left book.new) }
+    ensures reads { S.calls book.new ≤ S.calls book.old + max_book + 1 }
 {
     let observations = observations_of(alloc, 1, book)?;
     let text = list_text(alloc, observations.as_slice())?;

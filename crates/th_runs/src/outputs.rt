@@ -2,7 +2,8 @@
 ghost use Rattle.std.specs.Prelude.{◌≡◌, ◌≤◌, ◌+◌, ◌<◌, IfErr, Ok, Err};
 ghost use Rattle.th_devices.specs.Limits.{calls_before};
 ghost use Rattle.th_runs.specs.Reads.{refused};
-ghost use Rattle.th_runs.specs.Writes.{IsAdjustedOut, IsWritten, IsWrittenFor};
+ghost use Rattle.th_runs.specs.Writes.{IsWritten, IsWrittenFor};
+ghost use Rattle.th_runs.specs.Inside.Refused.{IsAdjustedOut};
 
 use crate::refusals::{Output, Refusal};
 use th_devices::{Failed, Sink, write_all};

@@ -3,11 +3,14 @@ ghost use Rattle.th_search.specs.Walks.{IsArc};
 
 use crate::limits::MAX_COST;
 
-/// An arc of a network, from its tail to its head, at a cost.
+/// An arc of a network, from its tail to its head, at a cost. Vertices are numbered from 0.
 #[derive(Clone, Copy, Debug, PartialEq, Eq)]
 pub struct Arc {
+    /// The vertex that it leads from.
     pub tail: u32,
+    /// The vertex that it leads to.
     pub head: u32,
+    /// What it costs, at most `MAX_COST` in size.
     pub cost: i64,
 }
 

@@ -1,9 +1,20 @@
 //! Laws over the definitions alone. A law is its contract: it calls nothing and computes nothing.
 
-ghost use Rattle.std.specs.Prelude.{ℕ, ℤ, List};
+ghost use Rattle.std.specs.Prelude.{◌≡◌, ℕ, ℤ, List};
+ghost use Rattle.th_search.specs.Limits.{max_arcs, max_calls, max_cost, max_vertices};
 ghost use Rattle.th_search.specs.Potentials.{ArePotentials, IsFeasible};
 ghost use Rattle.th_search.specs.Walks.{IsNegativeCycle};
 ghost use Rattle.th_search.specs.declared.arcs.Arc.{Arc as AnArc};
+
+use crate::limits::{MAX_ARCS, MAX_CALLS, MAX_COST, MAX_VERTICES};
+
+/// The constants are the limits that clauses cite.
+pub fn constants_are_the_limits()
+    ensures vertices { MAX_VERTICES ≡ max_vertices }
+    ensures arcs { MAX_ARCS ≡ max_arcs }
+    ensures cost { MAX_COST ≡ max_cost }
+    ensures calls { MAX_CALLS ≡ max_calls }
+{}
 
 /// Where there are potentials no cycle costs less than nothing: round a cycle no arc may lead to more
 /// than what stands at its tail and its cost together, and the values at the vertices come and go. So

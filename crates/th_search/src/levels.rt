@@ -1,5 +1,5 @@
 ghost use Rattle.std.specs.Prelude.{◌≡◌, ◌≢◌, ◌<◌, ◌≤◌, ℕ, All, IfOk, IfSome, None, Some, length, pos, slice_set, unsigned_abs};
-ghost use Rattle.th_search.specs.Limits.{max_arcs};
+ghost use Rattle.th_search.specs.Limits.{max_arcs, max_vertices};
 ghost use Rattle.th_search.specs.Potentials.{value_at};
 ghost use Rattle.th_search.specs.Walks.{IsArc};
 ghost use Rattle.th_search.specs.Inside.Levels.{IsAbove, last_at, row_of};
@@ -70,7 +70,7 @@ impl Level {
 
     /// A vertex to which a walk costs less than on the level below, if there is one.
     pub fn lowered_vertex(&self) -> Option<u32>
-        requires { length self.now.last.items ≤ 4001 }
+        requires { length self.now.last.items ≤ max_vertices }
         ensures some { IfSome result (λ vertex. (vertex < length self.now.last.items)
             × (last_at (row_of self.now) vertex ≢ None)) }
         ensures none { result ≡ None

@@ -1,7 +1,8 @@
 -- What the rows that records say are within.
 use Rattle.std.proofs.Common.{◌≡◌, ◌≤◌, ℕ, ℤ, ◌&&◌, Bool, true, false, if◌then◌else◌, List, [], ◌∷◌, length, Option, Some, None, Result, Ok, Err, nat_le, unsigned_abs, refl, ap, subst, arith}
 use Rattle.std.proofs.lemmas.Bool.Decides.{nat_tests}
-use Rattle.th_units.specs.Lengths.{max_len, short_number}
+use Rattle.th_units.specs.Lengths.{short_number}
+use Rattle.th_units.specs.Limits.{max_len}
 use Rattle.th_units.specs.Metres.{value}
 use Rattle.th_units.specs.declared.faults.LenFault.{LenFault}
 use Rattle.th_tables.specs.Fields.{allowed_weight, benchmark_in, both, height_in, name_in, weight_in, weighted_in, within_limit}

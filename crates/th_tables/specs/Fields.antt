@@ -1,7 +1,8 @@
 use Rattle.std.specs.Prelude.{ℕ, ℤ, ◌&&◌, Bool, false, List, [], ◌∷◌, length, Option, Some, None, Result, Ok, Err, if◌then◌else◌, bytes_eq, codes, nat_le, unsigned_abs}
 use Rattle.std.specs.Option.{ok_or}
 use Rattle.gsi_word.specs.Names.{name_of}
-use Rattle.th_units.specs.Lengths.{max_len, short_number}
+use Rattle.th_units.specs.Lengths.{short_number}
+use Rattle.th_units.specs.Limits.{max_len}
 use Rattle.th_units.specs.Metres.{value}
 use Rattle.th_units.specs.declared.faults.LenFault.{LenFault}
 use Rattle.th_csv.specs.Records.{Fields}

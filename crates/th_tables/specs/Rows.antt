@@ -1,7 +1,7 @@
 use Rattle.std.specs.Prelude.{◌≤◌, ℕ, ℤ, ◌&&◌, Bool, All, List, Option, unwrap_or, bytes_eq, unsigned_abs}
 use Rattle.std.specs.List.{IsDistinct}
 use Rattle.std.specs.Map.{keys_of, lookup}
-use Rattle.th_units.specs.Lengths.{max_len}
+use Rattle.th_units.specs.Limits.{max_len}
 use Rattle.th_tables.specs.Limits.{max_weight}
 
 -- the rows of the benchmarks: each name and its height in units of 10 nm

@@ -1,7 +1,7 @@
 ghost use Rattle.std.specs.Prelude.{◌≡◌, ◌⊎◌, ◌<◌, ◌≤◌, ◌^◌, ◌+◌, [], Ok, Err, IfErr, IfOk, IfSome, bytes_eq, length, slice_get, unsigned_abs};
 ghost use Rattle.th_tables.specs.Fields.{benchmark_in, is_benchmarks_header};
 ghost use Rattle.th_tables.specs.Rows.{AreBenchmarks, height_of};
-ghost use Rattle.th_units.specs.Lengths.{max_len};
+ghost use Rattle.th_units.specs.Limits.{max_len};
 ghost use Rattle.th_tables.specs.Limits.{max_table};
 ghost use Rattle.th_tables.specs.Tables.{benchmarks_of, no_memory, rows_after, rows_under, too_long};
 

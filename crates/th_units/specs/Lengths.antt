@@ -1,6 +1,7 @@
 use Rattle.std.specs.Prelude.{ℕ, ℤ, pos, neg_ℤ, ◌*◌, ◌&&◌, Bool, List, length, Option, Some, None, Result, Ok, Err, if◌then◌else◌, nat_le, nat_lt}
 use Rattle.std.specs.List.{list_all}
 use Rattle.std.specs.Str.Parse.{digits_value}
+use Rattle.th_units.specs.Limits.{max_len}
 use Rattle.th_units.specs.Units.{step}
 use Rattle.th_units.specs.declared.units.Unit.{Unit}
 use Rattle.th_units.specs.declared.faults.LenFault.{LenFault}
@@ -25,10 +26,6 @@ short_number bytes = if are_digits bytes && nat_le (length bytes) 9 then Some (n
 -- a size with its sign: minus zero is zero
 abbrev pub signed : Bool → ℕ → ℤ
 signed negative size = if negative then neg_ℤ (pos size) else pos size
-
--- the size that no length of a book exceeds: 10 km, in units of 10 nm
-abbrev pub max_len : ℕ
-max_len = 1000000000000
 
 -- Sign times number times step. First the bytes have to be digits, then the size, not the count of digits, has to be at most
 -- `max_len`.

@@ -1,6 +1,7 @@
 ghost use Rattle.std.specs.Prelude.{◌≡◌, ◌≤◌, true, unsigned_abs};
 ghost use Rattle.std.specs.Option.{SomeIff};
 ghost use Rattle.th_units.specs.Lengths.{length_of, is_digit, are_digits, number};
+ghost use Rattle.th_units.specs.Limits.{max_len};
 
 use crate::faults::LenFault;
 use crate::limits::MAX_LEN;
@@ -15,13 +16,13 @@ pub struct Len {
 
 impl Model for Len {
     ghost use Rattle.std.specs.Prelude.{ℤ, ◌≤◌, unsigned_abs};
-    ghost use Rattle.th_units.specs.declared.limits.TheConstants.{MAX_LEN};
+    ghost use Rattle.th_units.specs.Limits.{max_len};
 
     ghost Value = { ℤ };
 
     ghost view = { λ length. length.units };
 
-    ghost invariant = { λ length. unsigned_abs length.units ≤ MAX_LEN };
+    ghost invariant = { λ length. unsigned_abs length.units ≤ max_len };
 
     ghost inverse = { λ units. record { units = units } };
 }
@@ -30,7 +31,7 @@ impl Len {
     /// The length in units of 10 nm.
     pub fn get(self) -> i64
         ensures value { result ≡ self }
-        ensures in_range { unsigned_abs result ≤ MAX_LEN }
+        ensures in_range { unsigned_abs result ≤ max_len }
     {
         self.units
     }
@@ -75,7 +76,7 @@ pub fn is_digit(byte: u8) -> bool
 /// The number that digits write, unless it is above `MAX_LEN`.
 fn number_within_limit(digits: &[u8]) -> Option<u64>
     requires { are_digits digits.now ≡ true }
-    ensures { SomeIff result (number digits.now ≤ MAX_LEN) (number digits.now) }
+    ensures { SomeIff result (number digits.now ≤ max_len) (number digits.now) }
 {
     let mut number = 0;
     for digit in digits {

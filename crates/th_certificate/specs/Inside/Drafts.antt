@@ -2,14 +2,14 @@ use Rattle.std.specs.Prelude.{◌≡◌, ◌≤◌, ◌<◌, ℕ, ℤ, List, Non
 use Rattle.std.specs.Map.{lookup}
 use Rattle.th_certificate.specs.Certified.{AreFlows, HeightRows, cost_limit, flow_limit}
 use Rattle.th_network.specs.Limits.{height_limit}
-use Rattle.th_certificate.specs.Numbers.{most_flows}
+use Rattle.th_certificate.specs.Limits.{max_flows}
 use Rattle.th_certificate.specs.Statements.{Draft}
 use Rattle.th_certificate.specs.declared.statements.Statement.{Statement}
 use Rattle.th_certificate.specs.declared.statements.Statement.TheVariants.{Height, Low, High, Flow, Cost}
 
 -- flows in their range, as many as were counted at most, and a cost in its range
 pub record IsDraft (draft : Draft) : Type 0 where
-  pub few : draft.count ≤ most_flows
+  pub few : draft.count ≤ max_flows
   pub counted : length draft.flows ≤ draft.count
   pub flows : AreFlows draft.flows
   pub cost : IfSome draft.cost (λ cost. cost < cost_limit)

@@ -1,5 +1,6 @@
 use Rattle.std.specs.Prelude.{◌≡◌, ℕ, ◌<◌, ◌≤◌, ℤ, List, All, length, unsigned_abs}
 use Rattle.th_network.specs.declared.links.Link.{Link}
+use Rattle.th_tables.specs.Limits.{max_weight}
 
 -- so many vertices, at least one; links between them, and a weight for each; all within the limits of a network
 pub record IsGraph (vertices : ℕ) (links : List Link) (weights : List ℕ) : Type 0 where
@@ -9,7 +10,7 @@ pub record IsGraph (vertices : ℕ) (links : List Link) (weights : List ℕ) : T
   pub sized : length weights ≡ length links
   pub ends : All (λ link. (link.tail < vertices) × (link.head < vertices)) links
   pub near : All (λ link. unsigned_abs link.diff ≤ 5000000000000) links
-  pub light : All (λ weight. weight ≤ 1000) weights
+  pub light : All (λ weight. weight ≤ max_weight) weights
 
 -- so many numbers, none larger in size than this
 pub record AreWithin (count most : ℕ) (numbers : List ℤ) : Type 0 where

@@ -1,6 +1,7 @@
 use Rattle.std.proofs.Common.{◌≡◌, ◌<◌, ◌≤◌, length, arith, ◌∙◌, ap}
 use Rattle.std.proofs.lemmas.Bool.Decides.{nat_tests}
-use Rattle.gsi_word.specs.Names.{max_name, reduced, without_trailing}
+use Rattle.gsi_word.specs.Names.{reduced, without_trailing}
+use Rattle.gsi_word.specs.Limits.{max_name}
 use Rattle.gsi_word.proofs.NameLemmas.{name_of-reduced}
 use Rattle.gsi_word.proofs.names.name_of.Goals as goal
 

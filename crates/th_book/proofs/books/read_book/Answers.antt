@@ -3,13 +3,14 @@ use Rattle.std.specs.Prelude.{nat_lt}
 use Rattle.std.proofs.lemmas.Bool.{cond-false, le-ltb}
 use Rattle.std.proofs.lemmas.Result.{err_from_is_err_and}
 use Rattle.gsi_block.specs.Lines.{lines_of}
-use Rattle.th_book.specs.Books.{book_answer, lines_answer, longest_book}
+use Rattle.th_book.specs.Books.{book_answer, lines_answer}
+use Rattle.th_book.specs.Limits.{max_book}
 use Rattle.th_book.proofs.Reading.{IsReading-more, end_answer, finished_err, finished_ok, length-lines_of, lines_left, refused_answer, wanting_answer}
 use Rattle.th_book.proofs.books.read_book.Goals as goal
 
 -- a book that is not too long gives what its lines give
-within : (book : ℕ) (bytes : List ℕ) → length bytes ≤ longest_book → book_answer book bytes ≡ lines_answer book (lines_of bytes)
-within book bytes short = cond-false (nat_lt longest_book (length bytes)) _ _ (le-ltb longest_book (length bytes) short)
+within : (book : ℕ) (bytes : List ℕ) → length bytes ≤ max_book → book_answer book bytes ≡ lines_answer book (lines_of bytes)
+within book bytes short = cond-false (nat_lt max_book (length bytes)) _ _ (le-ltb max_book (length bytes) short)
 
 pub read-requires : goal.read-requires
 read-requires c =

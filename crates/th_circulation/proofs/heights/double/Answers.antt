@@ -1,5 +1,6 @@
 use Rattle.std.proofs.Common.{arith}
 use Rattle.std.proofs.lemmas.Int.{ints}
+use Rattle.th_circulation.specs.Inside.Bounds.{height_bound, raised_bound}
 use Rattle.th_circulation.proofs.HeightLemmas.{all_within, near_more, set_any}
 use Rattle.th_circulation.proofs.heights.double.Goals as goal
 
@@ -7,11 +8,11 @@ pub loop-height-preserved : goal.loop-height-preserved
 loop-height-preserved c =
     let low = c.clamp.ensures.lower_bound in
     let high = c.clamp.ensures.upper_bound in
-    (near_more 2500000000000 c.loop-height.heights c.loop-height.height-index _ c.loop-height.invariant.0 (omega (arith, ints)), λ v. set_any 40002500000000000 c.loop-height.heights c.loop-height.height-index _ v (omega (arith, ints)) (c.loop-height.invariant.1 v))
+    (near_more height_bound c.loop-height.heights c.loop-height.height-index _ c.loop-height.invariant.0 (omega (arith, ints)), λ v. set_any raised_bound c.loop-height.heights c.loop-height.height-index _ v (omega (arith, ints)) (c.loop-height.invariant.1 v))
 
 pub returns : goal.returns
 returns c =
     let each = c.requires.heights.each in
     let same = c.loop-height.auto.heights in
     let test = c.loop-height-test.false in
-    record { within = all_within c.args.vertices 2500000000000 c.loop-height.heights (omega arith) (λ v h. c.loop-height.invariant.0 v (omega arith)) }
+    record { within = all_within c.args.vertices height_bound c.loop-height.heights (omega arith) (λ v h. c.loop-height.invariant.0 v (omega arith)) }

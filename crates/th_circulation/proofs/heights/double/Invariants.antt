@@ -1,8 +1,9 @@
 use Rattle.std.proofs.Common.{◌<◌, ◌≤◌, ℕ, unsigned_abs}
+use Rattle.th_circulation.specs.Inside.Bounds.{height_bound, raised_bound}
 use Rattle.th_search.specs.Potentials.{value_at}
 use Rattle.th_circulation.proofs.heights.double.Given as goal
 
 abbrev pub invariant-loop-height : goal.invariant-loop-height
 invariant-loop-height l =
-    ((v : ℕ) → v < l.height-index → unsigned_abs (value_at l.heights v) ≤ 2500000000000)
-    × ((v : ℕ) → unsigned_abs (value_at l.heights v) ≤ 40002500000000000)
+    ((v : ℕ) → v < l.height-index → unsigned_abs (value_at l.heights v) ≤ height_bound)
+    × ((v : ℕ) → unsigned_abs (value_at l.heights v) ≤ raised_bound)

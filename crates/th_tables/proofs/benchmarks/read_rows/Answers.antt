@@ -3,7 +3,7 @@ use Rattle.std.proofs.lemmas.Int.{fits_signed_from_abs, to_z-of_z}
 use Rattle.std.proofs.lemmas.List.Elements.{All-push}
 use Rattle.std.specs.Map.{lookup}
 use Rattle.indexmap.specs.IndexMap.{insert_entry}
-use Rattle.th_units.specs.Lengths.{max_len}
+use Rattle.th_units.specs.Limits.{max_len}
 use Rattle.th_tables.specs.Fields.{benchmark_in}
 use Rattle.th_tables.proofs.FieldLemmas.{benchmark_limit}
 use Rattle.th_tables.proofs.TableLemmas.{ReadUpTo, inserted_last, read_repeated, read_row}

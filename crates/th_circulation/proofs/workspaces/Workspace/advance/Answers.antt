@@ -4,6 +4,7 @@ use Rattle.th_search.specs.Answers.{IsAnswer}
 use Rattle.th_search.specs.Potentials.{ArePotentials, value_at}
 use Rattle.th_search.specs.Walks.{IsArc, IsNegativeCycle}
 use Rattle.th_search.specs.declared.arcs.Arc.{Arc}
+use Rattle.th_circulation.specs.Inside.Bounds.{raised_bound}
 use Rattle.th_circulation.specs.declared.slots.Slot.{Slot}
 use Rattle.th_circulation.specs.Inside.Cycles.{leads_to}
 use Rattle.th_circulation.specs.Inside.Flows.{ShowsLinks, residuals}
@@ -97,4 +98,4 @@ returns-in-Potentials-clause-answer g c =
     let all = all_listed next.listing.arcs.items c.in-Potentials.potentials.items (HasAllBefore graph.weights.now work.flows.items next.listing.slots.items (length graph.links.now)) c.list_next.ensures.next found.feasible in
     let raised_heights = take next.heights.len (c.raise.new.heights ++ drop (length c.raise.new.heights) next.heights.items) in
     let raised = λ (v : ℕ). ap (λ (hs : List ℤ). value_at hs v) back ∙ c.raise.ensures.each v ∙ ap (λ (z : ℤ). z -ℤ value_at c.deref-in-Potentials.result.now v) (old v) ∙ ap (λ (ps : List ℤ). value_at next.heights.items v -ℤ value_at ps v) c.deref-in-Potentials.ensures.value in
-    (subst (AreWithin graph.vertices 40002500000000000) (sym back) c.raise.ensures.within, refl, c.list_next.ensures.flows, subst (λ (fs : List ℤ). ShowsLinks graph.weights.now fs (residuals graph.links.now work.differences.items (value_at raised_heights))) (sym c.list_next.ensures.flows) (potentials_show graph.links.now graph.weights.now work.differences.items (value_at next.heights.items) work.flows.items next.listing.arcs.items next.listing.slots.items c.in-Potentials.potentials.items raised_heights c.requires.ready.flow c.requires.ready.near_differences.each residual all found.feasible raised))
+    (subst (AreWithin graph.vertices raised_bound) (sym back) c.raise.ensures.within, refl, c.list_next.ensures.flows, subst (λ (fs : List ℤ). ShowsLinks graph.weights.now fs (residuals graph.links.now work.differences.items (value_at raised_heights))) (sym c.list_next.ensures.flows) (potentials_show graph.links.now graph.weights.now work.differences.items (value_at next.heights.items) work.flows.items next.listing.arcs.items next.listing.slots.items c.in-Potentials.potentials.items raised_heights c.requires.ready.flow c.requires.ready.near_differences.each residual all found.feasible raised))

@@ -1,6 +1,7 @@
 use Rattle.std.proofs.Common.{◌≡◌, ◌<◌, ◌≤◌, ◌+◌, ◌-◌, ◌*◌, length, sum, replicate, pos}
 use Rattle.std.specs.Vec.{vec_capacity}
 use Rattle.th_search.specs.Potentials.{value_at}
+use Rattle.th_circulation.specs.Inside.Bounds.{raised_bound}
 use Rattle.th_circulation.specs.Inside.Flows.{IsFlow, ShowsLinks, residuals}
 use Rattle.th_circulation.specs.Inside.Graphs.{AreWithin}
 use Rattle.th_circulation.specs.Inside.Phases.{differences_in}
@@ -10,7 +11,7 @@ use Rattle.th_circulation.proofs.workspaces.Workspace.settle_by_halves.Given as 
 abbrev pub invariant-phases : goal.invariant-phases
 invariant-phases g l =
     (length l.self.differences.items ≡ length l.graph.links.now)
-    × AreWithin l.graph.vertices 40002500000000000 l.self.heights.items
+    × AreWithin l.graph.vertices raised_bound l.self.heights.items
     × IsFlow l.graph.links.now l.graph.weights.now l.self.flows.items
     × (2 * length l.graph.links.now ≤ vec_capacity l.self.listing.arcs)
     × (2 * length l.graph.links.now ≤ vec_capacity l.self.listing.slots)

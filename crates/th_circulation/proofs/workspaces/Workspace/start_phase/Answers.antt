@@ -1,4 +1,5 @@
 use Rattle.std.proofs.Common.{ℤ, List, length, ap, sym, ◌∙◌, subst, arith}
+use Rattle.th_circulation.specs.Inside.Bounds.{height_bound}
 use Rattle.th_circulation.specs.Inside.Graphs.{AreWithin}
 use Rattle.th_circulation.proofs.HeightLemmas.{written}
 use Rattle.th_circulation.proofs.workspaces.Workspace.start_phase.Goals as goal
@@ -15,4 +16,4 @@ returns-clause-heights c =
     let lent = ap (λ (hs : List ℤ). length hs) c.deref_mut-2.ensures.value in
     let kept = c.double.auto.heights in
     let long = c.deref_mut-2.ensures.len in
-    subst (AreWithin c.args.graph.now.vertices 2500000000000) (sym (written c.args.self.now.heights.len c.double.new.heights c.args.self.now.heights.items (omega arith) (omega arith))) c.double.ensures.within
+    subst (AreWithin c.args.graph.now.vertices height_bound) (sym (written c.args.self.now.heights.len c.double.new.heights c.args.self.now.heights.items (omega arith) (omega arith))) c.double.ensures.within

@@ -1,7 +1,7 @@
 use Rattle.std.proofs.Common.{◌≡◌, ◌≤◌, IfSome, bytes_eq, unsigned_abs, subst, sym, rules}
 use Rattle.std.specs.Map.{lookup}
 use Rattle.std.proofs.lemmas.Map.Entries.{All-lookup}
-use Rattle.th_units.specs.Lengths.{max_len}
+use Rattle.th_units.specs.Limits.{max_len}
 use Rattle.th_tables.proofs.benchmarks.Benchmarks.height_of.Goals as goal
 
 pub returns-clause-range : goal.returns-clause-range
