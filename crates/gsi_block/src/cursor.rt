@@ -6,7 +6,7 @@ use std::marker::Model;
 
 /// The lines of a text, lent one by one without their ends.
 ///
-/// A line ends with CR LF, CR or LF. What stands after the last end is a line where there is any.
+/// A line ends with CR LF, CR or LF. Bytes after the last end are a line.
 #[derive(Drop)]
 pub struct LineCursor<'a> {
     rest: &'a [u8],

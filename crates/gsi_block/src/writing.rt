@@ -15,7 +15,7 @@ use std::alloc::AllocError;
 /// Appends a block as a line: `*` where its words are GSI-16, each word with the space that closes
 /// it, CR and LF.
 ///
-/// Want of memory leaves the vector's bytes as they are; it comes only where there was no room.
+/// An allocation failure leaves the vector's bytes as they are. None occurs where there is room.
 pub fn write_block(block: &Block, out: &mut Vec<u8>) -> Result<(), AllocError>
     ensures ok { OnOk result (out.new.items ≡ out.old.items ++ block_text (block_parts block.now)) }
     ensures err { OnErr result (out.new.items ≡ out.old.items) }

@@ -253,8 +253,8 @@ const NARROW: &[u8] = b"110001+0000000A";
 
 const WIDE: &[u8] = b"110001+00000000000000P1";
 
-/// What stands first in a line, a word and how often it stands there, what stands behind them and
-/// how many spaces at last; and how many words are read, None from a blank line, or the fault.
+/// A line in parts: its first bytes, a word and how often it is repeated, the bytes behind these, and how
+/// many spaces follow. Then how many words are read, `None` from a blank line, or the fault.
 type LongLine = (
     &'static [u8],
     &'static [u8],

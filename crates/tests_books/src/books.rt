@@ -1,5 +1,5 @@
-//! Books given line by line, whole and in pieces: worked rows, faults, and what stands after a fault or
-//! want of memory.
+//! Books given line by line, whole and in pieces: worked rows, faults, and the state after a fault or
+//! an allocation failure.
 use gsi_block::{BlockFault, LineCursor};
 use gsi_word::WordFault;
 use std::alloc::Global;
@@ -319,7 +319,7 @@ pub fn is_answer(
     }
 }
 
-/// Takes a line, and once more where memory was wanting: the book is then as before it.
+/// Takes a line, and once more after an allocation failure: the book is then as before the line.
 fn take(rt: &impl Abort, book: &mut Book, line: &[u8]) -> Result<(), BookFault> {
     let before = book.lines();
     assert!(rt; (before as usize) < MAX_BOOK);

@@ -1,5 +1,5 @@
 //! What no clause says of sources and sinks in memory and of standard output: that calls succeed where
-//! memory is ample, and what stands behind a call that fails.
+//! memory is ample, and the state after a call that fails.
 use std::cell::Cell;
 use std::fmt::Display;
 use std::io;

@@ -71,8 +71,8 @@ fn many_sights(rt: HostRuntime) {
     }
 }
 
-/// The lines one after the other as pieces, and whether memory was wanting. From then on each call
-/// says so.
+/// Feeds the lines one after the other as pieces, and says whether an allocation failed. From then on
+/// each call fails.
 fn fed_until_wanting(rt: &impl Abort, feed: &mut BookFeed) -> bool {
     let mut wanting = false;
     for piece in SIX_LINES.chunks(48) {

@@ -43,7 +43,7 @@ pub const OF_FIXED: [&[u8]; 6] = [
 /// The records of the certificate of version 2 for no observations.
 pub const OF_NOTHING: [&[u8]; 3] = [b"kind,key,value\n", b"V,2,0\n", b"Z,cost,0\n"];
 
-/// Records by their numbers, counted from 1, and what stands in their places.
+/// Records by their numbers, counted from 1, and what replaces them.
 pub type Changes = &'static [(usize, &'static [u8])];
 
 /// The text of records, some of them changed.
@@ -61,7 +61,7 @@ pub fn changed(
     text
 }
 
-/// What stands in the place of a record, which is counted from 0 here.
+/// The record with this number, counted from 0 here, or what replaces it.
 fn in_place(k: usize, record: &'static [u8], changes: Changes) -> &'static [u8] {
     for (number, text) in changes {
         if *number == k.wrapping_add(1) {

@@ -9,47 +9,80 @@ const TARGETS: u32 = 3_999;
 
 const SIGHTS: u32 = 40_000;
 
-/// A setup at A, and as many sights to as many points as a network takes.
+/// A setup at A, and as many sights to as many points as a network takes. The last point is sighted
+/// once, by the last sight.
 fn largest_book(rt: &impl Abort, alloc: Global) -> Vec<u8> {
     let setup = b"110001+0000000A 84..10+00000000 88..10+00001500 87..10+00001300 \n";
     let mut book = setup.to_vec(alloc).expect(rt, "memory");
     for sight in 0..SIGHTS {
-        let target = 1 + sight % TARGETS;
+        let target = if sight + 1 == SIGHTS {
+            TARGETS
+        } else {
+            1 + sight % (TARGETS - 1)
+        };
         let line = format!(in alloc; "110002+{target:08} 33..00+00002345 \n").expect(rt, "memory");
         book.extend_from_slice(line.as_bytes()).expect(rt, "memory");
     }
     book
 }
 
-/// Adds the rows of heights under a letter.
+/// Adds the rows of heights under a letter, of all points but the last.
 fn add_heights(rt: &impl Abort, alloc: Global, text: &mut Vec<u8>, letter: &str) {
     let row = format!(in alloc; "{letter},A,100.00000000\n").expect(rt, "memory");
     text.extend_from_slice(row.as_bytes()).expect(rt, "memory");
-    for target in 1..=TARGETS {
+    for target in 1..TARGETS {
         let row = format!(in alloc; "{letter},{target},102.54500000\n").expect(rt, "memory");
         text.extend_from_slice(row.as_bytes()).expect(rt, "memory");
     }
 }
 
-/// Adds the rows of flows, which are all this one, and of the cost, which is zero.
+/// Adds the rows of flows, which are all this one, but not the last one.
 fn add_flows(rt: &impl Abort, alloc: Global, text: &mut Vec<u8>, flow: i64) {
-    for number in 1..=SIGHTS {
+    for number in 1..SIGHTS {
         let row = format!(in alloc; "F,{number},{flow}\n").expect(rt, "memory");
         text.extend_from_slice(row.as_bytes()).expect(rt, "memory");
     }
-    text.extend_from_slice(b"Z,cost,0\n").expect(rt, "memory");
+}
+
+/// The last rows of the certificate of the largest book: of the heights, the lowest and the highest,
+/// and of the flows with the cost.
+type Last = [&'static [u8]; 4];
+
+/// Those that are right.
+const RIGHT: Last = [
+    b"H,3999,102.54500000\n",
+    b"L,3999,102.54500000\n",
+    b"U,3999,102.54500000\n",
+    b"F,40000,0\nZ,cost,0\n",
+];
+
+/// The rows before these: the header, the version and the heights, the lowest, the highest, the flows.
+fn fronts(rt: &impl Abort, alloc: Global) -> Vec<Vec<u8>> {
+    let mut fronts = Vec::new(alloc);
+    for (head, letter) in [("kind,key,value\nV,2,40000\n", "H"), ("", "L"), ("", "U")] {
+        let mut text = head.as_bytes().to_vec(alloc).expect(rt, "memory");
+        add_heights(rt, alloc, &mut text, letter);
+        fronts.push(text).expect(rt, "memory");
+    }
+    let mut flows = Vec::new(alloc);
+    add_flows(rt, alloc, &mut flows, 0);
+    fronts.push(flows).expect(rt, "memory");
+    fronts
+}
+
+/// The certificate of the largest book with these last rows.
+fn ended(rt: &impl Abort, alloc: Global, fronts: &[Vec<u8>], last: &Last) -> Vec<u8> {
+    let mut text = Vec::new(alloc);
+    for (front, rows) in fronts.iter().zip(last) {
+        text.extend_from_slice(front).expect(rt, "memory");
+        text.extend_from_slice(rows).expect(rt, "memory");
+    }
+    text
 }
 
 /// The certificate of the largest book.
 fn largest_certificate(rt: &impl Abort, alloc: Global) -> Vec<u8> {
-    let mut text = b"kind,key,value\nV,2,40000\n"
-        .to_vec(alloc)
-        .expect(rt, "memory");
-    for letter in ["H", "L", "U"] {
-        add_heights(rt, alloc, &mut text, letter);
-    }
-    add_flows(rt, alloc, &mut text, 0);
-    text
+    ended(rt, alloc, &fronts(rt, alloc), &RIGHT)
 }
 
 /// The heights of the largest book.
@@ -85,6 +118,63 @@ fn largest_certificate_is_accepted(rt: HostRuntime) {
     assert_eq!(rt; verdict.as_str(), "yes");
 }
 
+/// Which of the last rows of the largest certificate are others, which, and its fault.
+const FAULTS: [(usize, &[u8], &str); 4] = [
+    (3, b"F,40000,0\nZ,costs,0\n", "record 52003: C3 bad kind"),
+    (3, b"F,39999,0\nZ,cost,0\n", "record 52002: C5 bad number"),
+    (
+        3,
+        b"F,40000,0\nZ,cost,1000000000000000000000000000000\n",
+        "record 52003: C6 too large",
+    ),
+    (3, b"F,40000,0\n", "record 52003: C7 truncated"),
+];
+
+/// The same, where the checker says no at the last flow or for the cost.
+const FLOW_REASONS: [(usize, &[u8], &str); 3] = [
+    (3, b"F,40000,2\nZ,cost,0\n", "no: flow too large at 40000"),
+    (3, b"F,40000,1\nZ,cost,0\n", "no: unbalanced at 3999"),
+    (3, b"F,40000,0\nZ,cost,1\n", "no: wrong cost"),
+];
+
+/// The same, where it says no at a height of the last point.
+const HEIGHT_REASONS: [(usize, &[u8], &str); 3] = [
+    (0, b"H,3999,102.54500001\n", "no: not slack at 40000"),
+    (1, b"L,3999,102.54500001\n", "no: low not slack at 40000"),
+    (2, b"U,3999,102.54500001\n", "no: high not slack at 40000"),
+];
+
+/// Compares what is answered for the largest certificate with other last rows.
+fn compare_last(rt: &impl Abort, alloc: Global, rows: &[(usize, &'static [u8], &'static str)]) {
+    let book = largest_book(rt, alloc);
+    let observations = observations_of(rt, alloc, 1, &book);
+    let fronts = fronts(rt, alloc);
+    for (place, other, wanted) in rows {
+        let mut last = RIGHT;
+        if let Some(rows) = last.get_mut(*place) {
+            *rows = other;
+        }
+        let text = ended(rt, alloc, &fronts, &last);
+        let verdict = verdict_on(rt, alloc, &observations, &ROUND, &text);
+        assert_eq!(rt; verdict.as_str(), *wanted);
+    }
+}
+
+#[test]
+fn faults_of_the_last_rows_are_named(rt: HostRuntime) {
+    compare_last(&rt, rt.alloc(), &FAULTS);
+}
+
+#[test]
+fn reasons_at_the_last_flow_are_named(rt: HostRuntime) {
+    compare_last(&rt, rt.alloc(), &FLOW_REASONS);
+}
+
+#[test]
+fn reasons_at_the_last_height_are_named(rt: HostRuntime) {
+    compare_last(&rt, rt.alloc(), &HEIGHT_REASONS);
+}
+
 /// A certificate of 8 MiB, its end line ends, is read; a byte more is too much.
 #[test]
 fn longest_certificate_is_read(rt: HostRuntime) {
@@ -92,6 +182,8 @@ fn longest_certificate_is_read(rt: HostRuntime) {
         .to_vec(rt.alloc())
         .expect(&rt, "memory");
     add_flows(&rt, rt.alloc(), &mut text, -1);
+    text.extend_from_slice(b"F,40000,-1\nZ,cost,0\n")
+        .expect(&rt, "memory");
     for _more in text.len()..8_388_608 {
         text.push(b'\n').expect(&rt, "memory");
     }

@@ -1,4 +1,4 @@
-//! Tests of `th_search`, and of `th_circulation` over its searches and over strange ones: what the
+//! Tests of `th_search` and `th_guide`, and of `th_circulation` over its searches and over strange ones: what the
 //! searches answer, what rows of surveys are settled to, networks of size, and small networks against
 //! plain references.
 //!
@@ -24,6 +24,10 @@ mod rows;
 #[cfg(test)]
 mod sizes;
 
+// What the guide proposes.
+#[cfg(test)]
+mod guides;
+
 // Small networks, and what plain references find of them.
 #[cfg(test)]
 mod grids;
@@ -34,7 +38,7 @@ mod references;
 #[cfg(test)]
 mod samples;
 
-// Searches that are strange, and want of memory.
+// Unusual searches, and allocation failures.
 #[cfg(test)]
 mod refusals;
 #[cfg(test)]

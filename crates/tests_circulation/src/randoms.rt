@@ -45,6 +45,44 @@ impl Sample {
             weights: weights_of(rt, alloc, random, points),
         }
     }
+
+    /// A sample of so many points and three times as many sights, which a chain of sights joins.
+    /// Differences are -1, 0 or 1 mm, so many heights are as good as the best.
+    pub fn with_ties(rt: &impl Abort, alloc: Global, random: &mut Random, points: u32) -> Sample
+        requires some { 2 ≤ points }
+    {
+        let mut book = Vec::new(alloc);
+        for point in 1..points {
+            let earlier = random.below(point);
+            add_sight(rt, alloc, random, &mut book, earlier, point, 2);
+            for _ in 0..2 {
+                let other = random.below(points);
+                if other != point {
+                    add_sight(rt, alloc, random, &mut book, point, other, 2);
+                }
+            }
+        }
+        Sample {
+            book,
+            benchmarks: benchmarks_of(rt, alloc, random, points),
+            weights: Vec::new(alloc),
+        }
+    }
+
+    /// A sample of so many points in a line, each sighted one to three times from the one before it.
+    pub fn of_path(rt: &impl Abort, alloc: Global, random: &mut Random, points: u32) -> Sample {
+        let mut book = Vec::new(alloc);
+        for point in 1..points {
+            for _ in 0..1 + random.below(3) {
+                add_sight(rt, alloc, random, &mut book, point - 1, point, 4);
+            }
+        }
+        Sample {
+            book,
+            benchmarks: benchmarks_of(rt, alloc, random, points),
+            weights: Vec::new(alloc),
+        }
+    }
 }
 
 /// A book with a sight to or from each point but the first, and others.
@@ -55,18 +93,18 @@ fn book_of(rt: &impl Abort, alloc: Global, random: &mut Random, points: u32) -> 
     let mut book = Vec::new(alloc);
     for point in 1..points {
         let earlier = random.below(point);
-        add_sight(rt, alloc, random, &mut book, earlier, point);
+        add_sight(rt, alloc, random, &mut book, earlier, point, 4);
     }
     let more = random.below(15 - points);
     for _ in 0..more {
         let one = random.below(points);
         let other = (one + 1 + random.below(points - 1)) % points;
-        add_sight(rt, alloc, random, &mut book, one, other);
+        add_sight(rt, alloc, random, &mut book, one, other, 4);
     }
     book
 }
 
-/// Adds a sight of a few millimetres between two points, one way or the other.
+/// Adds a sight of less than so many millimetres between two points, one way or the other.
 fn add_sight(
     rt: &impl Abort,
     alloc: Global,
@@ -74,14 +112,17 @@ fn add_sight(
     book: &mut Vec<u8>,
     one: u32,
     other: u32,
-) {
+    most: u32,
+)
+    requires { 0 < most }
+{
     let (station, target) = if random.below(2) == 0 {
         (one, other)
     } else {
         (other, one)
     };
     let sign = if random.below(2) == 0 { '+' } else { '-' };
-    let difference = random.below(4);
+    let difference = random.below(most);
     let lines = format!(in alloc;
         "110001+{station:08} 84..10+00000000 88..10+00001500 \n110002+{target:08} 33..00{sign}{difference:08} 87..10+00001500 \n"
     ).expect(rt, "memory");

@@ -15,6 +15,7 @@ fn settle_twice(rt: &impl Abort, alloc: Global, network: &Network, refused: u128
         refused,
         calls: 0,
         refusals: 0,
+        cycles: 0,
     };
     let mut steps = Steps::new();
     if settle(alloc, network, &mut search, &mut steps).is_ok() {
@@ -24,10 +25,12 @@ fn settle_twice(rt: &impl Abort, alloc: Global, network: &Network, refused: u128
     let calls = search.calls;
     assert_eq!(rt; calls, refused.wrapping_add(1));
     assert_eq!(rt; search.refusals, 1);
+    assert_eq!(rt; search.cycles, counted);
     assert!(rt; calls <= MAX_COUNTED && counted <= MAX_COUNTED);
     let settled = settle(alloc, network, &mut search, &mut steps).expect(rt, "memory");
     let rise = steps.count().wrapping_sub(counted);
     assert_eq!(rt; search.calls.wrapping_sub(calls), rise.wrapping_add(44));
+    assert_eq!(rt; search.cycles, steps.count());
     assert_eq!(rt; settled.flows.as_slice(), [-1i64, -1, 0, 1, 1].as_slice());
     true
 }

@@ -79,3 +79,23 @@ fn samples_are_settled_alike(rt: HostRuntime) {
     }
     assert!(rt; 200 < tried && tried < 900, "{tried} of 1000");
 }
+
+/// Networks in which many differences are alike: most pivots of a simplex would move nothing.
+#[test]
+fn ties_are_settled_alike(rt: HostRuntime) {
+    let mut random = Random { state: 3 };
+    for k in 0..60u32 {
+        let sample = Sample::with_ties(&rt, rt.alloc(), &mut random, 4 + k);
+        let _ = settle_sample(&rt, rt.alloc(), &sample);
+    }
+}
+
+/// Long paths: their spanning trees have many levels.
+#[test]
+fn long_paths_are_settled_alike(rt: HostRuntime) {
+    let mut random = Random { state: 4 };
+    for k in 0..4u32 {
+        let sample = Sample::of_path(&rt, rt.alloc(), &mut random, 65 + 20 * k);
+        let _ = settle_sample(&rt, rt.alloc(), &sample);
+    }
+}

@@ -7,11 +7,12 @@ ghost use Rattle.th_search.specs.Answers.{IsAnswer};
 use std::alloc::{AllocError, Global};
 use th_search::{Arc, Found, LabelSearch, LevelSearch, Search};
 
-/// A search that counts its calls where a test can read them.
+/// A search that counts its calls and the cycles that it names, where a test can read them.
 #[derive(Drop)]
 pub struct CountingSearch<S> {
     pub search: S,
-    pub counted: u128,
+    pub called: u128,
+    pub cycles: u128,
 }
 
 impl<S: Search> Search for CountingSearch<S> {
@@ -19,9 +20,15 @@ impl<S: Search> Search for CountingSearch<S> {
 
     ghost refusals = { λ counting. S.refusals counting.search };
 
+    ghost cycles = { λ counting. S.cycles counting.search };
+
     fn search(&mut self, alloc: Global, n: u32, arcs: &[Arc]) -> Result<Found, AllocError> {
-        self.counted = self.counted.wrapping_add(1);
-        self.search.search(alloc, n, arcs)
+        self.called = self.called.wrapping_add(1);
+        let found = self.search.search(alloc, n, arcs);
+        if matches!(found, Ok(Found::Cycle(_))) {
+            self.cycles = self.cycles.wrapping_add(1);
+        }
+        found
     }
 
     ghost refusals_are_calls = { λ counting. S.refusals_are_calls counting.search };
@@ -33,13 +40,17 @@ pub struct RefusingSearch {
     pub refused: u128,
     pub calls: u128,
     pub refusals: u128,
+    pub cycles: u128,
     ghost refusals_are_calls: { refusals ≤ calls },
+    ghost cycles_are_calls: { cycles ≤ calls },
 }
 
 impl Search for RefusingSearch {
     ghost calls = { λ search. search.calls };
 
     ghost refusals = { λ search. search.refusals };
+
+    ghost cycles = { λ search. search.cycles };
 
     fn search(&mut self, alloc: Global, n: u32, arcs: &[Arc]) -> Result<Found, AllocError> {
         let found = if self.calls == self.refused {
@@ -48,8 +59,10 @@ impl Search for RefusingSearch {
             LabelSearch::new().search(alloc, n, arcs)
         };
         self.calls += 1;
-        if found.is_err() {
-            self.refusals += 1;
+        match &found {
+            Ok(Found::Potentials(_)) => {}
+            Ok(Found::Cycle(_)) => self.cycles += 1,
+            Err(_) => self.refusals += 1,
         }
         found
     }
@@ -208,7 +221,9 @@ pub struct StrangeSearch {
     manner: Manner,
     calls: u128,
     refusals: u128,
+    cycles: u128,
     ghost refusals_are_calls: { refusals ≤ calls },
+    ghost cycles_are_calls: { cycles ≤ calls },
 }
 
 impl StrangeSearch {
@@ -220,6 +235,7 @@ impl StrangeSearch {
             manner,
             calls: 0,
             refusals: 0,
+            cycles: 0,
         }
     }
 }
@@ -229,11 +245,15 @@ impl Search for StrangeSearch {
 
     ghost refusals = { λ search. search.refusals };
 
+    ghost cycles = { λ search. search.cycles };
+
     fn search(&mut self, alloc: Global, n: u32, arcs: &[Arc]) -> Result<Found, AllocError> {
         let found = self.manner.found_in(alloc, n, arcs);
         self.calls += 1;
-        if found.is_err() {
-            self.refusals += 1;
+        match &found {
+            Ok(Found::Potentials(_)) => {}
+            Ok(Found::Cycle(_)) => self.cycles += 1,
+            Err(_) => self.refusals += 1,
         }
         found
     }

@@ -20,7 +20,7 @@ pub struct Outcome {
     pub steps: u128,
 }
 
-/// Settles a network over a search, finds its spans, and compares the counts of calls and steps.
+/// Settles a network over a search, finds its spans, and compares the counts of calls, cycles and steps.
 pub fn settled_over<S: Search + Drop>(
     rt: &impl Abort,
     alloc: Global,
@@ -29,12 +29,17 @@ pub fn settled_over<S: Search + Drop>(
 ) -> Outcome
     requires { S.calls search ≤ max_counted }
 {
-    let mut counting = CountingSearch { search, counted: 0 };
+    let mut counting = CountingSearch {
+        search,
+        called: 0,
+        cycles: 0,
+    };
     let mut steps = Steps::new();
     let settled = settle(alloc, network, &mut counting, &mut steps).expect(rt, "memory");
     let spans = spans(alloc, network, &settled).expect(rt, "memory");
     let steps = steps.count();
-    assert_eq!(rt; counting.counted, steps.wrapping_add(PHASES));
+    assert_eq!(rt; counting.called, steps.wrapping_add(PHASES));
+    assert_eq!(rt; counting.cycles, steps);
     Outcome {
         settled,
         spans,

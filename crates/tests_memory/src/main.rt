@@ -1,4 +1,4 @@
-//! Makes the calls after whose want of memory something is kept: lines of a book, pieces of a book,
+//! Makes the calls that keep something after an allocation failure: lines of a book, pieces of a book,
 //! and the settling of a network over one search.
 //!
 //! `tests/refused_memory` runs this program with one request for memory refused, each in turn. A call

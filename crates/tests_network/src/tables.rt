@@ -279,6 +279,61 @@ fn reads_full_weights(rt: HostRuntime) {
     has_weight_fault(&rt, rt.alloc(), &table, TOO_LONG);
 }
 
+/// The last record of a full table of benchmarks, and the fault that it has.
+const LAST_BENCHMARKS: [(&[u8], TableKind); 2] = [
+    (b"116506,x\n", TableKind::BadHeight),
+    (b"000000,1\n", TableKind::Repeated),
+];
+
+/// The same of weights.
+const LAST_WEIGHTS: [(&[u8], TableKind); 2] = [
+    (b"095322,B,0\n", TableKind::BadWeight),
+    (b"000000,B,3\n", TableKind::Repeated),
+];
+
+/// A table with a last record, and line ends up to 1 MiB.
+fn filled(rt: &impl Abort, alloc: Global, rows: &[u8], last: &[u8]) -> Vec<u8> {
+    let mut table = Vec::from_slice(alloc, rows).expect(rt, "memory");
+    table.extend_from_slice(last).expect(rt, "memory");
+    table.resize(1_048_576, b'\n').expect(rt, "memory");
+    table
+}
+
+/// In a table of 1 MiB that is right up to its last record, the fault is that record's.
+#[test]
+fn last_benchmarks_are_judged(rt: HostRuntime) {
+    let rows = long_table(&rt, rt.alloc(), b"point,height\n", 116_506, ",1\n");
+    for (last, kind) in &LAST_BENCHMARKS {
+        let wanted = TableFault {
+            row: 116_508,
+            kind: *kind,
+        };
+        has_fault(
+            &rt,
+            rt.alloc(),
+            &filled(&rt, rt.alloc(), &rows, last),
+            wanted,
+        );
+    }
+}
+
+#[test]
+fn last_weights_are_judged(rt: HostRuntime) {
+    let rows = long_table(&rt, rt.alloc(), b"from,to,weight\n", 95_322, ",B,2\n");
+    for (last, kind) in &LAST_WEIGHTS {
+        let wanted = TableFault {
+            row: 95_324,
+            kind: *kind,
+        };
+        has_weight_fault(
+            &rt,
+            rt.alloc(),
+            &filled(&rt, rt.alloc(), &rows, last),
+            wanted,
+        );
+    }
+}
+
 /// A fault, and how it is said.
 const SAID: [(u32, TableKind, &str); 8] = [
     (1, TableKind::BadHeader, "record 1: E1 bad header"),

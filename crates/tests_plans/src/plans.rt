@@ -102,7 +102,7 @@ fn is_planned(rt: &(impl AllocGlobal + Abort), words: &str, wanted: &str) {
     }
 }
 
-/// What stands behind `adjust` and behind `check`, in any order.
+/// The arguments of `adjust` and of `check`, in any order.
 const ADJUSTED: [&str; 5] = [
     "--benchmarks m",
     "--weights w",

@@ -1,5 +1,5 @@
-//! Books listed from memory to memory: their lists, the lines of their faults, and what stands where
-//! a device fails.
+//! Books listed from memory to memory: their lists, the lines of their faults, and the state after a
+//! device fails.
 ghost use Rattle.std.specs.Prelude.{◌≤◌};
 
 use std::process::Abort;
@@ -150,7 +150,7 @@ fn line_ends_are_cr_lf_cr_and_lf(rt: HostRuntime) {
     is_refused(&rt, &book, 1, "book 1 line 4: B1 word 1: short");
 }
 
-/// A line that has a fault, what stands before it, and the line of the refusal.
+/// A line that has a fault, the lines before it, and the line of the refusal.
 const FAULTS: [(&[u8], &[u8], &str); 18] = [
     (b"", b"*", "book 1 line 2: B1 word 1: short"),
     (

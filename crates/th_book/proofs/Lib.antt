@@ -5,6 +5,7 @@ pub mod Faultless
 pub mod Running
 pub mod Keeping
 pub mod StepLemmas
+pub mod Soundness
 pub mod Holding
 pub mod Reading
 pub mod FeedLemmas

@@ -9,7 +9,8 @@ use Rattle.th_book.specs.Faults.{first_applying, own_faults, sight_faults}
 use Rattle.th_book.specs.Books.{known, known_name}
 use Rattle.th_book.specs.Due.{begun, latest, observation_in, observed_in, setup_after, standing_in, with_heights}
 use Rattle.th_book.specs.Inside.Countings.{first_length}
-use Rattle.th_book.specs.Inside.Entries.{entry_of, setup_at, setup_by, with_entry}
+use Rattle.th_book.specs.Entered.{entered_by}
+use Rattle.th_book.specs.Inside.Entries.{setup_at, setup_by, with_entry}
 use Rattle.th_book.specs.Inside.Steps.{AreSeen, block_fault, entry_fault, is_seen, observed_from, sight_fault, stamped, standing_of}
 use Rattle.th_book.specs.declared.setups.Setup.{Setup}
 use Rattle.th_book.specs.declared.setups.Sight.{Sight}
@@ -25,7 +26,7 @@ pub own_words : (words : List Parts) → first_applying (own_faults words) ≡ N
 own_words words none = rows_pass words [] none
 
 -- a sight or a setup has a name
-named : (words : List Parts) → IsFaultless words → (is_sight words || is_setup words) ≡ true → is_some (point_name words) ≡ true
+pub named : (words : List Parts) → IsFaultless words → (is_sight words || is_setup words) ≡ true → is_some (point_name words) ≡ true
 named words fine is = go (is_sight words || is_setup words) (point_name words) is fine.named
   where
     go : (needed : Bool) (name : Option (List ℕ)) → needed ≡ true → (needed && is_none name) ≡ false → is_some name ≡ true
@@ -34,7 +35,7 @@ named words fine is = go (is_sight words || is_setup words) (point_name words) i
     go false name e h = absurd (false≢true e)
 
 -- where no word counts for an index there is no length
-none_read : (index : ℕ) (words : List Parts) → holds index words ≡ false → length_in index words ≡ None
+pub none_read : (index : ℕ) (words : List Parts) → holds index words ≡ false → length_in index words ≡ None
 none_read index words none = sym (read_same index words) ∙ go (first_length index words) (first_length-there index words ∙ none)
   where
     go : (length : Option (Option ℤ)) → is_some length ≡ false → option_flatten length ≡ None
@@ -53,16 +54,16 @@ latest_same index words before read = go (holds index words) refl
     go true e = kept (length_in index words) (read e)
     go false e = ap (λ length. option_or length before) (none_read index words e)
 
-with_same : (words : List Parts) (setup : Setup) → AreRead words → with_entry (entry_of words) setup ≡ with_heights words setup
+with_same : (words : List Parts) (setup : Setup) → AreRead words → with_entry (entered_by words) setup ≡ with_heights words setup
 with_same words setup read =
     let instrument = latest_same instrument_height words setup.instrument read.instrument in
     let reflector = latest_same reflector_height words setup.reflector read.reflector in
     cc
 
 -- the running setup after the entry of a block without a fault
-pub setup_by_same : (words : List Parts) (running : Option Setup) → IsFaultless words → setup_by (entry_of words) running ≡ setup_after running words
+pub setup_by_same : (words : List Parts) (running : Option Setup) → IsFaultless words → setup_by (entered_by words) running ≡ setup_after running words
 setup_by_same words running fine =
-    ap (option_map (with_entry (entry_of words))) (begins (is_setup words) (point_name words) (λ is. named words fine (or_right (is_sight words) (is_setup words) is)))
+    ap (option_map (with_entry (entered_by words))) (begins (is_setup words) (point_name words) (λ is. named words fine (or_right (is_sight words) (is_setup words) is)))
     ∙ with_all (cond (is_setup words) (Some (begun words)) running)
   where
     begins : (begins : Bool) (name : Option (List ℕ)) → (begins ≡ true → is_some name ≡ true) → option_or (option_map setup_at (cond begins name None)) running ≡ cond begins (Some (setup_at (known_name name))) running
@@ -70,7 +71,7 @@ setup_by_same words running fine =
     begins true (Some name) there = refl
     begins false name there = refl
 
-    with_all : (setup : Option Setup) → option_map (with_entry (entry_of words)) setup ≡ option_map (with_heights words) setup
+    with_all : (setup : Option Setup) → option_map (with_entry (entered_by words)) setup ≡ option_map (with_heights words) setup
     with_all None = refl
     with_all (Some setup) = ap (λ (own : Setup). Some own) (with_same words setup (are_read words fine))
 
@@ -98,7 +99,7 @@ pub own_fault_first : (running : Option Setup) (words : List Parts) → block_fa
 own_fault_first running words = first_applying-append (own_faults words) (cond (is_sight words) (sight_faults (standing_in running words) (point_name words)) [])
 
 -- without a fault of its own words, a block enters a target and a height difference just where it is a sight
-is_seen_same : (words : List Parts) → IsFaultless words → is_seen (entry_of words) ≡ is_sight words
+is_seen_same : (words : List Parts) → IsFaultless words → is_seen (entered_by words) ≡ is_sight words
 is_seen_same words fine =
     go (is_sight words) (point_name words) (length_in height_difference words)
     (λ is. named words fine (or_left (is_sight words) (is_setup words) is))
@@ -110,7 +111,7 @@ is_seen_same words fine =
     go true (Some name) length there read = read refl
 
 -- the fault of a block whose own words have none
-pub later_fault : (words : List Parts) (running setup : Option Setup) → first_applying (own_faults words) ≡ None → setup ≡ setup_by (entry_of words) running → block_fault running words ≡ entry_fault setup (entry_of words)
+pub later_fault : (words : List Parts) (running setup : Option Setup) → first_applying (own_faults words) ≡ None → setup ≡ setup_by (entered_by words) running → block_fault running words ≡ entry_fault setup (entered_by words)
 later_fault words running setup none left =
     own_fault_first running words
     ∙ ap (λ own. option_or own (first_applying (cond (is_sight words) (sight_faults (standing_in running words) (point_name words)) []))) none
@@ -119,28 +120,28 @@ later_fault words running setup none left =
     after : setup ≡ setup_after running words
     after = left ∙ setup_by_same words running (own_words words none)
 
-    seen : is_seen (entry_of words) ≡ is_sight words
+    seen : is_seen (entered_by words) ≡ is_sight words
     seen = is_seen_same words (own_words words none)
 
     some_name : (name : Option (List ℕ)) → is_some name ≡ true → name ≡ Some (known_name name)
     some_name None e = absurd (false≢true e)
     some_name (Some name) e = refl
 
-    by_sight : (sight : Bool) → is_sight words ≡ sight → first_applying (cond sight (sight_faults (standing_in running words) (point_name words)) []) ≡ entry_fault setup (entry_of words)
-    by_sight false is = ap (λ own. cond own (sight_fault setup (known_name (entry_of words).target)) None) (sym (seen ∙ is))
+    by_sight : (sight : Bool) → is_sight words ≡ sight → first_applying (cond sight (sight_faults (standing_in running words) (point_name words)) []) ≡ entry_fault setup (entered_by words)
+    by_sight false is = ap (λ own. cond own (sight_fault setup (known_name (entered_by words).target)) None) (sym (seen ∙ is))
     by_sight true is =
         let apart : is_setup words ≡ false = ap (λ sight. not sight && (holds station_easting words || (holds station_northing words || holds station_height words))) is in
         let there : is_some (point_name words) ≡ true = named words (own_words words none) (or_left (is_sight words) (is_setup words) is) in
         ap (λ standing. first_applying (sight_faults standing (point_name words))) (standing_after words running (are_read words (own_words words none)) apart ∙ ap standing_of (sym after))
         ∙ ap (λ own. first_applying (sight_faults (standing_of setup) own)) (some_name (point_name words) there)
         ∙ ap (λ sight. sight_fault setup (known_name (cond sight (point_name words) None))) (sym is)
-        ∙ ap (λ own. cond own (sight_fault setup (known_name (entry_of words).target)) None) (sym (seen ∙ is))
+        ∙ ap (λ own. cond own (sight_fault setup (known_name (entered_by words).target)) None) (sym (seen ∙ is))
 
 -- its observation
-pub seen_is : (words : List Parts) (running setup : Option Setup) (sight : Option Sight) → first_applying (own_faults words) ≡ None → setup ≡ setup_by (entry_of words) running → AreSeen setup (entry_of words) sight → (book line : ℕ) → option_map (stamped book line) sight ≡ observation_in book line running words
+pub seen_is : (words : List Parts) (running setup : Option Setup) (sight : Option Sight) → first_applying (own_faults words) ≡ None → setup ≡ setup_by (entered_by words) running → AreSeen setup (entered_by words) sight → (book line : ℕ) → option_map (stamped book line) sight ≡ observation_in book line running words
 seen_is words running setup sight none left are book line =
     are.seen book line
-    ∙ ap (λ own. cond own (Some (observed_from setup (known_name (entry_of words).target) (known (entry_of words).sighted) book line)) None) (is_seen_same words fine)
+    ∙ ap (λ own. cond own (Some (observed_from setup (known_name (entered_by words).target) (known (entered_by words).sighted) book line)) None) (is_seen_same words fine)
     ∙ by_sight (is_sight words) refl
   where
     fine : IsFaultless words
@@ -153,8 +154,8 @@ seen_is words running setup sight none left are book line =
     some_length None e = absurd (false≢true e)
     some_length (Some length) e = refl
 
-    by_sight : (sight : Bool) → is_sight words ≡ sight → cond sight (Some (observed_from setup (known_name (entry_of words).target) (known (entry_of words).sighted) book line)) None ≡ cond sight (Some (observed_in book line (setup_after running words) words)) None
+    by_sight : (sight : Bool) → is_sight words ≡ sight → cond sight (Some (observed_from setup (known_name (entered_by words).target) (known (entered_by words).sighted) book line)) None ≡ cond sight (Some (observed_in book line (setup_after running words) words)) None
     by_sight false is = refl
     by_sight true is =
-        ap (λ own. Some (observed_from own (known_name (entry_of words).target) (known (entry_of words).sighted) book line)) after
-        ∙ ap (λ sight. Some (observed_from (setup_after running words) (known_name (cond sight (point_name words) None)) (known (entry_of words).sighted) book line)) is
+        ap (λ own. Some (observed_from own (known_name (entered_by words).target) (known (entered_by words).sighted) book line)) after
+        ∙ ap (λ sight. Some (observed_from (setup_after running words) (known_name (cond sight (point_name words) None)) (known (entered_by words).sighted) book line)) is

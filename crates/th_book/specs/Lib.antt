@@ -5,6 +5,7 @@ pub mod Lines
 pub mod Places
 pub mod Faults
 pub mod Texts
+pub mod Entered
 pub mod Books
 pub mod Due
 pub mod Feeds

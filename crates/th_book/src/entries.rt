@@ -13,7 +13,7 @@ use th_units::Len;
 /// What a block enters into its book: the station of a setup, the target of a sight, and the lengths
 /// that it writes.
 #[derive(Clone, Copy, Debug)]
-pub struct Entry {
+pub struct Entered {
     pub sighted: Option<Len>,
     pub reflector: Option<Len>,
     pub instrument: Option<Len>,
@@ -21,14 +21,14 @@ pub struct Entry {
     pub target: Option<Name>,
 }
 
-impl Entry {
-    ghost use Rattle.th_book.specs.Inside.Entries.{entry_of, nothing};
+impl Entered {
+    ghost use Rattle.th_book.specs.Entered.{entered_by, nothing};
 
-    /// The entry of a line that says nothing.
-    pub fn empty() -> Entry
+    /// What a line enters that says nothing.
+    pub fn empty() -> Entered
         ensures { result ≡ nothing }
     {
-        Entry {
+        Entered {
             station: None,
             target: None,
             sighted: None,
@@ -37,10 +37,10 @@ impl Entry {
         }
     }
 
-    /// The entry of a block, or the first kind of fault that its own words have.
-    pub fn of(words: &[Word<'_>]) -> Result<Entry, BookKind>
+    /// What a block enters, or the first kind of fault that its own words have.
+    pub fn of(words: &[Word<'_>]) -> Result<Entered, BookKind>
         ensures fault { result_err result ≡ first_applying (own_faults (map parts_of words.now)) }
-        ensures entry { IfOk result (λ entry. entry ≡ entry_of (map parts_of words.now)) }
+        ensures entry { IfOk result (λ entry. entry ≡ entered_by (map parts_of words.now)) }
     {
         let counted = Counted::of(words);
         if counted.repeated {
@@ -52,7 +52,7 @@ impl Entry {
         let point = if named { point_name(words) } else { None };
         check_point(named, &point, words)?;
         counted.check_lengths()?;
-        Ok(Entry {
+        Ok(Entered {
             station: if is_setup { point } else { None },
             target: if is_sight { point } else { None },
             sighted: counted.sighted.flatten(),

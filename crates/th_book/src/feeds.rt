@@ -55,9 +55,8 @@ impl BookFeed {
 
     /// Takes the next piece of the book.
     ///
-    /// A fault of the book is kept and told by `finish`, since that it is too long would come before
-    /// it. Memory is wanting where the room for one more observation was refused; from then on each
-    /// call says so.
+    /// A fault of the book is kept for `finish`, since a book that is too long has that fault before all
+    /// others. The call fails where an observation could not be allocated; from then on each call fails.
     pub fn feed(&mut self, piece: &[u8]) -> Result<(), AllocError>
         ensures fed { OnOk result (IsFed self.old self.new piece.now) }
         ensures wanting { OnErr result (StopsAt self.old self.new piece.now) }
@@ -133,7 +132,7 @@ fn take_lines(book: &mut Book, lines: &mut Lines, piece: &[u8]) -> Result<(), Bo
     }
 }
 
-/// Gives a book its next line; a fault other than want of memory stays in the book.
+/// Gives a book its next line. A fault other than `NoMemory` stays in the book.
 fn give<'p>(
     book: &mut Book,
     line: &[u8],

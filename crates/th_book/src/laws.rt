@@ -1,8 +1,16 @@
 //! Laws of the definitions: what they say of one another, with no call of the code.
 
-ghost use Rattle.std.specs.Prelude.{◌≡◌, ℕ, List};
-ghost use Rattle.th_book.specs.Books.{lines_answer};
+ghost use Rattle.std.specs.Prelude.{◌≡◌, ◌<◌, ◌≤◌, ℕ, List, None, Ok, length, map};
+ghost use Rattle.gsi_block.specs.Blocks.{block_at};
+ghost use Rattle.gsi_block.specs.Lines.{lines_of};
+ghost use Rattle.th_book.specs.Books.{book_answer, lines_answer};
 ghost use Rattle.th_book.specs.Due.{due, empty};
+ghost use Rattle.th_book.specs.Entered.{IsSound};
+ghost use Rattle.th_book.specs.Faults.{first_fault};
+ghost use Rattle.th_book.specs.Limits.{max_book};
+ghost use Rattle.th_book.specs.Lines.{ParsedLine};
+ghost use Rattle.th_book.specs.Observed.{Observed};
+ghost use Rattle.th_book.specs.Places.{line_at};
 
 /// What is due from a new book, if some lines follow, is what these lines give as a whole.
 ///
@@ -11,4 +19,19 @@ ghost use Rattle.th_book.specs.Due.{due, empty};
 pub fn new_book_owes_its_lines()
     ensures { (book : ℕ) (lines : List (List ℕ)) →
         due (empty book) lines ≡ lines_answer book lines }
+{}
+
+/// Each line of a book without a fault says nothing, or it is a block of sound words: none of them is
+/// at fault, and what they enter lacks no point and no height.
+pub fn faultless_book_is_sound()
+    ensures { (parsed : List ParsedLine) (place : ℕ) →
+        first_fault parsed ≡ None → place < length parsed → IsSound (line_at parsed place) }
+{}
+
+/// A book that gives observations has no fault in a line, and no more lines than a book may have bytes.
+pub fn answered_book_is_faultless()
+    ensures faultless { (book : ℕ) (bytes : List ℕ) (observations : List Observed) →
+        book_answer book bytes ≡ Ok observations → first_fault (map block_at (lines_of bytes)) ≡ None }
+    ensures short { (book : ℕ) (bytes : List ℕ) (observations : List Observed) →
+        book_answer book bytes ≡ Ok observations → length (lines_of bytes) ≤ max_book }
 {}

@@ -39,7 +39,9 @@ mod feeds;
 pub mod laws;
 
 pub use books::{Book, read_book};
+pub use entries::Entered;
 pub use faults::{BookFault, BookKind};
 pub use feeds::BookFeed;
+pub use indexes::POINT_NUMBER;
 pub use limits::MAX_BOOK;
 pub use observations::Observation;

@@ -1,7 +1,7 @@
 ghost use Rattle.std.specs.Prelude.{◌≡◌, ◌≢◌, ◌≤◌, ℕ, IfOk, unsigned_abs};
 ghost use Rattle.th_book.specs.Observed.{largest_difference};
 
-use crate::entries::Entry;
+use crate::entries::Entered;
 use crate::faults::BookKind;
 use crate::observations::Observation;
 use gsi_word::Name;
@@ -30,9 +30,9 @@ impl Setup {
     ghost use Rattle.th_book.specs.Inside.Entries.{setup_at, setup_by, with_entry};
     ghost use Rattle.th_book.specs.Inside.Steps.{IsSeen, sight_fault};
 
-    /// Enters an entry into the running setup: the one that it begins, or the one before, takes its
+    /// Puts what a block enters into the running setup: the one that it begins, or the one before, takes its
     /// heights.
-    pub fn enter(running: &mut Option<Setup>, entry: &Entry)
+    pub fn enter(running: &mut Option<Setup>, entry: &Entered)
         ensures { running.new ≡ setup_by entry.now running.old }
     {
         if let Some(station) = entry.station {
@@ -54,8 +54,8 @@ impl Setup {
         }
     }
 
-    /// Takes the heights of an entry.
-    fn take_heights(&mut self, entry: &Entry)
+    /// Takes the heights that a block enters.
+    fn take_heights(&mut self, entry: &Entered)
         ensures { self.new ≡ with_entry entry.now self.old }
     {
         if entry.instrument.is_some() {

@@ -6,17 +6,17 @@ ghost use Rattle.th_book.specs.Lines.{words_in};
 ghost use Rattle.th_book.specs.Inside.Entries.{setup_by};
 ghost use Rattle.th_book.specs.Inside.Steps.{AreSeen, IsLeft, block_fault, entry_fault, line_fault};
 
-use crate::entries::Entry;
+use crate::entries::Entered;
 use crate::faults::BookKind;
 use crate::setups::{Setup, Sight};
 use arrayvec::ArrayVec;
 use gsi_block::{MAX_WORDS, read_words};
 use gsi_word::Word;
 
-/// What a line without a fault leaves: its entry, and what is seen where it is a sight.
+/// What a line without a fault leaves: what it enters, and what is seen where it is a sight.
 #[derive(Clone, Copy, Debug)]
 pub struct Step {
-    pub entry: Entry,
+    pub entry: Entered,
     pub sight: Option<Sight>,
 }
 
@@ -33,7 +33,7 @@ pub fn step_of_line<'a>(
     match read_words(line, words) {
         Ok(Some(_)) => step_of_block(running, words.as_slice()),
         Ok(None) => Ok(Step {
-            entry: Entry::empty(),
+            entry: Entered::empty(),
             sight: None,
         }),
         Err(fault) => Err(BookKind::Block(fault)),
@@ -45,14 +45,14 @@ fn step_of_block(running: &Option<Setup>, words: &[Word<'_>]) -> Result<Step, Bo
     ensures fault { result_err result ≡ block_fault running.now (map parts_of words.now) }
     ensures left { IfOk result (IsLeft running.now (map parts_of words.now)) }
 {
-    let entry = Entry::of(words)?;
+    let entry = Entered::of(words)?;
     let sight = sight_in(running, &entry)?;
     Ok(Step { entry, sight })
 }
 
-/// The sight of an entry that has a target and a height difference, from the running setup with the
-/// entry's heights, or the first kind of its faults.
-fn sight_in(running: &Option<Setup>, entry: &Entry) -> Result<Option<Sight>, BookKind>
+/// The sight where a block enters a target and a height difference, from the running setup with the
+/// heights that it enters, or the first kind of its faults.
+fn sight_in(running: &Option<Setup>, entry: &Entered) -> Result<Option<Sight>, BookKind>
     ensures fault { result_err result ≡ entry_fault (setup_by entry.now running.now) entry.now }
     ensures seen { IfOk result (AreSeen (setup_by entry.now running.now) entry.now) }
 {

@@ -11,3 +11,5 @@ pub mod RoundTrip
 pub mod RowLemmas
 pub mod RowsHeard
 pub mod RowsRead
+pub mod VersionLemmas
+pub mod FirstFaultLaws

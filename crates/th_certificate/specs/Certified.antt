@@ -1,5 +1,5 @@
 -- What a certificate says.
-use Rattle.std.specs.Prelude.{◌<◌, ℕ, ℤ, pos, List, All, Option, bytes_eq, unsigned_abs, unwrap_or, map}
+use Rattle.std.specs.Prelude.{◌≡◌, ◌<◌, ℕ, ℤ, pos, List, All, Option, Some, None, bytes_eq, unsigned_abs, unwrap_or, map}
 use Rattle.std.specs.List.{IsDistinct}
 use Rattle.std.specs.Map.{keys_of, lookup}
 use Rattle.th_network.specs.Limits.{height_limit}
@@ -33,6 +33,12 @@ pub record Certified : Type 0 where
   pub high : Option HeightRows
   pub flows : List ℤ
   pub cost : ℕ
+
+-- version 1 has neither the lowest nor the highest heights, and version 2 has both
+abbrev pub IsOfVersion : ℕ → Option HeightRows → Option HeightRows → Type 0
+IsOfVersion version None None = version ≡ 1
+IsOfVersion version (Some low) (Some high) = version ≡ 2
+IsOfVersion version _ _ = ⊥
 
 -- a name has one row, and each height is in its range
 pub record AreHeightRows (rows : HeightRows) : Type 0 where

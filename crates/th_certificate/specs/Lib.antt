@@ -6,4 +6,5 @@ pub mod Statements
 pub mod Reading
 pub mod Texts
 pub mod Rows
+pub mod FirstFaults
 pub mod Inside

@@ -1,6 +1,6 @@
 ghost use Rattle.std.specs.Prelude.{◌≡◌, ◌<◌, ◌⊎◌};
 ghost use Rattle.std.specs.Option.{option_copied};
-ghost use Rattle.th_certificate.specs.Certified.{AreFlows, cost_limit};
+ghost use Rattle.th_certificate.specs.Certified.{AreFlows, IsOfVersion, cost_limit};
 
 use crate::heights::StatedHeights;
 use std::marker::Model;
@@ -19,7 +19,7 @@ pub struct Certificate {
 
 impl Model for Certificate {
     ghost use Rattle.std.specs.Prelude.{◌<◌};
-    ghost use Rattle.th_certificate.specs.Certified.{AreFlows, Certified, cost_limit};
+    ghost use Rattle.th_certificate.specs.Certified.{AreFlows, Certified, IsOfVersion, cost_limit};
 
     ghost Value = { Certified };
 
@@ -33,13 +33,15 @@ impl Model for Certificate {
     } };
 
     ghost invariant = { λ certificate. AreFlows certificate.flows.items
-        × (certificate.cost < cost_limit) };
+        × (certificate.cost < cost_limit)
+        × IsOfVersion certificate.version certificate.low certificate.high };
 }
 
 impl Certificate {
-    /// The version of the certificate's text, 1 or 2.
+    /// The version of the certificate's text: 1 without lowest and highest heights, 2 with both.
     pub fn version(&self) -> u32
-        ensures { result ≡ self.now.version }
+        ensures version { result ≡ self.now.version }
+        ensures spans { IsOfVersion result self.now.low self.now.high }
     {
         self.version
     }

@@ -1,4 +1,4 @@
-ghost use Rattle.std.specs.Prelude.{◌≡◌, IfOk, None, OnOk, bytes_eq, codes, if◌then◌else◌};
+ghost use Rattle.std.specs.Prelude.{◌≡◌, ◌≤◌, IfOk, IfSome, None, OnOk, bytes_eq, codes, if◌then◌else◌};
 ghost use Rattle.th_certificate.specs.Inside.Drafts.{Follows};
 ghost use Rattle.th_certificate.specs.Statements.{begun, may_have_cost, may_have_flow, may_have_height, may_have_high, may_have_low, row_in, said, statement_of, version_in, with_statement};
 
@@ -155,7 +155,8 @@ impl Draft {
 
 /// The version of a version row, if its key says one that is read.
 fn version_in(kind: &[u8], key: &[u8]) -> Option<u32>
-    ensures { result ≡ (if bytes_eq kind.now (codes "V") then version_in key.now else None) }
+    ensures version { result ≡ (if bytes_eq kind.now (codes "V") then version_in key.now else None) }
+    ensures known { IfSome result (λ version. (1 ≤ version) × (version ≤ 2)) }
 {
     if kind != b"V".as_slice() {
         None

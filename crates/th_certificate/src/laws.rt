@@ -1,12 +1,14 @@
 //! Laws of the definitions: what they say of one another. They compute nothing.
 
-ghost use Rattle.std.specs.Prelude.{◌≡◌, ◌≤◌, ◌↔◌, ℕ, ℤ, List, None, Ok, Some, length};
-ghost use Rattle.th_csv.specs.Records.{records_of};
+ghost use Rattle.std.specs.Prelude.{◌≡◌, ◌≤◌, ◌↔◌, ℕ, ℤ, List, Err, None, Ok, Some, length};
+ghost use Rattle.th_csv.specs.Records.{Fields, records_of};
 ghost use Rattle.th_network.specs.Networks.{AreInRange, Survey};
 ghost use Rattle.th_certificate.specs.Certified.{Certified};
-ghost use Rattle.th_certificate.specs.Reading.{certificate_of};
+ghost use Rattle.th_certificate.specs.FirstFaults.{IsFirstFault};
+ghost use Rattle.th_certificate.specs.Reading.{certificate_in, certificate_of};
 ghost use Rattle.th_certificate.specs.Limits.{max_certificate};
 ghost use Rattle.th_certificate.specs.Rows.{IsCertificate};
+ghost use Rattle.th_certificate.specs.declared.faults.CertFault.{CertFault};
 ghost use Rattle.th_certificate.specs.Texts.{AreOfObservations, IsCertifiable, cost_of, heights_at_points, text_of_version_1, text_of_version_2};
 
 /// Bytes are read as a certificate just where they are not too many and their records are its rows:
@@ -16,6 +18,14 @@ pub fn certificate_is_its_rows()
     ensures { (bytes : List ℕ) (certified : Certified)
         → (certificate_of bytes ≡ Ok certified)
         ↔ ((length bytes ≤ max_certificate) × IsCertificate (records_of bytes) certified) }
+{}
+
+/// Where records are no certificate, the fault is that of the first record that has one: those before
+/// it are a certificate or only end too early, and whatever comes behind it changes nothing.
+pub fn fault_is_the_first()
+    ensures { (records : List Fields) (fault : CertFault)
+        → certificate_in records ≡ Err fault
+        → IsFirstFault records fault }
 {}
 
 /// The text of version 1 is read as the certificate with just these heights, flows and their cost.

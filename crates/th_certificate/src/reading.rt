@@ -14,9 +14,9 @@ use th_csv::{Record, RecordReader};
 /// The certificate that bytes stand for, of version 1 or 2, or its first fault.
 ///
 /// A record has three fields and stands in the order of the kinds: the version, heights, lowest and
-/// highest best heights (in version 2), flows numbered from 1, and the cost, which is the last. The
-/// memory that is taken is in proportion to the bytes. Want of memory may be answered for a
-/// certificate that is not too long.
+/// highest best heights (in version 2), flows numbered from 1, and the cost, which is the last. It
+/// allocates memory in proportion to the bytes. `NoMemory` may occur for a certificate that is not
+/// too long.
 pub fn read_certificate(alloc: Global, bytes: &[u8]) -> Result<Certificate, CertFault>
     ensures certificate { IfOk result (λ certificate. certificate_of bytes.now ≡ Ok certificate) }
     ensures fault { IfErr result (λ fault. (fault ≡ no_memory) ⊎ (certificate_of bytes.now ≡ Err fault)) }
@@ -114,6 +114,7 @@ fn add_rows(
 
 /// The certificate of a draft at the end of the records, where the record after the last one has this
 /// number.
+#[tactic(auto, using(crate::proofs::VersionLemmas::of_version))]
 fn certificate_of_draft(row: u32, draft: Draft) -> Result<Certificate, CertFault>
     ensures { result ≡ ended row draft draft.cost }
 {

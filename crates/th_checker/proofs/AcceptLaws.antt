@@ -17,6 +17,16 @@ use Rattle.th_certificate.specs.declared.faults.CertFault.{CertFault}
 use Rattle.th_certificate.specs.Texts.{AreOfObservations, IsCertifiable, cost_of, heights_at_points, text_of_version_1, text_of_version_2}
 use Rattle.th_certificate.proofs.PointLemmas.{stated_height-rows_at}
 use Rattle.th_certificate.proofs.RoundTrip.{read_version_1, read_version_2}
+use Rattle.th_checker.specs.Accepted.{AreShownRows, IsShown}
+use Rattle.std.specs.Prelude.{IfSome, ◌≤◌, ◌+◌, unsigned_abs}
+use Rattle.std.specs.List.{AllZip}
+use Rattle.th_tables.specs.Rows.{WeightRows, weight_of}
+use Rattle.th_certificate.specs.Certified.{HeightRows}
+use Rattle.th_checker.specs.Verdicts.{if_there}
+use Rattle.th_checker.proofs.AcceptLemmas.{AgreeAt}
+use Rattle.std.proofs.lemmas.List.Elements.{All-from_recursion}
+use Rattle.th_tables.specs.Rows.{AreWeights}
+use Rattle.th_certificate.proofs.SurveyLemmas.{weight_small}
 use Rattle.th_checker.specs.Shown.{Shown}
 use Rattle.th_checker.specs.Verdicts.{first_not_slack, first_too_large, first_unbalanced, flow_verdict, if_found, keeps, map_verdict, names_are, not_slack_in, of_all_maps, slack_verdict, unless, verdict_of}
 use Rattle.th_checker.specs.declared.verdicts.Reason.TheVariants.{PointsDiffer, BenchmarkMoved, FlowCount, FlowTooLarge, Unbalanced, NotSlack, WrongCost, LowNotSlack, HighNotSlack}
@@ -136,3 +146,79 @@ accept_version_2 survey heights low high flows certificate certifiable valid sho
     (both (keeps survey.benchmarks second) (keeps survey.benchmarks third) (kept_rows survey low valid low_shown.kept) (kept_rows survey high valid high_shown.kept)))
     (same_test (length flows) (length survey.observations) are.each) pass.0 pass.1 (slack_rows survey heights flows shown.shows) (cost_test survey heights)
     (slack_rows survey low flows low_shown.shows) (slack_rows survey high flows high_shown.shows))
+
+each_same : (rows : BenchmarkRows) (heights : List ℕ → ℤ) → AllByRecursion (λ row. heights row.0 ≡ heights row.0) rows
+each_same [] heights = tt
+each_same (row ∷ rows) heights = (refl, each_same rows heights)
+
+agrees_itself : (heights : List ℕ → ℤ) (observations : List Observed) → AllByRecursion (AgreeAt heights heights) observations
+agrees_itself heights [] = tt
+agrees_itself heights (o ∷ observations) = ((refl, refl), agrees_itself heights observations)
+
+one_each : (weights : WeightRows) (observations : List Observed) (flows : List ℤ) → AllZip (λ o flow. unsigned_abs flow ≤ weight_of weights o.station o.target) observations flows → length flows ≡ length observations
+one_each weights [] [] each = refl
+one_each weights [] (flow ∷ flows) each = absurd each
+one_each weights (o ∷ observations) [] each = absurd each
+one_each weights (o ∷ observations) (flow ∷ flows) each = let rest = one_each weights observations flows each.1 in omega (arith, rest)
+
+keeps_shown : (survey : Survey) (flows : List ℤ) (rows : HeightRows) → AreBenchmarks survey.benchmarks → AreShownRows survey.observations survey.benchmarks survey.weights flows rows → keeps survey.benchmarks rows ≡ true
+keeps_shown survey flows rows valid shown = keeps-rows survey.benchmarks rows (stated_height rows) (each_same survey.benchmarks (stated_height rows)) (keep_each survey.benchmarks (stated_height rows) valid.distinct shown.kept)
+
+slack_shown : (survey : Survey) (flows : List ℤ) (rows : HeightRows) → AreShownRows survey.observations survey.benchmarks survey.weights flows rows → first_not_slack survey.observations survey.weights flows (stated_height rows) ≡ None
+slack_shown survey flows rows shown = none_not_slack survey.weights (stated_height rows) (stated_height rows) survey.observations flows 1 (agrees_itself (stated_height rows) survey.observations) shown.shows
+
+span_named : (survey : Survey) (flows : List ℤ) (span : Option HeightRows) → IfSome span (AreShownRows survey.observations survey.benchmarks survey.weights flows) → if_there (names_are (points_of survey)) span ≡ true
+span_named survey flows None shown = refl
+span_named survey flows (Some rows) shown = shown.names
+
+span_kept : (survey : Survey) (flows : List ℤ) (span : Option HeightRows) → AreBenchmarks survey.benchmarks → IfSome span (AreShownRows survey.observations survey.benchmarks survey.weights flows) → if_there (keeps survey.benchmarks) span ≡ true
+span_kept survey flows None valid shown = refl
+span_kept survey flows (Some rows) valid shown = keeps_shown survey flows rows valid shown
+
+span_slack : (survey : Survey) (flows : List ℤ) (span : Option HeightRows) → IfSome span (AreShownRows survey.observations survey.benchmarks survey.weights flows) → not_slack_in survey.observations survey.weights flows span ≡ None
+span_slack survey flows None shown = refl
+span_slack survey flows (Some rows) shown = slack_shown survey flows rows shown
+
+pub shown_accepted : (observations : List Observed) (benchmarks : BenchmarkRows) (weights : WeightRows) (certificate : Certified) → AreBenchmarks benchmarks → IsShown observations benchmarks weights certificate → verdict_of observations benchmarks weights certificate ≡ Yes
+shown_accepted observations benchmarks weights certificate valid shown =
+    let survey : Survey = record { observations = observations; benchmarks = benchmarks; weights = weights } in
+    let flows = certificate.flows in
+    let names = names_are (points_of survey) in
+    let keep = keeps benchmarks in
+    let pass = flows_pass survey flows shown.circulation in
+    all_pass survey certificate
+    (both (names certificate.heights) (if_there names certificate.low && if_there names certificate.high) shown.heights.names
+    (both (if_there names certificate.low) (if_there names certificate.high) (span_named survey flows certificate.low shown.low) (span_named survey flows certificate.high shown.high)))
+    (both (keep certificate.heights) (if_there keep certificate.low && if_there keep certificate.high) (keeps_shown survey flows certificate.heights valid shown.heights)
+    (both (if_there keep certificate.low) (if_there keep certificate.high) (span_kept survey flows certificate.low valid shown.low) (span_kept survey flows certificate.high valid shown.high)))
+    (same_test (length flows) (length observations) (one_each weights observations flows shown.circulation.bounded)) pass.0 pass.1 (slack_shown survey flows certificate.heights shown.heights)
+    (same_test certificate.cost (cost observations weights (stated_height certificate.heights)) shown.costs) (span_slack survey flows certificate.low shown.low) (span_slack survey flows certificate.high shown.high)
+
+flows_small : (weights : WeightRows) (observations : List Observed) (flows : List ℤ) → AreWeights weights → AllZip (λ o flow. unsigned_abs flow ≤ weight_of weights o.station o.target) observations flows → AllByRecursion (λ flow. unsigned_abs flow ≤ 1000) flows
+flows_small weights [] [] valid each = tt
+flows_small weights [] (flow ∷ flows) valid each = absurd each
+flows_small weights (o ∷ observations) [] valid each = absurd each
+flows_small weights (o ∷ observations) (flow ∷ flows) valid each =
+    let first = each.0 in
+    let most = weight_small weights o.station o.target valid in
+    (let small : unsigned_abs flow ≤ 1000 = omega (arith, first, most) in small, flows_small weights observations flows valid each.1)
+
+of_observations : (survey : Survey) (flows : List ℤ) → IsCertifiable survey → Circulation survey.observations survey.benchmarks survey.weights flows → AreOfObservations survey flows
+of_observations survey flows certifiable circulation = record {
+  each = one_each survey.weights survey.observations flows circulation.bounded;
+  in_range = All-from_recursion (λ flow. unsigned_abs flow ≤ 1000) flows (flows_small survey.weights survey.observations flows certifiable.weights circulation.bounded);
+}
+
+pub read_1_accepted : (survey : Survey) (heights : List ℕ → ℤ) (flows : List ℤ) → IsCertifiable survey → AreBenchmarks survey.benchmarks → Shown survey heights flows
+    → (certificate : Certified) × (certificate_of (text_of_version_1 survey heights flows) ≡ Ok certificate) × (verdict_of survey.observations survey.benchmarks survey.weights certificate ≡ Yes)
+read_1_accepted survey heights flows certifiable valid shown =
+    let are = of_observations survey flows certifiable shown.circulation in
+    let read = read_version_1 survey heights flows certifiable shown.in_range are in
+    (record { version = 1; heights = heights_at_points survey heights; low = None; high = None; flows = flows; cost = cost_of survey heights }, read, accept_version_1 survey heights flows _ certifiable valid shown are read)
+
+pub read_2_accepted : (survey : Survey) (heights low high : List ℕ → ℤ) (flows : List ℤ) → IsCertifiable survey → AreBenchmarks survey.benchmarks → Shown survey heights flows → Shown survey low flows → Shown survey high flows
+    → (certificate : Certified) × (certificate_of (text_of_version_2 survey heights low high flows) ≡ Ok certificate) × (verdict_of survey.observations survey.benchmarks survey.weights certificate ≡ Yes)
+read_2_accepted survey heights low high flows certifiable valid shown low_shown high_shown =
+    let are = of_observations survey flows certifiable shown.circulation in
+    let read = read_version_2 survey heights low high flows certifiable shown.in_range low_shown.in_range high_shown.in_range are in
+    (record { version = 2; heights = heights_at_points survey heights; low = Some (heights_at_points survey low); high = Some (heights_at_points survey high); flows = flows; cost = cost_of survey heights }, read, accept_version_2 survey heights low high flows _ certifiable valid shown low_shown high_shown are read)

@@ -12,6 +12,8 @@ use Rattle.th_network.specs.Heights.{IsHeights, LeastFine, cost, residual}
 use Rattle.th_points.specs.Points.{points}
 use Rattle.th_network.proofs.Slackness.{slackness}
 use Rattle.th_certificate.specs.Certified.{Certified, HeightRows, stated_height}
+use Rattle.th_checker.specs.Accepted.{AreShownRows, IsShown}
+use Rattle.std.specs.Prelude.{IfSome}
 use Rattle.th_checker.specs.Verdicts.{first_not_slack, first_too_large, first_unbalanced, flow_verdict, if_found, if_there, is_slack, keeps, map_verdict, names_are, not_slack_in, of_all_maps, slack_verdict, unless, verdict_of}
 use Rattle.th_checker.specs.declared.verdicts.Reason.{Reason}
 use Rattle.th_checker.specs.declared.verdicts.Reason.TheVariants.{PointsDiffer, BenchmarkMoved, FlowCount, FlowTooLarge, Unbalanced, NotSlack, WrongCost, LowNotSlack, HighNotSlack}
@@ -106,7 +108,9 @@ balanced_of observations benchmarks flows (name ∷ names) none =
 
 -- what a yes says of the flows and of each map
 pub record SaysYes (observations : List Observed) (benchmarks : BenchmarkRows) (weights : WeightRows) (certificate : Certified) : Type 0 where
+  pub names : of_all_maps (names_are (points observations benchmarks)) certificate ≡ true
   pub kept : of_all_maps (keeps benchmarks) certificate ≡ true
+  pub costs : certificate.cost ≡ cost observations weights (stated_height certificate.heights)
   pub count : length certificate.flows ≡ length observations
   pub circulation : Circulation observations benchmarks weights certificate.flows
   pub slack : first_not_slack observations weights certificate.flows (stated_height certificate.heights) ≡ None
@@ -127,7 +131,9 @@ says_yes observations benchmarks weights certificate h =
     let j = if_found_yes (not_slack_in observations weights flows certificate.high) HighNotSlack Yes i.1 in
     let count = same_number (length flows) (length observations) c.0 in
     record {
+      names = a.0;
       kept = b.0;
+      costs = same_number certificate.cost (cost observations weights (stated_height certificate.heights)) g.0;
       count = count;
       circulation = record {
         bounded = bounded_of weights observations flows 1 count d.0;
@@ -172,3 +178,33 @@ yes_least_high observations benchmarks weights certificate rows h is =
     let says = says_yes observations benchmarks weights certificate h in
     let spans = second_of (keeps benchmarks certificate.heights) (if_there (keeps benchmarks) certificate.low && if_there (keeps benchmarks) certificate.high) says.kept in
     span_least observations benchmarks weights certificate.flows certificate.high rows is says.count says.circulation (second_of (if_there (keeps benchmarks) certificate.low) (if_there (keeps benchmarks) certificate.high) spans) says.high
+
+-- rows that pass the tests are shown
+rows_shown : (observations : List Observed) (benchmarks : BenchmarkRows) (weights : WeightRows) (flows : List ℤ) (rows : HeightRows) → length flows ≡ length observations → names_are (points observations benchmarks) rows ≡ true
+    → keeps benchmarks rows ≡ true → first_not_slack observations weights flows (stated_height rows) ≡ None → AreShownRows observations benchmarks weights flows rows
+rows_shown observations benchmarks weights flows rows count names kept slack =
+    record { names = names; kept = keeps_heights benchmarks rows kept; shows = shows_of weights (stated_height rows) observations flows 1 count slack }
+
+span_shown : (observations : List Observed) (benchmarks : BenchmarkRows) (weights : WeightRows) (flows : List ℤ) (span : Option HeightRows) → length flows ≡ length observations → if_there (names_are (points observations benchmarks)) span ≡ true
+    → if_there (keeps benchmarks) span ≡ true → not_slack_in observations weights flows span ≡ None → IfSome span (AreShownRows observations benchmarks weights flows)
+span_shown observations benchmarks weights flows None count names kept slack = tt
+span_shown observations benchmarks weights flows (Some rows) count names kept slack = rows_shown observations benchmarks weights flows rows count names kept slack
+
+pub yes_shown : (observations : List Observed) (benchmarks : BenchmarkRows) (weights : WeightRows) (certificate : Certified) → verdict_of observations benchmarks weights certificate ≡ Yes → IsShown observations benchmarks weights certificate
+yes_shown observations benchmarks weights certificate h =
+    let says = says_yes observations benchmarks weights certificate h in
+    let names = names_are (points observations benchmarks) in
+    let keep = keeps benchmarks in
+    let spans_named = second_of (names certificate.heights) (if_there names certificate.low && if_there names certificate.high) says.names in
+    let spans_kept = second_of (keep certificate.heights) (if_there keep certificate.low && if_there keep certificate.high) says.kept in
+    record {
+      circulation = says.circulation;
+      heights = rows_shown observations benchmarks weights certificate.flows certificate.heights says.count
+          (first_of (names certificate.heights) (if_there names certificate.low && if_there names certificate.high) says.names)
+          (first_of (keep certificate.heights) (if_there keep certificate.low && if_there keep certificate.high) says.kept) says.slack;
+      low = span_shown observations benchmarks weights certificate.flows certificate.low says.count (first_of (if_there names certificate.low) (if_there names certificate.high) spans_named)
+          (first_of (if_there keep certificate.low) (if_there keep certificate.high) spans_kept) says.low;
+      high = span_shown observations benchmarks weights certificate.flows certificate.high says.count (second_of (if_there names certificate.low) (if_there names certificate.high) spans_named)
+          (second_of (if_there keep certificate.low) (if_there keep certificate.high) spans_kept) says.high;
+      costs = says.costs;
+    }

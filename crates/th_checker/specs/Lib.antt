@@ -1,4 +1,5 @@
 pub mod Verdicts
 pub mod Shown
+pub mod Accepted
 pub mod Texts
 pub mod Inside

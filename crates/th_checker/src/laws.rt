@@ -8,6 +8,7 @@ ghost use Rattle.th_network.specs.Networks.{Survey};
 ghost use Rattle.th_certificate.specs.Certified.{Certified, HeightRows, stated_height};
 ghost use Rattle.th_certificate.specs.Reading.{certificate_of};
 ghost use Rattle.th_certificate.specs.Texts.{AreOfObservations, IsCertifiable, text_of_version_1, text_of_version_2};
+ghost use Rattle.th_checker.specs.Accepted.{IsShown};
 ghost use Rattle.th_checker.specs.Shown.{Shown};
 ghost use Rattle.th_checker.specs.Verdicts.{verdict_of};
 ghost use Rattle.th_checker.specs.declared.verdicts.Verdict.TheVariants.{Yes};
@@ -29,6 +30,42 @@ pub fn yes_implies_least()
         → verdict_of observations benchmarks weights certificate ≡ Yes
         → certificate.high ≡ Some rows
         → LeastFine observations benchmarks weights (stated_height rows) }
+{}
+
+/// The text written of heights that a circulation shows is read as a certificate, and the verdict on
+/// it is yes.
+pub fn text_is_read_and_accepted()
+    ensures version_1 { (survey : Survey) (heights : List ℕ → ℤ) (flows : List ℤ)
+        → IsCertifiable survey
+        → AreBenchmarks survey.benchmarks
+        → Shown survey heights flows
+        → (certificate : Certified)
+        × (certificate_of (text_of_version_1 survey heights flows) ≡ Ok certificate)
+        × (verdict_of survey.observations survey.benchmarks survey.weights certificate ≡ Yes) }
+    ensures version_2 { (survey : Survey) (heights low high : List ℕ → ℤ) (flows : List ℤ)
+        → IsCertifiable survey
+        → AreBenchmarks survey.benchmarks
+        → Shown survey heights flows
+        → Shown survey low flows
+        → Shown survey high flows
+        → (certificate : Certified)
+        × (certificate_of (text_of_version_2 survey heights low high flows) ≡ Ok certificate)
+        × (verdict_of survey.observations survey.benchmarks survey.weights certificate ≡ Yes) }
+{}
+
+/// The verdict is yes exactly where the names of each map of heights are the points, each map keeps
+/// the benchmarks, the flows are a circulation that shows each map, and the cost is that of the
+/// heights. This holds for both versions.
+pub fn yes_is_said_of_what_is_shown()
+    ensures shown { (observations : List Observed) (benchmarks : BenchmarkRows)
+        (weights : WeightRows) (certificate : Certified)
+        → verdict_of observations benchmarks weights certificate ≡ Yes
+        → IsShown observations benchmarks weights certificate }
+    ensures accepted { (observations : List Observed) (benchmarks : BenchmarkRows)
+        (weights : WeightRows) (certificate : Certified)
+        → AreBenchmarks benchmarks
+        → IsShown observations benchmarks weights certificate
+        → verdict_of observations benchmarks weights certificate ≡ Yes }
 {}
 
 /// What is written is accepted: for what makes a network, and maps of heights that keep the

@@ -1,4 +1,4 @@
--- The lowest and the highest best heights exist.
+-- What flows that show heights bound, and how near zero heights of little cost are.
 use Rattle.std.proofs.Common.{◌≡◌, ℕ, Bool, true, false, ◌||◌, ◌+◌, ◌*◌, ◌≤◌, ℤ, pos, ◌+ℤ◌, ◌-ℤ◌, ◌≤ℤ◌, inl, inr, List, [], ◌∷◌, Option, Some, None, IsSome, All, Contains, bytes_eq, if◌then◌else◌, is_none, unsigned_abs, refl, ap, sym, ◌∙◌, mul-le-mul_right, arith}
 use Rattle.std.specs.Prelude.{◌<ℤ◌, slice_index_or}
 use Rattle.std.proofs.lemmas.Int.{ints, by_lt_z}
@@ -13,13 +13,10 @@ use Rattle.th_points.specs.Points.{points}
 use Rattle.th_network.specs.Walks.{Leads, IsTied, Anchored}
 use Rattle.th_network.specs.Heights.{IsHeights, residual, cost}
 use Rattle.th_network.specs.Circulation.{Circulation, Shows}
-use Rattle.th_network.specs.Vertices.{is_free}
-use Rattle.th_points.proofs.PointLemmas.{is_among, bytes_eq_same, EndsAmong, ends_are_points}
-use Rattle.th_circulation.specs.Extremes.{Low, High}
-use Rattle.th_circulation.proofs.BestLemmas.{best_is_shown, shown_is_best}
+use Rattle.th_points.proofs.PointLemmas.{is_among, bytes_eq_same}
 use Rattle.th_circulation.proofs.SideLemmas.{IsFull, AreFull, full_of_shows, shows_of_full}
 use Rattle.th_circulation.proofs.MisreadLemmas.{lt_z-true, lt_z-false}
-use Rattle.th_circulation.proofs.LeastKept.{Bound, KeepsAll, IsBetween, BelowAt, Below, least_kept}
+use Rattle.th_circulation.proofs.Bounds.{Bound, KeepsAll}
 
 -- ---- flows show the heights that keep these bounds: the target is so far above the station where the flow can grow, and no further where it can shrink
 abbrev onwards : ℕ → ℤ → Observed → Bound
@@ -32,11 +29,6 @@ abbrev pub bounds_of : WeightRows → List Observed → List ℤ → List Bound
 bounds_of weights [] flows = []
 bounds_of weights (o ∷ observations) [] = []
 bounds_of weights (o ∷ observations) (flow ∷ flows) = onwards (weight_of weights o.station o.target) flow o ∷ (backwards (weight_of weights o.station o.target) flow o ∷ bounds_of weights observations flows)
-
-bounds_between : (weights : WeightRows) (names : List (List ℕ)) (observations : List Observed) (flows : List ℤ) → AllByRecursion (EndsAmong names) observations → AllByRecursion (IsBetween names) (bounds_of weights observations flows)
-bounds_between weights names [] flows ends = tt
-bounds_between weights names (o ∷ observations) [] ends = tt
-bounds_between weights names (o ∷ observations) (flow ∷ flows) ends = ((ends.0.0, ends.0.1), ((ends.0.1, ends.0.0), bounds_between weights names observations flows ends.1))
 
 not_above : (w : ℕ) (f r : ℤ) → IsFull w f r → lt_z f (pos w) ≡ true → r ≤ℤ pos 0
 not_above w f r full room = by_lt_z (pos 0) r (λ up. let whole = full.0 up in let less = lt_z-true f (pos w) room in absurd (omega (arith, ints))) (λ low. low)
@@ -77,10 +69,10 @@ full_of_kept weights x (o ∷ observations) (flow ∷ flows) bounded kept =
 
 -- ---- best heights are near the benchmarks
 -- no residual is larger in size
-abbrev AreSmall : ℕ → List Observed → (List ℕ → ℤ) → Type 0
+abbrev pub AreSmall : ℕ → List Observed → (List ℕ → ℤ) → Type 0
 AreSmall most observations x = AllByRecursion (λ o. unsigned_abs (residual o x) ≤ most) observations
 
-small_of_cost : (weights : WeightRows) (x : List ℕ → ℤ) (most : ℕ) (observations : List Observed) → ((station target : List ℕ) → 1 ≤ weight_of weights station target) → cost observations weights x ≤ most → AreSmall most observations x
+pub small_of_cost : (weights : WeightRows) (x : List ℕ → ℤ) (most : ℕ) (observations : List Observed) → ((station target : List ℕ) → 1 ≤ weight_of weights station target) → cost observations weights x ≤ most → AreSmall most observations x
 small_of_cost weights x most [] heavy low = tt
 small_of_cost weights x most (o ∷ observations) heavy low =
     let sum = sum_by-cons (λ o. weight_of weights o.station o.target * unsigned_abs (residual o x)) o observations in
@@ -88,7 +80,7 @@ small_of_cost weights x most (o ∷ observations) heavy low =
     (omega arith, small_of_cost weights x most observations heavy (omega arith))
 
 -- two heights differ by so much at most
-abbrev AreNear : ℕ → ℤ → ℤ → Type 0
+abbrev pub AreNear : ℕ → ℤ → ℤ → Type 0
 AreNear most a b = (a ≤ℤ (b +ℤ pos most)) × (b ≤ℤ (a +ℤ pos most))
 
 chain_near : (observations : List Observed) (most : ℕ) (chain : List Observed) (start goal : List ℕ) → All (Contains observations) chain → Leads chain start goal → (k : ℕ) × ((x : List ℕ → ℤ) → AreSmall most observations x → AreNear k (x start) (x goal))
@@ -136,7 +128,7 @@ tied_near observations benchmarks most name tied = by (height_of benchmarks tied
           (omega (arith, ints), omega (arith, ints)),
     )
 
-names_near : (observations : List Observed) (benchmarks : BenchmarkRows) (most : ℕ) (names : List (List ℕ)) → AllByRecursion (IsTied observations benchmarks) names → (k : ℕ) × ((x : List ℕ → ℤ) → IsHeights benchmarks x → AreSmall most observations x → (name : List ℕ) → is_among names name ≡ true → AreNear k (x name) (pos 0))
+pub names_near : (observations : List Observed) (benchmarks : BenchmarkRows) (most : ℕ) (names : List (List ℕ)) → AllByRecursion (IsTied observations benchmarks) names → (k : ℕ) × ((x : List ℕ → ℤ) → IsHeights benchmarks x → AreSmall most observations x → (name : List ℕ) → is_among names name ≡ true → AreNear k (x name) (pos 0))
 names_near observations benchmarks most [] tied = (0, λ x kept small name among. absurd (grind arith))
 names_near observations benchmarks most (first ∷ names) tied =
     let one = tied_near observations benchmarks most first tied.0 in
@@ -155,37 +147,6 @@ names_near observations benchmarks most (first ∷ names) tied =
         let high = near.1 in
         (omega (arith, ints), omega (arith, ints))
 
--- ---- where the raising begins
--- below all best heights at the points that are no benchmark, and the heights themselves at other names
-abbrev start : List (List ℕ) → BenchmarkRows → ℕ → (List ℕ → ℤ) → List ℕ → ℤ
-start names benchmarks k x name = if is_free benchmarks name then (if is_among names name then pos 0 -ℤ pos k else x name) else x name
-
-start_fixed : (names : List (List ℕ)) (benchmarks : BenchmarkRows) (k : ℕ) (x : List ℕ → ℤ) (name : List ℕ) (height : ℤ) → height_of benchmarks name ≡ Some height → start names benchmarks k x name ≡ x name
-start_fixed names benchmarks k x name height e = ap (λ (found : Option ℤ). if is_none found then (if is_among names name then pos 0 -ℤ pos k else x name) else x name) e
-
-start_below : (names : List (List ℕ)) (benchmarks : BenchmarkRows) (k : ℕ) (x : List ℕ → ℤ) → ((name : List ℕ) → is_among names name ≡ true → AreNear k (x name) (pos 0)) → Below (start names benchmarks k x) x
-start_below names benchmarks k x near name = by (is_free benchmarks name) (is_among names name) (near name)
-  where
-    by : (free among : Bool) → (among ≡ true → AreNear k (x name) (pos 0)) → (if free then (if among then pos 0 -ℤ pos k else x name) else x name) ≤ℤ x name
-    by true true near = let high = (near refl).1 in omega (arith, ints)
-    by true false near = omega (arith, ints)
-    by false among near = omega (arith, ints)
-
-same_fixed : (benchmarks : BenchmarkRows) (x y : List ℕ → ℤ) → ((name : List ℕ) (height : ℤ) → height_of benchmarks name ≡ Some height → x name ≡ y name) → (name : List ℕ) → is_free benchmarks name ≡ false → x name ≡ y name
-same_fixed benchmarks x y same name = by (height_of benchmarks name) refl
-  where
-    by : (found : Option ℤ) → height_of benchmarks name ≡ found → is_none found ≡ false → x name ≡ y name
-    by None e fixed = absurd (grind arith)
-    by (Some height) e fixed = same name height e
-
-start_below_others : (names : List (List ℕ)) (benchmarks : BenchmarkRows) (k : ℕ) (x y : List ℕ → ℤ) → ((name : List ℕ) (height : ℤ) → height_of benchmarks name ≡ Some height → x name ≡ y name) → ((name : List ℕ) → is_among names name ≡ true → AreNear k (y name) (pos 0)) → BelowAt names (start names benchmarks k x) y
-start_below_others names benchmarks k x y same near name there = by (is_free benchmarks name) (is_among names name) (same_fixed benchmarks x y same name) there (near name there)
-  where
-    by : (free among : Bool) → (free ≡ false → x name ≡ y name) → among ≡ true → AreNear k (y name) (pos 0) → (if free then (if among then pos 0 -ℤ pos k else x name) else x name) ≤ℤ y name
-    by true true fixed there near = let high = near.1 in omega (arith, ints)
-    by true false fixed there near = absurd (grind arith)
-    by false among fixed there near = let e = fixed refl in omega (arith, ints)
-
 or_true : (b c : Bool) → c ≡ true → (b || c) ≡ true
 or_true true c e = refl
 or_true false c e = e
@@ -197,78 +158,3 @@ all_among all (first ∷ names) has = (has first (ap (λ b. b || is_among names 
 -- the name at a place of a list is among it
 pub among_at : (names : List (List ℕ)) → All (λ name. is_among names name ≡ true) names
 among_at names = All-from_recursion (λ name. is_among names name ≡ true) names (all_among names names (λ name e. e))
-
--- ---- the lowest
-pub low_exists : (observations : List Observed) (benchmarks : BenchmarkRows) (weights : WeightRows) (heights : List ℕ → ℤ) (flows : List ℤ) → ((station target : List ℕ) → 1 ≤ weight_of weights station target) → Anchored observations benchmarks → IsHeights benchmarks heights → Circulation observations benchmarks weights flows → Shows observations weights flows heights → (low : List ℕ → ℤ) × Low observations benchmarks weights low
-low_exists observations benchmarks weights heights flows heavy anchored kept circulation shown =
-    let names = points observations benchmarks in
-    let bounds = bounds_of weights observations flows in
-    let most = cost observations weights heights in
-    let found_near = names_near observations benchmarks most names (recursion_from_All (IsTied observations benchmarks) names anchored) in
-    let k = found_near.0 in
-    let near = λ (x : List ℕ → ℤ) (x_kept : IsHeights benchmarks x) (low : cost observations weights x ≤ most). found_near.1 x x_kept (small_of_cost weights x most observations heavy low) in
-    let s = start names benchmarks k heights in
-    let keeps = kept_of_full weights heights observations flows (full_of_shows weights heights observations flows shown) in
-    let found = least_kept names bounds s heights (bounds_between weights names observations flows (ends_are_points observations benchmarks)) keeps (start_below names benchmarks k heights (near heights kept (omega arith))) in
-    let z = found.0 in
-    let r = found.1 in
-    let z_kept : IsHeights benchmarks z = λ name height e. let a = start_fixed names benchmarks k heights name height e in let b = kept name height e in let c = r.started name in let d = r.under name in omega (arith, ints) in
-    let z_shown = shows_of_full weights z observations flows (full_of_kept weights z observations flows circulation.bounded r.keeps) in (
-      z,
-      record {
-        best = shown_is_best observations benchmarks weights z flows z_kept circulation z_shown;
-        lowest = λ others best i d within.
-            let others_kept = best.kept in
-            let others_keep = kept_of_full weights others observations flows (full_of_shows weights others observations flows (best_is_shown observations benchmarks weights heights others flows kept circulation shown best)) in
-            r.least others others_keep (start_below_others names benchmarks k heights others (λ name height e. kept name height e ∙ sym (others_kept name height e)) (near others others_kept (best.least heights kept))) (slice_index_or names i d) (among_at names i d within);
-      },
-    )
-
--- ---- the highest: the same, upside down
-abbrev negated : (List ℕ → ℤ) → List ℕ → ℤ
-negated x name = pos 0 -ℤ x name
-
-abbrev turned : List Bound → List Bound
-turned [] = []
-turned (b ∷ bounds) = record { from = b.to; to = b.from; rise = b.rise; applies = b.applies } ∷ turned bounds
-
-turned_between : (names : List (List ℕ)) (bounds : List Bound) → AllByRecursion (IsBetween names) bounds → AllByRecursion (IsBetween names) (turned bounds)
-turned_between names [] between = tt
-turned_between names (b ∷ bounds) between = ((between.0.1, between.0.0), turned_between names bounds between.1)
-
-keeps_turned : (x : List ℕ → ℤ) (bounds : List Bound) → KeepsAll x bounds → KeepsAll (negated x) (turned bounds)
-keeps_turned x [] kept = tt
-keeps_turned x (b ∷ bounds) kept = ((λ applies. let k = kept.0 applies in omega (arith, ints)), keeps_turned x bounds kept.1)
-
-keeps_back : (x : List ℕ → ℤ) (bounds : List Bound) → KeepsAll x (turned bounds) → KeepsAll (negated x) bounds
-keeps_back x [] kept = tt
-keeps_back x (b ∷ bounds) kept = ((λ applies. let k = kept.0 applies in omega (arith, ints)), keeps_back x bounds kept.1)
-
-near_negated : (k : ℕ) (a : ℤ) → AreNear k a (pos 0) → AreNear k (pos 0 -ℤ a) (pos 0)
-near_negated k a near = let low = near.0 in let high = near.1 in (omega (arith, ints), omega (arith, ints))
-
-pub high_exists : (observations : List Observed) (benchmarks : BenchmarkRows) (weights : WeightRows) (heights : List ℕ → ℤ) (flows : List ℤ) → ((station target : List ℕ) → 1 ≤ weight_of weights station target) → Anchored observations benchmarks → IsHeights benchmarks heights → Circulation observations benchmarks weights flows → Shows observations weights flows heights → (high : List ℕ → ℤ) × High observations benchmarks weights high
-high_exists observations benchmarks weights heights flows heavy anchored kept circulation shown =
-    let names = points observations benchmarks in
-    let bounds = bounds_of weights observations flows in
-    let most = cost observations weights heights in
-    let found_near = names_near observations benchmarks most names (recursion_from_All (IsTied observations benchmarks) names anchored) in
-    let k = found_near.0 in
-    let near = λ (x : List ℕ → ℤ) (x_kept : IsHeights benchmarks x) (low : cost observations weights x ≤ most) (name : List ℕ) (among : is_among names name ≡ true). near_negated k (x name) (found_near.1 x x_kept (small_of_cost weights x most observations heavy low) name among) in
-    let s = start names benchmarks k (negated heights) in
-    let keeps = keeps_turned heights bounds (kept_of_full weights heights observations flows (full_of_shows weights heights observations flows shown)) in
-    let found = least_kept names (turned bounds) s (negated heights) (turned_between names bounds (bounds_between weights names observations flows (ends_are_points observations benchmarks))) keeps (start_below names benchmarks k (negated heights) (near heights kept (omega arith))) in
-    let r = found.1 in
-    let z = negated found.0 in
-    let z_kept : IsHeights benchmarks z = λ name height e. let a = start_fixed names benchmarks k (negated heights) name height e in let b = kept name height e in let c = r.started name in let d = r.under name in omega (arith, ints) in
-    let z_shown = shows_of_full weights z observations flows (full_of_kept weights z observations flows circulation.bounded (keeps_back found.0 bounds r.keeps)) in (
-      z,
-      record {
-        best = shown_is_best observations benchmarks weights z flows z_kept circulation z_shown;
-        highest = λ others best i d within.
-            let others_kept = best.kept in
-            let others_keep = keeps_turned others bounds (kept_of_full weights others observations flows (full_of_shows weights others observations flows (best_is_shown observations benchmarks weights heights others flows kept circulation shown best))) in
-            let least = r.least (negated others) others_keep (start_below_others names benchmarks k (negated heights) (negated others) (λ name height e. let a = kept name height e in let b = others_kept name height e in omega (arith, ints)) (near others others_kept (best.least heights kept))) (slice_index_or names i d) (among_at names i d within) in
-            omega (arith, ints);
-      },
-    )

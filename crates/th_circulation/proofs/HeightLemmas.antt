@@ -1,8 +1,8 @@
 -- Numbers of a list that stay within bounds.
-use Rattle.std.proofs.Common.{◌≡◌, ℕ, zero, suc, ◌<◌, ◌≤◌, ◌+◌, ℤ, pos, List, [], ◌∷◌, length, unsigned_abs, refl, ap, sym, subst, take, drop, ◌++◌, arith}
+use Rattle.std.proofs.Common.{◌≡◌, ℕ, zero, suc, ◌<◌, ◌≤◌, ◌+◌, ℤ, pos, List, [], ◌∷◌, length, replicate, unsigned_abs, refl, ap, sym, subst, take, drop, ◌++◌, arith}
 use Rattle.std.specs.Prelude.{slice_index_or, slice_set}
 use borrow.Author.Count.{below_more}
-use Rattle.std.proofs.lemmas.List.{get_or-set_other}
+use Rattle.std.proofs.lemmas.List.{get_or-replicate, get_or-set_other, length-replicate}
 use Rattle.th_search.specs.Potentials.{value_at}
 use Rattle.th_circulation.specs.Inside.Graphs.{AreWithin}
 
@@ -29,6 +29,10 @@ all_within count most xs long each = record { each = long; small = λ k d within
     same [] k d h = absurd (omega arith)
     same (x ∷ xs) zero d h = refl
     same (x ∷ xs) (suc k) d h = same xs k d (omega arith)
+
+-- zeros are within all bounds
+pub none_within : (count most : ℕ) → AreWithin count most (replicate count (pos 0))
+none_within count most = all_within count most (replicate count (pos 0)) (length-replicate count (pos 0)) (λ v h. let is = get_or-replicate count v (pos 0) (pos 0) h in subst (λ z. unsigned_abs z ≤ most) (sym is) (omega arith))
 
 -- a slice that was lent from a list and has its length is the list afterwards
 pub written : (n : ℕ) (xs ys : List ℤ) → length xs ≡ length ys → n ≡ length ys → take n (xs ++ drop (length xs) ys) ≡ xs

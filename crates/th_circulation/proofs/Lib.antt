@@ -16,7 +16,7 @@ pub mod SettledLemmas
 pub mod BestLemmas
 pub mod SideLemmas
 pub mod MisreadLemmas
-pub mod LeastKept
+pub mod Bounds
 pub mod ExtremeLemmas
 pub mod WeightLemmas
 pub mod CutLemmas
@@ -27,3 +27,6 @@ pub mod ResidualLemmas
 pub mod VertexNumbers
 pub mod TiedLemmas
 pub mod SpanLemmas
+pub mod NoArcs
+pub mod BestExists
+pub mod ExtremesExist

@@ -17,7 +17,7 @@ use Rattle.th_circulation.specs.Inside.Cuts.{LeavesFull}
 use Rattle.th_circulation.specs.Inside.Residuals.{against, along, residual_arcs, residual_arcs_of, turned}
 use Rattle.th_circulation.specs.Inside.Distances.{IsKept}
 use Rattle.th_circulation.proofs.ExtremeLemmas.{bounds_of}
-use Rattle.th_circulation.proofs.LeastKept.{KeepsAll}
+use Rattle.th_circulation.proofs.Bounds.{KeepsAll}
 use Rattle.th_circulation.proofs.MisreadLemmas.{lt_z-false}
 use Rattle.th_circulation.proofs.NearLemmas.{EntersNot}
 

@@ -7,8 +7,10 @@ ghost use Rattle.th_circulation.specs.Inside.Listings.{slots_at};
 use crate::graphs::Graph;
 use crate::slots::Slot;
 
-/// Sends as much along a cycle of slots as has room.
-pub(crate) fn cancel(graph: &Graph, slots: &[Slot], cycle: &[u32], flows: &mut [i64])
+/// Sends as much along a cycle of slots as has room, and at most this.
+pub(crate) fn cancel(graph: &Graph, slots: &[Slot], cycle: &[u32], most: u32, flows: &mut [i64])
+    requires some { 1 ≤ most }
+    requires small { most ≤ 2000 }
     requires numbers { All (λ number. number < length slots.now) cycle.now }
     requires within { All (λ slot. slot.place < length graph.now.links.now) slots.now }
     requires flows { AreBounded graph.now.weights.now flows.old }
@@ -18,14 +20,17 @@ pub(crate) fn cancel(graph: &Graph, slots: &[Slot], cycle: &[u32], flows: &mut [
         × All (HasRoom graph.now.weights.now amount flows.old) (slots_at slots.now cycle.now)
         × (flows.new ≡ sent amount flows.old (slots_at slots.now cycle.now)) }
 {
-    let amount = least_room(graph, slots, cycle, flows);
+    let amount = least_room(graph, slots, cycle, most, flows);
     'slots: for &number in cycle {
         raise(graph, slots[number as usize], amount, flows);
     }
 }
 
-/// How much can flow along each of the slots: at least 1, and no more than there can be room for.
-fn least_room(graph: &Graph, slots: &[Slot], cycle: &[u32], flows: &[i64]) -> u32
+/// How much can flow along each of the slots, and at most this: at least 1, and no more than there can
+/// be room for.
+fn least_room(graph: &Graph, slots: &[Slot], cycle: &[u32], most: u32, flows: &[i64]) -> u32
+    requires some { 1 ≤ most }
+    requires small { most ≤ 2000 }
     requires numbers { All (λ number. number < length slots.now) cycle.now }
     requires within { All (λ slot. slot.place < length graph.now.links.now) slots.now }
     requires flows { AreBounded graph.now.weights.now flows.now }
@@ -34,7 +39,7 @@ fn least_room(graph: &Graph, slots: &[Slot], cycle: &[u32], flows: &[i64]) -> u3
     ensures small { result ≤ 2000 }
     ensures room { All (HasRoom graph.now.weights.now result flows.now) (slots_at slots.now cycle.now) }
 {
-    let mut least = 2_000u32;
+    let mut least = most;
     for &number in cycle {
         let room = graph.room(flows, slots[number as usize]) as u32;
         if room < least {

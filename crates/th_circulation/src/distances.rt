@@ -104,7 +104,7 @@ impl<'a> TightArcs<'a> {
     {
         let arc = self.arcs[number];
         let label = labels[arc.head as usize];
-        if self.level(arc.head).wrapping_add(arc.cost) == self.level(arc.tail) {
+        if self.level(arc.head).checked_add(arc.cost) == Some(self.level(arc.tail)) {
             return queue.add_first(arc.head, label);
         }
         queue.add_last(arc.head, label)

@@ -3,7 +3,7 @@ ghost use Rattle.th_circulation.specs.Inside.Bounds.{height_bound, raised_bound}
 ghost use Rattle.th_circulation.specs.Inside.Graphs.{AreWithin};
 ghost use Rattle.th_search.specs.Potentials.{value_at};
 
-use crate::guide::Guide;
+use th_guide::Guide;
 
 /// Raises the height of each vertex by as much as its potential is below 0.
 pub(crate) fn raise(heights: &mut [i64], potentials: &[i64], vertices: u32)
@@ -29,7 +29,7 @@ pub(crate) fn double(heights: &mut [i64], vertices: u32)
     }
 }
 
-/// Takes the heights of a guide, as far as costs that they reduce stay in range.
+/// Takes the heights of a guide, as far as costs that they reduce stay in range; 0 where it has none.
 pub(crate) fn take(heights: &mut [i64], guide: &Guide, vertices: u32)
     requires heights { AreWithin vertices height_bound heights.old }
     ensures within { AreWithin vertices height_bound heights.new }
@@ -37,6 +37,7 @@ pub(crate) fn take(heights: &mut [i64], guide: &Guide, vertices: u32)
     for (vertex, height) in heights.iter_mut().enumerate() {
         *height = guide
             .height(vertex as u32)
+            .unwrap_or(0)
             .clamp(-2_500_000_000_000, 2_500_000_000_000);
     }
 }

@@ -96,24 +96,17 @@ pub fn misreading_keeps_low()
         → Low misread benchmarks weights heights }
 {}
 
-/// Where observations tie each point to a benchmark, and a circulation shows some heights, there are
-/// lowest and highest best heights.
+/// Where observations tie each point to a benchmark, there are lowest and highest best heights.
 pub fn lowest_and_highest_exist()
     ensures low { (observations : List Observed) (benchmarks : BenchmarkRows)
-        (weights : WeightRows) (heights : List ℕ → ℤ) (flows : List ℤ)
+        (weights : WeightRows)
         → AreWeights weights
         → Anchored observations benchmarks
-        → IsHeights benchmarks heights
-        → Circulation observations benchmarks weights flows
-        → Shows observations weights flows heights
         → (low : List ℕ → ℤ) × Low observations benchmarks weights low }
     ensures high { (observations : List Observed) (benchmarks : BenchmarkRows)
-        (weights : WeightRows) (heights : List ℕ → ℤ) (flows : List ℤ)
+        (weights : WeightRows)
         → AreWeights weights
         → Anchored observations benchmarks
-        → IsHeights benchmarks heights
-        → Circulation observations benchmarks weights flows
-        → Shows observations weights flows heights
         → (high : List ℕ → ℤ) × High observations benchmarks weights high }
 {}
 

@@ -22,15 +22,9 @@ mod cancels;
 mod heights;
 mod placed;
 mod proposals;
+mod proposing;
 mod settling;
 mod workspaces;
-
-// What proposes cycles to cancel.
-mod families;
-mod guide;
-mod prices;
-mod trees;
-mod views;
 
 // The lowest and the highest best heights.
 mod distances;

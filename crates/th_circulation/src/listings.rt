@@ -11,6 +11,7 @@ ghost use Rattle.th_search.specs.Potentials.{value_at};
 use crate::graphs::Graph;
 use crate::slots::Slot;
 use std::alloc::{AllocError, Global};
+use th_guide::ResidualArc;
 use th_search::Arc;
 
 /// Residual arcs, and the slot that each stands for.
@@ -108,15 +109,15 @@ impl Listing {
         }
     }
 
-    /// Lists the residual arcs of these slots, in their order, at costs that the heights reduce; those
-    /// that are none of the graph's or have no room are left out.
+    /// Lists the residual arcs that a guide proposes, in their order, at costs that the heights reduce;
+    /// those that are none of the graph's or have no room are left out.
     pub fn list_these(
         &mut self,
         graph: &Graph,
         differences: &[i64],
         heights: &[i64],
         flows: &[i64],
-        slots: &[Slot],
+        proposed: &[ResidualArc],
     )
         requires differences { AreWithin (length graph.now.links.now) 5000000000000 differences.now }
         requires heights { AreWithin graph.now.vertices height_bound heights.now }
@@ -132,7 +133,11 @@ impl Listing {
         self.arcs.clear();
         self.slots.clear();
         let most = 2 * graph.links.len();
-        'slots: for &slot in slots {
+        'slots: for arc in proposed {
+            let slot = Slot {
+                place: arc.place(),
+                is_forward: arc.is_forward(),
+            };
             if (slot.place as usize) < graph.links.len() && self.slots.len() < most {
                 self.list(graph, differences, heights, flows, slot);
             }

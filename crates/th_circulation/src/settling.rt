@@ -23,8 +23,10 @@ use th_search::Search;
 
 /// Finds heights of the points of a network that cost least, and the circulation that shows it.
 ///
-/// A step is one cycle that was cancelled. The search is called once for each step, and once for each
-/// of 44 phases; where all is settled at once, it is asked of no arcs for the phases that are left.
+/// A step is one cycle that the search named and that was cancelled: each cycle that it names is a
+/// step, also where the call ends with an allocation failure. The search is called once for each step,
+/// and once for each of 44 phases; where all is settled at once, it is called with no arcs for the
+/// phases that are left.
 /// All memory but the search's is taken before its first call: where memory is refused, either the
 /// search refused it once, or nothing was counted. The network may be settled again afterwards.
 pub fn settle<S: Search>(
@@ -56,6 +58,7 @@ pub fn settle<S: Search>(
     ensures few_calls { OnErr result (S.calls search.new + steps.old
         ≤ S.calls search.old + steps.new + 44) }
     ensures asked { S.calls search.old + steps.new ≤ S.calls search.new + steps.old }
+    ensures cycles { S.cycles search.new + steps.old ≡ S.cycles search.old + steps.new }
     ensures refusals { OnOk result (S.refusals search.new ≡ S.refusals search.old) }
     ensures refused { OnErr result ((S.refusals search.new ≡ S.refusals search.old + 1)
         ⊎ ((S.refusals search.new ≡ S.refusals search.old)
@@ -100,6 +103,7 @@ fn settle_weighted<'a, S: Search>(
     ensures few_calls { OnErr result (S.calls search.new + steps.old
         ≤ S.calls search.old + steps.new + 44) }
     ensures asked { S.calls search.old + steps.new ≤ S.calls search.new + steps.old }
+    ensures cycles { S.cycles search.new + steps.old ≡ S.cycles search.old + steps.new }
     ensures refusals { OnOk result (S.refusals search.new ≡ S.refusals search.old) }
     ensures refused { OnErr result ((S.refusals search.new ≡ S.refusals search.old + 1)
         ⊎ ((S.refusals search.new ≡ S.refusals search.old)

@@ -6,20 +6,3 @@ pub(crate) struct Slot {
     /// Whether it leads from the link's tail to its head.
     pub is_forward: bool,
 }
-
-impl Slot {
-    /// No way: no observation has this place.
-    pub const NONE: Slot = Slot {
-        place: u32::MAX,
-        is_forward: true,
-    };
-
-    /// The way back.
-    #[inline]
-    pub fn reversed(self) -> Slot {
-        Slot {
-            place: self.place,
-            is_forward: !self.is_forward,
-        }
-    }
-}

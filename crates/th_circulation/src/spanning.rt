@@ -31,11 +31,14 @@ pub fn spans(alloc: Global, network: &Network, settled: &Settled) -> Result<Span
         network.now.weights settled.now.flows }
     requires shows { Shows network.now.observations network.now.weights settled.now.flows
         (heights_at (points_of network.now) settled.now.heights) }
-    requires each { length settled.now.heights ≡ length (points_of network.now) }
     ensures low { IfOk result (λ spans. Low network.now.observations network.now.benchmarks
         network.now.weights (heights_at (points_of network.now) spans.low)) }
     ensures high { IfOk result (λ spans. High network.now.observations network.now.benchmarks
         network.now.weights (heights_at (points_of network.now) spans.high)) }
+    ensures low_shown { IfOk result (λ spans. Shows network.now.observations network.now.weights
+        settled.now.flows (heights_at (points_of network.now) spans.low)) }
+    ensures high_shown { IfOk result (λ spans. Shows network.now.observations network.now.weights
+        settled.now.flows (heights_at (points_of network.now) spans.high)) }
     ensures low_at_points { IfOk result (λ spans. AreAtPoints network.now spans.low) }
     ensures high_at_points { IfOk result (λ spans. AreAtPoints network.now spans.high) }
 {
@@ -53,13 +56,11 @@ pub fn spans(alloc: Global, network: &Network, settled: &Settled) -> Result<Span
 
 /// How high each vertex stands above vertex 0. Only the order in which vertices are looked at comes
 /// from it.
-fn rises_of(alloc: Global, network: &Network, heights: &[i64]) -> Result<Vec<i64>, AllocError>
-    requires { length heights.now ≡ length (points_of network.now) }
-{
+fn rises_of(alloc: Global, network: &Network, heights: &[i64]) -> Result<Vec<i64>, AllocError> {
     let mut rises = vec![in alloc; 0i64]?;
-    for (place, height) in heights.iter().enumerate() {
+    for place in 0..network.points().len() {
         if network.fixed(place).is_none() {
-            rises.push(*height)?;
+            rises.push(heights.get(place).copied().unwrap_or(0))?;
         }
     }
     Ok(rises)
@@ -67,7 +68,10 @@ fn rises_of(alloc: Global, network: &Network, heights: &[i64]) -> Result<Vec<i64
 
 /// How far each vertex stands below vertex 0.
 fn falls_of(alloc: Global, rises: &[i64]) -> Result<Vec<i64>, AllocError> {
-    rises.iter().map(|rise| rise.wrapping_neg()).collect(alloc)
+    rises
+        .iter()
+        .map(|rise| rise.saturating_neg())
+        .collect(alloc)
 }
 
 /// Lists the height of each point where each vertex is as far below vertex 0 as it is distant.

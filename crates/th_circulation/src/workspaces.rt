@@ -16,14 +16,14 @@ ghost use Rattle.th_search.specs.Potentials.{value_at};
 use crate::cancels::cancel;
 use crate::differences::set_differences;
 use crate::graphs::Graph;
-use crate::guide::Guide;
 use crate::heights::{double, raise, take};
-use crate::limits::PHASES;
+use crate::limits::{MOST_ROOM, PHASES};
 use crate::listings::Listing;
 use crate::proposals::closes_below_zero;
+use crate::proposing::start_guide;
 use crate::steps::Steps;
-use crate::views::View;
 use std::alloc::{AllocError, Global};
+use th_guide::Guide;
 use th_search::{Arc, Found, Search};
 
 /// What a settling works on.
@@ -39,6 +39,8 @@ pub(crate) struct Workspace {
     pub listing: Listing,
     /// What proposes cycles.
     pub guide: Guide,
+    /// The most that is to flow round the cycle that is listed.
+    pub most: u32,
 }
 
 impl Workspace {
@@ -68,6 +70,7 @@ impl Workspace {
             flows,
             listing,
             guide,
+            most: MOST_ROOM,
         })
     }
 
@@ -99,6 +102,7 @@ impl Workspace {
         ensures refused { OnErr result (S.calls search.new + steps.old ≤ S.calls search.old + steps.new + 44) }
         ensures asked { S.calls search.old + steps.new ≤ S.calls search.new + steps.old }
         ensures refusals { S.refusals search.new ≡ S.refusals search.old + refusals_in result }
+        ensures cycles { S.cycles search.new + steps.old ≡ S.cycles search.old + steps.new }
     {
         if self.settle_at_once(alloc, graph, search, steps)? {
             skip_phases(alloc, graph.vertices, search)
@@ -140,6 +144,7 @@ impl Workspace {
         ensures calls { S.calls search.new + steps.old ≤ S.calls search.old + steps.new + 1 }
         ensures asked { S.calls search.old + steps.new ≤ S.calls search.new + steps.old }
         ensures refusals { S.refusals search.new ≡ S.refusals search.old + refusals_in result }
+        ensures cycles { S.cycles search.new + steps.old ≡ S.cycles search.old + steps.new }
     {
         self.start_phase(graph, 0);
         let most = total(graph.weights);
@@ -179,6 +184,7 @@ impl Workspace {
         ensures refused { OnErr result (S.calls search.new + steps.old ≤ S.calls search.old + steps.new + 44) }
         ensures asked { S.calls search.old + steps.new ≤ S.calls search.new + steps.old }
         ensures refusals { S.refusals search.new ≡ S.refusals search.old + refusals_in result }
+        ensures cycles { S.cycles search.new + steps.old ≡ S.cycles search.old + steps.new }
     {
         'phases: for done in 0..PHASES {
             self.start_phase(graph, PHASES - 1 - done);
@@ -207,6 +213,7 @@ impl Workspace {
         ensures slots { vec_capacity self.old.listing.slots ≤ vec_capacity self.new.listing.slots }
         ensures calls { S.calls search.new ≡ S.calls search.old + 1 }
         ensures refusals { S.refusals search.new ≡ S.refusals search.old + refusals_in result }
+        ensures cycles { S.cycles search.new + steps.old ≡ S.cycles search.old + steps.new }
         ensures answer { IfOk result (λ cancelled. MatchBool cancelled
             (AreWithin graph.now.vertices height_bound self.new.heights.items
             × (steps.new ≡ steps.old + 1)
@@ -223,7 +230,8 @@ impl Workspace {
         self.list_next(graph);
         match search.search(alloc, graph.vertices, &self.listing.arcs)? {
             Found::Cycle(cycle) => {
-                cancel(graph, &self.listing.slots, &cycle, &mut self.flows);
+                let most = self.most.clamp(1, MOST_ROOM);
+                cancel(graph, &self.listing.slots, &cycle, most, &mut self.flows);
                 steps.tick();
                 Ok(true)
             }
@@ -260,6 +268,7 @@ impl Workspace {
             self.guide.stop();
             take(&mut self.heights, &self.guide, graph.vertices);
         }
+        self.most = MOST_ROOM;
         self.listing
             .list_all(graph, &self.differences, &self.heights, &self.flows);
     }
@@ -281,20 +290,16 @@ impl Workspace {
             self.new.listing.arcs.items self.new.listing.slots.items) }
         ensures cycle { OnTrue result (HasNoPotentials self.new.listing.arcs.items) }
     {
-        let view = View {
-            graph: *graph,
-            differences: &self.differences,
-            flows: &self.flows,
-        };
-        if !self.guide.propose(view) {
+        let Some(amount) = self.guide.propose() else {
             return false;
-        }
+        };
+        self.most = amount;
         self.listing.list_these(
             graph,
             &self.differences,
             &self.heights,
             &self.flows,
-            &self.guide.cycle,
+            self.guide.cycle(),
         );
         closes_below_zero(&self.listing.arcs)
     }
@@ -312,11 +317,7 @@ impl Workspace {
     {
         set_differences(graph.links, phase, &mut self.differences);
         double(&mut self.heights, graph.vertices);
-        self.guide.start(View {
-            graph: *graph,
-            differences: &self.differences,
-            flows: &self.flows,
-        });
+        start_guide(&mut self.guide, graph, &self.differences, &self.flows);
     }
 
     /// Cancels cycles until the search answers potentials: then the flows show the heights for these
@@ -347,6 +348,7 @@ impl Workspace {
             +ℤ pos (steps.new - steps.old)) ≤ℤ gain self.new.flows.items self.old.differences.items }
         ensures calls { S.calls search.new + steps.old ≡ S.calls search.old + steps.new + 1 }
         ensures refusals { S.refusals search.new ≡ S.refusals search.old + refusals_in result }
+        ensures cycles { S.cycles search.new + steps.old ≡ S.cycles search.old + steps.new }
         ensures shown { OnOk result (AreWithin graph.now.vertices raised_bound self.new.heights.items
             × ShowsLinks graph.now.weights.now self.new.flows.items (residuals graph.now.links.now
             self.old.differences.items (value_at self.new.heights.items))) }
@@ -366,6 +368,7 @@ fn skip_phases<S: Search>(alloc: Global, vertices: u32, search: &mut S) -> Resul
     ensures few { S.calls search.new ≤ S.calls search.old + 43 }
     ensures asked { S.calls search.old ≤ S.calls search.new }
     ensures refusals { S.refusals search.new ≡ S.refusals search.old + refusals_in result }
+    ensures cycles { S.cycles search.new ≡ S.cycles search.old }
 {
     let none: [Arc; 0] = [];
     'phases: for phase in 1..PHASES {

@@ -6,8 +6,8 @@ use std::alloc::AllocError;
 ///
 /// `csv` has one type of error for all that it does. Of what it names, a record of another length
 /// than the first is allowed here, fields are bytes and need not be text, nothing is serialized,
-/// and neither a slice that is read nor a vector that is written fails in another way than for
-/// want of memory. So no other error can come.
+/// and reading a slice or writing a vector fails only where an allocation does. So no other error
+/// can come.
 pub fn want_of_memory<E: Drop>(_error: E) -> AllocError
     ensures { result ≡ alloc_error }
 {

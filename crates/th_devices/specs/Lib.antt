@@ -1,5 +1,8 @@
+pub mod Spots
 pub mod Limits
 pub mod Devices
 pub mod Files
 pub mod Memory
 pub mod Transfer
+pub mod Origins
+pub mod MemoryFolders

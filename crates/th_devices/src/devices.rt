@@ -6,6 +6,7 @@
 ghost use Rattle.std.specs.Prelude.{◌≡◌, ◌+◌, ◌<◌, ◌≤◌, ℕ, Bool, List, Option};
 ghost use Rattle.th_devices.specs.Devices.{IsBegun, IsFinish, IsRead, IsWrite, failures_in};
 ghost use Rattle.th_devices.specs.Limits.{call_limit};
+ghost use Rattle.th_devices.specs.Spots.{Spot};
 
 /// A device failed: what it was asked for was not done.
 #[derive(Clone, Copy, Debug, PartialEq, Eq)]
@@ -58,8 +59,8 @@ pub trait Source {
 
     /// Reads the next bytes into the front of `into`, and says how many.
     ///
-    /// For a slice that is not empty it is 0 at the end of the source and only there. What stands
-    /// behind the bytes that are given stays. A read that fails takes nothing and leaves the slice.
+    /// For a slice that is not empty it is 0 at the end of the source and only there. The
+    /// bytes of the slice behind the ones given stay. A read that fails takes nothing and leaves the slice.
     fn read(&mut self, into: &mut [u8]) -> Result<usize, Failed>
         requires { calls self.old < call_limit }
         ensures { IsRead left calls failures self.old self.new into.old into.new result };
@@ -70,6 +71,9 @@ pub trait Source {
 
 /// What a text is written to.
 pub trait Sink {
+    // Where its bytes are.
+    ghost spot: { Self → Spot };
+
     // The bytes that it holds, where it tells them.
     ghost held: { Self → Option (List ℕ) };
 
@@ -85,19 +89,22 @@ pub trait Sink {
     /// bytes. In either case the output is not finished then.
     fn begin(&mut self) -> Result<(), Failed>
         requires { calls self.old < call_limit }
-        ensures { IsBegun held is_finished calls failures self.old self.new result };
+        ensures begun { IsBegun held is_finished calls failures self.old self.new result }
+        ensures spot { spot self.new ≡ spot self.old };
 
     /// Takes bytes of the front of `bytes`, at least one unless it is empty, and says how many. A
     /// write that fails takes none. The output is not finished then.
     fn write(&mut self, bytes: &[u8]) -> Result<usize, Failed>
         requires { calls self.old < call_limit }
-        ensures { IsWrite held is_finished calls failures self.old self.new bytes.now result };
+        ensures write { IsWrite held is_finished calls failures self.old self.new bytes.now result }
+        ensures spot { spot self.new ≡ spot self.old };
 
     /// Brings what is held to where it is to stay, so that the output is finished unless it fails.
     /// The bytes stay as they are, also where it fails.
     fn finish(&mut self) -> Result<(), Failed>
         requires { calls self.old < call_limit }
-        ensures { IsFinish held is_finished calls failures self.old self.new result };
+        ensures finish { IsFinish held is_finished calls failures self.old self.new result }
+        ensures spot { spot self.new ≡ spot self.old };
 
     // No more calls fail than there are.
     ghost failures_are_calls: { (sink : Self) → failures sink ≤ calls sink };

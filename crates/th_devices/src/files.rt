@@ -1,10 +1,11 @@
 //! Real files as a source and a sink. A source tells the bytes that are left in its file where the
 //! open file tells them, which those of the system do not; a sink tells nothing of its bytes.
-ghost use Rattle.std.specs.Prelude.{◌≡◌, ◌+◌, ◌<◌, ◌≤◌, ◌↔◌, ◌⊎◌, true, false, is_ok, is_some, None, Ok, IfOk, OnOk, OnErr, IsErr, length, take, drop, option_and_then};
+ghost use Rattle.std.specs.Prelude.{◌≡◌, ◌+◌, ◌<◌, ◌≤◌, ◌↔◌, ◌⊎◌, true, false, is_ok, is_some, None, Ok, IfOk, OnOk, OnErr, IsErr, length, take, drop, option_and_then, string_bytes};
 ghost use Rattle.std.specs.Io.KnownBytes.{Appends, Consumes, IsAtEnd, Keeps, ReadConsumes, WriteAppends};
 ghost use Rattle.th_devices.specs.Devices.{bytes_given};
 ghost use Rattle.th_devices.specs.Files.{IsFileBegun, IsFileFinish, IsFileRead, IsFileWrite};
 ghost use Rattle.th_devices.specs.Limits.{call_limit};
+ghost use Rattle.th_devices.specs.Spots.{file};
 
 use crate::devices::{Counts, Failed, Sink, Source};
 use crate::transfer::copy_front;
@@ -21,19 +22,19 @@ const CHUNK: usize = 4_096;
 #[derive(Drop)]
 pub struct FileSource<'a, R: Files> {
     files: &'a R,
-    name: &'a str,
+    name: String,
     file: Option<R::File>,
     counts: Counts,
 }
 
 impl<'a, R: Files> Model for FileSource<'a, R> {
-    ghost use Rattle.std.specs.Prelude.{is_some, option_and_then};
+    ghost use Rattle.std.specs.Prelude.{is_some, option_and_then, string_bytes};
     ghost use Rattle.th_devices.specs.Files.{FileSourceState};
 
     ghost Value = { FileSourceState };
 
     ghost view = { λ source. record {
-      name = source.name.now;
+      name = string_bytes source.name;
       opened = is_some source.file;
       left = option_and_then R.File.remaining source.file;
       counts = source.counts;
@@ -42,8 +43,8 @@ impl<'a, R: Files> Model for FileSource<'a, R> {
 
 impl<'a, R: Files> FileSource<'a, R> {
     /// The file of this name, not opened yet.
-    pub fn new(files: &'a R, name: &'a str) -> FileSource<'a, R>
-        ensures name { result.name ≡ name.entry.now }
+    pub fn new(files: &'a R, name: String) -> FileSource<'a, R>
+        ensures name { result.name ≡ string_bytes name }
         ensures unopened { result.opened ≡ false }
         ensures calls { result.counts.calls ≡ 0 }
         ensures failures { result.counts.failures ≡ 0 }
@@ -57,7 +58,7 @@ impl<'a, R: Files> FileSource<'a, R> {
     }
 }
 
-/// Reads into the front of `into`, and leaves what stands behind it; all of it where it fails.
+/// Reads into the front of `into`, and leaves the rest as it was; all of it if the read fails.
 pub(crate) fn read_some<T: Read>(reader: &mut T, into: &mut [u8]) -> Result<usize, Failed>
     ensures within { IfOk result (λ count. count ≤ length into.old) }
     ensures beyond { drop (bytes_given result) into.new ≡ drop (bytes_given result) into.old }
@@ -104,7 +105,7 @@ impl<'a, R: Files> Source for FileSource<'a, R> {
         ensures opened { OnOk result (self.new.opened ≡ true) }
         ensures name { self.new.name ≡ self.old.name }
     {
-        let answer = read_opened(self.files, self.name, &mut self.file, into);
+        let answer = read_opened(self.files, self.name.as_str(), &mut self.file, into);
         self.counts.count(&answer);
         answer
     }
@@ -116,20 +117,20 @@ impl<'a, R: Files> Source for FileSource<'a, R> {
 #[derive(Drop)]
 pub struct FileSink<'a, R: Files> {
     files: &'a R,
-    name: &'a str,
+    name: String,
     file: Option<R::File>,
     finished: bool,
     counts: Counts,
 }
 
 impl<'a, R: Files> Model for FileSink<'a, R> {
-    ghost use Rattle.std.specs.Prelude.{is_some, option_and_then};
+    ghost use Rattle.std.specs.Prelude.{is_some, option_and_then, string_bytes};
     ghost use Rattle.th_devices.specs.Files.{FileSinkState};
 
     ghost Value = { FileSinkState };
 
     ghost view = { λ sink. record {
-      name = sink.name.now;
+      name = string_bytes sink.name;
       opened = is_some sink.file;
       contents = option_and_then R.File.contents sink.file;
       finished = sink.finished;
@@ -139,8 +140,8 @@ impl<'a, R: Files> Model for FileSink<'a, R> {
 
 impl<'a, R: Files> FileSink<'a, R> {
     /// The file of this name, not touched yet.
-    pub fn new(files: &'a R, name: &'a str) -> FileSink<'a, R>
-        ensures name { result.name ≡ name.entry.now }
+    pub fn new(files: &'a R, name: String) -> FileSink<'a, R>
+        ensures name { result.name ≡ string_bytes name }
         ensures unopened { result.opened ≡ false }
         ensures unfinished { result.finished ≡ false }
         ensures calls { result.counts.calls ≡ 0 }
@@ -199,6 +200,8 @@ pub(crate) fn flush_opened<F: Write>(file: &mut Option<F>) -> Result<(), Failed>
 }
 
 impl<'a, R: Files> Sink for FileSink<'a, R> {
+    ghost spot = { λ sink. file sink.name };
+
     ghost held = { λ _. None };
 
     ghost is_finished = { λ sink. sink.finished };
@@ -213,7 +216,7 @@ impl<'a, R: Files> Sink for FileSink<'a, R> {
         ensures opened { OnOk result (self.new.opened ≡ true) }
         ensures name { self.new.name ≡ self.old.name }
     {
-        let answer = match fs::create(self.files, self.name) {
+        let answer = match fs::create(self.files, self.name.as_str()) {
             Ok(file) => {
                 self.file = Some(file);
                 Ok(())

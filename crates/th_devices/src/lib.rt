@@ -10,10 +10,19 @@
 mod devices;
 mod limits;
 
+// Folders, which give devices and take them back.
+mod folders;
+
 // Devices.
+mod choices;
+mod errors;
 mod files;
 mod memory;
 mod streams;
+
+// Folders of such devices.
+mod host_folders;
+mod memory_folders;
 
 // Whole texts.
 mod transfer;
@@ -21,9 +30,14 @@ mod transfer;
 // What holds of the definitions.
 pub mod laws;
 
+pub use choices::{OneOf, Untold};
 pub use devices::{Counts, Failed, Sink, Source};
+pub use errors::StandardError;
 pub use files::{FileSink, FileSource};
+pub use folders::{Folder, Origin, Target};
+pub use host_folders::HostFolder;
 pub use limits::{CALL_LIMIT, CALLS_BEFORE};
 pub use memory::{TextSink, TextSource};
+pub use memory_folders::{MemoryFolder, MemorySink, MemorySource};
 pub use streams::{StandardInput, StandardOutput};
 pub use transfer::{ReadFault, read_all, write_all};

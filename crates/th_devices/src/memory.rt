@@ -4,6 +4,7 @@ ghost use Rattle.std.specs.Prelude.{◌≡◌, ◌+◌, ◌<◌, ◌≤◌, ◌�
 ghost use Rattle.std.specs.Io.KnownBytes.{Appends, Consumes, IsAtEnd, Keeps};
 ghost use Rattle.th_devices.specs.Memory.{FindsNoRoom, IsSetAs, IsTextBegun, IsTextFinish, IsTextRead, IsTextWrite};
 ghost use Rattle.th_devices.specs.Limits.{call_limit};
+ghost use Rattle.th_devices.specs.Spots.{nowhere};
 
 use crate::devices::{Counts, Failed, Sink, Source};
 use crate::transfer::copy_front;
@@ -151,6 +152,51 @@ impl TextSink {
         })
     }
 
+    /// A sink that holds these bytes, and was not called yet. It has no room for more.
+    pub(crate) fn holding(alloc: Global, text: &[u8]) -> Result<TextSink, AllocError>
+        ensures held { IfOk result (λ sink. sink.held ≡ text.now) }
+    {
+        Ok(TextSink {
+            held: Vec::from_slice(alloc, text)?,
+            room: text.len(),
+            piece: 1,
+            fail_at: None,
+            finished: false,
+            counts: Counts::new(),
+        })
+    }
+
+    /// A sink without room, which takes no memory.
+    pub(crate) fn without_room(alloc: Global) -> TextSink
+        ensures held { result.held ≡ [] }
+        ensures unfinished { result.finished ≡ false }
+        ensures calls { result.counts.calls ≡ 0 }
+        ensures failures { result.counts.failures ≡ 0 }
+    {
+        TextSink {
+            held: Vec::new(alloc),
+            room: 0,
+            piece: 1,
+            fail_at: None,
+            finished: false,
+            counts: Counts::new(),
+        }
+    }
+
+    /// It was called.
+    pub(crate) fn is_called(&self) -> bool
+        ensures { IsTrue result ↔ (0 < self.now.counts.calls) }
+    {
+        self.counts.calls > 0
+    }
+
+    /// It was finished, and neither begun nor written since.
+    pub(crate) fn is_finished(&self) -> bool
+        ensures { result ≡ self.now.finished }
+    {
+        self.finished
+    }
+
     /// The bytes that it holds.
     pub fn bytes(&self) -> &[u8]
         ensures { result.now ≡ self.now.held }
@@ -160,6 +206,8 @@ impl TextSink {
 }
 
 impl Sink for TextSink {
+    ghost spot = { λ _. nowhere };
+
     ghost held = { λ sink. Some sink.held };
 
     ghost is_finished = { λ sink. sink.finished };

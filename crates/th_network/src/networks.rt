@@ -58,8 +58,8 @@ impl<'a> Model for Network<'a> {
 
 impl<'a> Network<'a> {
     /// Makes the network of some observations, or answers the first fault of `NetFault` that they
-    /// have. Want of memory may be answered where there are not too many observations. The time is
-    /// near the number of observations, points and benchmarks.
+    /// have. `NoMemory` may occur where there are not too many observations. The time is nearly
+    /// proportional to the number of observations, points and benchmarks.
     pub fn build(
         alloc: Global,
         observations: Vec<Observation>,

@@ -10,7 +10,7 @@ use std::alloc::{AllocError, Global};
 /// The program's version.
 const VERSION: &str = "0.9.0";
 
-/// How the program is called: without words it lists the book on standard input.
+/// How the program is called: with no arguments it lists the book on standard input.
 const USAGE: &str = "height_office list <BOOK>
        height_office adjust [OPTIONS] --benchmarks <FILE> --out <PREFIX> <BOOK>...
        height_office check [OPTIONS] --benchmarks <FILE> --certificate <FILE> <BOOK>...

@@ -13,7 +13,7 @@ pub enum PlanFault {
     NoMemory,
 }
 
-/// What stands behind the text of `clap` where the first word is no command.
+/// The tip that follows the text of `clap` where the first argument is no command.
 const TIP: &str = "\n  tip: to list the book in a file, write 'height_office list FILE'\n";
 
 /// The text where there are more books than a command takes.
@@ -46,7 +46,7 @@ impl From<AllocError> for PlanFault {
     }
 }
 
-/// `clap`'s own refusal for memory is want of memory here too.
+/// Where `clap` is out of memory, the fault is `NoMemory`.
 impl From<clap::Error> for PlanFault {
     ghost use Rattle.std.specs.Prelude.{◌≡◌, ◌≢◌};
     ghost use Rattle.clap.specs.Words.{kind_of};

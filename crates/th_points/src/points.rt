@@ -19,7 +19,7 @@ pub struct Points {
 }
 
 impl Points {
-    /// Finds the points of some observations and benchmarks. It refuses only for want of memory.
+    /// Finds the points of some observations and benchmarks. Only an allocation can fail.
     pub fn of(
         alloc: Global,
         observations: &[Observation],

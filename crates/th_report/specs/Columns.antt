@@ -16,3 +16,7 @@ gap = 32 ∷ 32 ∷ []
 -- the end of a line
 abbrev pub line_end : List ℕ
 line_end = 10 ∷ []
+
+-- how many bytes the widest column has
+abbrev pub widest : ℕ
+widest = 26

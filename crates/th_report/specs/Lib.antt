@@ -3,4 +3,3 @@ pub mod Heights
 pub mod Columns
 pub mod Reports
 pub mod Gsi
-pub mod Inside

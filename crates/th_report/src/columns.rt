@@ -1,8 +1,7 @@
 //! Text that grows, column by column and line by line.
 ghost use Rattle.std.specs.Prelude.{◌≡◌, ◌≤◌, ◌+◌, ◌++◌, [], IfOk, OnOk, decimal, replicate};
 ghost use Rattle.th_units.specs.Metres.{metres};
-ghost use Rattle.th_report.specs.Columns.{gap, left_in, line_end, right_in};
-ghost use Rattle.th_report.specs.Inside.Widths.{widest};
+ghost use Rattle.th_report.specs.Columns.{gap, left_in, line_end, right_in, widest};
 
 use itoa::Buffer;
 use std::alloc::{AllocError, Global};
@@ -13,14 +12,14 @@ use th_units::metre_text;
 const SPACES: [u8; 26] = [b' '; 26];
 
 /// How many bytes a line of a table has as a rule.
-pub(crate) const LINE: usize = 88;
+pub const LINE: usize = 88;
 
 /// How many spaces stand between neighbouring columns.
 const GAP: usize = 2;
 
 /// A text to which columns and line ends are added.
 #[derive(Drop)]
-pub(crate) struct Page {
+pub struct Page {
     bytes: Vec<u8>,
 }
 
@@ -34,7 +33,7 @@ impl Model for Page {
 
 impl Page {
     /// An empty text.
-    pub(crate) fn new(alloc: Global) -> Page
+    pub fn new(alloc: Global) -> Page
         ensures { result ≡ [] }
     {
         Page {
@@ -43,7 +42,7 @@ impl Page {
     }
 
     /// An empty text with room for so many bytes.
-    pub(crate) fn with_room(alloc: Global, bytes: usize) -> Result<Page, AllocError>
+    pub fn with_room(alloc: Global, bytes: usize) -> Result<Page, AllocError>
         ensures { IfOk result (λ page. page ≡ []) }
     {
         Ok(Page {
@@ -52,28 +51,28 @@ impl Page {
     }
 
     /// The text.
-    pub(crate) fn into_bytes(self) -> Vec<u8>
+    pub fn into_bytes(self) -> Vec<u8>
         ensures { result.items ≡ self }
     {
         self.bytes
     }
 
     /// The text so far.
-    pub(crate) fn as_bytes(&self) -> &[u8]
+    pub fn as_bytes(&self) -> &[u8]
         ensures { result.now ≡ self.now }
     {
         &self.bytes
     }
 
     /// Drops the text so far.
-    pub(crate) fn clear(&mut self)
+    pub fn clear(&mut self)
         ensures { self.new ≡ [] }
     {
         self.bytes.clear()
     }
 
     /// Adds bytes.
-    pub(crate) fn add(&mut self, bytes: &[u8]) -> Result<(), AllocError>
+    pub fn add(&mut self, bytes: &[u8]) -> Result<(), AllocError>
         ensures { OnOk result (self.new ≡ self.old ++ bytes.now) }
     {
         self.bytes.extend_from_slice(bytes)
@@ -89,7 +88,7 @@ impl Page {
 
     /// Adds a text with spaces after it, `width` bytes in all.
     #[tactic(auto, unfolding(crate::specs::Columns::left_in))]
-    pub(crate) fn left(&mut self, width: usize, text: &[u8]) -> Result<(), AllocError>
+    pub fn left(&mut self, width: usize, text: &[u8]) -> Result<(), AllocError>
         requires { width ≤ widest }
         ensures { OnOk result (self.new ≡ self.old ++ left_in width text.now) }
     {
@@ -99,7 +98,7 @@ impl Page {
 
     /// Adds a text with spaces before it, `width` bytes in all.
     #[tactic(auto, unfolding(crate::specs::Columns::right_in))]
-    pub(crate) fn right(&mut self, width: usize, text: &[u8]) -> Result<(), AllocError>
+    pub fn right(&mut self, width: usize, text: &[u8]) -> Result<(), AllocError>
         requires { width ≤ widest }
         ensures { OnOk result (self.new ≡ self.old ++ right_in width text.now) }
     {
@@ -109,7 +108,7 @@ impl Page {
 
     /// Adds a text as `left` does, and the spaces before the next column.
     #[tactic(auto, using(crate::proofs::ColumnLemmas::gap_after), unfolding(crate::specs::Columns::left_in))]
-    pub(crate) fn left_gap(&mut self, width: usize, text: &[u8]) -> Result<(), AllocError>
+    pub fn left_gap(&mut self, width: usize, text: &[u8]) -> Result<(), AllocError>
         requires { width + 2 ≤ widest }
         ensures { OnOk result (self.new ≡ self.old ++ left_in width text.now ++ gap) }
     {
@@ -119,7 +118,7 @@ impl Page {
 
     /// Adds the spaces after the column before, and a text as `right` does.
     #[tactic(auto, using(crate::proofs::ColumnLemmas::gap_before), unfolding(crate::specs::Columns::right_in))]
-    pub(crate) fn gap_right(&mut self, width: usize, text: &[u8]) -> Result<(), AllocError>
+    pub fn gap_right(&mut self, width: usize, text: &[u8]) -> Result<(), AllocError>
         requires { width + 2 ≤ widest }
         ensures { OnOk result (self.new ≡ self.old ++ gap ++ right_in width text.now) }
     {
@@ -128,7 +127,7 @@ impl Page {
     }
 
     /// Adds a number with spaces before it, `width` bytes in all.
-    pub(crate) fn right_number(&mut self, width: usize, number: u64) -> Result<(), AllocError>
+    pub fn right_number(&mut self, width: usize, number: u64) -> Result<(), AllocError>
         requires { width ≤ widest }
         ensures { OnOk result (self.new ≡ self.old ++ right_in width (decimal number)) }
     {
@@ -137,7 +136,7 @@ impl Page {
     }
 
     /// Adds a length in metres with spaces before it, `width` bytes in all.
-    pub(crate) fn right_metres(&mut self, width: usize, units: i64) -> Result<(), AllocError>
+    pub fn right_metres(&mut self, width: usize, units: i64) -> Result<(), AllocError>
         requires { width ≤ widest }
         ensures { OnOk result (self.new ≡ self.old ++ right_in width (metres units)) }
     {
@@ -146,14 +145,14 @@ impl Page {
     }
 
     /// Adds the two spaces between neighbouring columns.
-    pub(crate) fn gap(&mut self) -> Result<(), AllocError>
+    pub fn gap(&mut self) -> Result<(), AllocError>
         ensures { OnOk result (self.new ≡ self.old ++ gap) }
     {
         self.add(b"  ")
     }
 
     /// Ends the line.
-    pub(crate) fn end_line(&mut self) -> Result<(), AllocError>
+    pub fn end_line(&mut self) -> Result<(), AllocError>
         ensures { OnOk result (self.new ≡ self.old ++ line_end) }
     {
         self.add(b"\n")

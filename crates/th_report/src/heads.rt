@@ -60,7 +60,7 @@ fn write_limit(page: &mut Page, limit: i64) -> Result<(), AllocError>
 }
 
 /// Writes a label and a count.
-pub(crate) fn write_count(page: &mut Page, label: &[u8], count: usize) -> Result<(), AllocError>
+pub fn write_count(page: &mut Page, label: &[u8], count: usize) -> Result<(), AllocError>
     ensures { OnOk result (page.new ≡ page.old ++ label_line label.now (decimal count)) }
 {
     let mut digits = Buffer::new();
@@ -69,7 +69,7 @@ pub(crate) fn write_count(page: &mut Page, label: &[u8], count: usize) -> Result
 
 /// Writes a label and the value that it stands for.
 #[tactic(auto, unfolding(crate::specs::Reports::label_line))]
-fn write_label(page: &mut Page, label: &[u8], value: &[u8]) -> Result<(), AllocError>
+pub fn write_label(page: &mut Page, label: &[u8], value: &[u8]) -> Result<(), AllocError>
     ensures { OnOk result (page.new ≡ page.old ++ label_line label.now value.now) }
 {
     page.left(14, label)?;
@@ -78,7 +78,7 @@ fn write_label(page: &mut Page, label: &[u8], value: &[u8]) -> Result<(), AllocE
 }
 
 /// How many points are benchmarks.
-fn benchmark_count(network: &Network) -> usize
+pub fn benchmark_count(network: &Network) -> usize
     ensures { result ≡ benchmark_count network.now }
 {
     let mut count = 0;

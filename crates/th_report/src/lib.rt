@@ -2,7 +2,7 @@
 //! the heights file, the report and the GSI file of an adjustment.
 //!
 //! Each is a function of the observations in their order, the points, the benchmarks, the weights
-//! and the heights. Want of memory is the only refusal.
+//! and the heights. Only an allocation can fail.
 #![tactic(auto)]
 
 // The list of a book's observations.
@@ -24,7 +24,11 @@ mod reports;
 // What holds of the definitions alone.
 pub mod laws;
 
+// What texts of other crates take over: columns, label lines, and the columns of observations.
+pub use columns::{LINE, Page};
 pub use gsi::heights_gsi;
+pub use heads::{benchmark_count, write_count, write_label};
 pub use heights::heights_csv;
 pub use lists::list_text;
 pub use reports::report_text;
+pub use residual_tables::{write_end_columns, write_ends, write_place, write_place_columns};

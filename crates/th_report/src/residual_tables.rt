@@ -120,7 +120,7 @@ fn write_residual(
 
 /// Writes an observation's number, from 1, its book and its line there.
 #[tactic(auto, unfolding(crate::specs::Reports::place_of))]
-fn write_place(page: &mut Page, number: u64, o: &Observation) -> Result<(), AllocError>
+pub fn write_place(page: &mut Page, number: u64, o: &Observation) -> Result<(), AllocError>
     ensures { OnOk result (page.new ≡ page.old ++ place_of number o.now) }
 {
     let mut count = Buffer::new();
@@ -136,7 +136,7 @@ fn write_place(page: &mut Page, number: u64, o: &Observation) -> Result<(), Allo
 
 /// Writes an observation's ends.
 #[tactic(auto, unfolding(crate::specs::Reports::ends_of))]
-pub(crate) fn write_ends(page: &mut Page, o: &Observation) -> Result<(), AllocError>
+pub fn write_ends(page: &mut Page, o: &Observation) -> Result<(), AllocError>
     ensures { OnOk result (page.new ≡ page.old ++ ends_of o.now) }
 {
     write_end_columns(page, o.station.as_bytes(), o.target.as_bytes())
@@ -168,7 +168,7 @@ fn mark_of(residual: i64, limit: i64) -> &'static [u8]
 
 /// Writes the columns that say which observation it is.
 #[tactic(auto, unfolding(crate::specs::Reports::place_columns))]
-fn write_place_columns(
+pub fn write_place_columns(
     page: &mut Page,
     number: &[u8],
     book: &[u8],
@@ -184,7 +184,7 @@ fn write_place_columns(
 
 /// Writes the columns of the ends.
 #[tactic(auto, unfolding(crate::specs::Reports::end_columns))]
-fn write_end_columns(page: &mut Page, station: &[u8], target: &[u8]) -> Result<(), AllocError>
+pub fn write_end_columns(page: &mut Page, station: &[u8], target: &[u8]) -> Result<(), AllocError>
     ensures { OnOk result (page.new ≡ page.old ++ end_columns station.now target.now) }
 {
     page.left_gap(16, station)?;

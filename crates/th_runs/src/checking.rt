@@ -42,18 +42,13 @@ pub fn run_check<B: Source, T: Source, W: Source, C: Source, K: Sink>(
     requires out_calls { K.calls out.old ≤ calls_before }
 
     // What the answer means.
-    ensures verdict { IfOk result (λ verdict. (claim : Claim)
-        × Meets (owed_for_claim (givens B.failures B.left books.old books.new)
-        (given T.failures T.left benchmarks.old benchmarks.new)
-        (given_if_any W.failures W.left weights.old weights.new)
-        (given C.failures C.left certificate.old certificate.new)) (Ok claim)
-        × IsVerdictOn claim verdict) }
     ensures written { IsWritten result → ((claim : Claim)
         × Meets (owed_for_claim (givens B.failures B.left books.old books.new)
         (given T.failures T.left benchmarks.old benchmarks.new)
         (given_if_any W.failures W.left weights.old weights.new)
         (given C.failures C.left certificate.old certificate.new)) (Ok claim)
         × MakesNetwork claim.survey
+        × IfOk result (IsVerdictOn claim)
         × IsWrittenFor K.held K.is_finished K.calls K.failures Output.Verdict (refused result)
         (verdict_line (verdict_on claim)) out.old out.new) }
     ensures refused { IfErr result (λ own. (IsWritten result → ⊥) → IsOwed (λ claim. claim.survey)
@@ -63,6 +58,7 @@ pub fn run_check<B: Source, T: Source, W: Source, C: Source, K: Sink>(
         (given C.failures C.left certificate.old certificate.new)) own) }
     ensures named { IfErr result (IsNamed (length books.old) (is_some weights.old) true) }
     ensures untouched { (IsWritten result → ⊥) → out.new ≡ out.old }
+    ensures spot { K.spot out.new ≡ K.spot out.old }
 
     // How the sources are read.
     ensures books { EachBook

@@ -26,7 +26,9 @@ pub fn run_list<S: Source, K: Sink>(alloc: Global, book: &mut S, out: &mut K) ->
     ensures read_fails { S.failures book.new ≡ S.failures book.old + failed_reads result }
     ensures write_fails { K.failures out.new ≡ K.failures out.old + failed_writes result }
 
-    // What stands after a refusal.
+    ensures spot { K.spot out.new ≡ K.spot out.old }
+
+    // What holds after a refusal.
     ensures untouched { IfErr result (λ refusal.
         refusal ≢ Refusal.Write Output.List → out.new ≡ out.old) }
     ensures beginning { result ≡ Err (Refusal.Write Output.List)

@@ -14,3 +14,9 @@ IsAnswer n arcs (Cycle cycle) = IsNegativeCycle arcs cycle.items
 abbrev pub refusals_in : {A E : Type 0} → Result A E → ℕ
 refusals_in (Ok answer) = 0
 refusals_in (Err refused) = 1
+
+-- one cycle for an answer that names one, and none for potentials or an error
+abbrev pub cycles_in : {E : Type 0} → Result Found E → ℕ
+cycles_in (Ok (Potentials potentials)) = 0
+cycles_in (Ok (Cycle cycle)) = 1
+cycles_in (Err refused) = 0

@@ -4,6 +4,7 @@ ghost use Rattle.th_search.specs.Walks.{IsArc};
 ghost use Rattle.th_search.specs.Answers.{IsAnswer};
 
 use crate::arcs::Arc;
+use crate::counts::Counts;
 use crate::fronts::cycle_in_front;
 use crate::labels::Labels;
 use crate::passes::{Pass, pass_over};
@@ -13,9 +14,7 @@ use std::alloc::{AllocError, Global};
 /// A search that lowers labels.
 #[derive(Debug, Drop)]
 pub struct LabelSearch {
-    calls: u128,
-    refusals: u128,
-    ghost refusals_are_calls: { refusals ≤ calls },
+    counts: Counts,
 }
 
 impl LabelSearch {
@@ -23,29 +22,28 @@ impl LabelSearch {
     pub fn new() -> LabelSearch
         ensures calls { ⟦<LabelSearch as Search>⟧.calls result ≡ 0 }
         ensures refusals { ⟦<LabelSearch as Search>⟧.refusals result ≡ 0 }
+        ensures cycles { ⟦<LabelSearch as Search>⟧.cycles result ≡ 0 }
     {
         LabelSearch {
-            calls: 0,
-            refusals: 0,
+            counts: Counts::new(),
         }
     }
 }
 
 impl Search for LabelSearch {
-    ghost calls = { λ search. search.calls };
+    ghost calls = { λ search. search.counts.calls };
 
-    ghost refusals = { λ search. search.refusals };
+    ghost refusals = { λ search. search.counts.refusals };
+
+    ghost cycles = { λ search. search.counts.cycles };
 
     fn search(&mut self, alloc: Global, n: u32, arcs: &[Arc]) -> Result<Found, AllocError> {
         let found = found_in(alloc, n, arcs);
-        self.calls += 1;
-        if found.is_err() {
-            self.refusals += 1;
-        }
+        self.counts.add(&found);
         found
     }
 
-    ghost refusals_are_calls = { λ search. search.refusals_are_calls };
+    ghost refusals_are_calls = { λ search. search.counts.refusals_are_calls };
 }
 
 /// Potentials or a negative cycle of a network of `n` vertices.

@@ -17,7 +17,7 @@ pub fn constants_are_the_limits()
 {}
 
 /// Where there are potentials no cycle costs less than nothing: round a cycle no arc may lead to more
-/// than what stands at its tail and its cost together, and the values at the vertices come and go. So
+/// than the value at its tail plus its cost, and the values at the vertices come and go. So
 /// each answer of a search is the only kind of answer that there is.
 pub fn potentials_exclude_negative_cycles()
     ensures { (arcs : List AnArc) (values : List ℤ) (walk : List ℕ)

@@ -5,6 +5,7 @@ ghost use Rattle.th_search.specs.Answers.{IsAnswer};
 ghost use Rattle.th_search.specs.Inside.Levels.{AreLevels, last_at, row_at, rows_of};
 
 use crate::arcs::Arc;
+use crate::counts::Counts;
 use crate::levels::Level;
 use crate::searches::{Found, Search};
 use std::alloc::{AllocError, Global};
@@ -14,9 +15,7 @@ use std::alloc::{AllocError, Global};
 /// `n` times the number of arcs; it is there for tests and for comparing.
 #[derive(Debug, Drop)]
 pub struct LevelSearch {
-    calls: u128,
-    refusals: u128,
-    ghost refusals_are_calls: { refusals ≤ calls },
+    counts: Counts,
 }
 
 impl LevelSearch {
@@ -24,29 +23,28 @@ impl LevelSearch {
     pub fn new() -> LevelSearch
         ensures calls { ⟦<LevelSearch as Search>⟧.calls result ≡ 0 }
         ensures refusals { ⟦<LevelSearch as Search>⟧.refusals result ≡ 0 }
+        ensures cycles { ⟦<LevelSearch as Search>⟧.cycles result ≡ 0 }
     {
         LevelSearch {
-            calls: 0,
-            refusals: 0,
+            counts: Counts::new(),
         }
     }
 }
 
 impl Search for LevelSearch {
-    ghost calls = { λ search. search.calls };
+    ghost calls = { λ search. search.counts.calls };
 
-    ghost refusals = { λ search. search.refusals };
+    ghost refusals = { λ search. search.counts.refusals };
+
+    ghost cycles = { λ search. search.counts.cycles };
 
     fn search(&mut self, alloc: Global, n: u32, arcs: &[Arc]) -> Result<Found, AllocError> {
         let found = found_in(alloc, n, arcs);
-        self.calls += 1;
-        if found.is_err() {
-            self.refusals += 1;
-        }
+        self.counts.add(&found);
         found
     }
 
-    ghost refusals_are_calls = { λ search. search.refusals_are_calls };
+    ghost refusals_are_calls = { λ search. search.counts.refusals_are_calls };
 }
 
 /// Potentials or a negative cycle of a network of `n` vertices: the costs of a level that is as the

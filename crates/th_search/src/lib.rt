@@ -2,7 +2,7 @@
 //! zero.
 //!
 //! `Search` is what both searches promise, for whoever is generic over them: one of the two answers
-//! of `Found`, each with its definition, and counts of calls and refusals. `LabelSearch` lowers labels
+//! of `Found`, each with its definition, and counts of calls, refusals and cycles. `LabelSearch` lowers labels
 //! in place, over one row of them and one of the arcs by which they fell; the program uses it.
 //! `LevelSearch` makes a table of the cheapest walks over 0, 1, 2, .. arcs, for tests and for comparing.
 //! `laws` proves that no network has both answers.
@@ -10,6 +10,7 @@
 
 // What a search is given and what it promises.
 mod arcs;
+mod counts;
 pub mod laws;
 mod limits;
 mod searches;

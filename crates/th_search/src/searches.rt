@@ -1,7 +1,7 @@
 ghost use Rattle.std.specs.Prelude.{◌≡◌, ◌+◌, ◌<◌, ◌≤◌, ℕ, All, IfOk, length};
 ghost use Rattle.th_search.specs.Limits.{max_vertices, max_arcs, max_calls};
 ghost use Rattle.th_search.specs.Walks.{IsArc};
-ghost use Rattle.th_search.specs.Answers.{IsAnswer, refusals_in};
+ghost use Rattle.th_search.specs.Answers.{IsAnswer, cycles_in, refusals_in};
 
 use crate::arcs::Arc;
 use std::alloc::{AllocError, Global};
@@ -20,10 +20,12 @@ pub enum Found {
 
 /// A search for potentials or a negative cycle.
 pub trait Search {
-    // How often it was called, and how many of these calls were refused memory.
+    // How often it was called, how many of these calls were refused memory, and how many named a cycle.
     ghost calls: { Self → ℕ };
 
     ghost refusals: { Self → ℕ };
+
+    ghost cycles: { Self → ℕ };
 
     /// Finds potentials of the vertices 0 to `n - 1`, or a cycle of arcs that costs less than 0.
     ///
@@ -38,7 +40,8 @@ pub trait Search {
         requires calls { calls self.old < max_calls }
         ensures answer { IfOk result (IsAnswer n arcs.now) }
         ensures calls { calls self.new ≡ calls self.old + 1 }
-        ensures refusals { refusals self.new ≡ refusals self.old + refusals_in result };
+        ensures refusals { refusals self.new ≡ refusals self.old + refusals_in result }
+        ensures cycles { cycles self.new ≡ cycles self.old + cycles_in result };
 
     // No more calls are refused than there are.
     ghost refusals_are_calls: { (search : Self) → refusals search ≤ calls search };

@@ -39,6 +39,14 @@ impl Benchmarks {
         self.heights.get(name).copied()
     }
 
+    /// How many rows the table has.
+    pub fn len(&self) -> usize
+        ensures rows { result ≡ length self.now }
+        ensures small { result < 2 ^ 63 }
+    {
+        self.heights.len()
+    }
+
     /// The row at this place of the table, counted from 0; none past its end.
     pub fn entry(&self, k: usize) -> Option<(Name, i64)>
         ensures value { result ≡ slice_get self.now k }
@@ -55,7 +63,7 @@ impl Benchmarks {
 /// The benchmarks of a table with the header `point,height`, or its first fault.
 ///
 /// A record under the header has a name and metres of at most 10 km in size, and no name that an
-/// earlier record has. Want of memory may be answered for a table that is not too long.
+/// earlier record has. `NoMemory` may occur for a table that is not too long.
 pub fn read_benchmarks(alloc: Global, bytes: &[u8]) -> Result<Benchmarks, TableFault>
     ensures table { IfOk result (λ table. benchmarks_of bytes.now ≡ Ok table) }
     ensures rows { IfOk result (λ table. AreBenchmarks table) }

@@ -1,4 +1,4 @@
-ghost use Rattle.std.specs.Prelude.{◌≡◌, ◌⊎◌, ◌<◌, ◌≤◌, ◌^◌, ◌+◌, [], Ok, Err, IfErr, IfOk, length};
+ghost use Rattle.std.specs.Prelude.{◌≡◌, ◌⊎◌, ◌<◌, ◌≤◌, ◌^◌, ◌+◌, [], Ok, Err, IfErr, IfOk, length, slice_get};
 ghost use Rattle.th_tables.specs.Fields.{is_weights_header, weighted_in};
 ghost use Rattle.th_tables.specs.Limits.{max_table, max_weight};
 ghost use Rattle.th_tables.specs.Rows.{AreWeights, same_ends, weight_of};
@@ -55,13 +55,34 @@ impl Weights {
         }
         self.weights.get(&(*station, *target)).copied().unwrap_or(1)
     }
+
+    /// How many rows the table has.
+    pub fn len(&self) -> usize
+        ensures rows { result ≡ length self.now }
+        ensures small { result < 2 ^ 63 }
+    {
+        self.weights.len()
+    }
+
+    /// The row at this place of the table, counted from 0: station, target and weight; none past its
+    /// end.
+    pub fn entry(&self, k: usize) -> Option<((Name, Name), u32)>
+        ensures value { result ≡ slice_get self.now k }
+        ensures rows { AreWeights self.now }
+        ensures counted { length self.now < 2 ^ 64 }
+    {
+        self.weights
+            .as_slice()
+            .get_index(k)
+            .map(|(ends, weight)| (*ends, *weight))
+    }
 }
 
 /// The weights of a table with the header `from,to,weight`, none for no bytes, or its first fault.
 ///
 /// A record under the header has a station's and a target's name and a weight of 1 to `MAX_WEIGHT`,
-/// and no station and target that an earlier record has in this order. Want of memory may be
-/// answered for a table that has bytes and is not too long.
+/// and no station and target that an earlier record has in this order. `NoMemory` may
+/// occur for a table that has bytes and is not too long.
 pub fn read_weights(alloc: Global, bytes: &[u8]) -> Result<Weights, TableFault>
     ensures table { IfOk result (λ table. weights_of bytes.now ≡ Ok table) }
     ensures rows { IfOk result (λ table. AreWeights table) }

@@ -148,7 +148,7 @@ fn parse_size(text: &[u8]) -> Result<u64, LenFault>
     Ok(units_of(whole, decimals.unwrap_or(&[])))
 }
 
-/// What stands before the first dot, and what stands after it if there is one.
+/// The bytes before the first dot, and the bytes after it if there is one.
 fn split_at_dot(text: &[u8]) -> (&[u8], Option<&[u8]>)
     ensures whole { result.0.now ≡ whole text.now }
     ensures decimals { option_copied result.1 ≡ decimals text.now }

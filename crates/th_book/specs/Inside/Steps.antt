@@ -7,7 +7,7 @@ use Rattle.th_book.specs.Faults.{Standing, block_faults, fault_in, first_applyin
 use Rattle.th_book.specs.Books.{difference, known, known_name}
 use Rattle.th_book.specs.Due.{BookState, observation_in, setup_after, standing_in}
 use Rattle.th_book.specs.Inside.Entries.{setup_by}
-use Rattle.th_book.specs.declared.entries.Entry.{Entry}
+use Rattle.th_book.specs.declared.entries.Entered.{Entered}
 use Rattle.th_book.specs.declared.setups.Setup.{Setup}
 use Rattle.th_book.specs.declared.setups.Sight.{Sight}
 use Rattle.th_book.specs.declared.steps.Step.{Step}
@@ -52,15 +52,15 @@ pub record IsSeen (running : Option Setup) (target : List ℕ) (sighted : ℤ) (
   pub seen : (book line : ℕ) → stamped book line sight ≡ observed_from running target sighted book line
 
 -- an entry has a target and a height difference
-abbrev pub is_seen : Entry → Bool
+abbrev pub is_seen : Entered → Bool
 is_seen entry = is_some entry.target && is_some entry.sighted
 
 -- the first kind of fault of an entry in a setup that has its heights
-abbrev pub entry_fault : Option Setup → Entry → Option BookKind
+abbrev pub entry_fault : Option Setup → Entered → Option BookKind
 entry_fault setup entry = if is_seen entry then sight_fault setup (known_name entry.target) else None
 
 -- this is the sight of an entry, where it has one
-pub record AreSeen (setup : Option Setup) (entry : Entry) (sight : Option Sight) : Type 0 where
+pub record AreSeen (setup : Option Setup) (entry : Entered) (sight : Option Sight) : Type 0 where
   pub seen : (book line : ℕ) → option_map (stamped book line) sight ≡ (if is_seen entry then Some (observed_from setup (known_name entry.target) (known entry.sighted) book line) else None)
 
 -- the first kind of fault of a block in a running setup

@@ -7,8 +7,9 @@ use Rattle.th_certificate.specs.Statements.{Draft}
 use Rattle.th_certificate.specs.declared.statements.Statement.{Statement}
 use Rattle.th_certificate.specs.declared.statements.Statement.TheVariants.{Height, Low, High, Flow, Cost}
 
--- flows in their range, as many as were counted at most, and a cost in its range
+-- a version that is read; flows in their range, as many as were counted at most; and a cost in its range
 pub record IsDraft (draft : Draft) : Type 0 where
+  pub known : (1 ≤ draft.version) × (draft.version ≤ 2)
   pub few : draft.count ≤ max_flows
   pub counted : length draft.flows ≤ draft.count
   pub flows : AreFlows draft.flows

@@ -11,6 +11,7 @@ use Rattle.th_search.specs.declared.arcs.Arc.{Arc}
 use Rattle.th_circulation.specs.Inside.Distances.{AreTight}
 use Rattle.th_circulation.specs.Inside.Residuals.{turned}
 use Rattle.th_circulation.specs.Inside.Spans.{AreAbove, AreBelow}
+use Rattle.th_circulation.proofs.BestLemmas.{best_is_shown}
 use Rattle.th_circulation.proofs.SpanLemmas.{AreShown, high_found, low_found, shown_tight}
 use Rattle.th_circulation.proofs.TiedLemmas.{arcs_in}
 use Rattle.th_circulation.proofs.spanning.spans.Goals as goal
@@ -59,3 +60,15 @@ returns-clause-high c =
     let shown : AreShown survey flows known = record { kept = c.requires.benchmarks; circulation = c.requires.circulation; shown = c.requires.shows } in
     let is = c.deref-5.ensures.value ∙ c.in_ok-back.ensures ∙ ap (map turned) (c.deref.ensures.value ∙ c.in_ok-arcs.ensures.arcs ∙ ap (arcs_in survey) c.as_slice.ensures) in
     high_found survey flows known c.in_ok-high.high shown (subst (λ (arcs : List Arc). AreAbove survey arcs c.in_ok-high.high) is c.in_ok-high.ensures)
+
+pub returns-clause-low_shown : goal.returns-clause-low_shown
+returns-clause-low_shown c =
+    let survey = c.args.network.now in
+    let names = points_of survey in
+    best_is_shown survey.observations survey.benchmarks survey.weights (heights_at names c.args.settled.now.heights) (heights_at names c.in_ok-low.low) c.args.settled.now.flows c.requires.benchmarks c.requires.circulation c.requires.shows (returns-clause-low c).best
+
+pub returns-clause-high_shown : goal.returns-clause-high_shown
+returns-clause-high_shown c =
+    let survey = c.args.network.now in
+    let names = points_of survey in
+    best_is_shown survey.observations survey.benchmarks survey.weights (heights_at names c.args.settled.now.heights) (heights_at names c.in_ok-high.high) c.args.settled.now.flows c.requires.benchmarks c.requires.circulation c.requires.shows (returns-clause-high c).best

@@ -29,4 +29,5 @@ steps-init g c =
       omega arith,
       refl,
       refl,
+      refl,
     )

@@ -14,3 +14,4 @@ invariant-steps g l =
     × (l.steps ≤ l.fn.steps + l.done)
     × (g.S.Search.calls l.search + l.fn.steps ≡ g.S.Search.calls l.fn.search + l.steps)
     × (g.S.Search.refusals l.search ≡ g.S.Search.refusals l.fn.search)
+    × (g.S.Search.cycles l.search + l.fn.steps ≡ g.S.Search.cycles l.fn.search + l.steps)

@@ -72,6 +72,7 @@ phases-init g c =
       (λ some. absurd (omega arith)),
       (λ e. c.requires.none),
       (λ some. absurd (omega arith)),
+      refl,
     )
 
 pub phases-preserved : goal.phases-preserved
@@ -105,4 +106,5 @@ phases-preserved g c =
       (λ some. let same : 43 - done ≡ 44 - (done + 1) = omega arith in subst (λ (k : ℕ). ShowsLinks weights c.settle_phase.new.self.flows.items (residuals links (differences_in k links) (value_at heights))) same shown),
       (λ e. absurd (omega arith)),
       (λ some. few_more w done c.args.steps.now c.phases.steps c.settle_phase.new.steps i.6 c.settle_phase.ensures.more rise (first graph.vertices links weights c.phases.self.flows.items c.start_phase.new.self.flows.items c.settle_phase.new.self.flows.items c.start_phase.new.self.differences.items done c.phases.steps c.settle_phase.new.steps graph.graph c.start_phase.ensures.differences c.start_phase.ensures.flows i.11 c.settle_phase.ensures.flow c.settle_phase.ensures.gained c.settle_phase.ensures.more) i.12),
+      omega arith,
     )

@@ -23,3 +23,4 @@ invariant-phases g l =
     × (0 < l.done → ShowsLinks l.graph.weights.now l.self.flows.items (residuals l.graph.links.now (differences_in (44 - l.done) l.graph.links.now) (value_at l.self.heights.items)))
     × (l.done ≡ 0 → l.self.flows.items ≡ replicate (length l.graph.links.now) (pos 0))
     × (0 < l.done → l.steps + sum l.graph.weights.now ≤ l.fn.steps + 2 * sum l.graph.weights.now * l.done)
+    × (g.S.Search.cycles l.search + l.fn.steps ≡ g.S.Search.cycles l.fn.search + l.steps)

@@ -14,6 +14,7 @@ invariant-cycles g l =
     × ((gain l.fn.self.flows.items l.fn.self.differences.items +ℤ pos (l.steps - l.fn.steps)) ≤ℤ gain l.self.flows.items l.fn.self.differences.items)
     × (g.S.Search.calls l.search + l.fn.steps ≡ g.S.Search.calls l.fn.search + l.steps)
     × (g.S.Search.refusals l.search ≡ g.S.Search.refusals l.fn.search)
+    × (g.S.Search.cycles l.search + l.fn.steps ≡ g.S.Search.cycles l.fn.search + l.steps)
 
 abbrev pub decreases-cycles : goal.decreases-cycles
 decreases-cycles g l = unsigned_abs ((gain l.fn.self.flows.items l.fn.self.differences.items +ℤ pos (2 * sum l.graph.weights.now)) -ℤ gain l.self.flows.items l.fn.self.differences.items)

@@ -1,6 +1,6 @@
 use Rattle.std.proofs.Common.{◌≡◌, ◌++◌, OnOk, subst}
 use Rattle.std.proofs.lemmas.List.{take-replicate}
-use Rattle.th_report.specs.Inside.Widths.{widest}
+use Rattle.th_report.specs.Columns.{widest}
 use Rattle.th_report.proofs.columns.Page.add_spaces.Goals as goal
 
 pub returns : goal.returns

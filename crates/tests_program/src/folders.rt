@@ -1,0 +1,66 @@
+//! A folder in memory with a project, and a run over it.
+use std::process::Abort;
+use th_devices::MemoryFolder;
+use th_program::run_words;
+
+/// A book with one sight, from A to B: B is higher by 2.545 m.
+pub const BOOK: &[u8] =
+    b"110001+0000000A 84..10+00000000 85..10+00000000 86..10+00100000 88..10+00001500 \n110002+0000000B 33..00+00002345 87..10+00001300 \n";
+
+/// A sight there, and one back from a second setup, which is longer by 5 mm.
+pub const THERE_AND_BACK: &[u8] =
+    b"110001+0000000A 84..10+00000000 85..10+00000000 86..10+00100000 88..10+00001500 \n110002+0000000B 33..00+00002345 87..10+00001300 \n110003+0000000B 84..10+00000000 88..10+00001450 \n110004+0000000A 33..00-00002705 87..10+00001300 \n";
+
+/// The list of the book with one sight.
+pub const LIST: &[u8] = b"number,from,to,difference\n1,A,B,2.54500000\n";
+
+/// No bytes.
+const NOTHING: &[u8] = b"";
+
+/// How many bytes a sink has room for where a test does not say.
+pub const ROOM: usize = 10_000;
+
+/// A folder with both books, benchmarks and weights, and the first book on standard input. Each sink
+/// has this room.
+pub fn project(rt: &(impl AllocGlobal + Abort), room: usize) -> MemoryFolder {
+    let made = MemoryFolder::new(rt.alloc(), BOOK, room, 7);
+    let mut folder = made.ok().expect(rt, "the folder");
+    put(rt, &mut folder, "site.gsi", BOOK);
+    put(rt, &mut folder, "back.gsi", THERE_AND_BACK);
+    put(rt, &mut folder, "heights", b"point,height\nA,100\n");
+    put(rt, &mut folder, "weights", b"from,to,weight\nA,B,3\n");
+    folder
+}
+
+/// Puts a file into the folder.
+pub fn put(rt: &(impl AllocGlobal + Abort), folder: &mut MemoryFolder, name: &str, text: &[u8]) {
+    folder
+        .put(rt.alloc(), name, text)
+        .ok()
+        .expect(rt, "the file");
+}
+
+/// Runs the program with these words behind its own name, and answers its status.
+pub fn run(rt: &(impl AllocGlobal + Abort), folder: &mut MemoryFolder, words: &[&str]) -> u8 {
+    let mut all = Vec::new(rt.alloc());
+    all.push("height_office").ok().expect(rt, "the name");
+    for word in words {
+        all.push(*word).ok().expect(rt, "the word");
+    }
+    run_words(rt.alloc(), folder, all.as_slice())
+}
+
+/// The bytes of the file of this name, none where there is no file.
+pub fn file<'a>(folder: &'a MemoryFolder, name: &str) -> &'a [u8] {
+    shown(folder.file(name))
+}
+
+/// Bytes, none where there are none.
+pub fn shown(text: Option<&[u8]>) -> &[u8] {
+    text.unwrap_or(NOTHING)
+}
+
+/// Both have the same bytes.
+pub fn same(text: &[u8], wanted: &[u8]) -> bool {
+    text == wanted
+}

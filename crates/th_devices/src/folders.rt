@@ -1,0 +1,71 @@
+//! A folder gives sources and sinks by where their bytes are, and takes sinks back.
+//!
+//! A contract of a program over a folder speaks of the folder before and after alone. The devices
+//! that come from it do not appear there.
+ghost use Rattle.std.specs.Prelude.{◌≡◌, Bool, List, Option, ℕ, IfOk};
+ghost use Rattle.th_devices.specs.Origins.{spot_of_origin, spot_of_target};
+ghost use Rattle.th_devices.specs.Spots.{IsClosed, IsMade, IsOpened, Spot, errors};
+
+use crate::devices::{Sink, Source};
+use std::alloc::{AllocError, Global};
+
+/// Where bytes are read from.
+#[derive(Clone, Copy, Debug)]
+pub enum Origin<'a> {
+    /// The file of this name.
+    File(&'a str),
+    /// Standard input.
+    Input,
+}
+
+/// Where bytes are written to.
+#[derive(Clone, Copy, Debug)]
+pub enum Target<'a> {
+    /// The file of this name.
+    File(&'a str),
+    /// Standard output.
+    Output,
+}
+
+/// Named files and standard streams.
+pub trait Folder {
+    /// What it gives for reading.
+    type In: Source + Drop;
+
+    /// What it gives for writing.
+    type Out: Sink + Drop;
+
+    // Whether it tells the bytes that are written.
+    ghost tells: { Bool };
+
+    // The bytes at each spot, where they are told.
+    ghost held: { Self → Spot → Option (List ℕ) };
+
+    // Whether a call failed of the sink that was last given back for a spot. Only a folder that tells
+    // knows.
+    ghost has_failed: { Self → Spot → Bool };
+
+    /// A source of the bytes there. Nothing is opened yet.
+    fn source(&mut self, alloc: Global, origin: Origin<'_>) -> Result<Self::In, AllocError>
+        ensures same { self.new ≡ self.old }
+        ensures opened { IfOk result (IsOpened held Self.In.left Self.In.calls Self.In.failures
+            (spot_of_origin origin.entry) self.old) };
+
+    /// A sink for the bytes there. Nothing is changed yet.
+    fn sink(&mut self, alloc: Global, target: Target<'_>) -> Result<Self::Out, AllocError>
+        ensures same { self.new ≡ self.old }
+        ensures made { IfOk result (IsMade tells Self.Out.spot Self.Out.held Self.Out.is_finished
+            Self.Out.calls Self.Out.failures (spot_of_target target.entry)) };
+
+    /// A sink for standard error. It takes no memory, so that a program that is out of memory can say
+    /// so.
+    fn standard_error(&mut self) -> Self::Out
+        ensures same { self.new ≡ self.old }
+        ensures made { IsMade tells Self.Out.spot Self.Out.held Self.Out.is_finished Self.Out.calls
+            Self.Out.failures errors result };
+
+    /// Takes a sink back. Unless the sink was never called, its bytes are at its spot then.
+    fn close(&mut self, sink: Self::Out)
+        ensures { IsClosed tells held has_failed Self.Out.spot Self.Out.held Self.Out.is_finished
+            Self.Out.calls Self.Out.failures sink self.old self.new };
+}

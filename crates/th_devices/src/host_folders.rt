@@ -1,0 +1,62 @@
+//! The files and standard streams of the system as a folder.
+ghost use Rattle.std.specs.Prelude.{◌≡◌, false, true, None};
+
+use crate::choices::{OneOf, Untold};
+use crate::errors::StandardError;
+use crate::files::{FileSink, FileSource};
+use crate::folders::{Folder, Origin, Target};
+use crate::streams::{StandardInput, StandardOutput};
+use std::alloc::{AllocError, Global};
+use std::rt::Files;
+
+/// The files and standard streams of the system. It tells nothing of their bytes.
+#[derive(Drop)]
+pub struct HostFolder<'a, R> {
+    rt: &'a R,
+}
+
+impl<'a, R> HostFolder<'a, R> {
+    /// The files and streams that this runtime reaches.
+    pub fn new(rt: &'a R) -> HostFolder<'a, R> {
+        HostFolder { rt }
+    }
+}
+
+impl<'a, R: Files + Input + Print + Eprint> Folder for HostFolder<'a, R> {
+    type In = Untold<OneOf<FileSource<'a, R>, StandardInput<R>>>;
+
+    type Out = OneOf<FileSink<'a, R>, OneOf<StandardOutput<'a, R>, StandardError<'a, R>>>;
+
+    ghost tells = { false };
+
+    ghost held = { λ _ _. None };
+
+    ghost has_failed = { λ _ _. true };
+
+    fn source(&mut self, alloc: Global, origin: Origin<'_>) -> Result<Self::In, AllocError> {
+        let source = match origin {
+            Origin::File(name) => {
+                OneOf::First(FileSource::new(self.rt, String::from_str(alloc, name)?))
+            }
+            Origin::Input => OneOf::Second(StandardInput::new(self.rt)),
+        };
+        Ok(Untold { source })
+    }
+
+    fn sink(&mut self, alloc: Global, target: Target<'_>) -> Result<Self::Out, AllocError> {
+        Ok(match target {
+            Target::File(name) => {
+                OneOf::First(FileSink::new(self.rt, String::from_str(alloc, name)?))
+            }
+            Target::Output => OneOf::Second(OneOf::First(StandardOutput::new(self.rt))),
+        })
+    }
+
+    fn standard_error(&mut self) -> Self::Out {
+        OneOf::Second(OneOf::Second(StandardError::new(self.rt)))
+    }
+
+    fn close(&mut self, sink: Self::Out) {
+        let _ = sink;
+    }
+}

@@ -1,0 +1,83 @@
+use crate::links::Link;
+use std::alloc::{AllocError, Global};
+
+/// How far a vertex is known.
+#[derive(Clone, Copy, PartialEq, Eq)]
+pub(crate) enum Stage {
+    /// No side was found that leads to it.
+    Unseen,
+    /// It waits for its height.
+    Queued,
+    /// It has a height, and a place in the tree.
+    Planted,
+}
+
+/// What the line search reads of a vertex.
+#[derive(Clone, Copy)]
+pub(crate) struct Vertex {
+    /// Its height, by the scale that is used.
+    pub height: i64,
+    /// The number of the last part that it was in.
+    pub part: u32,
+    pub stage: Stage,
+}
+
+impl Vertex {
+    const UNSEEN: Vertex = Vertex {
+        height: 0,
+        part: 0,
+        stage: Stage::Unseen,
+    };
+}
+
+/// The heights of vertices: their potentials.
+#[derive(Drop)]
+pub(crate) struct Heights {
+    rows: Vec<Vertex>,
+}
+
+impl Heights {
+    /// Each vertex at height 0, and unseen.
+    pub fn new(alloc: Global, vertices: u32) -> Result<Heights, AllocError> {
+        let rows = vec![in alloc; Vertex::UNSEEN; vertices as usize]?;
+        Ok(Heights { rows })
+    }
+
+    /// Each vertex at height 0, and unseen.
+    pub fn clear(&mut self) {
+        self.rows.fill(Vertex::UNSEEN);
+    }
+
+    /// How many vertices there are.
+    pub fn count(&self) -> u32 {
+        u32::try_from(self.rows.len()).unwrap_or(u32::MAX)
+    }
+
+    #[inline]
+    pub fn at(&self, vertex: u32) -> Option<Vertex> {
+        self.rows.get(vertex as usize).copied()
+    }
+
+    #[inline]
+    pub fn at_mut(&mut self, vertex: u32) -> Option<&mut Vertex> {
+        self.rows.get_mut(vertex as usize)
+    }
+
+    /// The greatest size of a height.
+    pub fn most(&self) -> Option<i64> {
+        let mut most = 0i64;
+        for row in &self.rows {
+            most = most.max(row.height.checked_abs()?);
+        }
+        Some(most)
+    }
+
+    /// A link's difference, less the height of its head above its tail: what a unit of flow along it
+    /// gains, by these heights. (The reduced cost of its residual arc backwards.)
+    #[inline]
+    pub fn reduced(&self, link: &Link, difference: i64) -> Option<i64> {
+        let tail = self.at(link.tail)?;
+        let head = self.at(link.head)?;
+        difference.checked_sub(head.height.checked_sub(tail.height)?)
+    }
+}

@@ -1,0 +1,62 @@
+-- What a check over a folder comes to.
+use Rattle.std.proofs.Common.{◌≡◌, ℕ, Bool, true, List, Some, Ok, Err, IfErr, IfOk, ap, sym, subst, ◌∙◌}
+use Rattle.std.specs.Prelude.{IsSomeAnd, Option, Result}
+use Rattle.th_checker.specs.declared.verdicts.Verdict.{Verdict}
+use Rattle.th_checker.specs.declared.verdicts.Verdict.TheVariants as verdict
+use Rattle.th_devices.specs.Spots.{Spot, output}
+use Rattle.th_plans.specs.Asked.{Files}
+use Rattle.th_program.specs.Done.{Holds, IsChecked, UnlessWrite}
+use Rattle.th_program.specs.Owed.{Told, claim_owed}
+use Rattle.th_program.proofs.AdjustLemmas.{holds-whole, unless}
+use Rattle.th_runs.specs.Checked.{IsRight, IsVerdictOn, verdict_line, verdict_on}
+use Rattle.th_runs.specs.Inputs.{Claim, Given, IsOwed, MakesNetwork, Meets, Owed, owed_for_claim}
+use Rattle.th_runs.specs.Reads.{refused}
+use Rattle.th_runs.specs.Refusals.{status_of_verdict}
+use Rattle.th_runs.specs.Writes.{IsWritten, IsWrittenFor}
+use Rattle.th_runs.specs.declared.refusals.Output.TheVariants as out
+use Rattle.th_runs.specs.declared.refusals.Refusal.{Refusal}
+
+-- the owed claim depends on what the inputs gave
+pub claim-same : (books books' : List Given) (benchmarks benchmarks' : Given) (weights weights' : Option Given) (certificate certificate' : Given)
+    → books ≡ books' → benchmarks ≡ benchmarks' → weights ≡ weights' → certificate ≡ certificate'
+    → owed_for_claim books benchmarks weights certificate ≡ owed_for_claim books' benchmarks' weights' certificate'
+claim-same books books' benchmarks benchmarks' weights weights' certificate certificate' same_books same_benchmarks same_weights same_certificate =
+    ap (λ own. owed_for_claim own benchmarks weights certificate) same_books
+    ∙ ap (λ own. owed_for_claim books' own weights certificate) same_benchmarks
+    ∙ ap (λ own. owed_for_claim books' benchmarks' own certificate) same_weights
+    ∙ ap (λ own. owed_for_claim books' benchmarks' weights' own) same_certificate
+
+-- a verdict that is right where it is yes
+right : (claim : Claim) (own : Verdict) → IsVerdictOn claim own → status_of_verdict own ≡ 0 → IsRight claim
+right claim verdict.Yes is zero = is.least (λ e. verdict.Yes)
+right claim (verdict.No reason) is zero = absurd (cc zero)
+
+-- a check that was done
+pub checked : {K : Type 0} (tells : Bool) (before after : Told) (files : Files) (certificate : List ℕ)
+    (spot_of : K → Spot) (held : K → Option (List ℕ)) (is_finished : K → Bool) (calls failures : K → ℕ) (old new : K) (given_owed : Owed Claim)
+    (result : Result Verdict Refusal) → given_owed ≡ claim_owed before (refused result) files certificate
+    → (tells ≡ true → IsSomeAnd (held old) (λ _. Unit {0})) → spot_of new ≡ output → (is_finished new ≡ true → after (spot_of new) ≡ held new)
+    → (IsWritten result → ((claim : Claim) × Meets given_owed (Ok claim) × MakesNetwork claim.survey × IfOk result (IsVerdictOn claim)
+    × IsWrittenFor held is_finished calls failures out.Verdict (refused result) (verdict_line (verdict_on claim)) old new))
+    → IfOk result (IsChecked tells before after files certificate)
+checked tells before after files certificate spot_of held is_finished calls failures old new given_owed (Err own) owed told there closed written = tt
+checked tells before after files certificate spot_of held is_finished calls failures old new given_owed (Ok own) owed told there closed written =
+    let (claim, meets, network, answers, of_line) = written tt in
+    record {
+      claim = claim;
+      given = subst (λ (known : Owed Claim). Meets known (Ok claim)) owed meets;
+      network = network;
+      answered = answers.answered;
+      line = subst (λ (known : Verdict). Holds tells after output (verdict_line known)) (sym answers.answered)
+          (holds-whole tells after spot_of held is_finished calls (verdict_line (verdict_on claim)) _ old new told there closed of_line.stands);
+      right = right claim own answers;
+    }
+
+-- a refusal before the output was begun is owed
+pub refused-claim : {X : Type 0} (before : Told) (files : Files) (certificate : List ℕ) (given_owed : Owed Claim) (result : Result X Refusal)
+    → given_owed ≡ claim_owed before (refused result) files certificate
+    → IfErr result (λ own. (IsWritten result → ⊥) → IsOwed (λ claim. claim.survey) given_owed own)
+    → IfErr result (λ own. UnlessWrite own (IsOwed (λ claim. claim.survey) (claim_owed before (Some own) files certificate) own))
+refused-claim before files certificate given_owed (Ok x) owed is = tt
+refused-claim {X = X} before files certificate given_owed (Err own) owed is =
+    unless X own _ (λ unwritten. subst (λ (known : Owed Claim). IsOwed (λ claim. claim.survey) known own) owed (is unwritten))

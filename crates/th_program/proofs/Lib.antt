@@ -1,0 +1,4 @@
+pub mod OpenedLemmas
+pub mod AdjustLemmas
+pub mod CheckLemmas
+pub mod HeadlineLemmas

@@ -1,0 +1,13 @@
+use Rattle.th_program.proofs.HeadlineLemmas.{adjusted, believed, confirmed}
+use Rattle.th_program.proofs.laws.headline.Goals as goal
+
+pub returns-clause-adjusted : goal.returns-clause-adjusted
+returns-clause-adjusted g c = adjusted g.F.Folder.tells g.F.Folder.held g.F.Folder.has_failed c.accepted_inputs_are_refused_for_memory_alone.ensures.adjusted
+
+pub returns-clause-confirmed : goal.returns-clause-confirmed
+returns-clause-confirmed g c =
+    confirmed g.F.Folder.tells g.F.Folder.held g.F.Folder.has_failed c.accepted_inputs_are_refused_for_memory_alone.ensures.checked
+    c.printed_certificate_is_accepted.ensures.owed c.printed_certificate_is_accepted.ensures.answered
+
+pub returns-clause-believed : goal.returns-clause-believed
+returns-clause-believed g c = believed g.F.Folder.tells g.F.Folder.held g.F.Folder.has_failed

@@ -1,0 +1,17 @@
+use Rattle.std.proofs.Common.{◌∙◌, ap, inr}
+use Rattle.th_program.proofs.AdjustLemmas.{refused-after, unless-map}
+use Rattle.th_program.proofs.plans.run_plan.Goals as goal
+
+pub returns-in-Err : goal.returns-in-Err
+returns-in-Err g c =
+    let own = c.in-Err.refusal in
+    inr (
+      own,
+      record {
+        refused = refused-after g.F.Folder.tells (g.F.Folder.held c.args.folder.now) (g.F.Folder.held c.carry_out.new.folder) (g.F.Folder.held c.refuse.new.folder) c.args.plan.now own c.refuse.ensures.others c.in-Err.ensures.refused;
+        status_is = c.refuse.ensures.status;
+        reported = c.refuse.ensures.reported;
+        untouched = unless-map own _ _ (λ same. λ spot apart. c.refuse.ensures.others spot apart ∙ ap (λ folder. g.F.Folder.held folder spot) same) c.in-Err.ensures.untouched;
+        others = λ spot apart no_output. c.refuse.ensures.others spot apart ∙ c.carry_out.ensures.others spot no_output;
+      },
+    )

@@ -1,0 +1,140 @@
+-- What the program does, over what a folder tells before and after.
+use Rattle.std.specs.Prelude.{◌⊎◌, ◌≢◌, ◌≡◌, ◌++◌, ◌∷◌, [], ℕ, ℤ, Bool, true, false, List, Option, Some, None, Ok, codes}
+use Rattle.th_checker.specs.declared.verdicts.Verdict.{Verdict}
+use Rattle.th_book.specs.Observed.{Observed}
+use Rattle.th_devices.specs.Spots.{Spot, errors, file, input, output}
+use Rattle.th_network.specs.Networks.{Survey}
+use Rattle.th_plans.specs.Asked.{Files}
+use Rattle.th_plans.specs.Plans.{IsFaultOf, IsPlanOf, files}
+use Rattle.th_plans.specs.declared.faults.PlanFault.{PlanFault}
+use Rattle.th_plans.specs.declared.faults.PlanFault.TheVariants as fault
+use Rattle.th_plans.specs.declared.plans.Plan.{Plan}
+use Rattle.th_plans.specs.declared.plans.Plan.TheVariants as plan
+use Rattle.th_report.specs.Lists.{list_text}
+use Rattle.th_runs.specs.Adjusted.{AreOutputs, OutTexts}
+use Rattle.th_runs.specs.Checked.{IsRight, verdict_line, verdict_on}
+use Rattle.th_runs.specs.Inputs.{Claim, IsOwed, MakesNetwork, Meets}
+use Rattle.th_runs.specs.Refusals.{refusal_text, status_of, status_of_verdict}
+use Rattle.th_runs.specs.Runs.{AreOfBook, IsRefusalOf}
+use Rattle.th_runs.specs.Writes.{Stage, Whole, Broken, Untouched, stage_of}
+use Rattle.th_runs.specs.declared.refusals.Output.TheVariants as out
+use Rattle.th_runs.specs.declared.refusals.Refusal.{Refusal}
+use Rattle.th_runs.specs.declared.refusals.Refusal.TheVariants as refusal
+use Rattle.th_program.specs.Owed.{Told, claim_owed, survey_owed}
+
+-- a folder that tells has this text at the spot
+abbrev pub Holds : Bool → Told → Spot → List ℕ → Type 0
+Holds tells told spot text = tells ≡ true → told spot ≡ Some text
+
+-- what is at the spot of an output with this text, by how far it was written: all of it, or what was there before. Of an output that failed this says nothing
+abbrev pub IsLeft : Bool → Told → Told → Stage → Spot → List ℕ → Type 0
+IsLeft tells old new Whole spot text = Holds tells new spot text
+IsLeft tells old new Broken spot text = Unit {0}
+IsLeft tells old new Untouched spot text = new spot ≡ old spot
+
+-- where the outputs of an adjustment are: the names of their files begin with the prefix
+abbrev pub heights_spot : List ℕ → Spot
+heights_spot prefix = file (prefix ++ codes ".heights.csv")
+
+abbrev pub certificate_spot : List ℕ → Spot
+certificate_spot prefix = file (prefix ++ codes ".certificate.csv")
+
+abbrev pub report_spot : List ℕ → Spot
+report_spot prefix = file (prefix ++ codes ".report.txt")
+
+abbrev pub gsi_spot : List ℕ → Spot
+gsi_spot prefix = file (prefix ++ codes ".heights.gsi")
+
+-- standard output has the list of the book that is at this spot
+pub record IsListed (tells : Bool) (old new : Told) (book : Spot) : Type 0 where
+  pub observations : List Observed
+  pub of_book : AreOfBook 1 (old book) observations
+  pub listed : Holds tells new output (list_text observations)
+
+-- the four files have the texts of an adjustment of the survey that the named files give, all of them where there is no refusal. Where a write was refused, the
+-- files before it are whole and those behind it as they were
+pub record IsAdjusted (tells : Bool) (old new : Told) (from : Files) (limit : ℤ) (prefix : List ℕ) (answer : Option Refusal) : Type 0 where
+  pub survey : Survey
+  pub texts : OutTexts
+  pub given : Meets (survey_owed old answer from) (Ok survey)
+  pub network : MakesNetwork survey
+  pub outputs : AreOutputs survey limit texts
+  pub heights : IsLeft tells old new (stage_of out.Heights answer) (heights_spot prefix) texts.heights
+  pub certificate : IsLeft tells old new (stage_of out.Certificate answer) (certificate_spot prefix) texts.certificate
+  pub report : IsLeft tells old new (stage_of out.Report answer) (report_spot prefix) texts.report
+  pub gsi : IsLeft tells old new (stage_of out.Gsi answer) (gsi_spot prefix) texts.gsi
+
+-- standard output has the line of the verdict on the claim that the named files give, and a yes is right
+pub record IsChecked (tells : Bool) (old new : Told) (from : Files) (certificate : List ℕ) (verdict : Verdict) : Type 0 where
+  pub claim : Claim
+  pub given : Meets (claim_owed old None from certificate) (Ok claim)
+  pub network : MakesNetwork claim.survey
+  pub answered : verdict ≡ verdict_on claim
+  pub line : Holds tells new output (verdict_line verdict)
+  pub right : status_of_verdict verdict ≡ 0 → IsRight claim
+
+-- what holds of a refusal before any output was begun
+abbrev pub UnlessWrite : Refusal → Type 0 → Type 0
+UnlessWrite (refusal.Write which) Own = Unit {0}
+UnlessWrite other Own = Own
+
+-- what a plan asks for was done, with this status
+abbrev pub IsDone : Bool → Told → Told → Plan → ℕ → Type 0
+IsDone tells old new plan.Standard status = (status ≡ 0) × IsListed tells old new input
+IsDone tells old new (plan.List book) status = (status ≡ 0) × IsListed tells old new (file book.now)
+IsDone tells old new (plan.Adjust inputs limit prefix) status = (status ≡ 0) × IsAdjusted tells old new (files inputs) limit prefix.now None
+IsDone tells old new (plan.Check inputs certificate) status =
+    (verdict : Verdict) × (status ≡ status_of_verdict verdict) × IsChecked tells old new (files inputs) certificate.now verdict
+
+-- the refusal of an adjustment: its inputs owe it, or an output was not written, and those before it are
+abbrev pub IsRefusedAdjust : Bool → Told → Told → Files → ℤ → List ℕ → Refusal → Type 0
+IsRefusedAdjust tells old new from limit prefix (refusal.Write which) = IsAdjusted tells old new from limit prefix (Some (refusal.Write which))
+IsRefusedAdjust tells old new from limit prefix own = IsOwed (λ survey. survey) (survey_owed old (Some own) from) own
+
+-- the refusal is one of what a plan asks for: the one that the bytes at its inputs owe, where they are told
+abbrev pub IsRefused : Bool → Told → Told → Plan → Refusal → Type 0
+IsRefused tells old new plan.Standard own = IsRefusalOf 1 (old input) own
+IsRefused tells old new (plan.List book) own = IsRefusalOf 1 (old (file book.now)) own
+IsRefused tells old new (plan.Adjust inputs limit prefix) own = IsRefusedAdjust tells old new (files inputs) limit prefix.now own
+IsRefused tells old new (plan.Check inputs certificate) own =
+    UnlessWrite own (IsOwed (λ claim. claim.survey) (claim_owed old (Some own) (files inputs) certificate.now) own)
+
+-- a plan writes there
+abbrev pub IsOutputOf : Plan → Spot → Type 0
+IsOutputOf (plan.Adjust inputs limit prefix) spot =
+    (spot ≡ heights_spot prefix.now) ⊎ (spot ≡ certificate_spot prefix.now) ⊎ (spot ≡ report_spot prefix.now) ⊎ (spot ≡ gsi_spot prefix.now)
+IsOutputOf other spot = spot ≡ output
+
+-- standard error has the line of a refusal, or says that there is no memory for it
+abbrev pub IsReported : Bool → Told → Refusal → Type 0
+IsReported tells told own = Holds tells told errors (refusal_text own ++ 10 ∷ []) ⊎ Holds tells told errors (codes "out of memory" ++ 10 ∷ [])
+
+-- A plan was refused: with its status and, unless standard error failed, with its line there. A refusal before outputs were begun changes nothing else.
+pub record IsRefusedRun {F : Type 0} (tells : Bool) (held : F → Told) (has_failed : F → Spot → Bool) (old new : F) (asked : Plan) (status : ℕ) (own : Refusal) : Type 0 where
+  pub refused : IsRefused tells (held old) (held new) asked own
+  pub status_is : status ≡ status_of own
+  pub reported : has_failed new errors ≡ false → IsReported tells (held new) own
+  pub untouched : UnlessWrite own ((spot : Spot) → spot ≢ errors → held new spot ≡ held old spot)
+  pub others : (spot : Spot) → spot ≢ errors → (IsOutputOf asked spot → ⊥) → held new spot ≡ held old spot
+
+-- a plan was done, and no spot changed but those of its outputs, or it was refused
+abbrev pub IsRun : {F : Type 0} → Bool → (F → Told) → (F → Spot → Bool) → F → F → Plan → ℕ → Type 0
+IsRun tells held has_failed old new asked status =
+    (IsDone tells (held old) (held new) asked status × ((spot : Spot) → (IsOutputOf asked spot → ⊥) → held new spot ≡ held old spot))
+    ⊎ ((own : Refusal) × IsRefusedRun tells held has_failed old new asked status own)
+
+-- the status after words that are no plan: 4 for no memory, else 3
+abbrev pub status_of_fault : PlanFault → ℕ
+status_of_fault fault.NoMemory = 4
+status_of_fault other = 3
+
+-- words that are no plan have their status, and change nothing but standard error
+pub record IsUsage {F : Type 0} (held : F → Told) (old new : F) (own : PlanFault) (status : ℕ) : Type 0 where
+  pub status_is : status ≡ status_of_fault own
+  pub others : (spot : Spot) → spot ≢ errors → held new spot ≡ held old spot
+
+-- the program did what the words ask for, its own name first: it ran their plan, or they are none
+abbrev pub AreDone : {F : Type 0} → Bool → (F → Told) → (F → Spot → Bool) → F → F → List (List ℕ) → ℕ → Type 0
+AreDone tells held has_failed old new words status =
+    ((asked : Plan) × IsPlanOf words asked × IsRun tells held has_failed old new asked status)
+    ⊎ ((own : PlanFault) × IsFaultOf words own × IsUsage held old new own status)

@@ -1,0 +1,20 @@
+-- What the headline speaks of: arguments that ask for something, inputs that are accepted, and what may still keep a run from its end.
+use Rattle.std.specs.Prelude.{◌≡◌, ◌<◌, ◌⊎◌, ℕ, List, Some, None, Ok, length}
+use Rattle.th_network.specs.Networks.{Survey}
+use Rattle.th_plans.specs.Asked.{Asked, Files}
+use Rattle.th_plans.specs.Plans.{AreTaken, asked}
+use Rattle.th_runs.specs.Inputs.{MakesNetwork}
+use Rattle.th_program.specs.Owed.{Told, survey_owed}
+
+-- the words of a command line, the program's name first, ask for this
+abbrev pub AskFor : List (List ℕ) → Asked → Type 0
+AskFor words wanted = (1 < length words) × AreTaken words × (asked words ≡ Some wanted)
+
+-- the named inputs are accepted: no fault is in them, and the survey that they give makes a network
+pub record IsAccepted (told : Told) (from : Files) (survey : Survey) : Type 0 where
+  pub given : survey_owed told None from ≡ Some (Ok survey)
+  pub network : MakesNetwork survey
+
+-- the status of a run that was out of memory, or whose device failed
+abbrev pub IsUnlucky : ℕ → Type 0
+IsUnlucky status = (status ≡ 4) ⊎ (status ≡ 5)

@@ -1,0 +1,4 @@
+pub mod Owed
+pub mod Done
+pub mod Headline
+pub mod Inside

@@ -1,0 +1,35 @@
+-- What a run over a folder is owed by what is there.
+use Rattle.std.specs.Prelude.{◌+◌, ℕ, List, [], ◌∷◌, Option, option_map}
+use Rattle.th_devices.specs.Spots.{Spot, file}
+use Rattle.th_network.specs.Networks.{Survey}
+use Rattle.th_plans.specs.Asked.{Files}
+use Rattle.th_runs.specs.Inputs.{Claim, Given, Owed, given_at, owed_for_claim, owed_for_survey}
+use Rattle.th_runs.specs.Reads.{failed_reads_of}
+use Rattle.th_runs.specs.declared.refusals.Input.{Input}
+use Rattle.th_runs.specs.declared.refusals.Input.TheVariants as input
+use Rattle.th_runs.specs.declared.refusals.Refusal.{Refusal}
+
+-- what a folder tells
+abbrev pub Told : Type 0
+Told = Spot → Option (List ℕ)
+
+-- what a file gave a run that ended with this refusal, or with none: a read failed where the refusal says so, and else it gave what stood there
+abbrev pub given_by : Told → Option Refusal → Input → List ℕ → Given
+given_by told answer which name = given_at 0 (failed_reads_of which answer) (told (file name))
+
+-- what the files of books gave, with their numbers from this one on
+abbrev pub given_by_books : Told → Option Refusal → ℕ → List (List ℕ) → List Given
+given_by_books told answer number (name ∷ names) = given_by told answer (input.Book number) name ∷ given_by_books told answer (number + 1) names
+given_by_books told answer number [] = []
+
+-- what a run is owed that reads these files: the survey that they say, or their first fault
+abbrev pub survey_owed : Told → Option Refusal → Files → Owed Survey
+survey_owed told answer files =
+    owed_for_survey (given_by_books told answer 1 files.books) (given_by told answer input.Benchmarks files.benchmarks)
+    (option_map (given_by told answer input.Weights) files.weights)
+
+-- and the claim that they and a certificate say
+abbrev pub claim_owed : Told → Option Refusal → Files → List ℕ → Owed Claim
+claim_owed told answer files certificate =
+    owed_for_claim (given_by_books told answer 1 files.books) (given_by told answer input.Benchmarks files.benchmarks)
+    (option_map (given_by told answer input.Weights) files.weights) (given_by told answer input.Certificate certificate)

@@ -1,0 +1,61 @@
+//! Adjusting the network of files of a folder.
+ghost use Rattle.std.specs.Prelude.{◌≡◌, ◌≢◌, IfErr, Some};
+ghost use Rattle.th_program.specs.Done.{IsAdjusted, UnlessWrite, certificate_spot, gsi_spot, heights_spot, report_spot};
+ghost use Rattle.th_program.specs.Owed.{survey_owed};
+ghost use Rattle.th_plans.specs.Plans.{files};
+ghost use Rattle.th_runs.specs.Inputs.{IsOwed};
+ghost use Rattle.th_runs.specs.Reads.{refused};
+ghost use Rattle.th_runs.specs.Writes.{IsWritten};
+
+use crate::opening::{Endings, close_outs, outs_of, source_if_any, sources_of};
+use std::alloc::Global;
+use th_devices::{Folder, Origin};
+use th_plans::{Inputs, Limit};
+use th_runs::{Refusal, run_adjust};
+
+/// How the names of the files end that an adjustment writes.
+const ENDINGS: Endings<'static> = Endings {
+    heights: ".heights.csv",
+    certificate: ".certificate.csv",
+    report: ".report.txt",
+    gsi: ".heights.gsi",
+};
+
+/// Adjusts the network of the files of these names. The names of the four files that are written
+/// begin with the prefix.
+///
+/// After a write that failed, the files before that one in the order heights, certificate, report,
+/// GSI-16 are whole, and those behind it are as they were.
+pub fn adjust<F: Folder>(
+    alloc: Global,
+    folder: &mut F,
+    inputs: &Inputs<'_>,
+    limit: Limit,
+    prefix: &str,
+) -> Result<(), Refusal>
+    ensures adjusted { IsWritten result → IsAdjusted F.tells (F.held folder.old)
+        (F.held folder.new) (files inputs.now) limit prefix.now (refused result) }
+    ensures refused { IfErr result (λ own. UnlessWrite own (IsOwed (λ survey. survey)
+        (survey_owed (F.held folder.old) (Some own) (files inputs.now)) own)) }
+    ensures untouched { IfErr result (λ own. UnlessWrite own (folder.new ≡ folder.old)) }
+    ensures others { (spot : _) → spot ≢ heights_spot prefix.now
+        → spot ≢ certificate_spot prefix.now
+        → spot ≢ report_spot prefix.now
+        → spot ≢ gsi_spot prefix.now
+        → F.held folder.new spot ≡ F.held folder.old spot }
+{
+    let mut books = sources_of(alloc, folder, inputs.books.names())?;
+    let mut benchmarks = folder.source(alloc, Origin::File(inputs.benchmarks))?;
+    let mut weights = source_if_any(alloc, folder, inputs.weights)?;
+    let mut outs = outs_of(alloc, folder, prefix, &ENDINGS)?;
+    let answer = run_adjust(
+        alloc,
+        books.as_mut_slice(),
+        &mut benchmarks,
+        &mut weights,
+        limit.get(),
+        &mut outs,
+    );
+    close_outs(folder, outs);
+    answer
+}

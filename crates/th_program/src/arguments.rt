@@ -1,0 +1,63 @@
+//! Doing what the arguments of a command line ask for.
+ghost use Rattle.std.specs.Prelude.{◌≡◌, ◌≢◌, ◌⊎◌, IfErr, IfOk, map, string_bytes};
+ghost use Rattle.std.specs.IoError.{error_kind};
+ghost use Rattle.std.specs.declared.io.ErrorKind.TheVariants.{InvalidData};
+ghost use Rattle.th_devices.specs.Spots.{errors};
+ghost use Rattle.th_program.specs.Done.{AreDone, IsUsage};
+ghost use Rattle.th_plans.specs.Plans.{IsFaultOf};
+
+use crate::plans::run_plan;
+use crate::refusals::{refuse, report};
+use std::alloc::Global;
+use std::convert::AsStr;
+use std::io;
+use std::io::ErrorKind;
+use th_devices::Folder;
+use th_plans::{PlanFault, plan};
+use th_runs::{NO_MEMORY, Refusal, USAGE};
+
+/// Does what the arguments ask for, where they were read, the program's own name first, and answers
+/// the status to end with.
+///
+/// The only errors of reading them are an argument that is no text, and no memory.
+pub fn run_arguments<F: Folder>(alloc: Global, folder: &mut F, words: io::Result<Vec<String>>) -> u8
+    ensures done { IfOk words (λ own. AreDone F.tells F.held F.has_failed folder.old folder.new
+        (map string_bytes own.items) result) }
+    ensures no_text { IfErr words (λ error. error_kind error ≡ InvalidData → result ≡ USAGE) }
+    ensures no_memory { IfErr words (λ error. error_kind error ≢ InvalidData → result ≡ NO_MEMORY) }
+    ensures others { IfErr words (λ _. (spot : _) → spot ≢ errors
+        → F.held folder.new spot ≡ F.held folder.old spot) }
+{
+    match words {
+        Ok(words) => run_words(alloc, folder, words.as_slice()),
+        Err(error) if error.kind() == ErrorKind::InvalidData => {
+            report(folder, b"error: a word of the command line is no text\n");
+            USAGE
+        }
+        Err(_) => refuse(alloc, folder, &Refusal::NoMemory),
+    }
+}
+
+/// Does what these words ask for, the program's own name first, and answers the status to end with.
+pub fn run_words<F: Folder, S: AsStr>(alloc: Global, folder: &mut F, words: &[S]) -> u8
+    ensures { AreDone F.tells F.held F.has_failed folder.old folder.new (map S.text words.now) result }
+{
+    match plan(alloc, words) {
+        Ok(plan) => run_plan(alloc, folder, &plan),
+        Err(fault) => usage(alloc, folder, &fault),
+    }
+}
+
+/// Reports what is wrong with the words, and answers the status to end with.
+fn usage<F: Folder>(alloc: Global, folder: &mut F, fault: &PlanFault) -> u8
+    ensures { IsUsage F.held folder.old folder.new fault.now result }
+{
+    if matches!(fault, PlanFault::NoMemory) {
+        return refuse(alloc, folder, &Refusal::NoMemory);
+    }
+    match format!(in alloc; "{fault}") {
+        Ok(text) => report(folder, text.as_bytes()),
+        Err(_) => report(folder, b"out of memory\n"),
+    }
+    USAGE
+}

@@ -1,0 +1,45 @@
+//! Checking a certificate of a folder.
+ghost use Rattle.std.specs.Prelude.{◌≡◌, ◌≢◌, IfErr, IfOk, Some};
+ghost use Rattle.th_devices.specs.Spots.{output};
+ghost use Rattle.th_plans.specs.Plans.{files};
+ghost use Rattle.th_program.specs.Done.{IsChecked, UnlessWrite};
+ghost use Rattle.th_program.specs.Owed.{claim_owed};
+ghost use Rattle.th_runs.specs.Inputs.{IsOwed};
+
+use crate::opening::{source_if_any, sources_of};
+use std::alloc::Global;
+use th_checker::Verdict;
+use th_devices::{Folder, Origin, Target};
+use th_plans::Inputs;
+use th_runs::{Refusal, run_check};
+
+/// Checks the certificate in the file of this name against the files of these names.
+pub fn check<F: Folder>(
+    alloc: Global,
+    folder: &mut F,
+    inputs: &Inputs<'_>,
+    certificate: &str,
+) -> Result<Verdict, Refusal>
+    ensures checked { IfOk result (IsChecked F.tells (F.held folder.old) (F.held folder.new)
+        (files inputs.now) certificate.now) }
+    ensures refused { IfErr result (λ own. UnlessWrite own (IsOwed (λ claim. claim.survey)
+        (claim_owed (F.held folder.old) (Some own) (files inputs.now) certificate.now) own)) }
+    ensures untouched { IfErr result (λ own. UnlessWrite own (folder.new ≡ folder.old)) }
+    ensures others { (spot : _) → spot ≢ output → F.held folder.new spot ≡ F.held folder.old spot }
+{
+    let mut books = sources_of(alloc, folder, inputs.books.names())?;
+    let mut benchmarks = folder.source(alloc, Origin::File(inputs.benchmarks))?;
+    let mut weights = source_if_any(alloc, folder, inputs.weights)?;
+    let mut certificate = folder.source(alloc, Origin::File(certificate))?;
+    let mut out = folder.sink(alloc, Target::Output)?;
+    let answer = run_check(
+        alloc,
+        books.as_mut_slice(),
+        &mut benchmarks,
+        &mut weights,
+        &mut certificate,
+        &mut out,
+    );
+    folder.close(out);
+    answer
+}

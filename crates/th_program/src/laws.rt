@@ -1,0 +1,52 @@
+//! What the promise of the program comes to. A law is its contract: it calls nothing of the product.
+
+ghost use Rattle.std.specs.Prelude.{◌≡◌, ◌⊎◌, ℕ, ℤ, List, None, Ok, Some};
+ghost use Rattle.th_devices.specs.Spots.{file};
+ghost use Rattle.th_network.specs.Networks.{Survey};
+ghost use Rattle.th_plans.specs.Asked.{Files, adjust, check};
+ghost use Rattle.th_program.specs.Done.{AreDone, IsAdjusted};
+ghost use Rattle.th_program.specs.Headline.{AskFor, IsAccepted, IsUnlucky};
+ghost use Rattle.th_program.specs.Owed.{claim_owed};
+ghost use Rattle.th_runs.specs.Adjusted.{AreOutputs, OutTexts};
+ghost use Rattle.th_runs.specs.Checked.{IsRight};
+ghost use Rattle.th_runs.specs.Inputs.{Claim, Meets};
+
+use th_devices::Folder;
+use th_runs::laws::{
+    accepted_inputs_are_refused_for_memory_alone, printed_certificate_is_accepted,
+};
+
+/// The headline, over a folder.
+///
+/// If the arguments ask for an adjustment of inputs that are accepted, the program ends, and with status
+/// 0 the four files hold the heights, the certificate, the report and the GSI blocks of the survey that
+/// the inputs give: the lowest heights of all that keep the benchmarks and cost least, shown by the
+/// printed circulation. It ends otherwise only with status 4, out of memory, or 5, where a device failed.
+/// A check of a certificate that was printed so, with inputs that give the same survey, says yes unless
+/// it ends with 4 or 5. And whatever certificate a check says yes to, its heights are least.
+pub fn headline<F: Folder>()
+    ensures adjusted { (old new : _) (words : List (List ℕ)) (status : ℕ)
+        (from : Files) (limit : ℤ) (prefix : List ℕ) (survey : Survey)
+        → AreDone F.tells F.held F.has_failed old new words status
+        → AskFor words (adjust from limit prefix)
+        → IsAccepted (F.held old) from survey
+        → ((status ≡ 0) × IsAdjusted F.tells (F.held old) (F.held new) from limit prefix None)
+        ⊎ IsUnlucky status }
+    ensures confirmed { (old new : _) (words : List (List ℕ)) (status : ℕ)
+        (from : Files) (certificate : List ℕ) (survey : Survey) (limit : ℤ) (texts : OutTexts)
+        → AreDone F.tells F.held F.has_failed old new words status
+        → AskFor words (check from certificate)
+        → IsAccepted (F.held old) from survey
+        → AreOutputs survey limit texts
+        → F.held old (file certificate) ≡ Some texts.certificate
+        → (status ≡ 0) ⊎ IsUnlucky status }
+    ensures believed { (old new : _) (words : List (List ℕ)) (from : Files) (certificate : List ℕ)
+        → AreDone F.tells F.held F.has_failed old new words 0
+        → AskFor words (check from certificate)
+        → (claim : Claim)
+        × Meets (claim_owed (F.held old) None from certificate) (Ok claim)
+        × IsRight claim }
+{
+    accepted_inputs_are_refused_for_memory_alone();
+    printed_certificate_is_accepted();
+}

@@ -1,0 +1,28 @@
+//! The program, over any folder: what it reads, what it writes, and the status that it ends with.
+//!
+//! A contract speaks of the folder before and after a run. On success the outputs hold what the
+//! inputs ask for. A refusal names the first fault of the inputs, has its status and its line on
+//! standard error, and a refusal before outputs were begun changes nothing else.
+#![tactic(auto)]
+
+// The sources and sinks of a run.
+mod opening;
+
+// The commands.
+mod adjusting;
+mod checking;
+mod listing;
+
+// The program: a refusal is reported, a plan is run, arguments become a plan.
+mod arguments;
+mod plans;
+mod refusals;
+
+// What the promise comes to.
+pub mod laws;
+
+pub use adjusting::adjust;
+pub use arguments::{run_arguments, run_words};
+pub use checking::check;
+pub use listing::list;
+pub use plans::run_plan;

@@ -1,0 +1,50 @@
+//! Running a plan.
+ghost use Rattle.std.specs.Prelude.{◌≡◌, IfErr, IfOk};
+ghost use Rattle.th_program.specs.Done.{IsDone, IsOutputOf, IsRefused, IsRun, UnlessWrite};
+
+use crate::adjusting::adjust;
+use crate::checking::check;
+use crate::listing::list;
+use crate::refusals::refuse;
+use std::alloc::Global;
+use th_devices::{Folder, Origin};
+use th_plans::Plan;
+use th_runs::{DONE, Refusal, status_of_verdict};
+
+/// Runs a plan, and answers the status to end with. A refusal has its line on standard error.
+pub fn run_plan<F: Folder>(alloc: Global, folder: &mut F, plan: &Plan<'_>) -> u8
+    ensures { IsRun F.tells F.held F.has_failed folder.old folder.new plan.now result }
+{
+    match carry_out(alloc, folder, plan) {
+        Ok(status) => status,
+        Err(refusal) => refuse(alloc, folder, &refusal),
+    }
+}
+
+/// Runs a plan, and answers the status to end with, or why it was refused.
+fn carry_out<F: Folder>(alloc: Global, folder: &mut F, plan: &Plan<'_>) -> Result<u8, Refusal>
+    ensures done { IfOk result (IsDone F.tells (F.held folder.old) (F.held folder.new) plan.now) }
+    ensures refused { IfErr result (IsRefused F.tells (F.held folder.old) (F.held folder.new)
+        plan.now) }
+    ensures untouched { IfErr result (λ own. UnlessWrite own (folder.new ≡ folder.old)) }
+    ensures others { (spot : _) → (IsOutputOf plan.now spot → ⊥)
+        → F.held folder.new spot ≡ F.held folder.old spot }
+{
+    match plan {
+        Plan::Standard => list(alloc, folder, Origin::Input)?,
+        Plan::List { book } => list(alloc, folder, Origin::File(*book))?,
+        Plan::Adjust {
+            inputs,
+            limit,
+            prefix,
+        } => adjust(alloc, folder, inputs, *limit, *prefix)?,
+        Plan::Check {
+            inputs,
+            certificate,
+        } => {
+            let verdict = check(alloc, folder, inputs, *certificate)?;
+            return Ok(status_of_verdict(&verdict));
+        }
+    }
+    Ok(DONE)
+}
