@@ -1,0 +1,3 @@
+pub mod FlowLemmas
+pub mod TreeLemmas
+pub mod CutTreeLemmas

@@ -1,0 +1,9 @@
+use Rattle.std.proofs.Common.{◌-◌}
+use Rattle.th_cuts.specs.Inside.Flows.{IsFlow}
+use Rattle.th_cuts.proofs.cuts.least_cut_along.Given as goal
+
+abbrev pub invariant-flowing : goal.invariant-flowing
+invariant-flowing l = IsFlow l.graph.edges.now l.graph.source l.graph.sink l.flow.value l.flow.flows.items
+
+abbrev pub decreases-flowing : goal.decreases-flowing
+decreases-flowing l = 40000000 - l.flow.value

@@ -1,0 +1,28 @@
+use Rattle.std.specs.Prelude.{◌≡◌, ℕ, ◌≤◌, Bool, true, false, List, sum_by, slice_index_or, if◌then◌else◌}
+use Rattle.th_cuts.specs.declared.edges.Edge.{Edge}
+
+-- exactly one of two vertices is inside
+abbrev pub separates : (ℕ → Bool) → ℕ → ℕ → Bool
+separates inside u v = if inside u then (if inside v then false else true) else inside v
+
+-- an edge has exactly one end inside
+abbrev pub crosses : (ℕ → Bool) → Edge → Bool
+crosses inside edge = separates inside edge.tail edge.head
+
+-- what the edges that cross weigh
+abbrev pub cut_weight : (ℕ → Bool) → List Edge → ℕ
+cut_weight inside edges = sum_by (λ edge. if crosses inside edge then edge.weight else 0) edges
+
+-- a vertex is on the side
+abbrev pub on_side : List Bool → ℕ → Bool
+on_side side vertex = slice_index_or side vertex false
+
+-- what the cuts that separate two vertices weigh at least, and one of them does weigh
+pub record IsLeastCut (edges : List Edge) (u v value : ℕ) : Type 0 where
+  pub reached : (inside : ℕ → Bool) × (separates inside u v ≡ true) × (cut_weight inside edges ≡ value)
+  pub least : (inside : ℕ → Bool) → separates inside u v ≡ true → value ≤ cut_weight inside edges
+
+-- a graph with weighted edges
+pub record Weighted : Type 0 where
+  pub vertices : ℕ
+  pub edges : List Edge

@@ -1,0 +1,6 @@
+-- what private functions promise one another
+pub mod Flows
+pub mod Guides
+pub mod Neighbours
+pub mod Trees
+pub mod CutTrees

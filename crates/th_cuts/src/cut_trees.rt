@@ -1,0 +1,51 @@
+ghost use Rattle.std.specs.Prelude.{◌≡◌, ◌≢◌, ◌<◌, ◌≤◌, ℕ, Bool, All, IfOk, sum_by};
+ghost use Rattle.th_cuts.specs.Cuts.{IsLeastCut, cut_weight};
+
+use crate::branches::Branches;
+use crate::edges::Edge;
+use std::alloc::{AllocError, Global};
+use std::marker::Model;
+
+/// One least cut for each vertex but 0 (Gusfield 1990), from which the least cut between any two
+/// vertices can be read.
+#[derive(Drop)]
+pub struct CutTree {
+    branches: Branches,
+}
+
+impl Model for CutTree {
+    ghost use Rattle.th_cuts.specs.Cuts.{Weighted};
+
+    ghost Value = { Weighted };
+
+    ghost view = { λ tree. record {
+      vertices = tree.branches.vertices;
+      edges = tree.branches.edges.items;
+    } };
+}
+
+impl CutTree {
+    /// Makes the cuts. The time is that of one least cut for each vertex, the memory a byte for each
+    /// pair of vertices.
+    pub fn of(alloc: Global, vertices: u32, edges: Vec<Edge>) -> Result<CutTree, AllocError>
+        requires ends { All (λ edge. (edge.tail < vertices) × (edge.head < vertices)) edges.items }
+        requires light { sum_by (λ edge. edge.weight) edges.items ≤ 40000000 }
+        ensures vertices { IfOk result (λ tree. tree.vertices ≡ vertices) }
+        ensures cuts { IfOk result (λ tree. (inside : ℕ → Bool)
+            → cut_weight inside tree.edges ≡ cut_weight inside edges.items) }
+    {
+        let branches = Branches::of(alloc, vertices, edges)?;
+        Ok(CutTree { branches })
+    }
+
+    /// What the lightest cut between two vertices weighs. The time is near the length of the way
+    /// between them in the tree, or that of a least cut where the tree's own cut does not separate them.
+    pub fn least(&self, alloc: Global, first: u32, second: u32) -> Result<u32, AllocError>
+        requires first { first < self.now.vertices }
+        requires second { second < self.now.vertices }
+        requires apart { first ≢ second }
+        ensures { IfOk result (λ value. IsLeastCut self.now.edges first second value) }
+    {
+        self.branches.least(alloc, first, second)
+    }
+}

@@ -1,0 +1,17 @@
+pub mod SumLemmas
+pub mod ShiftLemmas
+pub mod WeightLemmas
+pub mod LevelLemmas
+pub mod UncheckedLemmas
+pub mod LayerLemmas
+pub mod LoweringLemmas
+pub mod ShowLemmas
+pub mod WithstandLemmas
+pub mod GroupLemmas
+pub mod TieLemmas
+pub mod GroupTieLemmas
+pub mod VertexLemmas
+pub mod NumberLemmas
+pub mod PullLemmas
+pub mod SharedLemmas
+pub mod SightLemmas

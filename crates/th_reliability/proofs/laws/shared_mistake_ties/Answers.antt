@@ -1,0 +1,5 @@
+use Rattle.th_reliability.proofs.GroupTieLemmas.{moves_too, stays_least}
+use Rattle.th_reliability.proofs.laws.shared_mistake_ties.Goals as goal
+
+pub returns : goal.returns
+returns c = record { least = stays_least; drags = moves_too }

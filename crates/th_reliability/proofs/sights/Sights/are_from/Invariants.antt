@@ -1,0 +1,7 @@
+use Rattle.std.proofs.Common.{◌≡◌, ℕ, ◌<◌, true, get_or}
+use Rattle.th_book.specs.Observed.{Observed}
+use Rattle.th_reliability.specs.Sights.{in_sights}
+use Rattle.th_reliability.proofs.sights.Sights.are_from.Given as goal
+
+abbrev pub invariant-loop-o : goal.invariant-loop-o
+invariant-loop-o l = (k : ℕ) (d : Observed) → k < l.o-index → in_sights l.self (get_or l.observations k d) ≡ true → (get_or l.observations k d).station ≡ l.station

@@ -1,0 +1,24 @@
+use Rattle.std.specs.Prelude.{ℕ, Bool, ◌&&◌, ◌==◌, List, map}
+use Rattle.std.specs.List.{list_any}
+use Rattle.th_book.specs.Observed.{Observed}
+use Rattle.th_tables.specs.Rows.{BenchmarkRows, WeightRows, weight_of}
+use Rattle.th_points.specs.Points.{points}
+use Rattle.th_network.specs.Vertices.{vertex_of}
+use Rattle.th_cuts.specs.declared.edges.Edge.{Edge}
+
+-- the edge of an observation in a graph over the vertices of a network: it joins the vertices of its ends, and weighs what the observation weighs
+abbrev pub edge_of : List Observed → BenchmarkRows → WeightRows → Observed → Edge
+edge_of observations benchmarks weights o =
+    record { tail = vertex_of observations benchmarks o.station; head = vertex_of observations benchmarks o.target; weight = weight_of weights o.station o.target }
+
+-- for each observation its edge
+abbrev pub edges_of : List Observed → BenchmarkRows → WeightRows → List Edge
+edges_of observations benchmarks weights = map (edge_of observations benchmarks weights) observations
+
+-- the names whose vertices are inside
+abbrev pub names_in : List Observed → BenchmarkRows → (ℕ → Bool) → List ℕ → Bool
+names_in observations benchmarks inside name = inside (vertex_of observations benchmarks name)
+
+-- the vertices of the points that are inside
+abbrev pub vertices_in : List Observed → BenchmarkRows → (List ℕ → Bool) → ℕ → Bool
+vertices_in observations benchmarks inside vertex = list_any (λ name. vertex_of observations benchmarks name == vertex && inside name) (points observations benchmarks)

@@ -1,0 +1,3 @@
+-- what private functions promise one another
+pub mod Graphs
+pub mod Pulls

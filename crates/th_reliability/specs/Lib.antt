@@ -1,0 +1,9 @@
+pub mod Cuts
+pub mod Blunders
+pub mod Groups
+pub mod Mistakes
+pub mod Edges
+pub mod Numbers
+pub mod Sights
+pub mod SharedMistakes
+pub mod Inside

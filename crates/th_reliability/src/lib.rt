@@ -1,0 +1,34 @@
+//! What a mistake in an observation would do to a height network.
+//!
+//! The strength of a point bounds the weight of blunders that it withstands: anything below half of
+//! it. The control of an observation is the weight of the others that check it. `Reliability` finds
+//! both by least cuts over the network's vertices; `Mistake` says what a mistake does.
+//! `shared_mistakes` finds what a mistake does that all sights of one entry share. `specs/` has the
+//! definitions, and `laws` proves what they are for.
+#![tactic(auto)]
+
+// The network as a graph.
+mod edges;
+
+// The least cuts of its points and of its observations.
+mod controls;
+mod strengths;
+// Both, from one cut tree.
+mod numbers;
+
+// What becomes of a mistake, by control and weight.
+mod mistakes;
+
+// What a mistake in an entry would do: its sights, the graphs in which they are turned round, and the
+// least cuts of these.
+mod pulls;
+mod shared;
+mod sights;
+
+// What holds of the definitions alone.
+pub mod laws;
+
+pub use mistakes::{Mistake, SharedMistake};
+pub use numbers::Reliability;
+pub use shared::shared_mistakes;
+pub use sights::Sights;
