@@ -1,0 +1,3 @@
+pub mod Running
+pub mod Tallies
+pub mod Feeds

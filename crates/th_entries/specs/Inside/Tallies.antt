@@ -1,0 +1,137 @@
+-- What is known of a book after some of its lines.
+use Rattle.std.specs.Prelude.{◌≡◌, ◌<◌, ◌≤◌, ℕ, suc, ◌+◌, ◌-◌, ◌^◌, ◌++◌, ◌&&◌, not, min, Bool, List, [], ◌∷◌, Option, None, if◌then◌else◌, is_some, length, option_and_then, option_map}
+use Rattle.std.specs.Option.{option_map_or}
+use Rattle.gsi_word.specs.Words.{Parts}
+use Rattle.gsi_block.specs.Blocks.{block_at}
+use Rattle.th_book.specs.Lines.{ParsedLine, holds, is_setup, is_sight, length_in, point_name}
+use Rattle.th_book.specs.Places.{holds_from, last_below, line_at, setup_of, station_at, words_at}
+use Rattle.th_book.specs.Faults.{are_one, begins_with_point, first_fault}
+use Rattle.th_book.specs.Books.{known, known_name}
+use Rattle.th_book.specs.Limits.{max_book}
+use Rattle.th_book.specs.Entered.{entered_by}
+use Rattle.th_book.specs.Indexes.{reflector_height, instrument_height}
+use Rattle.th_book.specs.declared.entries.Entered.{Entered}
+use Rattle.th_entries.specs.Below.{all_below, count_below}
+use Rattle.th_entries.specs.Entries.{index_of, uses}
+use Rattle.th_entries.specs.Reviews.{is_block, is_lookalike}
+use Rattle.th_entries.specs.Inside.Running.{Entering, entering_after}
+use Rattle.th_entries.specs.declared.entries.Entry.{Entry}
+use Rattle.th_entries.specs.declared.entries.HeightKind.{HeightKind}
+use Rattle.th_entries.specs.declared.entries.HeightKind.TheVariants.{Reflector, Instrument}
+use Rattle.th_entries.specs.declared.reviews.BookCount.{BookCount}
+use Rattle.th_entries.specs.declared.tallies.Tally.{Tally}
+
+-- one more, as far as 32 bits count
+abbrev pub one_more : ℕ → ℕ
+one_more count = min (count + 1) (2 ^ 32 - 1)
+
+-- one more line was counted
+abbrev pub with_line : BookCount → BookCount
+with_line counts = record counts { lines = one_more counts.lines }
+
+-- a block was counted, by what it enters
+abbrev pub with_block : Entered → BookCount → BookCount
+with_block entered counts = record {
+  lines = counts.lines;
+  blocks = one_more counts.blocks;
+  setups = if is_some entered.station then one_more counts.setups else counts.setups;
+  sights = if is_some entered.target then one_more counts.sights else counts.sights;
+}
+
+-- a block looks like a setup of another point than the station
+abbrev pub looks : List Parts → Entered → Option (List ℕ) → Bool
+looks words entered station =
+    (begins_with_point words && (is_some entered.instrument && (not (is_some entered.target) && not (is_some entered.station))))
+    && not (are_one station (point_name words))
+
+-- a line, where it looks like a setup
+abbrev pub line_if : Bool → ℕ → List ℕ
+line_if looks line = if looks then line ∷ [] else []
+
+-- the running setup and the entries of a tally
+abbrev pub entering : Tally → Entering
+entering tally = record { running = tally.running; entries = tally.entries.items }
+
+-- nothing is known yet
+pub record IsEmpty (number : ℕ) (tally : Tally) : Type 0 where
+  pub book : tally.book ≡ number
+  pub counts : tally.counts ≡ record { lines = 0; blocks = 0; setups = 0; sights = 0 }
+  pub entered : entering tally ≡ record { running = record { station = None; reflector = None; instrument = None }; entries = [] }
+  pub lookalikes : tally.lookalikes.items ≡ []
+
+-- a block without a fault was taken, whose line was counted
+pub record HasBlock (words : List Parts) (old new : Tally) : Type 0 where
+  pub book : new.book ≡ old.book
+  pub counts : new.counts ≡ with_block (entered_by words) old.counts
+  pub entered : entering new ≡ entering_after old.book old.counts.lines (entered_by words) (entering old)
+  pub lookalikes : new.lookalikes.items ≡ old.lookalikes.items ++ line_if (looks words (entered_by words) old.running.station) old.counts.lines
+
+-- the line of the last height of an index since the setup that runs at a place
+abbrev pub open_at : ℕ → List ParsedLine → ℕ → Option ℕ
+open_at index parsed n = option_and_then (λ setup. last_below (holds_from parsed index setup) n) (setup_of parsed n)
+
+-- a line enters a height in a setup
+abbrev pub opens : List ParsedLine → HeightKind → ℕ → Bool
+opens parsed kind line = holds (index_of kind) (words_at parsed line) && is_some (setup_of parsed (suc line))
+
+-- the entry of a line, as far as sights below a bound use it
+abbrev pub candidate : ℕ → List ParsedLine → HeightKind → ℕ → ℕ → Entry
+candidate book parsed kind bound line = record {
+  book = book;
+  line = line + 1;
+  kind = kind;
+  station = known_name (station_at parsed (suc line));
+  length = known (length_in (index_of kind) (words_at parsed line));
+  sights = count_below (uses (index_of kind) parsed line) bound;
+  last = option_map_or (λ last. last + 1) (last_below (uses (index_of kind) parsed line) bound) 0;
+}
+
+abbrev pub candidate_at : ℕ → List ParsedLine → HeightKind → ℕ → ℕ → List Entry
+candidate_at book parsed kind bound line = if opens parsed kind line then candidate book parsed kind bound line ∷ [] else []
+
+-- the entries of a line, that of each kind as far as its bound
+abbrev pub both_at : ℕ → List ParsedLine → ℕ → ℕ → ℕ → List Entry
+both_at book parsed reflector instrument line =
+    candidate_at book parsed Reflector reflector line ++ candidate_at book parsed Instrument instrument line
+
+-- the entries that come before that of a kind in a line, whatever they count
+abbrev pub ahead : List ParsedLine → HeightKind → ℕ → List Entry
+ahead parsed Reflector line = []
+ahead parsed Instrument line = candidate_at 0 parsed Reflector 0 line
+
+abbrev pub place_in : List ParsedLine → HeightKind → ℕ → ℕ
+place_in parsed kind line = length (all_below (both_at 0 parsed 0 0) line ++ ahead parsed kind line)
+
+-- the running setup and the entries are those at a place
+pub record IsEntering (book : ℕ) (parsed : List ParsedLine) (n : ℕ) (state : Entering) : Type 0 where
+  pub station : state.running.station ≡ station_at parsed n
+  pub begun : is_some (station_at parsed n) ≡ is_some (setup_of parsed n)
+  pub reflector : state.running.reflector ≡ option_map (place_in parsed Reflector) (open_at reflector_height parsed n)
+  pub instrument : state.running.instrument ≡ option_map (place_in parsed Instrument) (open_at instrument_height parsed n)
+  pub entries : state.entries ≡ all_below (both_at book parsed n n) n
+
+-- the counts are those of the lines before a place
+abbrev pub counts_below : List ParsedLine → ℕ → BookCount
+counts_below parsed n = record {
+  lines = n;
+  blocks = count_below (λ place. is_block (line_at parsed place)) n;
+  setups = count_below (λ place. is_setup (words_at parsed place)) n;
+  sights = count_below (λ place. is_sight (words_at parsed place)) n;
+}
+
+-- the lines that look like setups before a place
+abbrev pub lookalikes_below : List ParsedLine → ℕ → List ℕ
+lookalikes_below parsed n = all_below (λ place. line_if (is_lookalike parsed place) (place + 1)) n
+
+-- all that is known is what the lines before a place say
+pub record IsTallied (number : ℕ) (parsed : List ParsedLine) (n : ℕ) (tally : Tally) : Type 0 where
+  pub book : tally.book ≡ number
+  pub counts : tally.counts ≡ counts_below parsed n
+  pub entered : IsEntering number parsed n (entering tally)
+  pub lookalikes : tally.lookalikes.items ≡ lookalikes_below parsed n
+
+-- the next line of a book without a fault was taken
+abbrev pub HasTaken : Tally → Tally → List ℕ → Type 0
+HasTaken old new line =
+    (number : ℕ) (parsed : List ParsedLine) (n : ℕ) → first_fault parsed ≡ None → length parsed ≤ max_book → n < length parsed →
+    line_at parsed n ≡ block_at line → IsTallied number parsed n old → IsTallied number parsed (suc n) new

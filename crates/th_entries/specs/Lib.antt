@@ -1,0 +1,5 @@
+pub mod Below
+pub mod Entries
+pub mod Reviews
+pub mod Feeds
+pub mod Inside

@@ -1,0 +1,57 @@
+use Rattle.std.specs.Prelude.{◌≡◌, ℕ, ◌+◌, ◌&&◌, not, Bool, true, false, List, [], ◌∷◌, Some, None, Ok, Err, if◌then◌else◌, length, map}
+use Rattle.gsi_word.specs.Words.{Parts}
+use Rattle.gsi_block.specs.Lines.{lines_of}
+use Rattle.gsi_block.specs.Blocks.{block_at}
+use Rattle.th_book.specs.Observed.{Observed}
+use Rattle.th_book.specs.Lines.{ParsedLine, holds, is_setup, is_sight, point_name}
+use Rattle.th_book.specs.Places.{line_at, station_at, words_at}
+use Rattle.th_book.specs.Faults.{are_one, begins_with_point}
+use Rattle.th_book.specs.Books.{book_answer}
+use Rattle.th_book.specs.Indexes.{instrument_height}
+use Rattle.th_entries.specs.Below.{all_below, count_below}
+use Rattle.th_entries.specs.Entries.{entries_of}
+use Rattle.th_entries.specs.declared.reviews.BookCount.{BookCount}
+use Rattle.th_entries.specs.declared.reviews.BookReview.{BookReview}
+
+-- a line that is a block
+abbrev pub is_block : ParsedLine → Bool
+is_block (Ok (Some block)) = true
+is_block (Ok None) = false
+is_block (Err fault) = false
+
+-- how many lines there are, and how many of these are blocks, setups and sights
+abbrev pub counts_of : List ParsedLine → BookCount
+counts_of parsed = record {
+  lines = length parsed;
+  blocks = count_below (λ place. is_block (line_at parsed place)) (length parsed);
+  setups = count_below (λ place. is_setup (words_at parsed place)) (length parsed);
+  sights = count_below (λ place. is_sight (words_at parsed place)) (length parsed);
+}
+
+-- a block looks like a setup where it begins with a point and holds an instrument height, and is neither a sight nor a setup
+abbrev pub resembles_setup : List Parts → Bool
+resembles_setup words =
+    begins_with_point words && (holds instrument_height words && (not (is_sight words) && not (is_setup words)))
+
+-- the line at a place looks like a setup of another point than the current station
+abbrev pub is_lookalike : List ParsedLine → ℕ → Bool
+is_lookalike parsed place =
+    resembles_setup (words_at parsed place) && not (are_one (station_at parsed place) (point_name (words_at parsed place)))
+
+-- the lines, from 1, that look like a setup and are none
+abbrev pub lookalikes_of : List ParsedLine → List ℕ
+lookalikes_of parsed = all_below (λ place. if is_lookalike parsed place then (place + 1) ∷ [] else []) (length parsed)
+
+-- what the lines of a book say, one by one
+abbrev pub parsed_of : List ℕ → List ParsedLine
+parsed_of bytes = map block_at (lines_of bytes)
+
+-- a book has no fault
+abbrev pub IsFaultless : ℕ → List ℕ → Type 0
+IsFaultless book bytes = (observations : List Observed) × (book_answer book bytes ≡ Ok observations)
+
+-- a review is that of a book whose lines say this
+pub record Reviews (book : ℕ) (parsed : List ParsedLine) (review : BookReview) : Type 0 where
+  pub counts : review.counts ≡ counts_of parsed
+  pub entries : review.entries.items ≡ entries_of book parsed
+  pub lookalikes : review.lookalikes.items ≡ lookalikes_of parsed

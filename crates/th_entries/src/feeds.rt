@@ -1,0 +1,102 @@
+ghost use Rattle.std.specs.Prelude.{◌++◌, [], List, ℕ, IfOk, OnOk};
+ghost use Rattle.th_entries.specs.Feeds.{IsReading};
+ghost use Rattle.th_entries.specs.Inside.Feeds.{AreTaken};
+ghost use Rattle.th_entries.specs.Inside.Tallies.{HasTaken};
+ghost use Rattle.th_entries.specs.Reviews.{IsFaultless, Reviews, parsed_of};
+
+use crate::reviews::BookReview;
+use crate::tallies::Tally;
+use arrayvec::ArrayVec;
+use gsi_block::laws::cut_line_is_read_as_its_line;
+use gsi_block::{Lines, MAX_WORDS};
+use gsi_word::Word;
+use std::alloc::{AllocError, Global};
+use th_book::laws::answered_book_is_faultless;
+
+/// A book that comes in pieces, however it is cut, and is reviewed. It takes the pieces that a
+/// `th_book::BookFeed` takes, and keeps one line and the review so far.
+#[derive(Drop)]
+pub struct ReviewFeed {
+    tally: Tally,
+    lines: Lines,
+}
+
+impl ReviewFeed {
+    /// A book with its number, from 1, of which no byte came yet.
+    pub fn new(alloc: Global, book: u32) -> ReviewFeed
+        ensures { (text : List ℕ) → IsReading book text text result }
+    {
+        cut_line_is_read_as_its_line();
+        ReviewFeed {
+            tally: Tally::new(alloc, book),
+            lines: Lines::new(),
+        }
+    }
+
+    /// Takes the next piece of the book. After an allocation failure nothing is promised of the review.
+    pub fn feed(&mut self, piece: &[u8]) -> Result<(), AllocError>
+        ensures { OnOk result ((book : ℕ) (text later : List ℕ) →
+            IsReading book text (piece.now ++ later) self.old → IsReading book text later self.new) }
+    {
+        take_lines(&mut self.tally, &mut self.lines, piece)
+    }
+
+    /// The review of the book whose pieces came, if that has no fault. Of a book with a fault nothing
+    /// is promised.
+    pub fn finish(self) -> Result<BookReview, AllocError>
+        ensures { IfOk result (λ review. (book : ℕ) (text : List ℕ) →
+            IsReading book text [] self → IsFaultless book text → Reviews book (parsed_of text) review) }
+    {
+        answered_book_is_faultless();
+        let ReviewFeed { mut tally, lines } = self;
+        if let Some(line) = lines.finish() {
+            tally.take(line, &mut ArrayVec::new())?;
+        }
+        Ok(tally.review())
+    }
+}
+
+/// The review of a whole book with its number, from 1, if the book has no fault. Of a book with a fault
+/// nothing is promised.
+pub fn read_review(alloc: Global, book: u32, bytes: &[u8]) -> Result<BookReview, AllocError>
+    ensures { IfOk result
+        (λ review. IsFaultless book bytes.now → Reviews book (parsed_of bytes.now) review) }
+{
+    let mut feed = ReviewFeed::new(alloc, book);
+    feed.feed(bytes)?;
+    feed.finish()
+}
+
+/// Gives a tally each line that ends in a piece.
+fn take_lines(tally: &mut Tally, lines: &mut Lines, piece: &[u8]) -> Result<(), AllocError>
+    ensures { OnOk result (AreTaken tally.old lines.old piece.now tally.new lines.new []) }
+{
+    answered_book_is_faultless();
+    let mut words = ArrayVec::new();
+    let mut rest = piece;
+    'pieces: loop {
+        let (taken, complete) = lines.take(rest);
+        if !complete {
+            return Ok(());
+        }
+        give(tally, lines.line(), rest, &mut words)?;
+        (_, rest) = rest.split_at(taken);
+    }
+}
+
+/// Gives a tally its next line. Most lines lie whole in the piece that ends them: there the words lend
+/// from the piece, and one array serves for all of them.
+fn give<'p>(
+    tally: &mut Tally,
+    line: &[u8],
+    rest: &'p [u8],
+    words: &mut ArrayVec<Word<'p>, MAX_WORDS>,
+) -> Result<(), AllocError>
+    ensures { OnOk result (HasTaken tally.old tally.new line.now) }
+{
+    let (front, _) = rest.split_at(line.len().min(rest.len()));
+    if front == line {
+        return tally.take(front, words);
+    }
+    tally.take(line, &mut ArrayVec::new())
+}

@@ -1,0 +1,32 @@
+//! What a review tells about a book itself: the heights that were entered and the sights that use
+//! them, what its lines are, and the lines that look like a setup and are none.
+//!
+//! A `ReviewFeed` takes the same pieces of bytes as a `th_book::BookFeed`, and gives the
+//! `BookReview` of a book that has no fault.
+#![tactic(auto)]
+
+// An entered height, and the sights that use it.
+mod entries;
+
+// The running setup, and its entries.
+mod running;
+
+// What is known of a book after some of its lines.
+mod tallies;
+
+// Books by pieces of their bytes.
+mod feeds;
+
+// What is told about a book.
+mod reviews;
+
+// Names that are spelled in more than one way.
+mod spellings;
+
+// What holds of the definitions alone.
+pub mod laws;
+
+pub use entries::{Entry, HeightKind};
+pub use feeds::{ReviewFeed, read_review};
+pub use reviews::{BookCount, BookReview};
+pub use spellings::Spelling;

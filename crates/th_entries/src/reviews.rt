@@ -1,0 +1,22 @@
+use crate::entries::Entry;
+
+/// How many lines a book has, and how many of these are blocks, setups and sights.
+#[derive(Clone, Copy, Debug, PartialEq, Eq)]
+pub struct BookCount {
+    pub lines: u32,
+    pub blocks: u32,
+    pub setups: u32,
+    pub sights: u32,
+}
+
+/// What a review tells about one book.
+#[derive(Drop)]
+pub struct BookReview {
+    pub counts: BookCount,
+    /// The entries by line, the reflector's before the instrument's within a line.
+    pub entries: Vec<Entry>,
+    /// The lines, from 1, that look like a setup and are none: a block with a point number and an
+    /// instrument height, but without a height difference and a coordinate of the station, whose
+    /// point is not the current station.
+    pub lookalikes: Vec<u32>,
+}

@@ -1,0 +1,9 @@
+pub mod Mistakes
+pub mod Words
+pub mod Heads
+pub mod Notes
+pub mod Largest
+pub mod Reviews
+pub mod Findings
+pub mod Rows
+pub mod Tables

@@ -1,0 +1,51 @@
+-- The tables of a review, as comma-separated values.
+use Rattle.std.specs.Prelude.{ℕ, List, [], ◌∷◌, Option, None, Some, codes, decimal, map}
+use Rattle.th_units.specs.Metres.{metres}
+use Rattle.th_csv.specs.Records.{Fields}
+use Rattle.th_csv.specs.Texts.{csv_text}
+use Rattle.th_review.specs.Words.{mistake_word, shared_mistake_word, kind_word}
+use Rattle.th_review.specs.declared.rows.PointRow.{PointRow}
+use Rattle.th_review.specs.declared.rows.ObservationRow.{ObservationRow}
+use Rattle.th_review.specs.declared.rows.EntryRow.{EntryRow}
+
+-- a number that may be missing: its digits, or an empty field
+abbrev pub number_field : Option ℕ → List ℕ
+number_field None = []
+number_field (Some number) = decimal number
+
+abbrev pub points_header : Fields
+points_header = codes "point" ∷ codes "height" ∷ codes "low" ∷ codes "high" ∷ codes "strength" ∷ []
+
+-- the fields of a point: its name, its height, which is the lowest best one, the lowest and the highest best height, and its strength
+abbrev pub point_record : PointRow → Fields
+point_record row = row.name ∷ metres row.low ∷ metres row.low ∷ metres row.high ∷ number_field row.strength ∷ []
+
+-- the text of the table of points
+abbrev pub points_text : List PointRow → List ℕ
+points_text rows = csv_text (points_header ∷ map point_record rows)
+
+unfoldable pub observations_header : Fields
+observations_header = codes "number" ∷ codes "book" ∷ codes "line" ∷ codes "from" ∷ codes "to" ∷ codes "difference" ∷ codes "weight" ∷ codes "residual" ∷ codes "control" ∷ codes "mistake" ∷ []
+
+-- the fields of an observation
+unfoldable pub observation_record : ObservationRow → Fields
+observation_record row =
+    decimal row.number ∷ decimal row.observation.book ∷ decimal row.observation.line ∷ row.observation.station ∷ row.observation.target ∷ metres row.observation.difference
+    ∷ decimal row.weight ∷ metres row.residual ∷ number_field row.control ∷ mistake_word row.mistake ∷ []
+
+-- the text of the table of observations
+abbrev pub observations_text : List ObservationRow → List ℕ
+observations_text rows = csv_text (observations_header ∷ map observation_record rows)
+
+abbrev pub entries_header : Fields
+entries_header = codes "book" ∷ codes "line" ∷ codes "word" ∷ codes "station" ∷ codes "length" ∷ codes "sights" ∷ codes "weight" ∷ codes "mistake" ∷ []
+
+-- the fields of an entry
+abbrev pub entry_record : EntryRow → Fields
+entry_record row =
+    decimal row.entry.book ∷ decimal row.entry.line ∷ kind_word row.entry.kind ∷ row.entry.station ∷ metres row.entry.length
+    ∷ decimal row.entry.sights ∷ decimal row.weight ∷ shared_mistake_word row.mistake ∷ []
+
+-- the text of the table of entries
+abbrev pub entries_text : List EntryRow → List ℕ
+entries_text rows = csv_text (entries_header ∷ map entry_record rows)

@@ -1,0 +1,51 @@
+-- The words and marks of a review.
+use Rattle.std.specs.Prelude.{ℕ, Bool, true, false, List, [], Option, None, Some, codes, decimal}
+use Rattle.th_review.specs.declared.found.HeightKind.{HeightKind}
+use Rattle.th_review.specs.declared.found.HeightKind.TheVariants.{Reflector, Instrument}
+use Rattle.th_review.specs.declared.mistakes.Mistake.{Mistake}
+use Rattle.th_review.specs.declared.mistakes.Mistake.TheVariants as mistake
+use Rattle.th_review.specs.declared.mistakes.SharedMistake.{SharedMistake}
+use Rattle.th_review.specs.declared.mistakes.SharedMistake.TheVariants as shared
+
+-- the word for what a mistake in an observation would do
+abbrev pub mistake_word : Mistake → List ℕ
+mistake_word mistake.Shows = codes "shows"
+mistake_word mistake.Ties = codes "ties"
+mistake_word mistake.Hides = codes "hides"
+mistake_word mistake.Unchecked = codes "unchecked"
+
+-- the word for what a mistake in an entry would do
+abbrev pub shared_mistake_word : SharedMistake → List ℕ
+shared_mistake_word shared.Shows = codes "shows"
+shared_mistake_word shared.Ties = codes "ties"
+shared_mistake_word shared.Drags = codes "drags"
+
+-- the index of the word that gives a height of this kind
+abbrev pub kind_word : HeightKind → List ℕ
+kind_word Reflector = codes "87"
+kind_word Instrument = codes "88"
+
+-- the mark of an observation: two spaces and a sign, and none where a mistake shows
+abbrev pub mistake_mark : Mistake → List ℕ
+mistake_mark mistake.Shows = []
+mistake_mark mistake.Ties = codes "  ="
+mistake_mark mistake.Hides = codes "  <"
+mistake_mark mistake.Unchecked = codes "  0"
+
+-- the mark of an entry
+abbrev pub shared_mistake_mark : SharedMistake → List ℕ
+shared_mistake_mark shared.Shows = []
+shared_mistake_mark shared.Ties = codes "  ="
+shared_mistake_mark shared.Drags = codes "  <"
+
+-- the mark of a point: whether one observation alone holds it, and whether its best heights differ
+abbrev pub point_mark : Bool → Bool → List ℕ
+point_mark true true = codes "  1="
+point_mark true false = codes "  1"
+point_mark false true = codes "  ="
+point_mark false false = []
+
+-- a number that may be missing, for people: its digits, or a dash
+abbrev pub number_or_dash : Option ℕ → List ℕ
+number_or_dash None = codes "-"
+number_or_dash (Some number) = decimal number

@@ -1,0 +1,91 @@
+//! The review for people.
+ghost use Rattle.std.specs.Prelude.{◌≡◌, ◌++◌, IfOk, OnOk};
+ghost use Rattle.th_review.specs.Reviews.{front_part, review_text, table_part};
+
+use crate::book_tables::write_books;
+use crate::entry_tables::write_entries;
+use crate::found::BookCount;
+use crate::heads::write_head;
+use crate::notes::{Note, write_notes};
+use crate::observation_tables::{write_largest, write_observations};
+use crate::point_tables::write_points;
+use crate::rows::{EntryRow, ObservationRow, PointRow};
+use std::alloc::{AllocError, Global};
+use th_network::Network;
+use th_report::Page;
+
+/// The review of a network for people: what was reviewed in numbers, the books, the largest
+/// residuals, the points, the observations and the entries, and the notes.
+///
+/// The limit of blunders is in units of 10 nm.
+#[tactic(auto, unfolding(crate::specs::Reviews::review_text))]
+pub fn review_text(
+    alloc: Global,
+    network: &Network,
+    points: &[PointRow],
+    observations: &[ObservationRow],
+    entries: &[EntryRow],
+    books: &[BookCount],
+    notes: &[Note],
+    limit: i64,
+) -> Result<Vec<u8>, AllocError>
+    ensures { IfOk result (λ text. text.items ≡ review_text network.now points.now
+        observations.now entries.now books.now notes.now limit) }
+{
+    let mut page = Page::new(alloc);
+    write_front(
+        alloc,
+        &mut page,
+        network,
+        points,
+        observations,
+        entries,
+        books,
+        limit,
+    )?;
+    write_tables(&mut page, points, observations, entries)?;
+    write_notes(&mut page, notes)?;
+    Ok(page.into_bytes())
+}
+
+/// Writes the head, the books and the largest residuals.
+#[tactic(auto, unfolding(crate::specs::Reviews::front_part))]
+fn write_front(
+    alloc: Global,
+    page: &mut Page,
+    network: &Network,
+    points: &[PointRow],
+    observations: &[ObservationRow],
+    entries: &[EntryRow],
+    books: &[BookCount],
+    limit: i64,
+) -> Result<(), AllocError>
+    ensures { OnOk result (page.new ≡ page.old ++ front_part network.now points.now
+        observations.now entries.now books.now limit) }
+{
+    write_head(page, network, points, observations, entries)?;
+    page.end_line()?;
+    write_books(page, books)?;
+    page.end_line()?;
+    write_largest(alloc, page, observations, limit)?;
+    page.end_line()
+}
+
+/// Writes the tables of all points, observations and entries.
+#[tactic(auto, unfolding(crate::specs::Reviews::table_part))]
+fn write_tables(
+    page: &mut Page,
+    points: &[PointRow],
+    observations: &[ObservationRow],
+    entries: &[EntryRow],
+) -> Result<(), AllocError>
+    ensures { OnOk result (page.new
+        ≡ page.old ++ table_part points.now observations.now entries.now) }
+{
+    write_points(page, points)?;
+    page.end_line()?;
+    write_observations(page, observations)?;
+    page.end_line()?;
+    write_entries(page, entries)?;
+    page.end_line()
+}

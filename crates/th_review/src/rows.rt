@@ -1,0 +1,45 @@
+use crate::found::Entry;
+use crate::mistakes::{Mistake, SharedMistake};
+use gsi_word::Name;
+use th_book::Observation;
+
+/// A point of a network, and what was found of it. Heights are in units of 10 nm.
+#[derive(Clone, Copy, Debug)]
+pub struct PointRow {
+    pub name: Name,
+    /// The lowest of its best heights.
+    pub low: i64,
+    /// The highest of them.
+    pub high: i64,
+    /// The highest less the lowest.
+    pub spread: i64,
+    /// The strength, none for a benchmark.
+    pub strength: Option<u32>,
+    /// Whether one observation alone holds it.
+    pub alone: bool,
+}
+
+/// An observation of a network, and what was found of it.
+#[derive(Clone, Copy, Debug)]
+pub struct ObservationRow {
+    /// The number, from 1.
+    pub number: u32,
+    pub observation: Observation,
+    pub weight: u32,
+    /// The residual at the lowest of the best heights, in units of 10 nm.
+    pub residual: i64,
+    /// The control, none between two benchmarks.
+    pub control: Option<u32>,
+    /// What a mistake in it would do.
+    pub mistake: Mistake,
+}
+
+/// An entry of a book, and what was found of it.
+#[derive(Clone, Copy, Debug)]
+pub struct EntryRow {
+    pub entry: Entry,
+    /// The sum of the weights of its sights.
+    pub weight: u32,
+    /// What a mistake in it would do.
+    pub mistake: SharedMistake,
+}
