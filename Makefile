@@ -6,8 +6,8 @@ PREFIX ?= /usr/local
 BOOK ?= examples/building_site.gsi
 LOG := build.log
 
-.PHONY: help run list build calls check test gate examples statuses documents compare office mutated each-byte \
-	memory hostile bench install clean
+.PHONY: help run list build calls check test gate examples statuses documents made-up compare office mutated \
+	each-byte memory attacks hostile bench install clean
 
 help:
 	@echo 'make run       prove and build the program, adjust an example project, show its report and check its certificate'
@@ -16,14 +16,16 @@ help:
 	@echo 'make check     while you work: prove what changed, then all of the below down to memory but the gate and each-byte'
 	@echo 'make test      the gate (every proof from nothing, must-fail edits, tests, program runs), and then the same'
 	@echo 'make gate      rt ci alone'
-	@echo 'make examples  compare what the built program gives for examples/ with what stands beside them'
+	@echo 'make examples  compare what the built program gives for examples/ with the files there'
 	@echo 'make statuses  run the built program on command lines that fail, and compare status and lines'
-	@echo 'make documents run each command of README.md and docs/TUTORIAL.md, and compare what it prints'
+	@echo 'make documents test the pages: commands, links, sizes, and docs/THEOREM.md against the definitions'
+	@echo 'make made-up   fail where product code creates an allocation failure itself, but in the listed places'
 	@echo 'make compare   compare the built program with the second reader on mutated books (BOOKS=$(BOOKS) SEED=$(SEED))'
 	@echo 'make office    compare the built program with the second office on random projects (PROJECTS=$(PROJECTS) SEED=$(SEED))'
 	@echo 'make mutated   the same on mutated books, tables and certificates (INPUTS=$(INPUTS) SEED=$(SEED)); a million take hours'
 	@echo 'make each-byte the same on each beginning and each changed byte of a book and two certificates (some minutes)'
-	@echo 'make memory    run the built program, and the calls that `make calls` builds, with each request for memory refused'
+	@echo 'make memory    run the built program, and the calls that `make calls` builds, with each allocation refused in turn'
+	@echo 'make attacks   try the edits of attacks/, more mistakes that the prover must refuse (an hour); no part of make test'
 	@echo 'make hostile   time and memory of books, tables, certificates and networks that are made to cost time'
 	@echo 'make bench     throughput and peak memory: listing, networks, certificates, settling beside other solvers, adjusting'
 	@echo 'make install   copy the built program and its manual page below $(PREFIX)'
@@ -37,7 +39,7 @@ list: build
 
 # `rt run` is what builds; an empty book is listed on the way.
 build:
-	@echo 'proving and building $(PROGRAM): half an hour at first, seconds where nothing changed; the log is $(LOG)'
+	@echo 'proving and building $(PROGRAM): about 40 minutes at first, seconds where nothing changed; the log is $(LOG)'
 	@cd crates/height_office && rt run < /dev/null > ../../$(LOG) 2>&1 || { tail -n 40 ../../$(LOG); exit 1; }
 
 # What `make memory` runs beside the program.
@@ -47,10 +49,10 @@ calls:
 check:
 	@echo 'proving what changed; the log is $(LOG)'
 	@rt all check > $(LOG) 2>&1 || { tail -n 40 $(LOG); exit 1; }
-	@$(MAKE) --no-print-directory build calls examples statuses documents compare office mutated memory
+	@$(MAKE) --no-print-directory build calls examples statuses documents made-up compare office mutated memory
 
 # The gate leaves the program that it proved and built, so nothing is proved again after it.
-test: gate examples statuses documents compare office mutated memory
+test: gate examples statuses documents made-up compare office mutated memory
 
 gate:
 	@rt ci
@@ -64,6 +66,9 @@ statuses:
 documents:
 	@tests/documents $(PROGRAM)
 
+made-up:
+	@tests/no_memory_made_up
+
 BOOKS ?= 10000
 SEED ?= 20240607
 compare:
@@ -71,8 +76,10 @@ compare:
 	@python3 tests/second_reader/compare.py --program $(PROGRAM) --books $(BOOKS) --seed $(SEED)
 
 PROJECTS ?= 1000
+NETWORKS ?= 1000
 office:
 	@python3 tests/second_office/self_test.py
+	@python3 tests/second_office/try_laws.py --networks $(NETWORKS)
 	@python3 tests/second_office/compare.py --program $(PROGRAM) --projects $(PROJECTS) --seed $(SEED)
 
 INPUTS ?= 1000
@@ -84,6 +91,9 @@ each-byte:
 
 memory:
 	@tests/refused_memory/run.py --program $(PROGRAM) --calls $(CALLS)
+
+attacks:
+	@tests/attacks
 
 hostile:
 	@bench/hostile/run --program $(PROGRAM)

@@ -1,14 +1,15 @@
 #!/usr/bin/env python3
 """Compares the program with the second office on small random projects.
 
-    compare.py [--program PATH] [--projects N] [--seed S] [--workers W]
+    compare.py [--program PATH] [--projects N] [--seed S] [--workers W] [--review]
 
 Each project is adjusted by both. Standard output, standard error and status have to be the same, and so have the heights file, the
 report, the GSI file, and all records of the certificate but the flows, byte by byte. Which of several best flows is written is open:
 the program's have to keep their weights, balance and be slack with the heights, and have the cost. Then the program checks its own
-certificate, and changed ones, with the second office's verdict, line and status. Prints the seed, how many came out which way, and
-every difference, with the project saved in a folder that it names. Status 0 only without a difference; 2 where the comparison could
-not be made.
+certificate, and changed ones, with the second office's verdict, line and status. With --review both also review the project (the
+program has no such command yet): all four files have to be the same. Prints the seed, how many came out which way, and every
+difference, with the project saved in a folder that it names. Status 0 only without a difference; 2 where the comparison could not be
+made.
 """
 
 import argparse
@@ -25,8 +26,8 @@ from typing import Dict, List, NamedTuple, Optional, Tuple
 
 import office
 from projects import Project, changed_certificate, random_project
-from runs import (DEFAULT_PROGRAM, Files, adjust_words, compare_files, differ, outcome_of, saved, second_adjustment,
-                  written)
+from runs import (DEFAULT_PROGRAM, ENDS, REVIEW_ENDS, Files, compare_files, differ, network_words, outcome_of, saved,
+                  second_adjustment, second_review, written)
 
 DEFAULT_PROJECTS = 1_000
 DEFAULT_SEED = 20_240_607
@@ -57,6 +58,18 @@ def run(program: Path, folder: Path, words: List[str]) -> Tuple[int, bytes, byte
 # Comparing
 
 
+def some_of(files: Dict[str, bytes], ends: Tuple[str, ...]) -> Dict[str, bytes]:
+    return {end: text for end, text in files.items() if end in ends}
+
+
+def compare_review(program: Path, project: Project, files: Files) -> Tuple[str, List[str]]:
+    own = run(program, files.folder, network_words("review", project, files))
+    second = second_review(project)
+    differences = differ("review", own, (second.status, second.standard_output, second.standard_error))
+    differences += compare_files(project, some_of(written(files.folder), REVIEW_ENDS), second.files)
+    return outcome_of("review", second), differences
+
+
 def compare_check(program: Path, project: Project, files: Files, title: str, certificate: bytes) -> Tuple[str, List[str]]:
     (files.folder / f"{title}.csv").write_bytes(certificate)
     own = run(program, files.folder, ["check", "--certificate", f"{title}.csv"] + files.words)
@@ -65,16 +78,20 @@ def compare_check(program: Path, project: Project, files: Files, title: str, cer
     return outcome_of("check", second), differences
 
 
-def compare_project(program: Path, folder: Path, seed: int, number: int) -> Comparison:
+def compare_project(program: Path, folder: Path, seed: int, number: int, with_review: bool) -> Comparison:
     """Compares project `number`, which hangs on the seed and the number alone."""
     rng = Random(f"{seed} {number}")
     project = random_project(rng)
     files = saved(project, folder)
-    own = run(program, folder, adjust_words(project, files))
+    own = run(program, folder, network_words("adjust", project, files))
     second = second_adjustment(project)
     outcomes = [outcome_of("adjust", second)]
     differences = differ("adjust", own, (second.status, second.standard_output, second.standard_error))
-    differences += compare_files(project, written(folder), second.files)
+    differences += compare_files(project, some_of(written(folder), ENDS), second.files)
+    if with_review:
+        outcome, found = compare_review(program, project, files)
+        outcomes.append(outcome)
+        differences += found
     # Where a table was refused there is no certificate of one's own, but somebody else's is still checked.
     certificate = written(folder).get(".certificate.csv", b"kind,key,value\nV,2,0\nZ,cost,0\n")
     changed = [changed_certificate(rng, certificate) for _ in range(CHANGED_CERTIFICATES)]
@@ -88,10 +105,10 @@ def compare_project(program: Path, folder: Path, seed: int, number: int) -> Comp
 # The report
 
 
-def compare_in(scratch: Path, program: Path, seed: int, number: int) -> Comparison:
+def compare_in(scratch: Path, program: Path, seed: int, number: int, with_review: bool) -> Comparison:
     folder = scratch / f"project_{number:06}"
     folder.mkdir()
-    comparison = compare_project(program, folder, seed, number)
+    comparison = compare_project(program, folder, seed, number, with_review)
     if not comparison.differences:
         shutil.rmtree(folder)
     return comparison
@@ -121,6 +138,7 @@ def arguments(words: Optional[List[str]] = None) -> argparse.Namespace:
     parser.add_argument("--projects", type=int, default=DEFAULT_PROJECTS, help="how many random projects")
     parser.add_argument("--seed", type=int, default=DEFAULT_SEED, help="where the random numbers begin")
     parser.add_argument("--workers", type=int, default=os.cpu_count() or 2, help="how many projects at a time")
+    parser.add_argument("--review", action="store_true", help="also compare reviews")
     return parser.parse_args(words)
 
 
@@ -133,7 +151,7 @@ def main() -> int:
     scratch = Path(tempfile.mkdtemp(prefix="second_office_"))
     program = chosen.program.resolve()
     with ThreadPoolExecutor(max_workers=chosen.workers) as executor:
-        comparisons = executor.map(lambda number: compare_in(scratch, program, chosen.seed, number), range(chosen.projects))
+        comparisons = executor.map(lambda number: compare_in(scratch, program, chosen.seed, number, chosen.review), range(chosen.projects))
         differing = report(comparisons)
     if not differing:
         shutil.rmtree(scratch)

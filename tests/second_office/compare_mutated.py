@@ -30,7 +30,7 @@ from typing import Dict, Iterator, List, NamedTuple, Optional, Tuple
 
 import office
 from mutated import COUNT_OF_CHANGES, Case, changed_case, random_case
-from runs import (DEFAULT_PROGRAM, ENDS, adjust_words, compare_files, differ, outcome_of, saved, second_adjustment,
+from runs import (DEFAULT_PROGRAM, ENDS, network_words, compare_files, differ, outcome_of, saved, second_adjustment,
                   written)
 
 DEFAULT_INPUTS = 1_000
@@ -87,7 +87,7 @@ def save_case(case: Case) -> List[str]:
     if case.command == "list":
         return ["list", files.words[-1]]
     if case.command == "adjust":
-        return adjust_words(case.project, files)
+        return network_words("adjust", case.project, files)
     (HERE / "certificate.csv").write_bytes(case.certificate or b"")
     return ["check", "--certificate", "certificate.csv"] + files.words
 

@@ -2,6 +2,7 @@
 """A second office, written from docs/FORMATS.md alone.
 
     office.py adjust --benchmarks F [--weights F] [--blunder MICROMETRES] --out PREFIX BOOK...
+    office.py review --benchmarks F [--weights F] [--blunder MICROMETRES] --out PREFIX BOOK...
     office.py check --benchmarks F [--weights F] --certificate F BOOK...
 
 Gives what the program gives: the same files, the same lines, the same statuses. It shares nothing with the program, so that where
@@ -16,6 +17,7 @@ from typing import Dict, List, NamedTuple, Optional
 
 from certificates import CertificateFault, certificate_text, read_certificate, verdict_line
 from network import Heights, Network, NetworkFault, Sight, best_flows, cost_of, highest_heights, lowest_heights, make_network
+import review as reviews
 from tables import TableFault, read_benchmarks, read_weights, reader
 from texts import gsi_text, heights_text, report_text
 
@@ -124,6 +126,16 @@ def adjust(inputs: Inputs, limit: int) -> Answer:
     return Answer(0, b"", b"", files_of(adjusted(network), limit))
 
 
+def review(inputs: Inputs, limit: int) -> Answer:
+    try:
+        network, _ = read_inputs(inputs, None)
+    except Refused as fault:
+        return refused(fault)
+    answer = adjusted(network)
+    weights = read_weights(inputs.weights or b"")
+    return Answer(0, b"", b"", reviews.files_of(reviews.review_of(network, answer.low, answer.high, limit, inputs.books, weights)))
+
+
 def check(inputs: Inputs, certificate: bytes) -> Answer:
     try:
         network, stated = read_inputs(inputs, certificate)
@@ -139,13 +151,14 @@ def check(inputs: Inputs, certificate: bytes) -> Answer:
 def arguments(words: Optional[List[str]] = None) -> argparse.Namespace:
     parser = argparse.ArgumentParser(description="A second office, to be compared with the program.")
     commands = parser.add_subparsers(dest="command", required=True)
-    for name in ("adjust", "check"):
+    for name in ("adjust", "review", "check"):
         command = commands.add_parser(name)
         command.add_argument("--benchmarks", type=Path, required=True)
         command.add_argument("--weights", type=Path)
         command.add_argument("books", type=Path, nargs="+", metavar="BOOK")
-    commands.choices["adjust"].add_argument("--blunder", type=int, default=DEFAULT_BLUNDER)
-    commands.choices["adjust"].add_argument("--out", required=True)
+    for name in ("adjust", "review"):
+        commands.choices[name].add_argument("--blunder", type=int, default=DEFAULT_BLUNDER)
+        commands.choices[name].add_argument("--out", required=True)
     commands.choices["check"].add_argument("--certificate", type=Path, required=True)
     return parser.parse_args(words)
 
@@ -156,7 +169,8 @@ def run(chosen: argparse.Namespace) -> Answer:
     inputs = Inputs(books, chosen.benchmarks.read_bytes(), weights)
     if chosen.command == "check":
         return check(inputs, chosen.certificate.read_bytes())
-    return adjust(inputs, UNITS_IN_MICROMETRE * chosen.blunder)
+    command = review if chosen.command == "review" else adjust
+    return command(inputs, UNITS_IN_MICROMETRE * chosen.blunder)
 
 
 def main() -> int:

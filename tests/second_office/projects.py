@@ -50,13 +50,18 @@ class BookWriter:
 
     def point_word(self, name: bytes) -> bytes:
         number = len(self.lines) + 1
-        return f"11{number:04}+".encode("ascii") + name.rjust(self.width, b"0")
+        return f"11{number:04}+".encode("ascii") + name.rjust(self.width, self.rng.choice((b"0", b"0", b"0", b"0", b" ")))
 
     def setup(self, station: bytes) -> None:
         self.instrument = self.rng.choice((0, 1_450, 1_500, 1_545)) * MILLIMETRE
         self.reflector = None
         height = spelled(self.width, "88", "..10", self.instrument, MILLIMETRE)
         self.add([self.point_word(station), b"84..10+" + b"0" * self.width, height])
+
+    def instrument_alone(self, point: bytes) -> None:
+        """A block that looks like a setup and is none: the instrument height counts, the station stays."""
+        self.instrument = self.rng.choice((1_450, 1_500)) * MILLIMETRE
+        self.add([self.point_word(point), spelled(self.width, "88", "..10", self.instrument, MILLIMETRE)])
 
     def sight(self, target: bytes, difference: int) -> None:
         words = [self.point_word(target)]
@@ -93,6 +98,8 @@ def book_of(rng: Random, heights: dict) -> bytes:
         writer.setup(station)
         for _ in range(rng.randint(0, 4)):
             target = rng.choice(names)
+            if rng.random() < 0.05:
+                writer.instrument_alone(target)
             if target != station:
                 writer.sight(target, heights[target] - heights[station] + noise(rng))
     return writer.text()
@@ -308,6 +315,8 @@ def random_project(rng: Random) -> Project:
     names = rng.sample(NAMES, rng.randint(2, 7))
     heights = {name: random_height(rng) for name in names}
     books = [book_of(rng, heights) for _ in range(rng.choice((1, 1, 2, 3)))]
+    if rng.random() < 0.1:
+        books.append(rng.choice(books))
     benchmarks = benchmarks_of(rng, heights)
     weights = weights_of(rng, heights) if rng.random() < 0.5 else None
     if rng.random() < 0.15:

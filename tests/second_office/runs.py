@@ -12,6 +12,7 @@ ROOT = Path(__file__).resolve().parents[2]
 DEFAULT_PROGRAM = ROOT / "crates" / "height_office" / "out" / "height_office"
 LONGEST_PRINTED_TEXT = 300
 ENDS = (".heights.csv", ".certificate.csv", ".report.txt", ".heights.gsi")
+REVIEW_ENDS = (".points.csv", ".observations.csv", ".entries.csv", ".review.txt")
 
 
 class Files(NamedTuple):
@@ -37,23 +38,32 @@ def saved(project: Project, folder: Path) -> Files:
     return Files(folder, words)
 
 
-def adjust_words(project: Project, files: Files) -> List[str]:
+def network_words(command: str, project: Project, files: Files) -> List[str]:
+    """The words of `adjust` or `review`."""
     limit = [] if project.limit is None else ["--blunder", str(project.limit)]
-    return ["adjust", "--out", "own"] + limit + files.words
+    return [command, "--out", "own"] + limit + files.words
 
 
 def written(folder: Path) -> Dict[str, bytes]:
     files = {}
-    for end in ENDS:
+    for end in ENDS + REVIEW_ENDS:
         with suppress(FileNotFoundError), open(f"{folder}/own{end}", "rb") as file:
             files[end] = file.read()
     return files
 
 
+def limit_of(project: Project) -> int:
+    return office.UNITS_IN_MICROMETRE * (DEFAULT_LIMIT if project.limit is None else project.limit)
+
+
 def second_adjustment(project: Project) -> office.Answer:
     """What the second office gives for a project."""
-    limit = DEFAULT_LIMIT if project.limit is None else project.limit
-    return office.adjust(project.inputs, limit * office.UNITS_IN_MICROMETRE)
+    return office.adjust(project.inputs, limit_of(project))
+
+
+def second_review(project: Project) -> office.Answer:
+    """What the second office says that a mistake would do in a project."""
+    return office.review(project.inputs, limit_of(project))
 
 
 # Comparing
@@ -81,6 +91,8 @@ def compare_files(project: Project, own: Dict[str, bytes], second: Dict[str, byt
     differences = differ("files", sorted(own), sorted(second))
     if differences or not second:
         return differences
+    if ".review.txt" in second:
+        return [difference for end in REVIEW_ENDS for difference in differ(end, own[end], second[end])]
     for end in (".heights.csv", ".report.txt", ".heights.gsi"):
         differences += differ(end, own[end], second[end])
     certificate = own[".certificate.csv"]

@@ -7,10 +7,12 @@ Status 0 only where every row comes out.
 """
 
 import sys
+from pathlib import Path
 from typing import Dict, List, NamedTuple, Optional
 
 import office
 from office import Inputs
+from reliability import controls_of, strengths_of
 
 # A setup on A with the instrument at 1.5 m, and a sight of B: 2.345 + 1.5 - 1.3 = 2.545 m.
 S = b"110001+0000000A 84..10+00000000 85..10+00000000 86..10+00100000 88..10+00001500 \n"
@@ -232,7 +234,30 @@ def test_report(failures: List[str], title: str, inputs: Inputs, limit: int, tex
     expect(failures, title, text in office.adjust(inputs, 100 * limit).files[".report.txt"], stands)
 
 
-TESTS: tuple = ((test_row, [(row,) for row in ROWS]), (test_line, LINES), (test_file, FILES), (test_report, REPORT_LINES))
+# What was worked out by hand for the example projects: the strength of each free point, and the control of each observation.
+EXAMPLES = Path(__file__).resolve().parents[2] / "examples"
+REVIEWS = (
+    ("building_site", ("monday.gsi",), "marks.csv", None, {"KO1": 2, "KO2": 2, "KO3": 2, "D1": 2}, [1, 5, 4, 2, 5, 1, 4, 2, 4, 2, 4]),
+    ("cellar", ("cellar.gsi",), "marks.csv", None, {"G2": 2, "S1": 2, "S2": 2}, [1, 1, 1, 1, 1]),
+    ("dam", ("crest.gsi",), "rocks.csv", "weights.csv", {"P1": 8, "C1": 7, "C2": 4, "C3": 4, "C4": 7},
+     [4, 5, 2, 2, 5, 6, 6, 3, 3, 6, 6, 3, 3, 6, 6]),
+    ("railway_line", ("there.gsi", "back.gsi"), "bolts.csv", None, {"FP 112/3": 4, "FP 112/5": 4, "FP 112/7": 4}, [3, 3, 3, 3, 3, 3, 3, 3]),
+)
+
+
+def test_review(failures: List[str], project: str, books: tuple, benchmarks: str, weights: Optional[str], strengths: Dict[str, int],
+                controls: List[int]) -> None:
+    folder = EXAMPLES / project
+    inputs = Inputs([(folder / book).read_bytes() for book in books], (folder / benchmarks).read_bytes(),
+                    (folder / weights).read_bytes() if weights else None)
+    network, _ = office.read_inputs(inputs, None)
+    free = {point.decode("ascii"): strength for point, strength in strengths_of(network).items() if strength is not None}
+    expect(failures, f"{project}: strengths", free, strengths)
+    expect(failures, f"{project}: controls", controls_of(network), controls)
+
+
+TESTS: tuple = ((test_row, [(row,) for row in ROWS]), (test_line, LINES), (test_file, FILES), (test_report, REPORT_LINES),
+                (test_review, REVIEWS))
 
 
 def main() -> int:

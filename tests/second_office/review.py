@@ -1,0 +1,269 @@
+"""The four texts of a review, and its notes: the section of docs/FORMATS.md on what `review` writes."""
+
+from typing import Dict, List, NamedTuple, Optional, Tuple
+
+from certificates import csv_row, number_text
+from network import Heights, Network, Observation, anchored_points
+from reliability import Entry, controls_of, entries_of, mistake_of, shared_mistake_of, strengths_of
+from tables import Pair, reader
+from texts import label_line, metres, residual_line
+
+MOST_LARGEST = 20
+OBSERVATION_MARKS = {"shows": "", "ties": "  =", "hides": "  <", "unchecked": "  0"}
+ENTRY_MARKS = {"shows": "", "ties": "  =", "drags": "  <"}
+FIRST_RECORD = 2  # the header is record 1
+
+
+class BookCount(NamedTuple):
+    """What stands in a book: its lines, its blocks, and which of them are setups and sights."""
+
+    lines: int
+    blocks: int
+    setups: int
+    sights: int
+
+
+class Review(NamedTuple):
+    """A network with what a mistake in it would do."""
+
+    network: Network
+    low: Heights
+    high: Heights
+    limit: int
+    strengths: Dict[bytes, Optional[int]]
+    controls: List[Optional[int]]
+    entries: List[Entry]
+    books: List[BookCount]
+    notes: List[str]
+
+    def mistakes(self) -> List[str]:
+        return [mistake_of(control, own.weight) for control, own in zip(self.controls, self.network.observations)]
+
+    def weight_of(self, entry: Entry) -> int:
+        return sum(own.weight for own in self.network.observations if own.book == entry.book and own.line in entry.sights)
+
+    def shared_mistakes(self) -> List[str]:
+        return [shared_mistake_of(self.network, entry) for entry in self.entries]
+
+
+# Books
+
+
+def blocks_of(book: bytes) -> List[Tuple[int, List[reader.Word]]]:
+    lines = enumerate(reader.split_into_lines(book), start=1)
+    return [(number, reader.read_block(line)) for number, line in lines if not reader.is_blank(line)]
+
+
+def count_of(book: bytes) -> BookCount:
+    blocks = [words for _, words in blocks_of(book)]
+    setups = sum(reader.is_setup(words) for words in blocks)
+    return BookCount(len(reader.split_into_lines(book)), len(blocks), setups, sum(reader.is_sight(words) for words in blocks))
+
+
+# Notes
+
+
+def without_sight(counts: List[BookCount]) -> List[str]:
+    return [f"book {number}: no sight in {count.blocks} blocks" for number, count in enumerate(counts, start=1) if count.sights == 0]
+
+
+def repeated_books(network: Network, count: int) -> List[str]:
+    said = [[(own.station, own.target, own.difference) for own in network.observations if own.book == number]
+            for number in range(1, count + 1)]
+    notes = []
+    for place, own in enumerate(said):
+        earlier = said.index(own)
+        if own and earlier < place:
+            notes.append(f"book {place + 1}: same observations as book {earlier + 1}")
+    return notes
+
+
+def looks_like_setup(words: List[reader.Word], station: Optional[bytes]) -> bool:
+    indexes = (reader.HEIGHT_DIFFERENCE,) + reader.STATION_INDEXES
+    return (words[0].index == reader.POINT_NUMBER and reader.has_counting_word(words, reader.INSTRUMENT_HEIGHT)
+            and not any(reader.has_counting_word(words, index) for index in indexes)
+            and (station is None or reader.name_of(words[0].data) != station))
+
+
+def lookalikes(books: List[bytes]) -> List[str]:
+    notes = []
+    for number, book in enumerate(books, start=1):
+        station: Optional[bytes] = None
+        for line, words in blocks_of(book):
+            if looks_like_setup(words, station):
+                notes.append(f"book {number} line {line}: looks like a setup, but has no word 84, 85 or 86")
+            if reader.is_setup(words):
+                station = reader.name_of(words[0].data)
+    return notes
+
+
+def unused_weights(network: Network, weights: Dict[Pair, int]) -> List[str]:
+    observed = {(own.station, own.target) for own in network.observations}
+    notes = []
+    for record, (station, target) in enumerate(weights, start=FIRST_RECORD):
+        if (station, target) in observed:
+            continue
+        one, other = station.decode("ascii"), target.decode("ascii")
+        also = f", but {other} to {one} was" if (target, station) in observed else ""
+        notes.append(f"weights record {record}: {one} to {other} was never observed{also}")
+    return notes
+
+
+def unseen_benchmarks(network: Network) -> List[str]:
+    seen = {name for own in network.observations for name in (own.station, own.target)}
+    return [f"benchmarks record {record}: {name.decode('ascii')} was never observed"
+            for record, name in enumerate(network.benchmarks, start=FIRST_RECORD) if name not in seen]
+
+
+def other_spellings(books: List[bytes]) -> List[str]:
+    first: Dict[bytes, bytes] = {}
+    noted = set()
+    notes = []
+    for number, book in enumerate(books, start=1):
+        for line, words in blocks_of(book):
+            if not (reader.is_sight(words) or reader.is_setup(words)):
+                continue
+            spelling = words[0].data
+            name = reader.name_of(spelling)
+            if first.setdefault(name, spelling) != spelling and name not in noted:
+                noted.add(name)
+                notes.append(f"book {number} line {line}: {name.decode('ascii')} is spelled in another way than before")
+    return notes
+
+
+def review_of(network: Network, low: Heights, high: Heights, limit: int, books: List[bytes], weights: Dict[Pair, int]) -> Review:
+    counts = [count_of(book) for book in books]
+    entries = [entry for number, book in enumerate(books, start=1) for entry in entries_of(number, book)]
+    notes = (without_sight(counts) + repeated_books(network, len(books)) + lookalikes(books) + unused_weights(network, weights)
+             + unseen_benchmarks(network) + other_spellings(books))
+    return Review(network, low, high, limit, strengths_of(network), controls_of(network), entries, counts, notes)
+
+
+# Tables
+
+
+def optional(number: Optional[int], missing: str = "") -> str:
+    return missing if number is None else str(number)
+
+
+def points_text(review: Review) -> bytes:
+    rows = [csv_row(b"point", b"height", b"low", b"high", b"strength")]
+    for point in review.network.points:
+        low, high = reader.metres(review.low[point]), reader.metres(review.high[point])
+        rows.append(csv_row(point, low, low, high, optional(review.strengths[point]).encode("ascii")))
+    return b"".join(rows)
+
+
+def observations_text(review: Review) -> bytes:
+    rows = [b"number,book,line,from,to,difference,weight,residual,control,mistake\n"]
+    parts = zip(review.network.observations, review.controls, review.mistakes())
+    for number, (own, control, mistake) in enumerate(parts, start=1):
+        rows.append(csv_row(*(number_text(part) for part in (number, own.book, own.line)), own.station, own.target,
+                            reader.metres(own.difference), number_text(own.weight), reader.metres(own.residual(review.low)),
+                            optional(control).encode("ascii"), mistake.encode("ascii")))
+    return b"".join(rows)
+
+
+def entries_text(review: Review) -> bytes:
+    rows = [b"book,line,word,station,length,sights,weight,mistake\n"]
+    for entry, mistake in zip(review.entries, review.shared_mistakes()):
+        rows.append(csv_row(number_text(entry.book), number_text(entry.line), entry.word, entry.station, reader.metres(entry.length),
+                            number_text(len(entry.sights)), number_text(review.weight_of(entry)), mistake.encode("ascii")))
+    return b"".join(rows)
+
+
+# The review
+
+
+def summary(review: Review) -> List[str]:
+    network = review.network
+    free = [strength for strength in review.strengths.values() if strength is not None]
+    mistakes = review.mistakes()
+    weak = sum(mistake != "shows" for mistake in review.shared_mistakes())
+    values = (("points", str(len(network.points))), ("benchmarks", str(len(network.benchmarks))),
+              ("observations", str(len(network.observations))), ("loops", str(len(network.observations) - len(free))),
+              ("unchecked", str(mistakes.count("unchecked"))), ("hidden", str(mistakes.count("hides"))),
+              ("ties", str(mistakes.count("ties"))), ("entries", str(len(review.entries))), ("weak entries", str(weak)),
+              ("weakest point", optional(min(free, default=None), "-")))
+    return ["HEIGHT NETWORK REVIEW"] + [label_line(label, value) for label, value in values]
+
+
+def book_lines(review: Review) -> List[str]:
+    rows = [(str(number),) + tuple(str(part) for part in count) for number, count in enumerate(review.books, start=1)]
+    return [f"{row[0]:>2}" + "".join(f"  {part:>8}" for part in row[1:]) for row in [("BK", "LINES", "BLOCKS", "SETUPS", "SIGHTS")] + rows]
+
+
+OBSERVATION_HEADER = residual_line("NO", "BK", "LINE", "FROM", "TO", "WT", "RESIDUAL") + f"  {'CONTROL':>8}"
+
+
+def observation_line(review: Review, number: int) -> str:
+    own: Observation = review.network.observations[number - 1]
+    line = residual_line(str(number), str(own.book), str(own.line), own.station.decode("ascii"), own.target.decode("ascii"),
+                         str(own.weight), metres(own.residual(review.low)))
+    return line + f"  {optional(review.controls[number - 1], '-'):>8}"
+
+
+def largest_lines(review: Review) -> List[str]:
+    sizes = [abs(own.residual(review.low)) for own in review.network.observations]
+    numbers = sorted(range(1, len(sizes) + 1), key=lambda number: (-sizes[number - 1], number))[:MOST_LARGEST]
+    lines = [observation_line(review, number) + ("  *" if sizes[number - 1] > review.limit else "") for number in numbers]
+    return [label_line("largest", str(len(numbers))), label_line("blunder limit", metres(review.limit)), OBSERVATION_HEADER] + lines
+
+
+def held_by_one(network: Network) -> set:
+    """The points that the removal of some one observation cuts off from every benchmark."""
+    cut_off = set()
+    for place in range(len(network.observations)):
+        others = network.observations[:place] + network.observations[place + 1 :]
+        cut_off |= set(network.points) - anchored_points(others, network.benchmarks)
+    return cut_off
+
+
+def point_line(name: str, height: str, play: str, strength: str, withstands: str) -> str:
+    return f"{name:<16}  {height:>20}  {play:>20}  {strength:>8}  {withstands:>10}"
+
+
+def point_lines(review: Review) -> List[str]:
+    lines = [point_line("POINT", "HEIGHT", "HIGH-LOW", "STRENGTH", "WITHSTANDS")]
+    single = held_by_one(review.network)
+    for point in review.network.points:
+        strength = review.strengths[point]
+        play = review.high[point] - review.low[point]
+        mark = ("1" if point in single else "") + ("=" if play else "")
+        withstands = None if strength is None else (strength - 1) // 2
+        line = point_line(point.decode("ascii"), metres(review.low[point]), metres(play), optional(strength, "-"), optional(withstands, "-"))
+        lines.append(line + (f"  {mark}" if mark else ""))
+    return lines
+
+
+def observation_lines(review: Review) -> List[str]:
+    return [OBSERVATION_HEADER] + [observation_line(review, number) + OBSERVATION_MARKS[mistake]
+                                   for number, mistake in enumerate(review.mistakes(), start=1)]
+
+
+def entry_line(book: str, line: str, word: str, station: str, length: str, sights: str, weight: str) -> str:
+    return f"{book:>2}  {line:>8}  {word:>4}  {station:<16}  {length:>20}  {sights:>6}  {weight:>8}"
+
+
+def entry_lines(review: Review) -> List[str]:
+    lines = [entry_line("BK", "LINE", "WORD", "STATION", "LENGTH", "SIGHTS", "WEIGHT")]
+    for entry, mistake in zip(review.entries, review.shared_mistakes()):
+        line = entry_line(str(entry.book), str(entry.line), entry.word.decode("ascii"), entry.station.decode("ascii"), metres(entry.length),
+                          str(len(entry.sights)), str(review.weight_of(entry)))
+        lines.append(line + ENTRY_MARKS[mistake])
+    return lines
+
+
+def review_text(review: Review) -> bytes:
+    parts = (summary(review), book_lines(review), largest_lines(review), point_lines(review), observation_lines(review), entry_lines(review),
+             [label_line("notes", str(len(review.notes)))] + review.notes)
+    return "\n\n".join("\n".join(part) for part in parts).encode("ascii") + b"\n"
+
+
+def files_of(review: Review) -> Dict[str, bytes]:
+    return {
+        ".points.csv": points_text(review),
+        ".observations.csv": observations_text(review),
+        ".entries.csv": entries_text(review),
+        ".review.txt": review_text(review),
+    }
