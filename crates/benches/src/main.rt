@@ -5,6 +5,7 @@
 //!
 //! - `network`: the reading of a large book, the reading of its tables, and the building of their network;
 //! - `settle`, with a book, its benchmarks and its weights: settling, and finding the spans;
+//! - `review`, with the same: finding all strengths and controls;
 //! - `certificate`: the writing, the reading and the checking of a certificate, beside the reading of its
 //!   book; it is written to a file, if one is named;
 //! - `adjust`, with a book, its benchmarks, its weights and a prefix: each stage of an adjustment, which is
@@ -24,6 +25,7 @@ mod writing;
 mod adjust;
 mod certificate;
 mod network;
+mod review;
 mod settle;
 
 use anyhow::{Context, Result, anyhow};
@@ -39,8 +41,9 @@ fn main(rt: HostRuntime) -> Result<()> {
     match what.as_str() {
         "network" => network::measure(&rt, rt.alloc(), repeats),
         "settle" => settle::measure(&rt, rt.alloc(), repeats, files),
+        "review" => review::measure(&rt, rt.alloc(), repeats, files),
         "certificate" => certificate::measure(&rt, rt.alloc(), repeats, files),
         "adjust" => adjust::measure(&rt, rt.alloc(), repeats, files),
-        _ => Err(anyhow!("network, settle, certificate or adjust")),
+        _ => Err(anyhow!("network, settle, review, certificate or adjust")),
     }
 }
