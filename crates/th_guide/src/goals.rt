@@ -46,6 +46,7 @@ impl Goals {
         Some(())
     }
 
+    /// The goal of an arc's link, `None` for an arc of no link.
     #[inline]
     pub fn at(&self, arc: ResidualArc) -> Option<Goal> {
         self.rows.get(arc.row()).copied()

@@ -53,11 +53,13 @@ impl Heights {
         u32::try_from(self.rows.len()).unwrap_or(u32::MAX)
     }
 
+    /// The state of a vertex, `None` behind the last.
     #[inline]
     pub fn at(&self, vertex: u32) -> Option<Vertex> {
         self.rows.get(vertex as usize).copied()
     }
 
+    /// The state of a vertex, to be changed, `None` behind the last.
     #[inline]
     pub fn at_mut(&mut self, vertex: u32) -> Option<&mut Vertex> {
         self.rows.get_mut(vertex as usize)

@@ -56,6 +56,7 @@ impl Best {
 }
 
 impl Pricing {
+    /// Begins behind vertex 0.
     pub fn new() -> Pricing {
         Pricing { last: 0 }
     }

@@ -53,6 +53,7 @@ impl Tree {
         &self.ups
     }
 
+    /// The way up from a vertex, `None` behind the last.
     #[inline]
     pub fn up(&self, vertex: u32) -> Option<Up> {
         self.ups.get(vertex as usize).copied()
