@@ -1,16 +1,16 @@
 //! Laws of the definitions: what they say of one another, with no call of the code.
 
-ghost use Rattle.std.specs.Prelude.{◌≡◌, ◌<◌, ◌≤◌, ℕ, List, None, Ok, length, map};
+ghost use Rattle.std.specs.Prelude.{◌≡◌, ◌<◌, ◌≤◌, Contains, ℕ, List, None, Ok, length, map, true};
 ghost use Rattle.gsi_block.specs.Blocks.{block_at};
 ghost use Rattle.gsi_block.specs.Lines.{lines_of};
-ghost use Rattle.th_book.specs.Books.{book_answer, lines_answer};
+ghost use Rattle.th_book.specs.Books.{book_answer, lines_answer, observed_at};
 ghost use Rattle.th_book.specs.Due.{due, empty};
 ghost use Rattle.th_book.specs.Entered.{IsSound};
 ghost use Rattle.th_book.specs.Faults.{first_fault};
 ghost use Rattle.th_book.specs.Limits.{max_book};
-ghost use Rattle.th_book.specs.Lines.{ParsedLine};
+ghost use Rattle.th_book.specs.Lines.{ParsedLine, is_sight};
 ghost use Rattle.th_book.specs.Observed.{Observed};
-ghost use Rattle.th_book.specs.Places.{line_at};
+ghost use Rattle.th_book.specs.Places.{line_at, words_at};
 
 /// What is due from a new book, if some lines follow, is what these lines give as a whole.
 ///
@@ -34,4 +34,14 @@ pub fn answered_book_is_faultless()
         book_answer book bytes ≡ Ok observations → first_fault (map block_at (lines_of bytes)) ≡ None }
     ensures short { (book : ℕ) (bytes : List ℕ) (observations : List Observed) →
         book_answer book bytes ≡ Ok observations → length (lines_of bytes) ≤ max_book }
+{}
+
+/// Each observation that a book gives is that of a sight in it, and has the number of the book.
+pub fn observation_is_of_a_sight()
+    ensures sight { (book : ℕ) (bytes : List ℕ) (observations : List Observed) (o : Observed) →
+        book_answer book bytes ≡ Ok observations → Contains observations o →
+        let parsed = map block_at (lines_of bytes) in
+        (place : ℕ) × (is_sight (words_at parsed place) ≡ true) × (o ≡ observed_at book parsed place) }
+    ensures book { (book : ℕ) (bytes : List ℕ) (observations : List Observed) (o : Observed) →
+        book_answer book bytes ≡ Ok observations → Contains observations o → o.book ≡ book }
 {}
