@@ -5,4 +5,6 @@ mod Served
 mod Entering
 mod Tallying
 mod Kept
+mod StationLemmas
+mod SeveralLemmas
 mod Reading

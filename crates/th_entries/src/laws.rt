@@ -1,9 +1,17 @@
 //! Laws of the definitions: what they say of one another, with no call of the code.
 
-ghost use Rattle.std.specs.Prelude.{◌≡◌, ◌<◌, ◌≤◌, ℕ, List, Some, true, length};
+ghost use Rattle.std.specs.Prelude.{◌≡◌, ◌≢◌, ◌<◌, ◌≤◌, ◌++◌, [], All, Contains, ℕ, List, Ok, Some, true, length};
+ghost use Rattle.th_book.specs.Books.{book_answer};
 ghost use Rattle.th_book.specs.Lines.{ParsedLine, is_sight};
+ghost use Rattle.th_book.specs.Observed.{Observed};
 ghost use Rattle.th_book.specs.Places.{last_below, words_at};
-ghost use Rattle.th_entries.specs.Entries.{uses};
+ghost use Rattle.th_entries.specs.declared.entries.Entry.{Entry};
+ghost use Rattle.th_entries.specs.Entries.{entries_of, uses};
+ghost use Rattle.th_entries.specs.Reviews.{parsed_of};
+ghost use Rattle.th_entries.specs.Several.{AreObserved, entries_of_books, numbered};
+ghost use Rattle.th_entries.specs.Stations.{HasOneStation};
+
+use th_book::laws::observation_is_of_a_sight;
 
 /// The sights that use a height are exactly those from its line to the last one that uses it.
 pub fn sights_from_line_to_last_use_it()
@@ -15,3 +23,35 @@ pub fn sights_from_line_to_last_use_it()
         last_below (uses index parsed line) (length parsed) ≡ Some last → place < length parsed →
         uses index parsed line place ≡ true → (line ≤ place) × (place ≤ last) }
 {}
+
+/// The sights of an entry are from one station, where the book has no fault.
+pub fn entry_has_one_station()
+    ensures book { (number : ℕ) (parsed : List ParsedLine) (entry : Entry) →
+        Contains (entries_of number parsed) entry → entry.book ≡ number }
+    ensures station { (number : ℕ) (text : List ℕ) (observations : List Observed) (entry : Entry) →
+        book_answer number text ≡ Ok observations → Contains (entries_of number (parsed_of text)) entry →
+        HasOneStation observations entry }
+{
+    observation_is_of_a_sight();
+}
+
+/// They still are where observations of other books come before those of its book, or behind them.
+pub fn other_books_keep_the_station()
+    ensures before { (others observations : List Observed) (entry : Entry) →
+        All (λ o. o.book ≢ entry.book) others → HasOneStation observations entry →
+        HasOneStation (others ++ observations) entry }
+    ensures behind { (observations others : List Observed) (entry : Entry) →
+        HasOneStation observations entry → All (λ o. o.book ≢ entry.book) others →
+        HasOneStation (observations ++ others) entry }
+{}
+
+/// So the sights of each entry of several books without a fault are from one station, among the
+/// observations of all these books.
+pub fn entry_of_several_books_has_one_station()
+    ensures { (number : ℕ) (texts : List (List ℕ)) (observations : List Observed) (entry : Entry) →
+        AreObserved number [] texts observations → Contains (entries_of_books (numbered number texts)) entry →
+        HasOneStation observations entry }
+{
+    observation_is_of_a_sight();
+    entry_has_one_station();
+}
