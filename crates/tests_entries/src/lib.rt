@@ -1,4 +1,5 @@
-//! Tests of what a review tells about a book: entries, counts and lookalikes, counted by hand.
+//! Tests of what a review tells about books: entries, counts, lookalikes and names that are spelled in
+//! more than one way, counted by hand.
 //!
 //! They stand in a crate of their own since a crate is proved a second time with its tests. They use
 //! public calls alone.
@@ -6,3 +7,5 @@
 
 #[cfg(test)]
 mod reviews;
+#[cfg(test)]
+mod spellings;

@@ -2,7 +2,7 @@
 use std::alloc::Global;
 use std::process::Abort;
 use th_entries::HeightKind::{Instrument, Reflector};
-use th_entries::{BookCount, BookReview, Entry, HeightKind, ReviewFeed};
+use th_entries::{BookCount, BookReview, Entry, HeightKind, ReviewFeed, SeenNames};
 
 /// An entry's line, kind, station, length in units of 10 nm, how many sights use it, and the last of
 /// their lines.
@@ -231,11 +231,12 @@ const REVIEWS: [Row; 13] = [
 /// The review of a book that comes in pieces of so many bytes.
 fn reviewed(rt: &impl Abort, alloc: Global, text: &[u8], piece: usize) -> BookReview {
     assert!(rt; piece >= 1);
-    let mut feed = ReviewFeed::new(alloc, 7);
+    let mut feed = ReviewFeed::new(alloc, 7, SeenNames::new(alloc));
     for bytes in text.chunks(piece) {
         feed.feed(bytes).expect(rt, "memory");
     }
-    feed.finish().expect(rt, "memory")
+    let (review, _) = feed.finish().expect(rt, "memory");
+    review
 }
 
 /// The lines joined, each with this end.

@@ -5,6 +5,8 @@ mod Served
 mod Entering
 mod Tallying
 mod Kept
+mod MentionLemmas
+mod SeenLemmas
 mod StationLemmas
 mod SeveralLemmas
 mod Reading

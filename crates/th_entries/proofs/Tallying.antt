@@ -1,9 +1,11 @@
 -- What is known after one more line of a book without a fault.
-use Rattle.std.proofs.Common.{◌≡◌, ℕ, suc, ◌+◌, ◌<◌, ◌≤◌, Bool, true, false, not, cond, ◌&&◌, List, [], ◌++◌, map, Option, Some, None, Result, Ok, Err, length, refl, sym, ap, ◌∙◌, subst, arith}
-use Rattle.std.specs.Prelude.{is_some, option_to_list}
+use Rattle.std.proofs.Common.{◌≡◌, ℕ, suc, ◌+◌, ◌<◌, ◌≤◌, Bool, true, false, not, cond, ◌&&◌, ◌||◌, List, [], ◌∷◌, ◌++◌, map, Option, Some, None, Result, Ok, Err, length, refl, sym, ap, ◌∙◌, subst, arith, append_assoc}
+use Rattle.std.specs.Prelude.{is_some, option_map, option_to_list}
+use Rattle.std.specs.Option.{option_or}
 use Rattle.std.specs.Result.{OnOk}
 use Rattle.std.proofs.lemmas.List.{append-nil}
 use Rattle.gsi_word.specs.Words.{Parts, parts_of}
+use Rattle.gsi_word.specs.Names.{name_of}
 use Rattle.gsi_word.specs.declared.words.Word.{Word}
 use Rattle.gsi_word.specs.declared.words.Width.{Width}
 use Rattle.gsi_block.specs.Blocks.{block_at, block_with}
@@ -15,14 +17,18 @@ use Rattle.th_book.specs.Limits.{max_book}
 use Rattle.th_book.specs.Entered.{AreSound, IsSound, IsWhole, entered_by}
 use Rattle.th_book.specs.declared.entries.Entered.{Entered}
 use Rattle.th_book.specs.Indexes.{instrument_height}
-use Rattle.th_entries.specs.Below.{count_below}
+use Rattle.th_entries.specs.Below.{all_below, count_below}
 use Rattle.th_entries.specs.Reviews.{is_block, is_lookalike, resembles_setup}
+use Rattle.th_entries.specs.Spellings.{Mention, mention_in, mentions_at}
+use Rattle.th_entries.specs.Seen.{AreSeenIn}
 use Rattle.th_entries.specs.Inside.Running.{Entering, entering_after, entry_in, place_of, with_instrument, with_reflector}
+use Rattle.th_entries.specs.Inside.Seen.{mention_by}
 use Rattle.th_entries.specs.Inside.Tallies.{HasBlock, HasTaken, IsEntering, IsTallied, counts_below, entering, line_if, lookalikes_below, looks, one_more, with_block, with_line}
 use Rattle.th_entries.specs.declared.entries.Entry.{Entry}
 use Rattle.th_entries.specs.declared.entries.HeightKind.{HeightKind}
 use Rattle.th_entries.specs.declared.entries.HeightKind.TheVariants.{Reflector, Instrument}
 use Rattle.th_entries.specs.declared.reviews.BookCount.{BookCount}
+use Rattle.th_entries.specs.declared.seen.SeenNames.{SeenNames}
 use Rattle.th_entries.specs.declared.tallies.Tally.{Tally}
 use Rattle.th_entries.proofs.BelowLemmas.{count-le}
 use Rattle.th_entries.proofs.Entering.{entering-more}
@@ -46,6 +52,21 @@ enters_nothing book line state =
     let instrument : with_instrument book line None state ≡ state = ap (λ (entry : Option Entry). record { running = record state.running { instrument = place_of entry state.entries state.running.instrument }; entries = state.entries ++ option_to_list entry }) (no_entry state.running.station book line Instrument) ∙ ap (λ own. record { running = state.running; entries = own }) (append-nil state.entries) in
     ap (with_instrument book line None) reflector ∙ instrument
 
+-- what a block mentions by what it enters is what it mentions
+mention_same : (book line : ℕ) (words : List Parts) → mention_by book line (entered_by words) words ≡ mention_in book line words
+mention_same book line [] = refl
+mention_same book line (word ∷ words) = go (is_sight (word ∷ words)) (is_setup (word ∷ words)) (name_of word.body)
+  where
+    here : List ℕ → Mention
+    here name = record { here = record { book = book; line = line; name = name }; bytes = word.body }
+
+    go : (sight setup : Bool) (name : Option (List ℕ)) → option_map here (option_or (cond sight name None) (cond setup name None)) ≡ cond (sight || setup) (option_map here name) None
+    go true setup (Some name) = refl
+    go true true None = refl
+    go true false None = refl
+    go false true name = refl
+    go false false name = refl
+
 -- nothing is missing from what no words enter
 nothing_whole : IsWhole [] (entered_by [])
 nothing_whole = record { station = refl; target = refl; reflector = refl; instrument = refl }
@@ -61,8 +82,10 @@ looks_same parsed n station same whole =
     ∙ ap (λ own. resembles_setup words && not (are_one own (point_name words))) same
 
 -- the next line is a block
-pub block-taken : (number : ℕ) (parsed : List ParsedLine) (n : ℕ) (old mid new : Tally) → n < 4294967295 → is_block (line_at parsed n) ≡ true → AreSound (words_at parsed n) → mid ≡ record old { counts = with_line old.counts } → HasBlock (words_at parsed n) mid new → IsTallied number parsed n old → IsTallied number parsed (suc n) new
-block-taken number parsed n old mid new small block sound between has was = record {
+pub block-taken : (names : SeenNames) (number : ℕ) (parsed : List ParsedLine) (n : ℕ) (old mid new : Tally) → n < 4294967295 → is_block (line_at parsed n) ≡ true → AreSound (words_at parsed n) → mid ≡ record old { counts = with_line old.counts } → HasBlock (words_at parsed n) mid new → IsTallied names number parsed n old → IsTallied names number parsed (suc n) new
+block-taken names number parsed n old mid new small block sound between has was = record {
+  seen = λ before own. subst (λ (mentions : List Mention). AreSeenIn mentions new.names) (append_assoc before (mentioned n) (option_to_list (mention_by mid.book mid.counts.lines entered words)) ∙ ap (λ (last : List Mention). before ++ (mentioned n ++ last)) (ap option_to_list mentions))
+      (has.seen (before ++ mentioned n) (subst (AreSeenIn (before ++ mentioned n)) (sym (ap (λ (tally : Tally). tally.names) between)) (was.seen before own)));
   book = has.book ∙ ap (λ (tally : Tally). tally.book) between ∙ was.book;
   counts = has.counts ∙ ap (λ (tally : Tally). with_block entered tally.counts) between ∙ ap (λ own. with_block entered (with_line own)) was.counts ∙ counts;
   entered = subst (IsEntering number parsed (suc n)) (sym after) (entering-more number parsed n (entering old) small sound.whole was.entered);
@@ -81,6 +104,15 @@ block-taken number parsed n old mid new small block sound between has was = reco
     line : one_more old.counts.lines ≡ n + 1
     line = omega (arith, ap (λ (counts : BookCount). counts.lines) was.counts, small)
 
+    mentioned : ℕ → List Mention
+    mentioned many = all_below (mentions_at number parsed) many
+
+    mentions : mention_by mid.book mid.counts.lines entered words ≡ mention_in number (n + 1) words
+    mentions = ap (λ (tally : Tally). mention_by tally.book tally.counts.lines entered words) between
+        ∙ ap (λ own. mention_by own (one_more old.counts.lines) entered words) was.book
+        ∙ ap (λ own. mention_by number own entered words) line
+        ∙ mention_same number (n + 1) words
+
     counts : with_block entered (with_line (counts_below parsed n)) ≡ counts_below parsed (suc n)
     counts =
         let lines = one_line n small in
@@ -97,14 +129,18 @@ block-taken number parsed n old mid new small block sound between has was = reco
         ∙ ap (λ own. entering_after number own entered (entering old)) line
 
 -- the next line says nothing
-pub blank-taken : (number : ℕ) (parsed : List ParsedLine) (n : ℕ) (old : Tally) (counts : BookCount) → n < 4294967295 → is_block (line_at parsed n) ≡ false → words_at parsed n ≡ [] → counts ≡ with_line old.counts → IsTallied number parsed n old → IsTallied number parsed (suc n) (record old { counts = counts })
-blank-taken number parsed n old counts small block blank more was = record {
+pub blank-taken : (names : SeenNames) (number : ℕ) (parsed : List ParsedLine) (n : ℕ) (old : Tally) (counts : BookCount) → n < 4294967295 → is_block (line_at parsed n) ≡ false → words_at parsed n ≡ [] → counts ≡ with_line old.counts → IsTallied names number parsed n old → IsTallied names number parsed (suc n) (record old { counts = counts })
+blank-taken names number parsed n old counts small block blank more was = record {
+  seen = λ before own. subst (λ (mentions : List Mention). AreSeenIn (before ++ mentions) old.names) (sym (append-nil mentioned) ∙ ap (λ own. mentioned ++ option_to_list (mention_in number (n + 1) own)) (sym blank)) (was.seen before own);
   book = was.book;
   counts = more ∙ ap with_line was.counts ∙ same;
   entered = subst (IsEntering number parsed (suc n)) nothing (entering-more number parsed n (entering old) small (subst (λ own. IsWhole own (entered_by own)) (sym blank) nothing_whole) was.entered);
   lookalikes = was.lookalikes ∙ sym (append-nil (lookalikes_below parsed n)) ∙ ap (λ own. lookalikes_below parsed n ++ line_if own (n + 1)) (sym none);
 }
   where
+    mentioned : List Mention
+    mentioned = all_below (mentions_at number parsed) n
+
     none : is_lookalike parsed n ≡ false
     none = ap (λ own. resembles_setup own && not (are_one (station_at parsed n) (point_name own))) blank
 
@@ -129,25 +165,25 @@ Law = (parsed : List ParsedLine) (place : ℕ) → first_fault parsed ≡ None �
 
 -- the line that was read is a block
 pub block-next : (old new : Tally) (counts : BookCount) (line : List ℕ) (words own : List Word) (width : Width) → Law → block_at line ≡ Ok (Some (block_with words width)) → own ≡ words → counts ≡ with_line old.counts → (first_applying (own_faults (map parts_of own)) ≡ None → HasBlock (map parts_of own) (record old { counts = counts }) new) → HasTaken old new line
-block-next old new counts line words own width law is same more has = λ number parsed n none short within here was.
+block-next old new counts line words own width law is same more has = λ names number parsed n none short within here was.
     let at_line : line_at parsed n ≡ Ok (Some (block_with words width)) = here ∙ is in
     let all : words_at parsed n ≡ map parts_of own = ap words_in at_line ∙ ap (map parts_of) (sym same) in
     let sound : AreSound (words_at parsed n) = subst AreSound (sym (ap words_in at_line)) (subst IsSound at_line (law parsed n none within)) in
     let faultless = subst (λ own. first_applying (own_faults own) ≡ None) all sound.faultless in
-    block-taken number parsed n old (record old { counts = counts }) new (few n (length parsed) short within) (ap is_block at_line) sound
+    block-taken names number parsed n old (record old { counts = counts }) new (few n (length parsed) short within) (ap is_block at_line) sound
     (ap (λ own. record old { counts = own }) more)
     (subst (λ own. HasBlock own (record old { counts = counts }) new) (sym all) (has faultless))
     was
 
 -- it says nothing
 pub blank-next : (old : Tally) (counts : BookCount) (line : List ℕ) → block_at line ≡ Ok None → counts ≡ with_line old.counts → HasTaken old (record old { counts = counts }) line
-blank-next old counts line is more = λ number parsed n none short within here was.
+blank-next old counts line is more = λ names number parsed n none short within here was.
     let at_line : line_at parsed n ≡ Ok None = here ∙ is in
-    blank-taken number parsed n old counts (few n (length parsed) short within) (ap is_block at_line) (ap words_in at_line) more was
+    blank-taken names number parsed n old counts (few n (length parsed) short within) (ap is_block at_line) (ap words_in at_line) more was
 
 -- it is neither, as no line is of a book without a fault
 pub fault-next : (old new : Tally) (line : List ℕ) (fault : BlockFault) → Law → block_at line ≡ Err fault → HasTaken old new line
-fault-next old new line fault law is = λ number parsed n none short within here was.
+fault-next old new line fault law is = λ names number parsed n none short within here was.
     absurd (subst IsSound (here ∙ is) (law parsed n none within))
 
 -- what a call that did its work says of it

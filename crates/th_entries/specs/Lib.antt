@@ -2,6 +2,8 @@ pub mod Below
 pub mod Entries
 pub mod Stations
 pub mod Reviews
+pub mod Spellings
+pub mod Seen
 pub mod Several
 pub mod Feeds
 pub mod Inside

@@ -1,10 +1,13 @@
 ghost use Rattle.std.specs.Prelude.{◌++◌, [], List, ℕ, IfOk, OnOk};
+ghost use Rattle.th_entries.specs.declared.seen.SeenNames.{SeenNames};
 ghost use Rattle.th_entries.specs.Feeds.{IsReading};
 ghost use Rattle.th_entries.specs.Inside.Feeds.{AreTaken};
 ghost use Rattle.th_entries.specs.Inside.Tallies.{HasTaken};
 ghost use Rattle.th_entries.specs.Reviews.{IsFaultless, Reviews, parsed_of};
+ghost use Rattle.th_entries.specs.Seen.{AddsBook};
 
 use crate::reviews::BookReview;
+use crate::seen::SeenNames;
 use crate::tallies::Tally;
 use arrayvec::ArrayVec;
 use gsi_block::laws::cut_line_is_read_as_its_line;
@@ -14,7 +17,7 @@ use std::alloc::{AllocError, Global};
 use th_book::laws::answered_book_is_faultless;
 
 /// A book that comes in pieces, however it is cut, and is reviewed. It takes the pieces that a
-/// `th_book::BookFeed` takes, and keeps one line and the review so far.
+/// `th_book::BookFeed` takes, and keeps one line, the review so far and the names that were seen.
 #[derive(Drop)]
 pub struct ReviewFeed {
     tally: Tally,
@@ -22,30 +25,32 @@ pub struct ReviewFeed {
 }
 
 impl ReviewFeed {
-    /// A book with its number, from 1, of which no byte came yet.
-    pub fn new(alloc: Global, book: u32) -> ReviewFeed
-        ensures { (text : List ℕ) → IsReading book text text result }
+    /// A book with its number, from 1, of which no byte came yet, and the names of the books before.
+    pub fn new(alloc: Global, book: u32, names: SeenNames) -> ReviewFeed
+        ensures { (text : List ℕ) → IsReading names book text text result }
     {
         cut_line_is_read_as_its_line();
         ReviewFeed {
-            tally: Tally::new(alloc, book),
+            tally: Tally::new(alloc, book, names),
             lines: Lines::new(),
         }
     }
 
     /// Takes the next piece of the book. After an allocation failure nothing is promised of the review.
     pub fn feed(&mut self, piece: &[u8]) -> Result<(), AllocError>
-        ensures { OnOk result ((book : ℕ) (text later : List ℕ) →
-            IsReading book text (piece.now ++ later) self.old → IsReading book text later self.new) }
+        ensures { OnOk result ((names : SeenNames) (book : ℕ) (text later : List ℕ) →
+            IsReading names book text (piece.now ++ later) self.old → IsReading names book text later self.new) }
     {
         take_lines(&mut self.tally, &mut self.lines, piece)
     }
 
-    /// The review of the book whose pieces came, if that has no fault. Of a book with a fault nothing
-    /// is promised.
-    pub fn finish(self) -> Result<BookReview, AllocError>
-        ensures { IfOk result (λ review. (book : ℕ) (text : List ℕ) →
-            IsReading book text [] self → IsFaultless book text → Reviews book (parsed_of text) review) }
+    /// The review of the book whose pieces came, and the names that were seen with those of this book, if
+    /// it has no fault. Of a book with a fault nothing is promised.
+    pub fn finish(self) -> Result<(BookReview, SeenNames), AllocError>
+        ensures review { IfOk result (λ read. (names : SeenNames) (book : ℕ) (text : List ℕ) →
+            IsReading names book text [] self → IsFaultless book text → Reviews book (parsed_of text) read.0) }
+        ensures names { IfOk result (λ read. (names : SeenNames) (book : ℕ) (text : List ℕ) →
+            IsReading names book text [] self → IsFaultless book text → AddsBook book (parsed_of text) names read.1) }
     {
         answered_book_is_faultless();
         let ReviewFeed { mut tally, lines } = self;
@@ -62,9 +67,10 @@ pub fn read_review(alloc: Global, book: u32, bytes: &[u8]) -> Result<BookReview,
     ensures { IfOk result
         (λ review. IsFaultless book bytes.now → Reviews book (parsed_of bytes.now) review) }
 {
-    let mut feed = ReviewFeed::new(alloc, book);
+    let mut feed = ReviewFeed::new(alloc, book, SeenNames::new(alloc));
     feed.feed(bytes)?;
-    feed.finish()
+    let (review, _) = feed.finish()?;
+    Ok(review)
 }
 
 /// Gives a tally each line that ends in a piece.

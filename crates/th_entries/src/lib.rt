@@ -23,10 +23,14 @@ mod reviews;
 // Names that are spelled in more than one way.
 mod spellings;
 
+// The names that were seen, and how they are spelled.
+mod seen;
+
 // What holds of the definitions alone.
 pub mod laws;
 
 pub use entries::{Entry, HeightKind};
 pub use feeds::{ReviewFeed, read_review};
 pub use reviews::{BookCount, BookReview};
+pub use seen::SeenNames;
 pub use spellings::Spelling;

@@ -6,6 +6,7 @@ ghost use Rattle.th_entries.specs.Inside.Tallies.{looks};
 use crate::entries::Entry;
 use crate::reviews::{BookCount, BookReview};
 use crate::running::{Running, enter};
+use crate::seen::{SeenNames, mention};
 use arrayvec::ArrayVec;
 use gsi_block::{MAX_WORDS, read_words};
 use gsi_word::{Name, Word, name_of};
@@ -21,6 +22,7 @@ pub struct Tally {
     pub running: Running,
     pub entries: Vec<Entry>,
     pub lookalikes: Vec<u32>,
+    pub names: SeenNames,
 }
 
 impl BookCount {
@@ -50,11 +52,13 @@ impl BookCount {
 impl Tally {
     ghost use Rattle.th_book.specs.Lines.{ParsedLine};
     ghost use Rattle.th_entries.specs.Inside.Tallies.{HasBlock, HasTaken, IsEmpty, IsTallied};
+    ghost use Rattle.th_entries.specs.declared.seen.SeenNames.{SeenNames};
     ghost use Rattle.th_entries.specs.Reviews.{Reviews};
+    ghost use Rattle.th_entries.specs.Seen.{AddsBook};
 
-    /// What is known of a book before its first line.
-    pub fn new(alloc: Global, book: u32) -> Tally
-        ensures { IsEmpty book result }
+    /// What is known of a book before its first line, and the names of the books before.
+    pub fn new(alloc: Global, book: u32, names: SeenNames) -> Tally
+        ensures { IsEmpty names book result }
     {
         Tally {
             book,
@@ -71,6 +75,7 @@ impl Tally {
             },
             entries: Vec::new(alloc),
             lookalikes: Vec::new(alloc),
+            names,
         }
     }
 
@@ -92,23 +97,27 @@ impl Tally {
         }
     }
 
-    /// The review of a book whose lines were all taken.
-    pub fn review(self) -> BookReview
-        ensures { (number : ℕ) (parsed : List ParsedLine) →
-            IsTallied number parsed (length parsed) self → Reviews number parsed result }
+    /// The review of a book whose lines were all taken, and the names that were seen.
+    pub fn review(self) -> (BookReview, SeenNames)
+        ensures review { (names : SeenNames) (number : ℕ) (parsed : List ParsedLine) →
+            IsTallied names number parsed (length parsed) self → Reviews number parsed result.0 }
+        ensures names { (names : SeenNames) (number : ℕ) (parsed : List ParsedLine) →
+            IsTallied names number parsed (length parsed) self → AddsBook number parsed names result.1 }
     {
         let Tally {
             counts,
             mut entries,
             lookalikes,
+            names,
             ..
         } = self;
         entries.retain(|entry| entry.sights > 0);
-        BookReview {
+        let review = BookReview {
             counts,
             entries,
             lookalikes,
-        }
+        };
+        (review, names)
     }
 
     /// Takes the words of a block.
@@ -123,6 +132,7 @@ impl Tally {
                 if is_lookalike(words, &entered, &self.running.station) {
                     self.lookalikes.push(line)?;
                 }
+                mention(&mut self.names, self.book, line, &entered, words)?;
                 enter(
                     &mut self.running,
                     &mut self.entries,

@@ -2,9 +2,11 @@
 use Rattle.std.specs.Prelude.{ℕ, List, ◌++◌}
 use Rattle.gsi_block.specs.Pieces.{LineState}
 use Rattle.th_entries.specs.Feeds.{IsReadUpTo}
+use Rattle.th_entries.specs.declared.seen.SeenNames.{SeenNames}
 use Rattle.th_entries.specs.declared.tallies.Tally.{Tally}
 
 -- Whatever book was read up to a piece is read up to the rest of it
 abbrev pub AreTaken : Tally → LineState → List ℕ → Tally → LineState → List ℕ → Type 0
 AreTaken old_tally old_lines piece tally lines rest =
-    (number : ℕ) (text later : List ℕ) → IsReadUpTo number text (piece ++ later) old_tally old_lines → IsReadUpTo number text (rest ++ later) tally lines
+    (names : SeenNames) (number : ℕ) (text later : List ℕ) →
+    IsReadUpTo names number text (piece ++ later) old_tally old_lines → IsReadUpTo names number text (rest ++ later) tally lines

@@ -14,11 +14,15 @@ use Rattle.th_book.specs.declared.entries.Entered.{Entered}
 use Rattle.th_entries.specs.Below.{all_below, count_below}
 use Rattle.th_entries.specs.Entries.{index_of, uses}
 use Rattle.th_entries.specs.Reviews.{is_block, is_lookalike}
+use Rattle.th_entries.specs.Spellings.{Mention, mentions_at}
+use Rattle.th_entries.specs.Seen.{AreSeenIn}
 use Rattle.th_entries.specs.Inside.Running.{Entering, entering_after}
+use Rattle.th_entries.specs.Inside.Seen.{IsSeenNext, mention_by}
 use Rattle.th_entries.specs.declared.entries.Entry.{Entry}
 use Rattle.th_entries.specs.declared.entries.HeightKind.{HeightKind}
 use Rattle.th_entries.specs.declared.entries.HeightKind.TheVariants.{Reflector, Instrument}
 use Rattle.th_entries.specs.declared.reviews.BookCount.{BookCount}
+use Rattle.th_entries.specs.declared.seen.SeenNames.{SeenNames}
 use Rattle.th_entries.specs.declared.tallies.Tally.{Tally}
 
 -- one more, as far as 32 bits count
@@ -52,8 +56,9 @@ line_if looks line = if looks then line ∷ [] else []
 abbrev pub entering : Tally → Entering
 entering tally = record { running = tally.running; entries = tally.entries.items }
 
--- nothing is known yet
-pub record IsEmpty (number : ℕ) (tally : Tally) : Type 0 where
+-- nothing is known yet but the names of the books before
+pub record IsEmpty (names : SeenNames) (number : ℕ) (tally : Tally) : Type 0 where
+  pub seen : tally.names ≡ names
   pub book : tally.book ≡ number
   pub counts : tally.counts ≡ record { lines = 0; blocks = 0; setups = 0; sights = 0 }
   pub entered : entering tally ≡ record { running = record { station = None; reflector = None; instrument = None }; entries = [] }
@@ -61,6 +66,7 @@ pub record IsEmpty (number : ℕ) (tally : Tally) : Type 0 where
 
 -- a block without a fault was taken, whose line was counted
 pub record HasBlock (words : List Parts) (old new : Tally) : Type 0 where
+  pub seen : IsSeenNext (mention_by old.book old.counts.lines (entered_by words) words) old.names new.names
   pub book : new.book ≡ old.book
   pub counts : new.counts ≡ with_block (entered_by words) old.counts
   pub entered : entering new ≡ entering_after old.book old.counts.lines (entered_by words) (entering old)
@@ -123,8 +129,14 @@ counts_below parsed n = record {
 abbrev pub lookalikes_below : List ParsedLine → ℕ → List ℕ
 lookalikes_below parsed n = all_below (λ place. line_if (is_lookalike parsed place) (place + 1)) n
 
--- all that is known is what the lines before a place say
-pub record IsTallied (number : ℕ) (parsed : List ParsedLine) (n : ℕ) (tally : Tally) : Type 0 where
+-- what the lines before a place mention was taken after whatever was mentioned before the book
+abbrev pub AreSeenBelow : ℕ → List ParsedLine → ℕ → SeenNames → SeenNames → Type 0
+AreSeenBelow number parsed n old new =
+    (before : List Mention) → AreSeenIn before old → AreSeenIn (before ++ all_below (mentions_at number parsed) n) new
+
+-- all that is known is what the lines before a place say, and the names of the books before
+pub record IsTallied (names : SeenNames) (number : ℕ) (parsed : List ParsedLine) (n : ℕ) (tally : Tally) : Type 0 where
+  pub seen : AreSeenBelow number parsed n names tally.names
   pub book : tally.book ≡ number
   pub counts : tally.counts ≡ counts_below parsed n
   pub entered : IsEntering number parsed n (entering tally)
@@ -133,5 +145,5 @@ pub record IsTallied (number : ℕ) (parsed : List ParsedLine) (n : ℕ) (tally 
 -- the next line of a book without a fault was taken
 abbrev pub HasTaken : Tally → Tally → List ℕ → Type 0
 HasTaken old new line =
-    (number : ℕ) (parsed : List ParsedLine) (n : ℕ) → first_fault parsed ≡ None → length parsed ≤ max_book → n < length parsed →
-    line_at parsed n ≡ block_at line → IsTallied number parsed n old → IsTallied number parsed (suc n) new
+    (names : SeenNames) (number : ℕ) (parsed : List ParsedLine) (n : ℕ) → first_fault parsed ≡ None → length parsed ≤ max_book → n < length parsed →
+    line_at parsed n ≡ block_at line → IsTallied names number parsed n old → IsTallied names number parsed (suc n) new

@@ -1,11 +1,18 @@
-use Rattle.std.proofs.Common.{rules, ap, ◌∙◌, filter}
+use Rattle.std.proofs.Common.{rules, ap, sym, subst, ◌∙◌, filter, List}
 use Rattle.std.proofs.lemmas.Fn.{filter_same}
+use Rattle.th_entries.specs.Seen.{AreSeenIn}
+use Rattle.th_entries.specs.Spellings.{Mention, mentions_of}
 use Rattle.th_entries.proofs.Kept.{is_used, kept}
+use Rattle.th_entries.proofs.MentionLemmas.{mentions_of-push}
 use Rattle.th_entries.proofs.tallies.Tally.review.Goals as goal
 
-pub returns : goal.returns
-returns c = λ number parsed is. record {
+pub returns-clause-review : goal.returns-clause-review
+returns-clause-review c = λ names number parsed is. record {
   counts = is.counts;
   entries = filter_same _ is_used _ (λ x b f' k. search rules) _ _ c.retain.ensures.filtered ∙ ap (filter is_used) is.entered.entries ∙ kept number parsed;
   lookalikes = is.lookalikes;
 }
+
+pub returns-clause-names : goal.returns-clause-names
+returns-clause-names c = λ names number parsed is before own.
+    subst (λ (mentions : List Mention). AreSeenIn mentions c.args.self.names) (sym (mentions_of-push before number parsed)) (is.seen (mentions_of before) own)

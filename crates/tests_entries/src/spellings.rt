@@ -1,0 +1,159 @@
+//! Books, whole and in pieces, with the names that they spell in more than one way.
+use std::alloc::Global;
+use std::process::Abort;
+use th_entries::{ReviewFeed, SeenNames, Spelling};
+
+/// The lines of books, and the book, the line and the name of each spelling that is found.
+type Row = (
+    &'static [&'static [&'static [u8]]],
+    &'static [(u32, u32, &'static [u8])],
+);
+
+/// Setups at A and at B, and sights of A and of B, in two spellings each: in GSI-8 and GSI-16.
+const SETUP_A: &[u8] = b"110001+0000000A 84..10+00000000 87..10+00001300 88..10+00001500 ";
+
+const WIDE_SETUP_A: &[u8] =
+    b"*110001+000000000000000A 84..10+0000000000000000 87..10+0000000000001300 88..10+0000000000001500 ";
+
+const SETUP_B: &[u8] = b"110001+0000000B 84..10+00000000 87..10+00001300 88..10+00001500 ";
+
+const SIGHT_A: &[u8] = b"110002+0000000A 33..00+00002345 ";
+
+const WIDE_SIGHT_A: &[u8] = b"*110002+000000000000000A 33..00+0000000000002345 ";
+
+const SIGHT_B: &[u8] = b"110002+0000000B 33..00+00002345 ";
+
+const SPACED_SIGHT_B: &[u8] = b"110002+       B 33..00+00002345 ";
+
+const LEFT_SIGHT_B: &[u8] = b"110002+B        33..00+00002345 ";
+
+const ROWS: [Row; 14] = [
+    (&[], &[]),
+    (&[&[], &[b"", b"410001+00000007 42....+000SITE3 "]], &[]),
+    // one spelling each, in two books
+    (&[&[SETUP_A, SIGHT_B], &[SETUP_B, SIGHT_A], &[SETUP_A]], &[]),
+    // a station
+    (&[&[SETUP_A, WIDE_SETUP_A]], &[(1, 2, b"A")]),
+    (&[&[WIDE_SETUP_A, SETUP_A]], &[(1, 2, b"A")]),
+    // a target
+    (&[&[SETUP_A, SIGHT_B, SPACED_SIGHT_B]], &[(1, 3, b"B")]),
+    // a name that is the station of one block and the target of another
+    (
+        &[&[SETUP_A, SPACED_SIGHT_B, b"", SETUP_B, SIGHT_A, WIDE_SIGHT_A]],
+        &[(1, 4, b"B"), (1, 6, b"A")],
+    ),
+    // each name once: a third spelling, and the first one again
+    (
+        &[&[
+            SETUP_A,
+            SIGHT_B,
+            SPACED_SIGHT_B,
+            SIGHT_B,
+            LEFT_SIGHT_B,
+            SPACED_SIGHT_B,
+        ]],
+        &[(1, 3, b"B")],
+    ),
+    // in the order of lines, whichever name was seen first
+    (
+        &[&[SETUP_A, SIGHT_B, LEFT_SIGHT_B, WIDE_SETUP_A]],
+        &[(1, 3, b"B"), (1, 4, b"A")],
+    ),
+    // across books, each name once in all of them
+    (
+        &[&[SETUP_A, SIGHT_B], &[WIDE_SETUP_A, SIGHT_B]],
+        &[(2, 1, b"A")],
+    ),
+    (
+        &[
+            &[SETUP_A, SIGHT_B],
+            &[b"", SETUP_A, SPACED_SIGHT_B],
+            &[WIDE_SETUP_A, LEFT_SIGHT_B],
+        ],
+        &[(2, 3, b"B"), (3, 1, b"A")],
+    ),
+    // a block that is no setup and no sight mentions no name, and only the first word of a block does
+    (
+        &[&[
+            b"110001+       A 88..10+00001500 ",
+            SETUP_A,
+            b"110002+       A 87..10+00001300 ",
+            b"110003+0000000B 33..00+00002345 110004+       A ",
+            SIGHT_B,
+        ]],
+        &[],
+    ),
+    // a block with a height difference and a coordinate is a sight
+    (
+        &[&[
+            SETUP_A,
+            b"110002+B        33..00+00002345 84..10+00000000 ",
+            SIGHT_B,
+        ]],
+        &[(1, 3, b"B")],
+    ),
+    // names that differ, whose data look alike, and the name of zeros alone
+    (
+        &[&[
+            SETUP_A,
+            b"110002+000000A0 33..00+00002345 ",
+            b"110003+0000000a 33..00+00002345 ",
+            b"110004+00000000 33..00+00002345 ",
+            b"*110005+0000000000000000 33..00+0000000000002345 ",
+            b"110006+       0 33..00+00002345 ",
+        ]],
+        &[(1, 5, b"0")],
+    ),
+];
+
+/// The lines joined, each with its end.
+fn joined(rt: &impl Abort, alloc: Global, lines: &[&[u8]]) -> Vec<u8> {
+    let mut text = Vec::new(alloc);
+    for line in lines {
+        text.extend_from_slice(line).expect(rt, "memory");
+        text.extend_from_slice(b"\r\n").expect(rt, "memory");
+    }
+    text
+}
+
+/// The names after one more book, which comes in pieces of so many bytes.
+fn seen(
+    rt: &impl Abort,
+    alloc: Global,
+    names: SeenNames,
+    book: u32,
+    text: &[u8],
+    piece: usize,
+) -> SeenNames {
+    assert!(rt; piece >= 1);
+    let mut feed = ReviewFeed::new(alloc, book, names);
+    for bytes in text.chunks(piece) {
+        feed.feed(bytes).expect(rt, "memory");
+    }
+    let (_, names) = feed.finish().expect(rt, "memory");
+    names
+}
+
+/// The spellings that were found are those that are wanted.
+fn are_found(rt: &impl Abort, found: &[Spelling], wanted: &[(u32, u32, &'static [u8])]) {
+    assert_eq!(rt; found.len(), wanted.len());
+    for (spelling, (book, line, name)) in found.iter().zip(wanted) {
+        assert_eq!(rt; spelling.book, *book);
+        assert_eq!(rt; spelling.line, *line);
+        assert!(rt; spelling.name.as_bytes() == *name, "at {book} {line}");
+    }
+}
+
+#[test]
+fn spellings(rt: HostRuntime) {
+    for (books, wanted) in &ROWS {
+        for piece in [1, 7, 4_096] {
+            let mut names = SeenNames::new(rt.alloc());
+            for (number, lines) in (1..=16).zip(books.iter()) {
+                let text = joined(&rt, rt.alloc(), lines);
+                names = seen(&rt, rt.alloc(), names, number, &text, piece);
+            }
+            are_found(&rt, names.found(), wanted);
+        }
+    }
+}

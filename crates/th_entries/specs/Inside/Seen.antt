@@ -1,0 +1,18 @@
+-- How the names that a block mentions are seen.
+use Rattle.std.specs.Prelude.{ℕ, ◌++◌, List, [], ◌∷◌, Option, None, option_map, option_to_list}
+use Rattle.std.specs.Option.{option_or}
+use Rattle.gsi_word.specs.Words.{Parts}
+use Rattle.th_book.specs.declared.entries.Entered.{Entered}
+use Rattle.th_entries.specs.Spellings.{Mention}
+use Rattle.th_entries.specs.Seen.{AreSeenIn}
+use Rattle.th_entries.specs.declared.seen.SeenNames.{SeenNames}
+
+-- a mention, if there is one, was taken after whatever mentions were taken before
+abbrev pub IsSeenNext : Option Mention → SeenNames → SeenNames → Type 0
+IsSeenNext mention old new = (before : List Mention) → AreSeenIn before old → AreSeenIn (before ++ option_to_list mention) new
+
+-- what a block mentions, by what it enters
+abbrev pub mention_by : ℕ → ℕ → Entered → List Parts → Option Mention
+mention_by book line entered [] = None
+mention_by book line entered (word ∷ words) =
+    option_map (λ name. record { here = record { book = book; line = line; name = name }; bytes = word.body }) (option_or entered.target entered.station)

@@ -1,0 +1,29 @@
+-- What is known of the names that books mention.
+use Rattle.std.specs.Prelude.{◌≡◌, ℕ, ◌++◌, List, [], ◌∷◌, Option, if◌then◌else◌, find, option_map}
+use Rattle.std.specs.List.{list_any}
+use Rattle.indexmap.specs.IndexMap.{get}
+use Rattle.gsi_word.specs.Names.{same_name}
+use Rattle.th_book.specs.Lines.{ParsedLine}
+use Rattle.th_entries.specs.Spellings.{Mention, differing, is_of, mentions_of, spellings_in}
+use Rattle.th_entries.specs.declared.seen.SeenNames.{SeenNames}
+use Rattle.th_entries.specs.declared.seen.Spelled.{Spelled}
+use Rattle.th_entries.specs.declared.seen.Spelled.TheVariants.{Alike, Otherwise}
+
+-- how mentions spell a name, if one is of it
+abbrev pub spelled_in : List Mention → List ℕ → Option Spelled
+spelled_in mentions name =
+    option_map (λ first. if list_any (is_of name) (differing mentions) then Otherwise else Alike (record { items = first.bytes })) (find (is_of name) mentions)
+
+-- all that is known of names is what these mentions say
+pub record AreSeenIn (mentions : List Mention) (names : SeenNames) : Type 0 where
+  pub found : names.found.items ≡ spellings_in mentions
+  pub spelled : (name : List ℕ) → get same_name names.spelled name ≡ spelled_in mentions name
+
+-- all that is known of names is what these books say, which have no fault
+abbrev pub AreSeenInBooks : List (ℕ × List ParsedLine) → SeenNames → Type 0
+AreSeenInBooks books names = AreSeenIn (mentions_of books) names
+
+-- one more book was read, whatever books were read before
+abbrev pub AddsBook : ℕ → List ParsedLine → SeenNames → SeenNames → Type 0
+AddsBook number parsed old new =
+    (before : List (ℕ × List ParsedLine)) → AreSeenInBooks before old → AreSeenInBooks (before ++ (number, parsed) ∷ []) new

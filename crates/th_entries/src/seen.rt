@@ -1,0 +1,103 @@
+ghost use Rattle.std.specs.Prelude.{◌≡◌, [], ℕ, List, OnOk, Some, map};
+ghost use Rattle.gsi_word.specs.Words.{parts_of};
+ghost use Rattle.th_book.specs.Lines.{ParsedLine};
+ghost use Rattle.th_entries.specs.Inside.Seen.{IsSeenNext, mention_by};
+
+use crate::spellings::Spelling;
+use arrayvec::ArrayVec;
+use gsi_word::{Name, Word};
+use indexmap::IndexMap;
+use std::alloc::{AllocError, Global};
+use th_book::Entered;
+
+/// The most bytes of data that a word has.
+const MAX_DATA: usize = 16;
+
+/// How a name is spelled so far.
+#[derive(Drop)]
+enum Spelled {
+    /// In these data each time.
+    Alike(ArrayVec<u8, MAX_DATA>),
+    /// In more than one way.
+    Otherwise,
+}
+
+/// The names that the stations and targets of books have, and how they are spelled. It passes from one
+/// book to the next.
+#[derive(Drop)]
+pub struct SeenNames {
+    spelled: IndexMap<Name, Spelled>,
+    found: Vec<Spelling>,
+}
+
+impl SeenNames {
+    ghost use Rattle.th_entries.specs.Seen.{AreSeenInBooks};
+    ghost use Rattle.th_entries.specs.Spellings.{spellings_of};
+
+    /// The names of no book.
+    pub fn new(alloc: Global) -> SeenNames
+        ensures { AreSeenInBooks [] result }
+    {
+        SeenNames {
+            spelled: IndexMap::new(alloc),
+            found: Vec::new(alloc),
+        }
+    }
+
+    /// Where each name is first spelled in another way than before, in the order of books and lines.
+    pub fn found(&self) -> &[Spelling]
+        ensures { (books : List (ℕ × List ParsedLine)) →
+            AreSeenInBooks books self.now → result.now ≡ spellings_of books }
+    {
+        self.found.as_slice()
+    }
+
+    /// Takes the next mention of a name, which the data of a word spell.
+    pub(crate) fn take(&mut self, here: Spelling, word: &Word<'_>) -> Result<(), AllocError>
+        ensures { OnOk result (IsSeenNext (Some (record {
+          here = here;
+          bytes = (parts_of word.now).body;
+        })) self.old self.new) }
+    {
+        match self.spelled.get(&here.name) {
+            None => {
+                self.spelled
+                    .insert(here.name, Spelled::Alike(data_of(word)))?;
+            }
+            Some(Spelled::Otherwise) => {}
+            Some(Spelled::Alike(data)) => {
+                if data.as_slice() != word.body() {
+                    self.found.push(here)?;
+                    self.spelled.insert(here.name, Spelled::Otherwise)?;
+                }
+            }
+        }
+        Ok(())
+    }
+}
+
+/// Takes the station of a block that is a setup, or the target of one that is a sight.
+pub(crate) fn mention(
+    names: &mut SeenNames,
+    book: u32,
+    line: u32,
+    entered: &Entered,
+    words: &[Word<'_>],
+) -> Result<(), AllocError>
+    ensures { OnOk result (IsSeenNext (mention_by book line entered.now (map parts_of words.now)) names.old names.new) }
+{
+    if let (Some(word), Some(name)) = (words.first(), entered.target.or(entered.station)) {
+        names.take(Spelling { book, line, name }, word)?;
+    }
+    Ok(())
+}
+
+/// A copy of a word's data.
+fn data_of(word: &Word<'_>) -> ArrayVec<u8, MAX_DATA>
+    ensures { result ≡ record { items = (parts_of word.now).body } }
+{
+    match ArrayVec::try_from(word.body()) {
+        Ok(data) => data,
+        Err(_) => unreachable!(),
+    }
+}
