@@ -110,6 +110,20 @@ impl<'a> Network<'a> {
         self.points.as_slice()
     }
 
+    /// The table of its benchmarks.
+    pub fn benchmarks(&self) -> &Benchmarks
+        ensures { result.now ≡ self.now.benchmarks }
+    {
+        self.benchmarks
+    }
+
+    /// The table of its weights.
+    pub fn weights(&self) -> &Weights
+        ensures { result.now ≡ self.now.weights }
+    {
+        self.weights
+    }
+
     /// The height of point `k`, counted from 0, where it is a benchmark, in units of 10 nm.
     pub fn fixed(&self, k: usize) -> Option<i64>
         requires { k < length (points_of self.now) }

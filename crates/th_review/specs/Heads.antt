@@ -4,10 +4,10 @@ use Rattle.th_network.specs.Networks.{Survey, points_of}
 use Rattle.th_report.specs.Columns.{line_end}
 use Rattle.th_report.specs.Reports.{benchmark_count, label_line}
 use Rattle.th_review.specs.Words.{number_or_dash}
-use Rattle.th_review.specs.declared.mistakes.Mistake.{Mistake}
-use Rattle.th_review.specs.declared.mistakes.Mistake.TheVariants as mistake
-use Rattle.th_review.specs.declared.mistakes.SharedMistake.{SharedMistake}
-use Rattle.th_review.specs.declared.mistakes.SharedMistake.TheVariants as shared
+use Rattle.th_reliability.specs.declared.mistakes.Mistake.{Mistake}
+use Rattle.th_reliability.specs.declared.mistakes.Mistake.TheVariants as mistake
+use Rattle.th_reliability.specs.declared.mistakes.SharedMistake.{SharedMistake}
+use Rattle.th_reliability.specs.declared.mistakes.SharedMistake.TheVariants as shared
 use Rattle.th_review.specs.declared.rows.PointRow.{PointRow}
 use Rattle.th_review.specs.declared.rows.ObservationRow.{ObservationRow}
 use Rattle.th_review.specs.declared.rows.EntryRow.{EntryRow}

@@ -1,9 +1,8 @@
-pub mod Mistakes
 pub mod Words
-pub mod Heads
-pub mod Notes
-pub mod Largest
-pub mod Reviews
-pub mod Findings
+pub mod Entries
 pub mod Rows
 pub mod Tables
+pub mod Heads
+pub mod Largest
+pub mod Reviews
+pub mod Texts

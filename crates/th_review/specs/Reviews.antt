@@ -9,10 +9,10 @@ use Rattle.th_report.specs.Columns.{gap, left_in, line_end, right_in}
 use Rattle.th_report.specs.Reports.{blunder_mark, end_columns, ends_of, label_line, place_columns, place_of}
 use Rattle.th_review.specs.Heads.{head_lines}
 use Rattle.th_review.specs.Largest.{largest}
-use Rattle.th_review.specs.Notes.{note_lines}
+use Rattle.th_notes.specs.Notes.{note_lines}
 use Rattle.th_review.specs.Words.{kind_word, mistake_mark, number_or_dash, point_mark, shared_mistake_mark}
-use Rattle.th_review.specs.declared.found.BookCount.{BookCount}
-use Rattle.th_review.specs.declared.notes.Note.{Note}
+use Rattle.th_entries.specs.declared.reviews.BookCount.{BookCount}
+use Rattle.th_notes.specs.declared.notes.Note.{Note}
 use Rattle.th_review.specs.declared.rows.PointRow.{PointRow}
 use Rattle.th_review.specs.declared.rows.ObservationRow.{ObservationRow}
 use Rattle.th_review.specs.declared.rows.EntryRow.{EntryRow}

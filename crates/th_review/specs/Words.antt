@@ -1,11 +1,11 @@
 -- The words and marks of a review.
 use Rattle.std.specs.Prelude.{ℕ, Bool, true, false, List, [], Option, None, Some, codes, decimal}
-use Rattle.th_review.specs.declared.found.HeightKind.{HeightKind}
-use Rattle.th_review.specs.declared.found.HeightKind.TheVariants.{Reflector, Instrument}
-use Rattle.th_review.specs.declared.mistakes.Mistake.{Mistake}
-use Rattle.th_review.specs.declared.mistakes.Mistake.TheVariants as mistake
-use Rattle.th_review.specs.declared.mistakes.SharedMistake.{SharedMistake}
-use Rattle.th_review.specs.declared.mistakes.SharedMistake.TheVariants as shared
+use Rattle.th_entries.specs.declared.entries.HeightKind.{HeightKind}
+use Rattle.th_entries.specs.declared.entries.HeightKind.TheVariants.{Reflector, Instrument}
+use Rattle.th_reliability.specs.declared.mistakes.Mistake.{Mistake}
+use Rattle.th_reliability.specs.declared.mistakes.Mistake.TheVariants as mistake
+use Rattle.th_reliability.specs.declared.mistakes.SharedMistake.{SharedMistake}
+use Rattle.th_reliability.specs.declared.mistakes.SharedMistake.TheVariants as shared
 
 -- the word for what a mistake in an observation would do
 abbrev pub mistake_word : Mistake → List ℕ

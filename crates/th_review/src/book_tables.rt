@@ -1,28 +1,29 @@
 //! The table of books.
 ghost use Rattle.std.specs.Prelude.{◌≡◌, ◌++◌, OnOk};
 ghost use Rattle.std.specs.List.{enumerate_from, flat_map};
+ghost use Rattle.th_notes.specs.Books.{counts_of_books};
 ghost use Rattle.th_review.specs.Reviews.{book_columns, book_line, book_lines};
 
-use crate::found::BookCount;
 use itoa::Buffer;
 use std::alloc::AllocError;
+use th_entries::{BookCount, BookReview};
 use th_report::Page;
 
 /// Writes the table of books.
 #[tactic(auto, unfolding(crate::specs::Reviews::book_lines))]
-pub(crate) fn write_books(page: &mut Page, books: &[BookCount]) -> Result<(), AllocError>
-    ensures { OnOk result (page.new ≡ page.old ++ book_lines books.now) }
+pub(crate) fn write_books(page: &mut Page, reviews: &[BookReview]) -> Result<(), AllocError>
+    ensures { OnOk result (page.new ≡ page.old ++ book_lines (counts_of_books reviews.now)) }
 {
     write_columns(page, b"BK", b"LINES", b"BLOCKS", b"SETUPS", b"SIGHTS")?;
-    write_rows(page, books)
+    write_rows(page, reviews)
 }
 
 /// Writes the line of each book.
-fn write_rows(page: &mut Page, books: &[BookCount]) -> Result<(), AllocError>
-    ensures { OnOk result (page.new ≡ page.old ++ flat_map book_line (enumerate_from 1 books.now)) }
+fn write_rows(page: &mut Page, reviews: &[BookReview]) -> Result<(), AllocError>
+    ensures { OnOk result (page.new ≡ page.old ++ flat_map book_line (enumerate_from 1 (counts_of_books reviews.now))) }
 {
-    for (k, count) in books.iter().enumerate() {
-        write_book(page, k as u64 + 1, count)?;
+    for (k, review) in reviews.iter().enumerate() {
+        write_book(page, k as u64 + 1, &review.counts)?;
     }
     Ok(())
 }

@@ -1,16 +1,16 @@
 //! The rows of the entries.
 ghost use Rattle.std.specs.Prelude.{◌≡◌, IfOk, length};
-ghost use Rattle.th_review.specs.Rows.{entry_rows, entry_weight, uses};
+ghost use Rattle.th_review.specs.Rows.{entry_rows, entry_weight};
 
-use crate::found::Entry;
-use crate::mistakes::SharedMistake;
+use crate::entries::sights_of;
 use crate::rows::EntryRow;
 use std::alloc::{AllocError, Global};
-use th_book::Observation;
+use th_entries::Entry;
 use th_network::Network;
+use th_reliability::SharedMistake;
 
 /// The rows of entries, with what a mistake in each would do, listed in the order of the entries.
-pub fn entry_rows(
+pub(crate) fn entry_rows(
     alloc: Global,
     network: &Network,
     entries: &[Entry],
@@ -34,20 +34,14 @@ pub fn entry_rows(
 fn entry_weight(network: &Network, entry: &Entry) -> u32
     ensures { result ≡ entry_weight network.now entry.now }
 {
+    let sights = sights_of(entry);
     // its points say that a network has few observations
     let _ = network.points();
     let mut sum = 0;
     for (i, o) in network.observations().iter().enumerate() {
-        if uses(entry, o) {
+        if sights.hold(o) {
             sum += network.weight(i);
         }
     }
     sum
-}
-
-/// Whether an observation is one of the sights that use an entry.
-fn uses(entry: &Entry, o: &Observation) -> bool
-    ensures { result ≡ uses entry.now o.now }
-{
-    o.book == entry.book && entry.line <= o.line && o.line <= entry.last
 }

@@ -5,11 +5,11 @@ ghost use Rattle.th_units.specs.Metres.{metres};
 ghost use Rattle.th_review.specs.Reviews.{entry_line, entry_lines, entry_places, entry_values};
 ghost use Rattle.th_review.specs.Words.{kind_word, shared_mistake_mark};
 
-use crate::found::Entry;
 use crate::rows::EntryRow;
 use crate::words::{kind_word, shared_mistake_mark};
 use itoa::Buffer;
 use std::alloc::AllocError;
+use th_entries::Entry;
 use th_report::Page;
 use th_units::metre_text;
 

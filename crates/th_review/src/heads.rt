@@ -4,12 +4,12 @@ ghost use Rattle.th_report.specs.Reports.{label_line};
 ghost use Rattle.th_review.specs.Heads.{entry_count_lines, head_lines, is_hidden, is_tie, is_unchecked, is_weak, lesser, loop_count, mistake_lines, survey_lines, title_line, weakest};
 ghost use Rattle.th_review.specs.Words.{number_or_dash};
 
-use crate::mistakes::{Mistake, SharedMistake};
 use crate::rows::{EntryRow, ObservationRow, PointRow};
 use crate::words::number_or_dash;
 use itoa::Buffer;
 use std::alloc::AllocError;
 use th_network::Network;
+use th_reliability::{Mistake, SharedMistake};
 use th_report::{Page, benchmark_count, write_count, write_label};
 
 /// Writes the title and the counts.

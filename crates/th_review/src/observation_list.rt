@@ -4,16 +4,16 @@ ghost use Rattle.th_network.specs.Heights.{heights_at};
 ghost use Rattle.th_network.specs.Networks.{AreAtPoints, points_of};
 ghost use Rattle.th_review.specs.Rows.{observation_row_of, observation_rows, rows_of};
 
-use crate::mistakes::Mistake;
 use crate::rows::ObservationRow;
 use std::alloc::{AllocError, Global};
 use th_blunders::residuals;
 use th_book::Observation;
 use th_network::Network;
+use th_reliability::Mistake;
 
 /// The rows of a network's observations, with the lowest best heights, which are listed in point
 /// order, and the controls, which are listed in the order of the observations.
-pub fn observation_rows(
+pub(crate) fn observation_rows(
     alloc: Global,
     network: &Network,
     low: &[i64],

@@ -11,36 +11,42 @@ use std::alloc::{AllocError, Global};
 use th_network::Network;
 
 /// The rows of a network's points, with the lowest and the highest best heights, the strengths, and
-/// which points one observation alone holds, each listed in point order.
-pub fn point_rows(
+/// the strengths where all weights are 1, each listed in point order.
+pub(crate) fn point_rows(
     alloc: Global,
     network: &Network,
     low: &[i64],
     high: &[i64],
     strengths: &[Option<u32>],
-    alone: &[bool],
+    unit_strengths: &[Option<u32>],
 ) -> Result<Vec<PointRow>, AllocError>
     requires low { AreAtPoints network.now low.now }
     requires high { AreAtPoints network.now high.now }
     requires strengths { length strengths.now ≡ length (points_of network.now) }
-    requires alone { length alone.now ≡ length (points_of network.now) }
+    requires unit_strengths { length unit_strengths.now ≡ length (points_of network.now) }
     ensures { IfOk result (λ rows. rows.items ≡ point_rows network.now
         (heights_at (points_of network.now) low.now) (heights_at (points_of network.now) high.now)
-        strengths.now alone.now) }
+        strengths.now unit_strengths.now) }
 {
     let names = network.points();
     let mut rows = Vec::with_capacity(alloc, names.len())?;
     for (k, name) in names.iter().enumerate() {
-        rows.push(point_row(name, low[k], high[k], strengths[k], alone[k]))?;
+        rows.push(point_row(name, low[k], high[k], strengths[k], unit_strengths[k]))?;
     }
     Ok(rows)
 }
 
 /// The row of a point.
-fn point_row(name: &Name, low: i64, high: i64, strength: Option<u32>, alone: bool) -> PointRow
+fn point_row(
+    name: &Name,
+    low: i64,
+    high: i64,
+    strength: Option<u32>,
+    unit_strength: Option<u32>,
+) -> PointRow
     requires low { unsigned_abs low < height_limit }
     requires high { unsigned_abs high < height_limit }
-    ensures { result ≡ point_row_of name.now low high strength alone }
+    ensures { result ≡ point_row_of name.now low high strength unit_strength }
 {
     PointRow {
         name: *name,
@@ -48,6 +54,6 @@ fn point_row(name: &Name, low: i64, high: i64, strength: Option<u32>, alone: boo
         high,
         spread: high - low,
         strength,
-        alone,
+        alone: unit_strength == Some(1),
     }
 }

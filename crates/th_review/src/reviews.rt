@@ -1,17 +1,18 @@
 //! The review for people.
 ghost use Rattle.std.specs.Prelude.{◌≡◌, ◌++◌, IfOk, OnOk};
+ghost use Rattle.th_notes.specs.Books.{counts_of_books};
 ghost use Rattle.th_review.specs.Reviews.{front_part, review_text, table_part};
 
 use crate::book_tables::write_books;
 use crate::entry_tables::write_entries;
-use crate::found::BookCount;
 use crate::heads::write_head;
-use crate::notes::{Note, write_notes};
 use crate::observation_tables::{write_largest, write_observations};
 use crate::point_tables::write_points;
 use crate::rows::{EntryRow, ObservationRow, PointRow};
 use std::alloc::{AllocError, Global};
+use th_entries::BookReview;
 use th_network::Network;
+use th_notes::{Note, write_notes};
 use th_report::Page;
 
 /// The review of a network for people: what was reviewed in numbers, the books, the largest
@@ -19,18 +20,18 @@ use th_report::Page;
 ///
 /// The limit of blunders is in units of 10 nm.
 #[tactic(auto, unfolding(crate::specs::Reviews::review_text))]
-pub fn review_text(
+pub(crate) fn review_text(
     alloc: Global,
     network: &Network,
     points: &[PointRow],
     observations: &[ObservationRow],
     entries: &[EntryRow],
-    books: &[BookCount],
+    reviews: &[BookReview],
     notes: &[Note],
     limit: i64,
 ) -> Result<Vec<u8>, AllocError>
     ensures { IfOk result (λ text. text.items ≡ review_text network.now points.now
-        observations.now entries.now books.now notes.now limit) }
+        observations.now entries.now (counts_of_books reviews.now) notes.now limit) }
 {
     let mut page = Page::new(alloc);
     write_front(
@@ -40,7 +41,7 @@ pub fn review_text(
         points,
         observations,
         entries,
-        books,
+        reviews,
         limit,
     )?;
     write_tables(&mut page, points, observations, entries)?;
@@ -57,15 +58,15 @@ fn write_front(
     points: &[PointRow],
     observations: &[ObservationRow],
     entries: &[EntryRow],
-    books: &[BookCount],
+    reviews: &[BookReview],
     limit: i64,
 ) -> Result<(), AllocError>
     ensures { OnOk result (page.new ≡ page.old ++ front_part network.now points.now
-        observations.now entries.now books.now limit) }
+        observations.now entries.now (counts_of_books reviews.now) limit) }
 {
     write_head(page, network, points, observations, entries)?;
     page.end_line()?;
-    write_books(page, books)?;
+    write_books(page, reviews)?;
     page.end_line()?;
     write_largest(alloc, page, observations, limit)?;
     page.end_line()

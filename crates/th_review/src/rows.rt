@@ -1,7 +1,7 @@
-use crate::found::Entry;
-use crate::mistakes::{Mistake, SharedMistake};
 use gsi_word::Name;
 use th_book::Observation;
+use th_entries::Entry;
+use th_reliability::{Mistake, SharedMistake};
 
 /// A point of a network, and what was found of it. Heights are in units of 10 nm.
 #[derive(Clone, Copy, Debug)]

@@ -11,7 +11,7 @@ use th_csv::RowWriter;
 use th_units::metre_text;
 
 /// The table of points: the names of its fields, and then a record for each row.
-pub fn points_csv(alloc: Global, points: &[PointRow]) -> Result<Vec<u8>, AllocError>
+pub(crate) fn points_csv(alloc: Global, points: &[PointRow]) -> Result<Vec<u8>, AllocError>
     ensures { IfOk result (λ text. text.items ≡ points_text points.now) }
 {
     let mut rows = RowWriter::new(alloc);
@@ -39,7 +39,7 @@ fn write_point(rows: &mut RowWriter, row: &PointRow) -> Result<(), AllocError>
 }
 
 /// The table of observations: the names of its fields, and then a record for each row.
-pub fn observations_csv(
+pub(crate) fn observations_csv(
     alloc: Global,
     observations: &[ObservationRow],
 ) -> Result<Vec<u8>, AllocError>
@@ -99,7 +99,7 @@ fn write_observation(rows: &mut RowWriter, row: &ObservationRow) -> Result<(), A
 }
 
 /// The table of entries: the names of its fields, and then a record for each row.
-pub fn entries_csv(alloc: Global, entries: &[EntryRow]) -> Result<Vec<u8>, AllocError>
+pub(crate) fn entries_csv(alloc: Global, entries: &[EntryRow]) -> Result<Vec<u8>, AllocError>
     ensures { IfOk result (λ text. text.items ≡ entries_text entries.now) }
 {
     let mut rows = RowWriter::new(alloc);

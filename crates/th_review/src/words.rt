@@ -2,9 +2,9 @@
 ghost use Rattle.std.specs.Prelude.{◌≡◌};
 ghost use Rattle.th_review.specs.Words.{kind_word, mistake_mark, mistake_word, number_or_dash, point_mark, shared_mistake_mark, shared_mistake_word};
 
-use crate::found::HeightKind;
-use crate::mistakes::{Mistake, SharedMistake};
 use itoa::Buffer;
+use th_entries::HeightKind;
+use th_reliability::{Mistake, SharedMistake};
 
 /// The word for what a mistake in an observation would do.
 pub(crate) fn mistake_word(mistake: &Mistake) -> &[u8]

@@ -9,5 +9,5 @@ abbrev pub invariant-loop-k : goal.invariant-loop-k
 invariant-loop-k l =
     let low = heights_at (points_of l.network) l.low in
     let high = heights_at (points_of l.network) l.high in
-    l.rows.items ++ map (point_row low high) (zip (drop l.k (points_of l.network)) (zip (drop l.k l.strengths) (drop l.k l.alone)))
-    ≡ point_rows l.network low high l.strengths l.alone
+    l.rows.items ++ map (point_row low high) (zip (drop l.k (points_of l.network)) (zip (drop l.k l.strengths) (drop l.k l.unit_strengths)))
+    ≡ point_rows l.network low high l.strengths l.unit_strengths

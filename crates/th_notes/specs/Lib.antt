@@ -1,0 +1,5 @@
+pub mod Limits
+pub mod Books
+pub mod Repeats
+pub mod Findings
+pub mod Notes

@@ -1,0 +1,76 @@
+-- The notes of a review.
+use Rattle.std.specs.Prelude.{ℕ, List, ◌++◌, codes, decimal, length}
+use Rattle.std.specs.List.{flat_map}
+use Rattle.th_report.specs.Columns.{line_end}
+use Rattle.th_report.specs.Reports.{label_line}
+use Rattle.th_notes.specs.declared.notes.Note.{Note}
+use Rattle.th_notes.specs.declared.notes.Note.TheVariants.{NoSight, SameObservations, Lookalike, UnusedWeight, TurnedWeight, UnseenBenchmark, Respelled}
+
+-- a line of a book
+unfoldable pub book_place : ℕ → ℕ → List ℕ
+book_place book line = codes "book " ++ decimal book ++ codes " line " ++ decimal line
+
+-- a name at a line of a book
+unfoldable pub name_place : ℕ → ℕ → List ℕ → List ℕ
+name_place book line name = book_place book line ++ codes ": " ++ name
+
+-- the table of weights, and that of benchmarks
+unfoldable pub in_weights : List ℕ
+in_weights = codes "weights record "
+
+unfoldable pub in_benchmarks : List ℕ
+in_benchmarks = codes "benchmarks record "
+
+-- the pair of a row of the table of weights
+unfoldable pub pair_text : ℕ → List ℕ → List ℕ → List ℕ
+pair_text row station target = in_weights ++ decimal row ++ codes ": " ++ station ++ codes " to " ++ target
+
+-- the name of a row of the table of benchmarks
+unfoldable pub benchmark_text : ℕ → List ℕ → List ℕ
+benchmark_text row name = in_benchmarks ++ decimal row ++ codes ": " ++ name
+
+-- a book without a sight
+unfoldable pub no_sight_text : ℕ → ℕ → List ℕ
+no_sight_text book blocks = codes "book " ++ decimal book ++ codes ": no sight in " ++ decimal blocks ++ codes " blocks"
+
+-- a book with the observations of an earlier one
+unfoldable pub same_text : ℕ → ℕ → List ℕ
+same_text book earlier = codes "book " ++ decimal book ++ codes ": same observations as book " ++ decimal earlier
+
+-- a block that looks like a setup, and is none
+unfoldable pub lookalike_text : ℕ → ℕ → List ℕ
+lookalike_text book line = book_place book line ++ codes ": looks like a setup, but has no word 84, 85 or 86"
+
+-- a row of the table of weights whose pair was never observed
+unfoldable pub unused_text : ℕ → List ℕ → List ℕ → List ℕ
+unused_text row station target = pair_text row station target ++ codes " was never observed"
+
+-- a row of the table of weights whose pair was observed the other way round alone
+unfoldable pub turned_text : ℕ → List ℕ → List ℕ → List ℕ
+turned_text row station target = unused_text row station target ++ codes ", but " ++ target ++ codes " to " ++ station ++ codes " was"
+
+-- a benchmark that was never observed
+unfoldable pub unseen_text : ℕ → List ℕ → List ℕ
+unseen_text row name = benchmark_text row name ++ codes " was never observed"
+
+-- a name that is spelled in another way than before
+unfoldable pub respelled_text : ℕ → ℕ → List ℕ → List ℕ
+respelled_text book line name = name_place book line name ++ codes " is spelled in another way than before"
+
+-- the text of a note
+abbrev pub note_text : Note → List ℕ
+note_text (NoSight book blocks) = no_sight_text book blocks
+note_text (SameObservations book earlier) = same_text book earlier
+note_text (Lookalike book line) = lookalike_text book line
+note_text (UnusedWeight row station target) = unused_text row station target
+note_text (TurnedWeight row station target) = turned_text row station target
+note_text (UnseenBenchmark row name) = unseen_text row name
+note_text (Respelled book line name) = respelled_text book line name
+
+-- the line of a note
+unfoldable pub note_line : Note → List ℕ
+note_line note = note_text note ++ line_end
+
+-- how many notes there are, and their lines
+unfoldable pub note_lines : List Note → List ℕ
+note_lines notes = label_line (codes "notes") (decimal (length notes)) ++ flat_map note_line notes

@@ -1,0 +1,34 @@
+//! All notes of a review.
+ghost use Rattle.std.specs.Prelude.{◌≡◌, ◌≤◌, IfOk, length};
+ghost use Rattle.th_notes.specs.Findings.{notes_of};
+ghost use Rattle.th_notes.specs.Limits.{max_reviewed};
+
+use crate::books::{add_lookalike_notes, add_sight_notes, add_spelling_notes};
+use crate::notes::Note;
+use crate::repeats::add_same_notes;
+use crate::tables::{add_benchmark_notes, add_weight_notes};
+use std::alloc::{AllocError, Global};
+use th_entries::{BookReview, Spelling};
+use th_network::Network;
+
+/// The notes of a review, in the order of `Note`: those of the books, which the reviews list in
+/// their order, those of the network's tables, and those of names.
+pub fn notes_of(
+    alloc: Global,
+    network: &Network,
+    reviews: &[BookReview],
+    spellings: &[Spelling],
+) -> Result<Vec<Note>, AllocError>
+    requires { length reviews.now ≤ max_reviewed }
+    ensures { IfOk result (λ notes. notes.items ≡ notes_of network.now reviews.now spellings.now) }
+{
+    let observations = network.observations();
+    let mut notes = Vec::new(alloc);
+    add_sight_notes(&mut notes, reviews)?;
+    add_same_notes(alloc, &mut notes, observations, reviews)?;
+    add_lookalike_notes(&mut notes, reviews)?;
+    add_weight_notes(alloc, &mut notes, observations, network.weights())?;
+    add_benchmark_notes(alloc, &mut notes, observations, network.benchmarks())?;
+    add_spelling_notes(&mut notes, spellings)?;
+    Ok(notes)
+}

@@ -1,0 +1,21 @@
+//! The notes of a review: what a reader should look at in the books and in the tables, though no
+//! number shows it.
+//!
+//! `notes_of` finds them, and `write_notes` writes a line for each. Out of memory is the only failure.
+#![tactic(auto)]
+
+// What a note is, and its line.
+mod lines;
+mod notes;
+
+// What is noted of books, and of the tables.
+mod books;
+mod repeats;
+mod tables;
+
+// All notes of a review.
+mod findings;
+
+pub use findings::notes_of;
+pub use lines::write_notes;
+pub use notes::Note;

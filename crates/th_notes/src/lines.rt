@@ -1,0 +1,217 @@
+//! The lines of notes.
+ghost use Rattle.std.specs.Prelude.{◌≡◌, ◌++◌, OnOk, decimal};
+ghost use Rattle.std.specs.List.{flat_map};
+ghost use Rattle.th_notes.specs.Notes.{benchmark_text, book_place, in_benchmarks, in_weights, lookalike_text, name_place, no_sight_text, note_line, note_lines, note_text, pair_text, respelled_text, same_text, turned_text, unseen_text, unused_text};
+
+use crate::notes::Note;
+use gsi_word::Name;
+use itoa::Buffer;
+use std::alloc::AllocError;
+use th_report::{Page, write_count};
+
+/// Writes how many notes there are, and a line for each.
+#[tactic(auto, unfolding(crate::specs::Notes::note_lines))]
+pub fn write_notes(page: &mut Page, notes: &[Note]) -> Result<(), AllocError>
+    ensures { OnOk result (page.new ≡ page.old ++ note_lines notes.now) }
+{
+    write_count(page, b"notes", notes.len())?;
+    write_rows(page, notes)
+}
+
+/// Writes the line of each note.
+fn write_rows(page: &mut Page, notes: &[Note]) -> Result<(), AllocError>
+    ensures { OnOk result (page.new ≡ page.old ++ flat_map note_line notes.now) }
+{
+    for note in notes {
+        write_note(page, note)?;
+    }
+    Ok(())
+}
+
+/// Writes the line of a note.
+#[tactic(auto, unfolding(crate::specs::Notes::note_line))]
+fn write_note(page: &mut Page, note: &Note) -> Result<(), AllocError>
+    ensures { OnOk result (page.new ≡ page.old ++ note_line note.now) }
+{
+    write_text(page, note)?;
+    page.end_line()
+}
+
+/// Writes the text of a note.
+fn write_text(page: &mut Page, note: &Note) -> Result<(), AllocError>
+    ensures { OnOk result (page.new ≡ page.old ++ note_text note.now) }
+{
+    match note {
+        Note::NoSight { book, blocks } => write_no_sight(page, *book, *blocks),
+        Note::SameObservations { book, earlier } => write_same(page, *book, *earlier),
+        Note::Lookalike { book, line } => write_lookalike(page, *book, *line),
+        Note::UnusedWeight {
+            row,
+            station,
+            target,
+        } => write_unused(page, *row, station, target),
+        Note::TurnedWeight {
+            row,
+            station,
+            target,
+        } => write_turned(page, *row, station, target),
+        Note::UnseenBenchmark { row, name } => write_unseen(page, *row, name),
+        Note::Respelled { book, line, name } => write_respelled(page, *book, *line, name),
+    }
+}
+
+/// Writes digits.
+fn write_number(page: &mut Page, number: u32) -> Result<(), AllocError>
+    ensures { OnOk result (page.new ≡ page.old ++ decimal number) }
+{
+    let mut digits = Buffer::new();
+    page.add(digits.format(number).as_bytes())
+}
+
+/// Writes the digits of a record's number.
+fn write_row(page: &mut Page, row: u64) -> Result<(), AllocError>
+    ensures { OnOk result (page.new ≡ page.old ++ decimal row) }
+{
+    let mut digits = Buffer::new();
+    page.add(digits.format(row).as_bytes())
+}
+
+/// Writes a name.
+fn write_name(page: &mut Page, name: &Name) -> Result<(), AllocError>
+    ensures { OnOk result (page.new ≡ page.old ++ name.now) }
+{
+    page.add(name.as_bytes())
+}
+
+/// Writes which line of which book.
+#[tactic(auto, unfolding(crate::specs::Notes::book_place))]
+fn write_place(page: &mut Page, book: u32, line: u32) -> Result<(), AllocError>
+    ensures { OnOk result (page.new ≡ page.old ++ book_place book line) }
+{
+    page.add(b"book ")?;
+    write_number(page, book)?;
+    page.add(b" line ")?;
+    write_number(page, line)
+}
+
+/// Writes a name at a line of a book.
+#[tactic(auto, unfolding(crate::specs::Notes::name_place))]
+fn write_name_place(page: &mut Page, book: u32, line: u32, name: &Name) -> Result<(), AllocError>
+    ensures { OnOk result (page.new ≡ page.old ++ name_place book line name.now) }
+{
+    write_place(page, book, line)?;
+    page.add(b": ")?;
+    write_name(page, name)
+}
+
+/// Writes that it is a record of the table of weights.
+#[tactic(auto, unfolding(crate::specs::Notes::in_weights))]
+fn write_in_weights(page: &mut Page) -> Result<(), AllocError>
+    ensures { OnOk result (page.new ≡ page.old ++ in_weights) }
+{
+    page.add(b"weights record ")
+}
+
+/// Writes that it is a record of the table of benchmarks.
+#[tactic(auto, unfolding(crate::specs::Notes::in_benchmarks))]
+fn write_in_benchmarks(page: &mut Page) -> Result<(), AllocError>
+    ensures { OnOk result (page.new ≡ page.old ++ in_benchmarks) }
+{
+    page.add(b"benchmarks record ")
+}
+
+/// Writes the pair of a row of the table of weights.
+#[tactic(auto, unfolding(crate::specs::Notes::pair_text))]
+fn write_pair(page: &mut Page, row: u64, station: &Name, target: &Name) -> Result<(), AllocError>
+    ensures { OnOk result (page.new ≡ page.old ++ pair_text row station.now target.now) }
+{
+    write_in_weights(page)?;
+    write_row(page, row)?;
+    page.add(b": ")?;
+    write_name(page, station)?;
+    page.add(b" to ")?;
+    write_name(page, target)
+}
+
+/// Writes the name of a row of the table of benchmarks.
+#[tactic(auto, unfolding(crate::specs::Notes::benchmark_text))]
+fn write_benchmark(page: &mut Page, row: u64, name: &Name) -> Result<(), AllocError>
+    ensures { OnOk result (page.new ≡ page.old ++ benchmark_text row name.now) }
+{
+    write_in_benchmarks(page)?;
+    write_row(page, row)?;
+    page.add(b": ")?;
+    write_name(page, name)
+}
+
+/// Writes the note of a book without a sight.
+#[tactic(auto, unfolding(crate::specs::Notes::no_sight_text))]
+fn write_no_sight(page: &mut Page, book: u32, blocks: u32) -> Result<(), AllocError>
+    ensures { OnOk result (page.new ≡ page.old ++ no_sight_text book blocks) }
+{
+    page.add(b"book ")?;
+    write_number(page, book)?;
+    page.add(b": no sight in ")?;
+    write_number(page, blocks)?;
+    page.add(b" blocks")
+}
+
+/// Writes the note of a book with the observations of an earlier one.
+#[tactic(auto, unfolding(crate::specs::Notes::same_text))]
+fn write_same(page: &mut Page, book: u32, earlier: u32) -> Result<(), AllocError>
+    ensures { OnOk result (page.new ≡ page.old ++ same_text book earlier) }
+{
+    page.add(b"book ")?;
+    write_number(page, book)?;
+    page.add(b": same observations as book ")?;
+    write_number(page, earlier)
+}
+
+/// Writes the note of a block that looks like a setup, and is none.
+#[tactic(auto, unfolding(crate::specs::Notes::lookalike_text))]
+fn write_lookalike(page: &mut Page, book: u32, line: u32) -> Result<(), AllocError>
+    ensures { OnOk result (page.new ≡ page.old ++ lookalike_text book line) }
+{
+    write_place(page, book, line)?;
+    page.add(b": looks like a setup, but has no word 84, 85 or 86")
+}
+
+/// Writes the note of a row of the table of weights whose pair was never observed.
+#[tactic(auto, unfolding(crate::specs::Notes::unused_text))]
+fn write_unused(page: &mut Page, row: u64, station: &Name, target: &Name) -> Result<(), AllocError>
+    ensures { OnOk result (page.new ≡ page.old ++ unused_text row station.now target.now) }
+{
+    write_pair(page, row, station, target)?;
+    page.add(b" was never observed")
+}
+
+/// Writes the note of a row of the table of weights whose pair was observed the other way round alone.
+#[tactic(auto, unfolding(crate::specs::Notes::turned_text))]
+fn write_turned(page: &mut Page, row: u64, station: &Name, target: &Name) -> Result<(), AllocError>
+    ensures { OnOk result (page.new ≡ page.old ++ turned_text row station.now target.now) }
+{
+    write_unused(page, row, station, target)?;
+    page.add(b", but ")?;
+    write_name(page, target)?;
+    page.add(b" to ")?;
+    write_name(page, station)?;
+    page.add(b" was")
+}
+
+/// Writes the note of a benchmark that was never observed.
+#[tactic(auto, unfolding(crate::specs::Notes::unseen_text))]
+fn write_unseen(page: &mut Page, row: u64, name: &Name) -> Result<(), AllocError>
+    ensures { OnOk result (page.new ≡ page.old ++ unseen_text row name.now) }
+{
+    write_benchmark(page, row, name)?;
+    page.add(b" was never observed")
+}
+
+/// Writes the note of a name that is spelled in another way than before.
+#[tactic(auto, unfolding(crate::specs::Notes::respelled_text))]
+fn write_respelled(page: &mut Page, book: u32, line: u32, name: &Name) -> Result<(), AllocError>
+    ensures { OnOk result (page.new ≡ page.old ++ respelled_text book line name.now) }
+{
+    write_name_place(page, book, line, name)?;
+    page.add(b" is spelled in another way than before")
+}

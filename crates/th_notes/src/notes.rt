@@ -1,0 +1,45 @@
+use gsi_word::Name;
+
+/// What a review notes. Books and lines count from 1, and so do the records of a table, of which the
+/// first is the header.
+#[derive(Clone, Copy, Debug)]
+pub enum Note {
+    /// A book has no sight, and so many blocks.
+    NoSight {
+        book: u32,
+        blocks: u32,
+    },
+    /// A book has the same observations as an earlier one.
+    SameObservations {
+        book: u32,
+        earlier: u32,
+    },
+    /// A block looks like a setup, and is none.
+    Lookalike {
+        book: u32,
+        line: u32,
+    },
+    /// A row of the table of weights is for a pair that was never observed, nor was it turned round.
+    UnusedWeight {
+        row: u64,
+        station: Name,
+        target: Name,
+    },
+    /// A row of the table of weights is for a pair that was observed from its target alone.
+    TurnedWeight {
+        row: u64,
+        station: Name,
+        target: Name,
+    },
+    /// A benchmark was never observed.
+    UnseenBenchmark {
+        row: u64,
+        name: Name,
+    },
+    /// A name is spelled in another way than before.
+    Respelled {
+        book: u32,
+        line: u32,
+        name: Name,
+    },
+}

@@ -1,0 +1,55 @@
+-- The texts of a review as functions of a survey and of what was found of it.
+use Rattle.std.specs.Prelude.{◌≡◌, ℕ, ℤ, List, Option}
+use Rattle.th_network.specs.Networks.{Survey}
+use Rattle.th_entries.specs.declared.reviews.BookReview.{BookReview}
+use Rattle.th_entries.specs.declared.spellings.Spelling.{Spelling}
+use Rattle.th_reliability.specs.declared.mistakes.SharedMistake.{SharedMistake}
+use Rattle.th_notes.specs.Books.{counts_of_books}
+use Rattle.th_notes.specs.Findings.{notes_of}
+use Rattle.th_review.specs.Entries.{entries_of}
+use Rattle.th_review.specs.Reviews.{review_text}
+use Rattle.th_review.specs.Rows.{entry_rows, observation_rows, point_rows}
+use Rattle.th_review.specs.Tables.{entries_text, observations_text, points_text}
+use Rattle.th_review.specs.declared.texts.Findings.{Findings}
+use Rattle.th_review.specs.declared.texts.ReviewTexts.{ReviewTexts}
+
+-- what was found of a survey: for each point its strength, and its strength where all weights are 1; for each observation its control; for each entry what a mistake in it would do
+pub record Found : Type 0 where
+  pub strengths : List (Option ℕ)
+  pub unit_strengths : List (Option ℕ)
+  pub controls : List (Option ℕ)
+  pub mistakes : List SharedMistake
+
+abbrev pub found_in : Findings → Found
+found_in findings = record {
+  strengths = findings.strengths.items;
+  unit_strengths = findings.unit_strengths.items;
+  controls = findings.controls.items;
+  mistakes = findings.mistakes.items;
+}
+
+-- the bytes of the texts of a review
+pub record ReviewOutTexts : Type 0 where
+  pub points : List ℕ
+  pub observations : List ℕ
+  pub entries : List ℕ
+  pub review : List ℕ
+
+abbrev pub bytes_of : ReviewTexts → ReviewOutTexts
+bytes_of texts = record {
+  points = texts.points.items;
+  observations = texts.observations.items;
+  entries = texts.entries.items;
+  review = texts.review.items;
+}
+
+-- the texts of a review: of a survey with its lowest and highest best heights and what was found of it, of books, of names that are spelled in more than one way, and of the limit of blunders
+pub record AreReviewTexts (survey : Survey) (low high : List ℕ → ℤ) (found : Found) (books : List BookReview) (spellings : List Spelling) (limit : ℤ) (texts : ReviewOutTexts) : Type 0 where
+  pub points : texts.points ≡ points_text (point_rows survey low high found.strengths found.unit_strengths)
+  pub observations : texts.observations ≡ observations_text (observation_rows survey low found.controls)
+  pub entries : texts.entries ≡ entries_text (entry_rows survey (entries_of books) found.mistakes)
+  pub review : texts.review ≡ review_text survey
+      (point_rows survey low high found.strengths found.unit_strengths)
+      (observation_rows survey low found.controls)
+      (entry_rows survey (entries_of books) found.mistakes)
+      (counts_of_books books) (notes_of survey books spellings) limit
