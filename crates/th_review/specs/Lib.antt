@@ -6,3 +6,4 @@ pub mod Heads
 pub mod Largest
 pub mod Reviews
 pub mod Texts
+pub mod Inside

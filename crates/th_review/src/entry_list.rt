@@ -4,12 +4,16 @@ ghost use Rattle.th_review.specs.Rows.{entry_rows, entry_weight};
 
 use crate::entries::sights_of;
 use crate::rows::EntryRow;
+use crate::runs::Runs;
 use std::alloc::{AllocError, Global};
 use th_entries::Entry;
 use th_network::Network;
 use th_reliability::SharedMistake;
 
 /// The rows of entries, with what a mistake in each would do, listed in the order of the entries.
+///
+/// Where the observations are in the order of books and lines, as those of a survey are, the time is
+/// that of one pass over them, and of one over the sights of each entry.
 pub(crate) fn entry_rows(
     alloc: Global,
     network: &Network,
@@ -19,27 +23,32 @@ pub(crate) fn entry_rows(
     requires { length mistakes.now ≡ length entries.now }
     ensures { IfOk result (λ rows. rows.items ≡ entry_rows network.now entries.now mistakes.now) }
 {
+    let runs = Runs::of(network.observations());
     let mut rows = Vec::with_capacity(alloc, entries.len())?;
     for (k, entry) in entries.iter().enumerate() {
         rows.push(EntryRow {
             entry: *entry,
-            weight: entry_weight(network, entry),
+            weight: entry_weight(network, &runs, entry),
             mistake: mistakes[k],
         })?;
     }
     Ok(rows)
 }
 
-/// The sum of the weights of the sights that use an entry.
-fn entry_weight(network: &Network, entry: &Entry) -> u32
+/// The sum of the weights of the sights that use an entry. The runs are those of the network's
+/// observations.
+fn entry_weight(network: &Network, runs: &Runs<'_>, entry: &Entry) -> u32
+    requires { runs.now.observations.now ≡ network.now.observations }
     ensures { result ≡ entry_weight network.now entry.now }
 {
-    let sights = sights_of(entry);
     // its points say that a network has few observations
     let _ = network.points();
+    let sights = sights_of(entry);
+    let observations = network.observations();
+    let (start, end) = runs.run_of(&sights);
     let mut sum = 0;
-    for (i, o) in network.observations().iter().enumerate() {
-        if sights.hold(o) {
+    for i in start..end {
+        if sights.hold(&observations[i]) {
             sum += network.weight(i);
         }
     }

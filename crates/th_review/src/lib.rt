@@ -6,8 +6,9 @@
 //! failure.
 #![tactic(auto)]
 
-// The entries of all books, and the sights of each.
+// The entries of all books, and the sights of each: where these are among the observations.
 mod entries;
+mod runs;
 
 // What the texts say of each point, observation and entry.
 mod entry_list;

@@ -1,4 +1,4 @@
-use Rattle.std.proofs.Common.{◌≡◌, ◌<◌, ◌+◌, Bool, List, get_or, if◌then◌else◌, length, sum_by, take, sym, ap, ◌∙◌, arith}
+use Rattle.std.proofs.Common.{◌≡◌, ◌<◌, ◌+◌, ℕ, Bool, List, get_or, if◌then◌else◌, length, sum_by, take, subst, sym, ap, ◌∙◌, arith}
 use Rattle.std.proofs.lemmas.List.Sums.{sum_by_more}
 use Rattle.th_book.specs.Observed.{Observed}
 use Rattle.th_tables.specs.Rows.{weight_of}
@@ -6,8 +6,20 @@ use Rattle.th_report.proofs.RowLemmas.{found_there}
 use Rattle.th_reliability.specs.Sights.{in_sights}
 use Rattle.th_reliability.specs.declared.sights.Sights.{Sights}
 use Rattle.th_review.specs.Entries.{sights_of}
+use Rattle.th_review.specs.Inside.Runs.{HoldsSights}
+use Rattle.th_review.proofs.RunLemmas.{none_before, none_behind, weight_to}
 use Rattle.th_review.proofs.entry_list.entry_weight.Goals as goal
 use Rattle.th_review.proofs.entry_list.entry_weight.Goals.{then-hold, else-hold}
+
+pub loop-i-init : goal.loop-i-init
+loop-i-init c =
+    let run : HoldsSights c.args.network.now.observations (sights_of c.args.entry.now) c.run_of-start.result =
+    subst (λ (observations : List Observed). HoldsSights observations (sights_of c.args.entry.now) c.run_of-start.result) c.requires
+    (subst (λ (sights : Sights). HoldsSights c.args.runs.now.observations.now sights c.run_of-start.result) c.sights_of-sights.ensures c.run_of-start.ensures) in
+    record {
+      sum = none_before c.args.network.now.observations c.args.network.now.weights (sights_of c.args.entry.now) c.run_of-start.result.0 c.run_of-start.result.1 run;
+      small = omega arith;
+    }
 
 pub loop-i-preserved : goal.loop-i-preserved
 loop-i-preserved c =
@@ -15,10 +27,10 @@ loop-i-preserved c =
     let entry = c.args.entry.now in
     let observations = survey.observations in
     let i = c.loop-i.i in
-    let o = c.o-item.result in
-    let all = c.observations-o-items.ensures.observations in
-    let within : i < length observations = omega (arith, ap length all, c.loop-i-test.true) in
-    let is : o ≡ get_or observations i o = c.o-item.is ∙ ap (λ (os : List Observed). get_or os i o) all in
+    let o = c.index-observations-i.result in
+    let all = c.observations-observations.ensures.observations in
+    let within : i < length observations = omega (arith, ap length c.requires, c.run_of-start.ensures.within, c.loop-i-test.true) in
+    let is : o ≡ get_or observations i o = c.index-observations-i.is ∙ ap (λ (os : List Observed). get_or os i o) all in
     let held : c.hold.result ≡ in_sights (sights_of entry) o = c.hold.ensures ∙ ap (λ (sights : Sights). in_sights sights o) c.sights_of-sights.ensures in
     let weight_at = λ (o : Observed). weight_of survey.weights o.station o.target in
     let term = λ (o : Observed). if in_sights (sights_of entry) o then weight_at o else 0 in
@@ -38,3 +50,14 @@ loop-i-preserved c =
             small = omega (arith, w.sum-is);
           }
     ]
+
+pub returns : goal.returns
+returns c =
+    let observations : List Observed = c.args.network.now.observations in
+    let end : ℕ = c.run_of-start.result.1 in
+    let run : HoldsSights observations (sights_of c.args.entry.now) c.run_of-start.result =
+    subst (λ (observations : List Observed). HoldsSights observations (sights_of c.args.entry.now) c.run_of-start.result) c.requires
+    (subst (λ (sights : Sights). HoldsSights c.args.runs.now.observations.now sights c.run_of-start.result) c.sights_of-sights.ensures c.run_of-start.ensures) in
+    let at_end : c.loop-i.i ≡ end = omega (arith, run.ordered, c.loop-i-test.false, c.loop-i.auto.i-end) in
+    c.loop-i.invariant.sum ∙ ap (weight_to observations c.args.network.now.weights (sights_of c.args.entry.now)) at_end
+    ∙ sym (none_behind observations c.args.network.now.weights (sights_of c.args.entry.now) c.run_of-start.result.0 end run)

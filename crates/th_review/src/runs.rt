@@ -1,0 +1,71 @@
+//! Where the sights of an entry are among the observations of a network.
+ghost use Rattle.std.specs.Prelude.{◌≡◌, ◌≤◌, ◌↔◌, false, length, true};
+ghost use Rattle.std.specs.List.Sorted.{IsPartitionPoint};
+ghost use Rattle.th_review.specs.Inside.Runs.{AreInOrder, HoldsSights, is_before};
+
+use th_book::Observation;
+use th_reliability::Sights;
+
+/// Observations, and whether they are in the order of books and lines, as those of a survey are.
+#[derive(Drop)]
+pub(crate) struct Runs<'a> {
+    pub(crate) observations: &'a [Observation],
+    in_order: bool,
+    ghost ordered: { in_order ≡ true → AreInOrder observations.now },
+}
+
+impl<'a> Runs<'a> {
+    /// The runs of some observations.
+    pub(crate) fn of(observations: &'a [Observation]) -> Runs<'a>
+        ensures { result.observations.now ≡ observations.now }
+    {
+        Runs {
+            observations,
+            in_order: are_in_order(observations),
+        }
+    }
+
+    /// From where to where the sights are, counted from 0. Where the observations are not in order,
+    /// that is all of them.
+    pub(crate) fn run_of(&self, sights: &Sights) -> (usize, usize)
+        ensures { HoldsSights self.now.observations.now sights.now result }
+    {
+        let observations = self.observations;
+        if !self.in_order {
+            return (0, observations.len());
+        }
+        let start = count_before(observations, sights.book, u64::from(sights.first));
+        let end = count_before(observations, sights.book, u64::from(sights.last) + 1);
+        (start, end.max(start))
+    }
+}
+
+/// Whether observations are in the order of books and lines.
+fn are_in_order(observations: &[Observation]) -> bool
+    ensures { (result ≡ true) ↔ AreInOrder observations.now }
+{
+    for k in 1..observations.len() {
+        let o = &observations[k - 1];
+        if is_before(&observations[k], o.book, u64::from(o.line)) {
+            return false;
+        }
+    }
+    true
+}
+
+/// How many observations come before a line of a book.
+fn count_before(observations: &[Observation], book: u32, line: u64) -> usize
+    requires { AreInOrder observations.now }
+    ensures within { result ≤ length observations.now }
+    ensures split { IsPartitionPoint (λ o. is_before book line o ≡ true)
+        (λ o. is_before book line o ≡ false) observations.now result }
+{
+    observations.partition_point(|o| is_before(o, book, line))
+}
+
+/// Whether an observation comes before a line of a book.
+fn is_before(o: &Observation, book: u32, line: u64) -> bool
+    ensures { result ≡ is_before book line o.now }
+{
+    o.book < book || (o.book == book && u64::from(o.line) < line)
+}
