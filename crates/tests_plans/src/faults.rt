@@ -11,8 +11,9 @@ pub fn fault_of(rt: &(impl AllocGlobal + Abort), words: &str) -> PlanFault {
 }
 
 /// Seventeen books.
-const TOO_MANY_BOOKS: [&str; 2] = [
+const TOO_MANY_BOOKS: [&str; 3] = [
     "height_office adjust 1 2 3 4 5 6 7 8 9 10 11 12 13 14 15 16 17 --benchmarks m --out p",
+    "height_office review 1 2 3 4 5 6 7 8 9 10 11 12 13 14 15 16 17 --benchmarks m --out p",
     "height_office check 1 2 3 4 5 6 7 8 9 10 11 12 13 14 15 16 17 --benchmarks m --certificate c",
 ];
 
@@ -25,7 +26,7 @@ fn seventeen_books_are_too_many(rt: HostRuntime) {
 }
 
 /// Words that are no plan, and the kind of the error that `clap` answers.
-const WRONG_WORDS: [(&str, ErrorKind); 45] = [
+const WRONG_WORDS: [(&str, ErrorKind); 57] = [
     ("height_office list", ErrorKind::MissingRequiredArgument),
     ("height_office list a b", ErrorKind::UnknownArgument),
     ("height_office lisst a", ErrorKind::InvalidSubcommand),
@@ -39,6 +40,9 @@ const WRONG_WORDS: [(&str, ErrorKind); 45] = [
     ("height_office --version", ErrorKind::DisplayVersion),
     ("height_office list -h", ErrorKind::DisplayHelp),
     ("height_office adjust -h", ErrorKind::DisplayHelp),
+    ("height_office review -h", ErrorKind::DisplayHelp),
+    ("height_office help review", ErrorKind::DisplayHelp),
+    ("height_office reviews a", ErrorKind::InvalidSubcommand),
     ("height_office check --help", ErrorKind::DisplayHelp),
     ("height_office list --out p a", ErrorKind::UnknownArgument),
     // Each that must be there is missing.
@@ -52,6 +56,18 @@ const WRONG_WORDS: [(&str, ErrorKind); 45] = [
     ),
     (
         "height_office adjust --benchmarks m --out p",
+        ErrorKind::MissingRequiredArgument,
+    ),
+    (
+        "height_office review --out p a",
+        ErrorKind::MissingRequiredArgument,
+    ),
+    (
+        "height_office review --benchmarks m a",
+        ErrorKind::MissingRequiredArgument,
+    ),
+    (
+        "height_office review --benchmarks m --out p",
         ErrorKind::MissingRequiredArgument,
     ),
     (
@@ -84,6 +100,10 @@ const WRONG_WORDS: [(&str, ErrorKind); 45] = [
         ErrorKind::InvalidValue,
     ),
     (
+        "height_office review a --benchmarks m --out",
+        ErrorKind::InvalidValue,
+    ),
+    (
         "height_office check a --benchmarks m --certificate",
         ErrorKind::InvalidValue,
     ),
@@ -110,6 +130,14 @@ const WRONG_WORDS: [(&str, ErrorKind); 45] = [
     ),
     (
         "height_office adjust a --benchmarks m --out p --blunder 1 --blunder 1",
+        ErrorKind::ArgumentConflict,
+    ),
+    (
+        "height_office review a --benchmarks m --out p --out q",
+        ErrorKind::ArgumentConflict,
+    ),
+    (
+        "height_office review a --benchmarks m --out p --blunder 1 --blunder 1",
         ErrorKind::ArgumentConflict,
     ),
     (
@@ -145,7 +173,19 @@ const WRONG_WORDS: [(&str, ErrorKind); 45] = [
         "height_office adjust a --benchmarks m --certificate c --out p",
         ErrorKind::UnknownArgument,
     ),
-    // No limit.
+    (
+        "height_office review a --benchmarks m --certificate c --out p",
+        ErrorKind::UnknownArgument,
+    ),
+    // Not a limit.
+    (
+        "height_office review a --benchmarks m --out p --blunder 1000000001",
+        ErrorKind::ValueValidation,
+    ),
+    (
+        "height_office review a --benchmarks m --out p --blunder=-1",
+        ErrorKind::ValueValidation,
+    ),
     (
         "height_office adjust a --benchmarks m --out p --blunder 1000000001",
         ErrorKind::ValueValidation,

@@ -1,7 +1,7 @@
 //! Tests of `th_plans`: which plans command lines name, and which faults they have, with the texts of
 //! these.
 //!
-//! They stand in a crate of their own since a crate is proved a second time with its tests. They use
+//! They are a crate of their own since a crate is proved a second time with its tests. They use
 //! public calls alone.
 #![tactic(auto)]
 

@@ -1,9 +1,9 @@
 use std::process::Abort;
 use std::test::Fail;
-use th_plans::{Inputs, Plan, plan};
+use th_plans::{Inputs, Limit, Plan, plan};
 
 /// Command lines, and the plans that they name.
-const PLANS: [(&str, &str); 23] = [
+const PLANS: [(&str, &str); 28] = [
     ("height_office", "standard"),
     ("height_office list k.gsi", "list k.gsi"),
     ("height_office list -", "list -"),
@@ -58,6 +58,23 @@ const PLANS: [(&str, &str); 23] = [
         "height_office adjust k --out p --benchmarks m --blunder 1000000000",
         "adjust k by m limit 100000000000 out p",
     ),
+    // `review` takes what `adjust` takes.
+    (
+        "height_office review --benchmarks m --weights w --blunder 500 --out p a b",
+        "review a b by m w limit 50000 out p",
+    ),
+    (
+        "height_office review --out=p a --weights=w --benchmarks=m --blunder=500 -- b",
+        "review a b by m w limit 50000 out p",
+    ),
+    (
+        "height_office review k --out  --benchmarks m",
+        "review k by m limit 2000000 out ",
+    ),
+    (
+        "height_office review review --out adjust --benchmarks check --blunder 1000000000",
+        "review review by check limit 100000000000 out adjust",
+    ),
     (
         "height_office check --benchmarks m --certificate c a b",
         "check a b by m certificate c",
@@ -77,6 +94,10 @@ const PLANS: [(&str, &str); 23] = [
     (
         "height_office adjust 1 2 3 4 5 6 7 8 9 10 11 12 13 14 15 16 --benchmarks m --out p",
         "adjust 1 2 3 4 5 6 7 8 9 10 11 12 13 14 15 16 by m limit 2000000 out p",
+    ),
+    (
+        "height_office review 1 2 3 4 5 6 7 8 9 10 11 12 13 14 15 16 --benchmarks m --out p",
+        "review 1 2 3 4 5 6 7 8 9 10 11 12 13 14 15 16 by m limit 2000000 out p",
     ),
     (
         "height_office check 1 2 3 4 5 6 7 8 9 10 11 12 13 14 15 16 --benchmarks m --certificate c",
@@ -102,7 +123,7 @@ fn is_planned(rt: &(impl AllocGlobal + Abort), words: &str, wanted: &str) {
     }
 }
 
-/// The arguments of `adjust` and of `check`, in any order.
+/// The arguments of `adjust` and `review`, and those of `check`, in any order.
 const ADJUSTED: [&str; 5] = [
     "--benchmarks m",
     "--weights w",
@@ -118,6 +139,8 @@ fn options_stand_in_every_order(rt: HostRuntime) {
     for order in 0..120_usize {
         let words = in_order(&rt, "height_office adjust", &ADJUSTED, order);
         is_planned(&rt, words.as_str(), "adjust a b by m w limit 50000 out p");
+        let words = in_order(&rt, "height_office review", &ADJUSTED, order);
+        is_planned(&rt, words.as_str(), "review a b by m w limit 50000 out p");
     }
     for order in 0..24_usize {
         let words = in_order(&rt, "height_office check", &CHECKED, order);
@@ -156,11 +179,12 @@ fn text_of(rt: &(impl AllocGlobal + Abort), plan: &Plan<'_>) -> String {
             inputs,
             limit,
             prefix,
-        } => {
-            let files = files_text(rt, inputs);
-            let limit = limit.get();
-            format!(in rt.alloc(); "adjust {files} limit {limit} out {prefix}").expect(rt, "memory")
-        }
+        } => options_text(rt, "adjust", inputs, *limit, *prefix),
+        Plan::Review {
+            inputs,
+            limit,
+            prefix,
+        } => options_text(rt, "review", inputs, *limit, *prefix),
         Plan::Check {
             inputs,
             certificate,
@@ -169,6 +193,19 @@ fn text_of(rt: &(impl AllocGlobal + Abort), plan: &Plan<'_>) -> String {
             format!(in rt.alloc(); "check {files} certificate {certificate}").expect(rt, "memory")
         }
     }
+}
+
+/// A command with its files, limit and prefix.
+fn options_text(
+    rt: &(impl AllocGlobal + Abort),
+    command: &str,
+    inputs: &Inputs<'_>,
+    limit: Limit,
+    prefix: &str,
+) -> String {
+    let files = files_text(rt, inputs);
+    let limit = limit.get();
+    format!(in rt.alloc(); "{command} {files} limit {limit} out {prefix}").expect(rt, "memory")
 }
 
 /// The books, then the tables.
@@ -187,7 +224,7 @@ fn files_text(rt: &(impl AllocGlobal + Abort), inputs: &Inputs<'_>) -> String {
     text
 }
 
-/// The words of a text, which single spaces part.
+/// The words of a text, split at single spaces.
 pub fn words_of<'a>(rt: &(impl AllocGlobal + Abort), text: &'a str) -> Vec<&'a str> {
     let mut words = Vec::new(rt.alloc());
     for word in text.split(' ') {

@@ -8,17 +8,24 @@ const LIMIT_TOO_LARGE: &str =
 const OPTION_MISSING: &str =
     "error: the following required arguments were not provided:\n  --benchmarks <FILE>\n\nUsage: height_office adjust --benchmarks <FILE> --out <PREFIX> <BOOK>...\n\nFor more information, try '--help'.\n";
 
+const REVIEW_OPTION_MISSING: &str =
+    "error: the following required arguments were not provided:\n  --out <PREFIX>\n\nUsage: height_office review --benchmarks <FILE> --out <PREFIX> <BOOK>...\n\nFor more information, try '--help'.\n";
+
 const OPTION_DOUBLED: &str =
     "error: the argument '--out <PREFIX>' cannot be used multiple times\n\nUsage: height_office adjust [OPTIONS] --benchmarks <FILE> --out <PREFIX> <BOOK>...\n\nFor more information, try '--help'.\n";
 
 const NO_COMMAND: &str =
-    "error: unrecognized subcommand 'k.gsi'\n\nUsage: height_office list <BOOK>\n       height_office adjust [OPTIONS] --benchmarks <FILE> --out <PREFIX> <BOOK>...\n       height_office check [OPTIONS] --benchmarks <FILE> --certificate <FILE> <BOOK>...\n       height_office < BOOK        (lists the book on standard input)\n\nFor more information, try '--help'.\n\n  tip: to list the book in a file, write 'height_office list FILE'\n";
+    "error: unrecognized subcommand 'k.gsi'\n\nUsage: height_office list <BOOK>\n       height_office adjust [OPTIONS] --benchmarks <FILE> --out <PREFIX> <BOOK>...\n       height_office review [OPTIONS] --benchmarks <FILE> --out <PREFIX> <BOOK>...\n       height_office check [OPTIONS] --benchmarks <FILE> --certificate <FILE> <BOOK>...\n       height_office < BOOK        (lists the book on standard input)\n\nFor more information, try '--help'.\n\n  tip: to list the book in a file, write 'height_office list FILE'\n";
 
-/// Words that are no plan, and what is said of them.
-const SAID: [(&str, &str); 5] = [
+/// Command lines that are no plan, and the text that answers them.
+const SAID: [(&str, &str); 6] = [
     ("height_office --version", "height_office 0.9.0\n"),
     ("height_office k.gsi", NO_COMMAND),
     ("height_office adjust a --out p", OPTION_MISSING),
+    (
+        "height_office review a --benchmarks m",
+        REVIEW_OPTION_MISSING,
+    ),
     (
         "height_office adjust a --benchmarks m --out p --out q",
         OPTION_DOUBLED,
@@ -48,11 +55,15 @@ fn a_fault_shows_its_text(rt: HostRuntime) {
     );
 }
 
-/// Words that ask for help, and an example in it.
-const HELPS: [(&str, &str); 4] = [
+/// Requests for help, and a part of its text.
+const HELPS: [(&str, &str); 10] = [
     (
         "height_office --help",
         "height_office adjust --benchmarks marks.csv --out dam monday.gsi tuesday.gsi",
+    ),
+    (
+        "height_office --help",
+        "'review' answers what a mistake would do in this network",
     ),
     ("height_office list --help", "height_office list monday.gsi"),
     (
@@ -60,16 +71,24 @@ const HELPS: [(&str, &str); 4] = [
         "height_office adjust --benchmarks marks.csv --weights weights.csv --out dam",
     ),
     (
+        "height_office review --help",
+        "height_office review --benchmarks marks.csv --weights weights.csv --out dam",
+    ),
+    ("height_office review --help", "PREFIX.points.csv "),
+    ("height_office review --help", "PREFIX.observations.csv "),
+    ("height_office review --help", "PREFIX.entries.csv "),
+    ("height_office review --help", "PREFIX.review.txt "),
+    (
         "height_office check --help",
         "height_office check --benchmarks marks.csv --certificate dam.certificate.csv",
     ),
 ];
 
 #[test]
-fn each_help_has_an_example_and_the_statuses(rt: HostRuntime) {
-    for (words, example) in HELPS {
+fn each_help_has_an_example_and_the_exit_status(rt: HostRuntime) {
+    for (words, part) in HELPS {
         let shown = text_of(&rt, &fault_of(&rt, words));
-        assert!(rt; shown.as_str().contains(example), "{shown}");
-        assert!(rt; shown.as_str().contains("Statuses:"), "{shown}");
+        assert!(rt; shown.as_str().contains(part), "{shown}");
+        assert!(rt; shown.as_str().contains("Exit status:"), "{shown}");
     }
 }

@@ -75,6 +75,7 @@ is_plan words own found more taken met e = go own (said_is_asked (said_by own) (
         cc
     go (plan.List book) h = (more, taken, ap asked_by (sym met) ∙ h.0)
     go (plan.Adjust inputs limit prefix) h = (more, taken, ap asked_by (sym met) ∙ h.0)
+    go (plan.Review inputs limit prefix) h = (more, taken, ap asked_by (sym met) ∙ h.0)
     go (plan.Check inputs certificate) h = (more, taken, ap asked_by (sym met) ∙ h.0)
 
 -- where no plan says what was found, nothing was asked for
@@ -97,7 +98,7 @@ not_more most n h = elim (cases_lt most n) [
   | inr least ↦ least
 ]
 
--- a missing argument is no want of memory
+-- a missing argument is no allocation failure
 pub other_kind : (kind : ErrorKind) → kind ≡ MissingRequiredArgument → kind ≡ OutOfMemory → ⊥
 other_kind kind missing memory =
     let bad : MissingRequiredArgument ≡ OutOfMemory = sym missing ∙ memory in

@@ -5,16 +5,18 @@ use Rattle.clap.specs.ValueTests.{is_numeral}
 use Rattle.clap.specs.Words.{Row, Text, all_of, first_of, one_of}
 use Rattle.th_plans.specs.Limits.{max_blunder, max_books, units_in_micrometre}
 
--- the names of the files that an adjustment and a check read: the books in order, the benchmarks, and the weights where a file of them is named
+-- the names of the files that `adjust`, `review` and `check` read: the books in order, the benchmarks, and the weights where a file of them is named
 pub record Files : Type 0 where
   pub books : List Text
   pub benchmarks : Text
   pub weights : Option Text
 
--- what words ask for: to list a book; to adjust, with a limit of blunders in units of 10 nm and the prefix of the outputs; to check a certificate
+-- what a command line asks for: to list a book; to adjust or to review, with a limit of blunders in units of 10 nm and the prefix of the outputs; to check a
+-- certificate
 pub data Asked : Type 0 where
   list : Text → Asked
   adjust : Files → ℤ → Text → Asked
+  review : Files → ℤ → Text → Asked
   check : Files → Text → Asked
 
 -- as many books as a command takes
@@ -44,6 +46,11 @@ files_in rows =
 abbrev pub limit_in : List Row → Option ℤ
 limit_in rows = option_and_then limit_of (option_and_then number_in (one_of (codes "blunder") rows))
 
+-- the options of `adjust` and `review`: the files, the limit of blunders, and the prefix of the outputs,
+abbrev pub options_in : List Row → Option (Files × ℤ × Text)
+options_in rows =
+    option_and_then (λ files. option_and_then (λ limit. option_map (λ prefix. (files, limit, prefix)) (first_of (codes "out") rows)) (limit_in rows)) (files_in rows)
+
 -- and how many books there are
 abbrev pub book_count : List Row → ℕ
 book_count rows = length (unwrap_or (all_of (codes "book") rows) [])
@@ -53,8 +60,10 @@ abbrev pub list_asked : List Row → Option Asked
 list_asked rows = option_map list (first_of (codes "book") rows)
 
 abbrev pub adjust_asked : List Row → Option Asked
-adjust_asked rows =
-    option_and_then (λ files. option_and_then (λ limit. option_map (adjust files limit) (first_of (codes "out") rows)) (limit_in rows)) (files_in rows)
+adjust_asked rows = option_map (λ own. adjust own.0 own.1 own.2) (options_in rows)
+
+abbrev pub review_asked : List Row → Option Asked
+review_asked rows = option_map (λ own. review own.0 own.1 own.2) (options_in rows)
 
 abbrev pub check_asked : List Row → Option Asked
 check_asked rows = option_and_then (λ files. option_map (check files) (first_of (codes "certificate") rows)) (files_in rows)
@@ -64,6 +73,7 @@ abbrev pub command_asked : Text → List Row → Option Asked
 command_asked name rows =
     if bytes_eq name (codes "list") then list_asked rows
     else if bytes_eq name (codes "adjust") then adjust_asked rows
+    else if bytes_eq name (codes "review") then review_asked rows
     else if bytes_eq name (codes "check") then check_asked rows
     else None
 

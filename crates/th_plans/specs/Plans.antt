@@ -5,7 +5,7 @@ use Rattle.clap.specs.Words.{App, IsAmong, Rule, Text, fault_of, kind_of, new_ap
 use Rattle.clap.specs.declared.builder.action.ArgAction.TheVariants.{Append}
 use Rattle.clap.specs.declared.builder.value_parser.ValueParser.TheVariants.{Signed}
 use Rattle.clap.specs.declared.error.kind.ErrorKind.TheVariants.{OutOfMemory}
-use Rattle.th_plans.specs.Asked.{Asked, Files, adjust, asked_by, book_count, check, list}
+use Rattle.th_plans.specs.Asked.{Asked, Files, adjust, asked_by, book_count, check, list, review}
 use Rattle.th_plans.specs.Books.{names_in}
 use Rattle.th_plans.specs.Limits.{max_blunder, max_books}
 use Rattle.th_plans.specs.declared.plans.Inputs.{Inputs}
@@ -48,11 +48,18 @@ blunder_rule = record (option_rule (codes "blunder")) {
 abbrev pub list_command : App
 list_command = with_rule (new_app (codes "list")) book_rule
 
--- `adjust --benchmarks FILE [--weights FILE] [--blunder MICROMETRES] --out PREFIX BOOK...`
-abbrev pub adjust_command : App
-adjust_command =
-    with_rule (with_rule (with_rule (with_rule (with_rule (new_app (codes "adjust")) (needed_rule (codes "benchmarks")))
+-- a command with the options of `adjust` and `review`: `--benchmarks FILE [--weights FILE] [--blunder MICROMETRES] --out PREFIX BOOK...`
+abbrev pub with_options : App → App
+with_options app =
+    with_rule (with_rule (with_rule (with_rule (with_rule app (needed_rule (codes "benchmarks")))
     (option_rule (codes "weights"))) blunder_rule) (needed_rule (codes "out"))) books_rule
+
+-- `adjust` and `review`
+abbrev pub adjust_command : App
+adjust_command = with_options (new_app (codes "adjust"))
+
+abbrev pub review_command : App
+review_command = with_options (new_app (codes "review"))
 
 -- `check --benchmarks FILE [--weights FILE] --certificate FILE BOOK...`
 abbrev pub check_command : App
@@ -66,9 +73,10 @@ bare_program =
     let bare = new_app (codes "height_office") in
     record bare { top = record bare.top { has_version = true; subcommand_required = true } }
 
--- the command line, as `clap` describes one: `list`, `adjust` or `check` must follow
+-- the command line, as `clap` describes one: `list`, `adjust`, `review` or `check` must follow
 abbrev pub command_line : App
-command_line = with_subcommand (with_subcommand (with_subcommand bare_program list_command.top) adjust_command.top) check_command.top
+command_line =
+    with_subcommand (with_subcommand (with_subcommand (with_subcommand bare_program list_command.top) adjust_command.top) review_command.top) check_command.top
 
 -- `clap` takes the words: it has no fault to state for them
 abbrev pub AreTaken : List Text → Type 0
@@ -95,16 +103,17 @@ abbrev pub said_by : Plan → Option Asked
 said_by plan.Standard = None
 said_by (plan.List book) = Some (list book.now)
 said_by (plan.Adjust inputs limit prefix) = Some (adjust (files inputs) limit prefix.now)
+said_by (plan.Review inputs limit prefix) = Some (review (files inputs) limit prefix.now)
 said_by (plan.Check inputs certificate) = Some (check (files inputs) certificate.now)
 
--- the plan is what the words ask for: with no word after the program's name, or not even that one, it is to list standard input; `-` is a file's name like any
--- other, and so is the empty name, which no file has
+-- the plan is what the words of a command line ask for. With no word after the program's name, or not even that one, it is to list standard input. `-` is a
+-- file's name like any other, and so is the empty name, which no file has
 abbrev pub IsPlanOf : List Text → Plan → Type 0
 IsPlanOf words plan.Standard = length words ≤ 1
 IsPlanOf words other = (1 < length words) × AreTaken words × (asked words ≡ said_by other)
 
 -- a fault of the words, of which there are more than the program's name: one that `clap` states for them, or `clap` takes them and they ask for nothing, with too
--- many books or without. Want of memory may come for any
+-- many books or without. Any such words may be out of memory instead
 abbrev pub IsFaultOf : List Text → PlanFault → Type 0
 IsFaultOf words (Line error) = (1 < length words) × (kind_of error ≢ OutOfMemory) × (IsAmong (kind_of error) (fault_of command_line words)
     ⊎ (AreTaken words × (asked words ≡ None) × (books_named words ≤ max_books)))

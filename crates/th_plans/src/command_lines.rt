@@ -1,8 +1,8 @@
-//! The words of the command line, read by `clap`.
+//! Reading a command line with `clap`.
 ghost use Rattle.std.specs.Prelude.{◌≡◌, ◌<◌, ◌≤◌, ◌↔◌, IfErr, IfOk, IsTrue, Ok, Some, length, map, option_map};
 ghost use Rattle.std.specs.Option.{option_map_or};
 ghost use Rattle.clap.specs.Words.{all_of, first_of, found_of, rows_of, subcommand_rows_of};
-ghost use Rattle.th_plans.specs.Asked.{adjust_asked, asked_by, book_count, check_asked, files_in, limit_in, list_asked};
+ghost use Rattle.th_plans.specs.Asked.{adjust_asked, asked_by, book_count, check_asked, files_in, limit_in, list_asked, options_in, review_asked};
 ghost use Rattle.th_plans.specs.Limits.{max_books};
 ghost use Rattle.th_plans.specs.Plans.{IsFaultOf, IsPlanOf, files, said_by};
 
@@ -17,7 +17,7 @@ use clap::error::ErrorKind;
 use std::alloc::Global;
 use std::convert::AsStr;
 
-/// What the words ask for, the program's own name first.
+/// The plan of a command line, whose first word is the program's own name.
 pub fn plan<'a, S: AsStr>(alloc: Global, words: &'a [S]) -> Result<Plan<'a>, PlanFault>
     ensures standard { (result ≡ Ok Plan.Standard) ↔ (length words.entry.now ≤ 1) }
     ensures ok { IfOk result (IsPlanOf (map S.text words.entry.now)) }
@@ -31,7 +31,7 @@ pub fn plan<'a, S: AsStr>(alloc: Global, words: &'a [S]) -> Result<Plan<'a>, Pla
     match plan_of(&matches) {
         Some(plan) => Ok(plan),
         None if has_too_many_books(&matches) => Err(PlanFault::TooManyBooks),
-        // Not where clap keeps its word: a parse that succeeds has each argument that must be there.
+        // Never where `clap` keeps its contract: a parse that succeeds has all required arguments.
         None => Err(PlanFault::Line(command.error(
             ErrorKind::MissingRequiredArgument,
             "an argument is missing",
@@ -49,6 +49,8 @@ fn plan_of<'a>(matches: &ArgMatches<'a>) -> Option<Plan<'a>>
         list_of(found)
     } else if name == "adjust" {
         adjust_of(found)
+    } else if name == "review" {
+        review_of(found)
     } else if name == "check" {
         check_of(found)
     } else {
@@ -85,10 +87,24 @@ fn adjust_of<'a>(found: &ArgMatches<'a>) -> Option<Plan<'a>>
     ensures { option_map said_by result
         ≡ option_map Some (adjust_asked (rows_of (found_of found.now))) }
 {
+    let (inputs, limit, prefix) = options_of(found)?;
     Some(Plan::Adjust {
-        inputs: inputs_of(found)?,
-        limit: limit_of(found)?,
-        prefix: value_of(found, "out")?,
+        inputs,
+        limit,
+        prefix,
+    })
+}
+
+/// What follows `review`.
+fn review_of<'a>(found: &ArgMatches<'a>) -> Option<Plan<'a>>
+    ensures { option_map said_by result
+        ≡ option_map Some (review_asked (rows_of (found_of found.now))) }
+{
+    let (inputs, limit, prefix) = options_of(found)?;
+    Some(Plan::Review {
+        inputs,
+        limit,
+        prefix,
     })
 }
 
@@ -103,7 +119,16 @@ fn check_of<'a>(found: &ArgMatches<'a>) -> Option<Plan<'a>>
     })
 }
 
-/// The files that an adjustment and a check read.
+/// The options of `adjust` and `review`: the inputs, the limit of blunders, and the prefix of the
+/// outputs.
+fn options_of<'a>(found: &ArgMatches<'a>) -> Option<(Inputs<'a>, Limit, &'a str)>
+    ensures { option_map (λ own. (files own.0, own.1, own.2.now)) result
+        ≡ options_in (rows_of (found_of found.now)) }
+{
+    Some((inputs_of(found)?, limit_of(found)?, value_of(found, "out")?))
+}
+
+/// The files that `adjust`, `review` and `check` read.
 fn inputs_of<'a>(found: &ArgMatches<'a>) -> Option<Inputs<'a>>
     ensures { option_map files result ≡ files_in (rows_of (found_of found.now)) }
 {

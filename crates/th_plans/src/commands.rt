@@ -1,8 +1,8 @@
-//! The commands and their options, as `clap` is told of them, with the texts of help.
+//! The commands and their options, as `clap` reads them, with the help texts.
 ghost use Rattle.std.specs.Prelude.{◌≡◌, IfOk, codes};
-ghost use Rattle.clap.specs.Words.{app_of};
+ghost use Rattle.clap.specs.Words.{App, app_of};
 ghost use Rattle.th_plans.specs.Inside.Commands.{IsArgument, IsCommand};
-ghost use Rattle.th_plans.specs.Plans.{adjust_command, blunder_rule, book_rule, books_rule, check_command, command_line, list_command, needed_rule, option_rule};
+ghost use Rattle.th_plans.specs.Plans.{adjust_command, blunder_rule, book_rule, books_rule, check_command, command_line, list_command, needed_rule, option_rule, review_command, with_options};
 
 use clap::{Arg, ArgAction, Command};
 use std::alloc::{AllocError, Global};
@@ -13,41 +13,67 @@ const VERSION: &str = "0.9.0";
 /// How the program is called: with no arguments it lists the book on standard input.
 const USAGE: &str = "height_office list <BOOK>
        height_office adjust [OPTIONS] --benchmarks <FILE> --out <PREFIX> <BOOK>...
+       height_office review [OPTIONS] --benchmarks <FILE> --out <PREFIX> <BOOK>...
        height_office check [OPTIONS] --benchmarks <FILE> --certificate <FILE> <BOOK>...
        height_office < BOOK        (lists the book on standard input)";
 
 /// What the help of the program ends with.
-const AFTER_HELP: &str = "Example:
+const AFTER_HELP: &str =
+    "'adjust' finds the heights. 'review' answers what a mistake would do in this network: whether it
+would show, and whether points would move.
+
+Examples:
   height_office adjust --benchmarks marks.csv --out dam monday.gsi tuesday.gsi
+  height_office review --benchmarks marks.csv --out dam monday.gsi tuesday.gsi
   height_office check --benchmarks marks.csv --certificate dam.certificate.csv monday.gsi tuesday.gsi
 
-Statuses:
-  0  done, and of 'check': the checker says yes
-  1  the checker says no: standard output has the reason
+Exit status:
+  0  done; for 'check', the checker says yes
+  1  the checker says no: standard output has the first reason
   2  an input was refused: standard error has its first fault, with the line or record
-  3  the words are no command, or ask for help or the version
-  4  memory was refused
-  5  a device failed: 'read failed' stands for a file that is missing, that may not be read or that
-     is a directory, for a standard input that is closed, and for any other error of the system
-     while reading; 'write failed' for an output that was not taken whole";
+  3  a bad command line, or a request for help or the version
+  4  out of memory
+  5  'read failed': an input is missing, is a directory or could not be read;
+     'write failed': an output could not be written whole";
 
 /// What the help of `list` ends with.
 const AFTER_LIST: &str = "Example:
   height_office list monday.gsi
 
-Statuses: 0 the list was printed, 2 the book was refused, 3 wrong words or help, 4 no memory,
-5 the book could not be read, or the list not written";
+Exit status: 0 the list was printed, 2 the book was refused, 3 a bad command line or help,
+4 out of memory, 5 the book could not be read or the list not written";
 
 /// What the help of `adjust` ends with.
-const AFTER_ADJUST: &str =
-    "It prints nothing, and writes PREFIX.heights.csv, PREFIX.certificate.csv, PREFIX.report.txt and
-PREFIX.heights.gsi. None of them is begun before all four are made.
+const AFTER_ADJUST: &str = "It prints nothing and writes four files:
+  PREFIX.heights.csv      each point's height, with the lowest and the highest best height
+  PREFIX.certificate.csv  heights and flows that show that no heights cost less, for 'check'
+  PREFIX.report.txt       points, residuals, blunders and opposites, in columns
+  PREFIX.heights.gsi      the heights as GSI-16 blocks
+
+It makes all four before it opens the first file.
 
 Example:
   height_office adjust --benchmarks marks.csv --weights weights.csv --out dam monday.gsi tuesday.gsi
 
-Statuses: 0 the four files were written, 2 an input was refused, 3 wrong words or help, 4 no memory,
-5 a file could not be read or written";
+Exit status: 0 the four files were written, 2 an input was refused, 3 a bad command line or help,
+4 out of memory, 5 a file could not be read or written";
+
+/// What the help of `review` ends with.
+const AFTER_REVIEW: &str =
+    "It adjusts the network as 'adjust' does, and answers what a mistake would do in it. It prints
+nothing and writes four files:
+  PREFIX.points.csv        each point's height, and how much weight holds the point
+  PREFIX.observations.csv  each observation's residual, and whether a mistake in it would show
+  PREFIX.entries.csv       the same for each instrument and reflector height that was keyed in
+  PREFIX.review.txt        all of this in columns, the largest residuals, and notes on the data
+
+It makes all four before it opens the first file.
+
+Example:
+  height_office review --benchmarks marks.csv --weights weights.csv --out dam monday.gsi tuesday.gsi
+
+Exit status: 0 the four files were written, 2 an input was refused, 3 a bad command line or help,
+4 out of memory, 5 a file could not be read or written";
 
 /// What the help of `check` ends with.
 const AFTER_CHECK: &str = "It prints 'yes', or 'no' with the first reason.
@@ -55,16 +81,16 @@ const AFTER_CHECK: &str = "It prints 'yes', or 'no' with the first reason.
 Example:
   height_office check --benchmarks marks.csv --certificate dam.certificate.csv monday.gsi tuesday.gsi
 
-Statuses: 0 yes, 1 no, 2 an input was refused, 3 wrong words or help, 4 no memory, 5 a file could
-not be read, or the answer not written";
+Exit status: 0 yes, 1 no, 2 an input was refused, 3 a bad command line or help, 4 out of memory,
+5 a file could not be read or the answer not written";
 
-/// The program's command line: `list`, `adjust` or `check`.
+/// The program's command line: `list`, `adjust`, `review` or `check`.
 pub(crate) fn command_line<'a>(alloc: Global) -> Result<Command<'a>, AllocError>
     ensures { IfOk result (λ command. app_of command ≡ command_line) }
 {
     Command::new(alloc, "height_office")
         .about(
-            "Adjusts networks of heights that total stations observed, by least absolute residuals",
+            "Adjusts and reviews height networks observed with total stations, by least absolute residuals",
         )
         .version(VERSION)
         .override_usage(USAGE)
@@ -72,6 +98,7 @@ pub(crate) fn command_line<'a>(alloc: Global) -> Result<Command<'a>, AllocError>
         .subcommand_required(true)
         .subcommand(list_command(alloc)?)?
         .subcommand(adjust_command(alloc)?)?
+        .subcommand(review_command(alloc)?)?
         .subcommand(check_command(alloc)?)
 }
 
@@ -89,9 +116,29 @@ fn list_command<'a>(alloc: Global) -> Result<Command<'a>, AllocError>
 fn adjust_command<'a>(alloc: Global) -> Result<Command<'a>, AllocError>
     ensures { IfOk result (IsCommand adjust_command) }
 {
-    Command::new(alloc, "adjust")
+    let adjust = Command::new(alloc, "adjust")
         .about("Adjusts the network of the books: writes heights, certificate, report and GSI file")
-        .after_help(AFTER_ADJUST)
+        .after_help(AFTER_ADJUST);
+    with_options(alloc, adjust)
+}
+
+/// `review`, with its options and books.
+fn review_command<'a>(alloc: Global) -> Result<Command<'a>, AllocError>
+    ensures { IfOk result (IsCommand review_command) }
+{
+    let review = Command::new(alloc, "review")
+        .about(
+            "Reports what a mistake would do in the network of the books: show, hide or move points",
+        )
+        .after_help(AFTER_REVIEW);
+    with_options(alloc, review)
+}
+
+/// The command with the options and books that `adjust` and `review` take.
+fn with_options<'a>(alloc: Global, command: Command<'a>) -> Result<Command<'a>, AllocError>
+    ensures { (app : App) → IsCommand app command.entry → IfOk result (IsCommand (with_options app)) }
+{
+    command
         .arg(benchmarks(alloc))?
         .arg(weights(alloc))?
         .arg(blunder(alloc))?
@@ -122,7 +169,7 @@ fn book<'a>(alloc: Global) -> Arg<'a>
         .help("The file of the book, in GSI-8 or GSI-16 blocks")
 }
 
-/// The books of `adjust` and `check`.
+/// The books of `adjust`, `review` and `check`.
 fn books<'a>(alloc: Global) -> Arg<'a>
     ensures { IsArgument books_rule result }
 {
@@ -142,7 +189,7 @@ fn benchmarks<'a>(alloc: Global) -> Arg<'a>
         .long("benchmarks")
         .required(true)
         .value_name("FILE")
-        .help("The table of benchmarks: 'point,height' and a row for each")
+        .help("The table of benchmarks: the header 'point,height' and a row for each")
 }
 
 /// `--weights FILE`.
@@ -153,7 +200,7 @@ fn weights<'a>(alloc: Global) -> Arg<'a>
         .long("weights")
         .value_name("FILE")
         .help(
-            "The table of weights: 'from,to,weight' and a row for each pair that does not weigh 1",
+            "The table of weights: the header 'from,to,weight' and a row for each pair that does not weigh 1",
         )
 }
 
@@ -166,7 +213,7 @@ fn blunder<'a>(alloc: Global) -> Arg<'a>
         .value_parser(clap::value_parser!(u32).range(0..=1_000_000_000))
         .default_value("20000")
         .value_name("MICROMETRES")
-        .help("The report marks residuals above this size, 0 to 1000000000")
+        .help("Residuals above this size are marked as blunders, 0 to 1000000000")
 }
 
 /// `--out PREFIX`.
@@ -177,7 +224,7 @@ fn out<'a>(alloc: Global) -> Arg<'a>
         .long("out")
         .required(true)
         .value_name("PREFIX")
-        .help("What the names of the four files that are written begin with")
+        .help("The beginning of the names of the four output files")
 }
 
 /// `--certificate FILE`.

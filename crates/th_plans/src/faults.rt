@@ -2,14 +2,14 @@ use clap::error::ErrorKind;
 use std::alloc::AllocError;
 use std::fmt;
 
-/// Why the words give no plan. It shows itself as the text for standard error.
+/// Why a command line gives no plan. It displays as the text for standard error.
 #[derive(Debug, Drop)]
 pub enum PlanFault {
-    /// A mistake in the words, or a request for help, with the text for the user.
+    /// A bad command line, or a request for help, with the text for the user.
     Line(clap::Error),
     /// There are more books than a command takes.
     TooManyBooks,
-    /// There was no memory to read them.
+    /// Memory ran out while the command line was read.
     NoMemory,
 }
 

@@ -1,19 +1,19 @@
 //! The plan of a command line, as `clap` reads it.
 //!
-//! `plan` answers which command the words name, with the names of its files, the prefix of its
-//! outputs and the limit of its report, just as `clap` states them for the words; or why they name
+//! `plan` answers which command the arguments name, with the names of its files, the prefix of its
+//! outputs and the limit of blunders, just as `clap` states them for the arguments; or why they name
 //! none. By their types a plan has 1 to 16 books and a limit of 0 to 1,000 m.
 #![tactic(auto)]
 
 mod limits;
 
-// What the program may be asked for.
+// What a command line may ask for.
 mod blunder_limits;
 mod books;
 mod faults;
 mod plans;
 
-// The words of the command line.
+// The commands, and reading a command line.
 mod command_lines;
 mod commands;
 

@@ -3,7 +3,7 @@
 use crate::blunder_limits::Limit;
 use crate::books::Books;
 
-/// The names of the files that an adjustment and a check read.
+/// The names of the files that `adjust`, `review` and `check` read.
 #[derive(Debug, Drop)]
 pub struct Inputs<'a> {
     /// The books, in the order in which their observations are joined.
@@ -17,7 +17,7 @@ pub struct Inputs<'a> {
 /// What the program is to do.
 #[derive(Debug, Drop)]
 pub enum Plan<'a> {
-    /// With no words: list the book on standard input.
+    /// With no arguments: list the book on standard input.
     Standard,
     /// `list BOOK`: list the book in the file of this name.
     List {
@@ -26,6 +26,13 @@ pub enum Plan<'a> {
     /// `adjust`: adjust the network of the inputs, and write four files whose names begin with the
     /// prefix. Residuals above the limit are reported as blunders.
     Adjust {
+        inputs: Inputs<'a>,
+        limit: Limit,
+        prefix: &'a str,
+    },
+    /// `review`: report what a mistake would do in the network of the inputs, and write four files
+    /// whose names begin with the prefix. Residuals above the limit are reported as blunders.
+    Review {
         inputs: Inputs<'a>,
         limit: Limit,
         prefix: &'a str,

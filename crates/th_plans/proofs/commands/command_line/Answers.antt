@@ -21,4 +21,5 @@ returns c =
     ∙ ap with_required (ap app_of_fields c.after_help.ensures ∙ ap app_of_fields c.override_usage.ensures ∙ version_is) in
     let one = with_command _ _ _ _ _ c.in_ok-subcommand.ensures bare c.in_ok-list_command.ensures in
     let two = with_command _ _ _ _ _ c.in_ok-subcommand-2.ensures one c.in_ok-adjust_command.ensures in
-    IfOk-weaker c.subcommand-3.result _ _ (λ command adds. with_command _ _ _ _ _ adds two c.in_ok-check_command.ensures) c.subcommand-3.ensures
+    let three = with_command _ _ _ _ _ c.in_ok-subcommand-3.ensures two c.in_ok-review_command.ensures in
+    IfOk-weaker c.subcommand-4.result _ _ (λ command adds. with_command _ _ _ _ _ adds three c.in_ok-check_command.ensures) c.subcommand-4.ensures
