@@ -3,7 +3,7 @@
 
     run.py [--program PATH] [--calls PATH]
 
-The program lists, adjusts and checks two projects; of each run request 1 is refused, then request 2, and so on until
+The program lists, adjusts, reviews and checks two projects; of each run request 1 is refused, then request 2, and so on until
 a run asks for less: once that request alone, and once it and all behind it. A run that wants memory has to say `out
 of memory` and nothing else, to end with status 4 and to begin no file. Where the library makes up for a refusal, as
 of room that it only asks for ahead, the answer has to be the right one, all of it. The program `tests_memory` makes
@@ -52,6 +52,13 @@ TRIANGLE_CERTIFICATE = (b"kind,key,value\nV,1,4\nH,A,100.00000000\nH,B,101.00000
 MISREAD_CERTIFICATE = (b"kind,key,value\nV,2,3\nH,A,100.00000000\nH,B,102.54600000\n"
                        b"L,A,100.00000000\nL,B,102.54600000\nU,A,100.00000000\nU,B,102.54600000\n"
                        b"F,1,-1\nF,2,0\nF,3,1\nZ,cost,100000000\n")
+# What a mistake would do in them: each of three sights of B is outvoted by the others, and two alone tie B in the triangle.
+MISREAD_MISTAKES = (b"number,book,line,from,to,difference,weight,residual,control,mistake\n"
+                    b"1,1,2,A,B,2.54500000,1,-0.00100000,2,shows\n2,1,3,A,B,2.54600000,1,0.00000000,2,shows\n"
+                    b"3,1,4,A,B,3.54500000,1,0.99900000,2,shows\n")
+TRIANGLE_MISTAKES = (b"number,book,line,from,to,difference,weight,residual,control,mistake\n"
+                     b"1,1,2,A,B,1.00000000,1,0.00000000,1,ties\n2,1,4,B,C,1.00000000,1,0.00000000,1,ties\n"
+                     b"3,1,6,C,A,-2.00000000,1,0.00000000,2,shows\n4,1,8,A,C,2.50000000,1,0.50000000,2,shows\n")
 INPUTS = {
     "misread.gsi": MISREAD,
     "triangle.gsi": TRIANGLE,
@@ -93,6 +100,10 @@ SERIES = (
            ("own.heights.csv", MISREAD_HEIGHTS)),
     Series("adjustment of a triangle", ["adjust"] + TABLES + ["--out", "own", "triangle.gsi"], b"",
            ("own.heights.csv", TRIANGLE_HEIGHTS)),
+    Series("review of a misread sight", ["review"] + TABLES + ["--out", "own", "misread.gsi"], b"",
+           ("own.observations.csv", MISREAD_MISTAKES)),
+    Series("review of a triangle", ["review"] + TABLES + ["--out", "own", "triangle.gsi"], b"",
+           ("own.observations.csv", TRIANGLE_MISTAKES)),
     Series("check of a misread sight", ["check"] + TABLES + ["--certificate", "misread.csv", "misread.gsi"], b"yes\n",
            None),
     Series("check of a triangle", ["check"] + TABLES + ["--certificate", "triangle.csv", "triangle.gsi"], b"yes\n",

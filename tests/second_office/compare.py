@@ -1,15 +1,14 @@
 #!/usr/bin/env python3
 """Compares the program with the second office on small random projects.
 
-    compare.py [--program PATH] [--projects N] [--seed S] [--workers W] [--review]
+    compare.py [--program PATH] [--projects N] [--seed S] [--workers W]
 
-Each project is adjusted by both. Standard output, standard error and status have to be the same, and so have the heights file, the
-report, the GSI file, and all records of the certificate but the flows, byte by byte. Which of several best flows is written is open:
-the program's have to keep their weights, balance and be slack with the heights, and have the cost. Then the program checks its own
-certificate, and changed ones, with the second office's verdict, line and status. With --review both also review the project (the
-program has no such command yet): all four files have to be the same. Prints the seed, how many came out which way, and every
-difference, with the project saved in a folder that it names. Status 0 only without a difference; 2 where the comparison could not be
-made.
+Each project is adjusted and reviewed by both. Standard output, standard error and status have to be the same, and so have the four
+files of the review, the heights file, the report, the GSI file, and all records of the certificate but the flows, byte by byte. Which
+of several best flows is written is open: the program's have to keep their weights, balance and be slack with the heights, and have
+the cost. Then the program checks its own certificate, and changed ones, with the second office's verdict, line and status. Prints the
+seed, how many came out which way, and every difference, with the project saved in a folder that it names. Status 0 only without a
+difference; 2 where the comparison could not be made.
 """
 
 import argparse
@@ -78,20 +77,18 @@ def compare_check(program: Path, project: Project, files: Files, title: str, cer
     return outcome_of("check", second), differences
 
 
-def compare_project(program: Path, folder: Path, seed: int, number: int, with_review: bool) -> Comparison:
+def compare_project(program: Path, folder: Path, seed: int, number: int) -> Comparison:
     """Compares project `number`, which hangs on the seed and the number alone."""
     rng = Random(f"{seed} {number}")
     project = random_project(rng)
     files = saved(project, folder)
     own = run(program, folder, network_words("adjust", project, files))
     second = second_adjustment(project)
-    outcomes = [outcome_of("adjust", second)]
     differences = differ("adjust", own, (second.status, second.standard_output, second.standard_error))
     differences += compare_files(project, some_of(written(folder), ENDS), second.files)
-    if with_review:
-        outcome, found = compare_review(program, project, files)
-        outcomes.append(outcome)
-        differences += found
+    outcome, found = compare_review(program, project, files)
+    outcomes = [outcome_of("adjust", second), outcome]
+    differences += found
     # Where a table was refused there is no certificate of one's own, but somebody else's is still checked.
     certificate = written(folder).get(".certificate.csv", b"kind,key,value\nV,2,0\nZ,cost,0\n")
     changed = [changed_certificate(rng, certificate) for _ in range(CHANGED_CERTIFICATES)]
@@ -105,10 +102,10 @@ def compare_project(program: Path, folder: Path, seed: int, number: int, with_re
 # The report
 
 
-def compare_in(scratch: Path, program: Path, seed: int, number: int, with_review: bool) -> Comparison:
+def compare_in(scratch: Path, program: Path, seed: int, number: int) -> Comparison:
     folder = scratch / f"project_{number:06}"
     folder.mkdir()
-    comparison = compare_project(program, folder, seed, number, with_review)
+    comparison = compare_project(program, folder, seed, number)
     if not comparison.differences:
         shutil.rmtree(folder)
     return comparison
@@ -138,7 +135,6 @@ def arguments(words: Optional[List[str]] = None) -> argparse.Namespace:
     parser.add_argument("--projects", type=int, default=DEFAULT_PROJECTS, help="how many random projects")
     parser.add_argument("--seed", type=int, default=DEFAULT_SEED, help="where the random numbers begin")
     parser.add_argument("--workers", type=int, default=os.cpu_count() or 2, help="how many projects at a time")
-    parser.add_argument("--review", action="store_true", help="also compare reviews")
     return parser.parse_args(words)
 
 
@@ -151,7 +147,7 @@ def main() -> int:
     scratch = Path(tempfile.mkdtemp(prefix="second_office_"))
     program = chosen.program.resolve()
     with ThreadPoolExecutor(max_workers=chosen.workers) as executor:
-        comparisons = executor.map(lambda number: compare_in(scratch, program, chosen.seed, number, chosen.review), range(chosen.projects))
+        comparisons = executor.map(lambda number: compare_in(scratch, program, chosen.seed, number), range(chosen.projects))
         differing = report(comparisons)
     if not differing:
         shutil.rmtree(scratch)

@@ -4,14 +4,14 @@
     compare_mutated.py [--program PATH] [--inputs N] [--first K] [--seed S] [--workers W] [--minutes M]
     compare_mutated.py --each-byte [--program PATH] [--workers W]
 
-Each input is a small project with a mutated text, which the program lists, adjusts or checks: one run an input.
-Standard output, standard error, status and files have to be the second office's (of the certificate all but the
-flows, which have to show the heights). Whatever the second office says, a status is 0 to 5, a run that is refused
+Each input is a small project with a mutated text, which the program lists, adjusts, reviews or checks: one run an
+input. Standard output, standard error, status and files have to be the second office's (of the certificate all but
+the flows, which have to show the heights). Whatever the second office says, a status is 0 to 5, a run that is refused
 prints nothing and begins no file, and no run takes more than a second of processor time. Input K of a seed is the
 same in every run, so a long series can be run in parts: inputs --first to --first + --inputs - 1, or as many as
 --minutes allow. Prints the seed, how many inputs came out which way, the longest run, and every difference, with the
-input saved in a folder that it names. With --each-byte the inputs are the beginnings of a book and of two
-certificates, and these with each byte changed to each other value. Status 0 only without a difference; 2 where the
+input saved in a folder that it names. With --each-byte the inputs are the beginnings of a book (listed and
+reviewed), of a table of weights and of two certificates, and these with each byte changed to each other value. Status 0 only without a difference; 2 where the
 comparison could not be made.
 """
 
@@ -30,8 +30,8 @@ from typing import Dict, Iterator, List, NamedTuple, Optional, Tuple
 
 import office
 from mutated import COUNT_OF_CHANGES, Case, changed_case, random_case
-from runs import (DEFAULT_PROGRAM, ENDS, network_words, compare_files, differ, outcome_of, saved, second_adjustment,
-                  written)
+from runs import (DEFAULT_PROGRAM, ENDS, REVIEW_ENDS, compare_files, differ, network_words, outcome_of, saved,
+                  second_adjustment, second_review, written)
 
 DEFAULT_INPUTS = 1_000
 DEFAULT_SEED = 20_240_607
@@ -80,14 +80,14 @@ def run(program: str, words: List[str]) -> Run:
 
 def save_case(case: Case) -> List[str]:
     """Writes the inputs of a case, and gives the command line."""
-    for end in ENDS:
+    for end in ENDS + REVIEW_ENDS:
         with suppress(FileNotFoundError):
             os.unlink(f"own{end}")
     files = saved(case.project, HERE)
     if case.command == "list":
         return ["list", files.words[-1]]
-    if case.command == "adjust":
-        return network_words("adjust", case.project, files)
+    if case.command in ("adjust", "review"):
+        return network_words(case.command, case.project, files)
     (HERE / "certificate.csv").write_bytes(case.certificate or b"")
     return ["check", "--certificate", "certificate.csv"] + files.words
 
@@ -98,6 +98,8 @@ def save_case(case: Case) -> List[str]:
 def second_answer(case: Case) -> office.Answer:
     if case.command == "adjust":
         return second_adjustment(case.project)
+    if case.command == "review":
+        return second_review(case.project)
     if case.command == "check":
         return office.check(case.project.inputs, case.certificate or b"")
     listed = office.reader.answer(case.project.inputs.books[0])

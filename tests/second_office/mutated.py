@@ -158,6 +158,10 @@ def adjusted_project(rng: Random, project: Project) -> Case:
     return Case("adjust", project._replace(inputs=rng.choice(INPUT_MUTATIONS)(rng, project.inputs)), None)
 
 
+def reviewed_project(rng: Random, project: Project) -> Case:
+    return adjusted_project(rng, project)._replace(command="review")
+
+
 def checked_certificate(rng: Random, project: Project) -> Case:
     """A check of a mutated certificate, or of a good one beside mutated inputs."""
     certificate = second_adjustment(project).files.get(".certificate.csv", NO_CERTIFICATE)
@@ -169,8 +173,8 @@ def checked_certificate(rng: Random, project: Project) -> Case:
     return Case("check", project, changed)
 
 
-CASES: Tuple[Callable[[Random, Project], Case], ...] = (listed_book, adjusted_project, checked_certificate)
-CASE_WEIGHTS = (25, 35, 40)
+CASES: Tuple[Callable[[Random, Project], Case], ...] = (listed_book, adjusted_project, checked_certificate, reviewed_project)
+CASE_WEIGHTS = (20, 25, 20, 35)
 
 
 def random_case(seed: int, number: int) -> Case:
@@ -196,6 +200,7 @@ TRIANGLE_CERTIFICATES = (
     b"kind,key,value\nV,2,4\n" + TRIANGLE_HEIGHTS + TRIANGLE_HEIGHTS.replace(b"H", b"L")
     + TRIANGLE_HEIGHTS.replace(b"H", b"U") + TRIANGLE_FLOWS)
 A_AT_100 = b"point,height\nA,100\n"
+WEIGHT_BACK = b"from,to,weight\nB,A,7\n"
 
 
 def count_of_changes(text: bytes) -> int:
@@ -212,18 +217,33 @@ def change_of(text: bytes, number: int) -> bytes:
     return text[:place] + bytes([value]) + text[place + 1 :]
 
 
-CHANGED_TEXTS = (SIGHT_BOOK,) + TRIANGLE_CERTIFICATES
-COUNT_OF_CHANGES = sum(count_of_changes(text) for text in CHANGED_TEXTS)
+def listed(book: bytes) -> Case:
+    return Case("list", Project(Inputs([book], A_AT_100, None), None), None)
+
+
+def reviewed(book: bytes) -> Case:
+    return Case("review", Project(Inputs([book], A_AT_100, WEIGHT_BACK), None), None)
+
+
+def reviewed_weights(weights: bytes) -> Case:
+    return Case("review", Project(Inputs([SIGHT_BOOK], A_AT_100, weights), None), None)
+
+
+def checked(certificate: bytes) -> Case:
+    return Case("check", Project(Inputs([TRIANGLE_BOOK], A_AT_100, None), None), certificate)
+
+
+# What is changed, and the case that is made of each change.
+CHANGED_TEXTS: Tuple[Tuple[bytes, Callable[[bytes], Case]], ...] = (
+    (SIGHT_BOOK, listed), (SIGHT_BOOK, reviewed), (WEIGHT_BACK, reviewed_weights),
+    *((certificate, checked) for certificate in TRIANGLE_CERTIFICATES))
+COUNT_OF_CHANGES = sum(count_of_changes(text) for text, _ in CHANGED_TEXTS)
 
 
 def changed_case(number: int) -> Case:
-    """The case of a number: the book of one sight is listed, the certificates of the triangle are checked."""
-    if number < count_of_changes(SIGHT_BOOK):
-        return Case("list", Project(Inputs([change_of(SIGHT_BOOK, number)], A_AT_100, None), None), None)
-    number -= count_of_changes(SIGHT_BOOK)
-    project = Project(Inputs([TRIANGLE_BOOK], A_AT_100, None), None)
-    for certificate in TRIANGLE_CERTIFICATES:
-        if number < count_of_changes(certificate):
-            return Case("check", project, change_of(certificate, number))
-        number -= count_of_changes(certificate)
+    """The case of a number."""
+    for text, case_of in CHANGED_TEXTS:
+        if number < count_of_changes(text):
+            return case_of(change_of(text, number))
+        number -= count_of_changes(text)
     raise IndexError("no such case")
