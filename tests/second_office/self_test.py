@@ -241,6 +241,7 @@ REVIEWS = (
     ("cellar", ("cellar.gsi",), "marks.csv", None, {"G2": 2, "S1": 2, "S2": 2}, [1, 1, 1, 1, 1]),
     ("dam", ("crest.gsi",), "rocks.csv", "weights.csv", {"P1": 8, "C1": 7, "C2": 4, "C3": 4, "C4": 7},
      [4, 5, 2, 2, 5, 6, 6, 3, 3, 6, 6, 3, 3, 6, 6]),
+    ("levelling_line", ("there.gsi",), "marks.csv", "weights.csv", {"T1": 59, "T2": 59, "T3": 54, "T4": 56, "T5": 56}, [23, 23, 23, 31, 23, 23]),
     ("railway_line", ("there.gsi", "back.gsi"), "bolts.csv", None, {"FP 112/3": 4, "FP 112/5": 4, "FP 112/7": 4}, [3, 3, 3, 3, 3, 3, 3, 3]),
 )
 
