@@ -23,7 +23,7 @@ help:
 	@echo 'make compare   compare the built program with the second reader on mutated books (BOOKS=$(BOOKS) SEED=$(SEED))'
 	@echo 'make office    compare the built program with the second office on random projects (PROJECTS=$(PROJECTS) SEED=$(SEED))'
 	@echo 'make mutated   the same on mutated books, tables and certificates (INPUTS=$(INPUTS) SEED=$(SEED)); a million take hours'
-	@echo 'make each-byte the same on each beginning and each changed byte of a book and two certificates (some minutes)'
+	@echo 'make each-byte the same on each beginning and each changed byte of a book, a table and two certificates (some minutes)'
 	@echo 'make memory    run the built program, and the calls that `make calls` builds, with each allocation refused in turn'
 	@echo 'make attacks   try the edits of attacks/, more mistakes that the prover must refuse (an hour); no part of make test'
 	@echo 'make hostile   time and memory of books, tables, certificates and networks that are made to cost time'
