@@ -116,6 +116,20 @@ fn joined(rt: &impl Abort, alloc: Global, lines: &[&[u8]]) -> Vec<u8> {
     text
 }
 
+/// How many sights the largest network has.
+const MOST_SIGHTS: u32 = 40_000;
+
+/// The next number in so many digits.
+fn count_up(digits: &mut [u8; 8]) {
+    for digit in digits.iter_mut().rev() {
+        if *digit < b'9' {
+            *digit += 1;
+            return;
+        }
+        *digit = b'0';
+    }
+}
+
 /// The names after one more book, which comes in pieces of so many bytes.
 fn seen(
     rt: &impl Abort,
@@ -156,4 +170,27 @@ fn spellings(rt: HostRuntime) {
             are_found(&rt, names.found(), wanted);
         }
     }
+}
+
+// As many names as a network may have sights, the last of them in another spelling.
+#[test]
+fn most_names(rt: HostRuntime) {
+    let mut feed = ReviewFeed::new(rt.alloc(), 1, SeenNames::new(rt.alloc()));
+    let mut digits = *b"00000000";
+    feed.feed(SETUP_A).expect(&rt, "memory");
+    for _ in 0..MOST_SIGHTS {
+        count_up(&mut digits);
+        feed.feed(b"\r\n110002+").expect(&rt, "memory");
+        feed.feed(&digits).expect(&rt, "memory");
+        feed.feed(b" 33..00+00002345 ").expect(&rt, "memory");
+    }
+    feed.feed(b"\r\n110002+   40000 33..00+00002345 ")
+        .expect(&rt, "memory");
+    let (review, names) = feed.finish().expect(&rt, "memory");
+    assert_eq!(&rt; review.counts.sights, MOST_SIGHTS + 1);
+    are_found(
+        &rt,
+        names.found(),
+        &[(1, MOST_SIGHTS + 2, b"40000" as &[u8])],
+    );
 }
