@@ -1,8 +1,9 @@
 //! What a review tells about a book itself: the heights that were entered and the sights that use
-//! them, what its lines are, and the lines that look like a setup and are none.
+//! them, what its lines are, and the lines that look like a setup and are none. And about several
+//! books: the names that they spell in more than one way.
 //!
 //! A `ReviewFeed` takes the same pieces of bytes as a `th_book::BookFeed`, and gives the
-//! `BookReview` of a book that has no fault.
+//! `BookReview` of a book that has no fault. The `SeenNames` pass from one book to the next.
 #![tactic(auto)]
 
 // An entered height, and the sights that use it.
