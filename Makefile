@@ -27,7 +27,7 @@ help:
 	@echo 'make memory    run the built program, and the calls that `make calls` builds, with each allocation refused in turn'
 	@echo 'make attacks   try the edits of attacks/, more mistakes that the prover must refuse (an hour); no part of make test'
 	@echo 'make hostile   time and memory of books, tables, certificates and networks that are made to cost time'
-	@echo 'make bench     throughput and peak memory: listing, networks, certificates, settling beside other solvers, adjusting'
+	@echo 'make bench     throughput and peak memory: listing, networks, certificates, settling beside other solvers, adjusting, reviewing'
 	@echo 'make install   copy the built program and its manual page below $(PREFIX)'
 	@echo 'make clean     remove what was built'
 
@@ -104,6 +104,7 @@ bench: build
 	@bench/certificate/run
 	@bench/settle/run
 	@bench/adjust/run --program $(PROGRAM)
+	@bench/review/run --program $(PROGRAM)
 	@$(MAKE) --no-print-directory hostile
 
 install: build
