@@ -4,11 +4,12 @@ ghost use Rattle.th_devices.specs.Limits.{calls_before};
 ghost use Rattle.th_runs.specs.Checked.{IsVerdictOn, verdict_line, verdict_on};
 ghost use Rattle.th_runs.specs.Inputs.{Claim, IsOwed, MakesNetwork, Meets, given, given_if_any, givens, owed_for_claim, surveyed};
 ghost use Rattle.th_runs.specs.Inside.Refused.{IsNetRefusal, MeetsRefusal};
-ghost use Rattle.th_runs.specs.Reads.{EachBook, IfPresent, IsNamed, IsReadFor, IsWithin, network_place, outputs_place, place, refused};
+ghost use Rattle.th_runs.specs.Reads.{Checking, EachBook, IfPresent, IsNamed, IsReadFor, IsWithin, network_place, outputs_place, place, refused};
 ghost use Rattle.th_runs.specs.Writes.{IsWritten, IsWrittenFor};
 
 use crate::inputs::certificate_from;
 use crate::outputs::write_out;
+use crate::readers::ObservationReader;
 use crate::refusals::{Input, Output, Refusal};
 use crate::surveys::{Inputs, Tables, network_of, read_inputs};
 use std::alloc::{AllocError, Global};
@@ -56,7 +57,7 @@ pub fn run_check<B: Source, T: Source, W: Source, C: Source, K: Sink>(
         (given T.failures T.left benchmarks.old benchmarks.new)
         (given_if_any W.failures W.left weights.old weights.new)
         (given C.failures C.left certificate.old certificate.new)) own) }
-    ensures named { IfErr result (IsNamed (length books.old) (is_some weights.old) true) }
+    ensures named { IfErr result (IsNamed (length books.old) (is_some weights.old) Checking) }
     ensures untouched { (IsWritten result → ⊥) → out.new ≡ out.old }
     ensures spot { K.spot out.new ≡ K.spot out.old }
 
@@ -115,7 +116,7 @@ fn read_stated<B: Source, T: Source, W: Source, C: Source>(
         (given_if_any W.failures W.left weights.old weights.new)
         (given C.failures C.left certificate.old certificate.new))) }
     ensures at { IfErr result (IsWithin 1 network_place) }
-    ensures named { IfErr result (IsNamed (length books.old) (is_some weights.old) true) }
+    ensures named { IfErr result (IsNamed (length books.old) (is_some weights.old) Checking) }
     ensures books { EachBook
         (λ own. IsReadFor B.calls B.failures B.left (Input.Book own) (refused result))
         1 books.old books.new }
@@ -126,7 +127,7 @@ fn read_stated<B: Source, T: Source, W: Source, C: Source>(
     ensures certificate { IsReadFor C.calls C.failures C.left Input.Certificate (refused result)
         certificate.old certificate.new }
 {
-    let inputs = read_inputs(alloc, books, benchmarks, weights)?;
+    let inputs = read_inputs(alloc, &mut ObservationReader, books, benchmarks, weights)?;
     let certificate = certificate_from(alloc, certificate)?;
     Ok(Stated {
         inputs,
@@ -194,7 +195,7 @@ fn judge_survey(
       weights = tables.now.weights;
     }))) }
 {
-    let network = network_of(alloc, observations, tables)?;
+    let network = network_of(alloc, observations, &tables.benchmarks, &tables.weights)?;
     match judge_network(alloc, &network, tables, certificate) {
         Ok(judged) => Ok(judged),
         Err(_) => Err(Refusal::NoMemory),

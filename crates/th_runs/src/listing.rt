@@ -5,7 +5,7 @@ ghost use Rattle.th_runs.specs.Runs.{HoldsList, HoldsListBeginning, IsCalledForL
 ghost use Rattle.th_devices.specs.Limits.{calls_before};
 ghost use Rattle.th_devices.specs.Transfer.{Advances};
 
-use crate::books::observations_of;
+use crate::readers::observations_of;
 use crate::refusals::{Output, Refusal};
 use std::alloc::Global;
 use th_devices::{Failed, Sink, Source, write_all};

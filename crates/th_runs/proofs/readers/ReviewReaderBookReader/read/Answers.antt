@@ -1,0 +1,38 @@
+use Rattle.std.proofs.Common.{◌≡◌, ◌∙◌, Ok, sym, subst}
+use Rattle.th_book.specs.Books.{book_answer}
+use Rattle.th_entries.specs.Reviews.{parsed_of}
+use Rattle.th_entries.specs.Seen.{AddsBook}
+use Rattle.th_entries.specs.declared.seen.SeenNames.{SeenNames}
+use Rattle.th_runs.proofs.BookFronts.{answer_told, refused_as_told}
+use Rattle.th_runs.proofs.ReaderLemmas.{front_told}
+use Rattle.th_runs.proofs.readers.ReviewReaderBookReader.read.Goals as goal
+
+pub returns-in_ok-add-in-Ok-clause-ok : goal.returns-in_ok-add-in-Ok-clause-ok
+returns-in_ok-add-in-Ok-clause-ok g c =
+    let fed = c.in_ok-feed_from.ensures.fed in
+    let took = fed.1 (c.replace-names.result, c.args.number, fed.0) (c.new-2.ensures.owes fed.0, c.new-3.ensures fed.0) in
+    answer_told c.args.number (g.S.Source.left c.args.book.now) fed.0 c.feed_from.new.feed.observations _ took.0 fed.2 c.in-Ok.ensures.ok
+
+pub returns-in_ok-add-in-Ok-clause-read : goal.returns-in_ok-add-in-Ok-clause-read
+returns-in_ok-add-in-Ok-clause-read g c =
+    let fed = c.in_ok-feed_from.ensures.fed in
+    let took = fed.1 (c.replace-names.result, c.args.number, fed.0) (c.new-2.ensures.owes fed.0, c.new-3.ensures fed.0) in
+    let answered : book_answer c.args.number fed.0 ≡ Ok c.in-Ok.observations.items = sym took.0 ∙ c.in-Ok.ensures.ok in
+    let added = c.in_ok-add-in-Ok.ensures in
+    record {
+      text = fed.0;
+      review = added.review;
+      is_told = front_told c.args.number (g.S.Source.left c.args.book.now) fed.0 c.in-Ok.observations.items answered fed.2;
+      answered = answered;
+      reviewed = added.reviewed c.replace-names.result c.args.number fed.0 took.1 (c.in-Ok.observations.items, answered);
+      joined = added.joined;
+      named = subst (λ (own : SeenNames). AddsBook c.args.number (parsed_of fed.0) own c.add.new.self.names) c.replace-names.ensures.value
+          (added.named c.replace-names.result c.args.number fed.0 took.1 (c.in-Ok.observations.items, answered));
+    }
+
+pub returns-in-Err-clause-refused : goal.returns-in-Err-clause-refused
+returns-in-Err-clause-refused g c =
+    let fed = c.in_ok-feed_from.ensures.fed in
+    let took = fed.1 (c.replace-names.result, c.args.number, fed.0) (c.new-2.ensures.owes fed.0, c.new-3.ensures fed.0) in
+    refused_as_told c.args.number (g.S.Source.left c.args.book.now) fed.0 c.feed_from.new.feed.observations c.in-Err.fault c.refusal_of.result took.0 fed.2
+    c.in-Err.ensures.fault c.refusal_of.ensures.memory c.refusal_of.ensures.book

@@ -1,0 +1,39 @@
+-- What the readers of books promise one another.
+use Rattle.std.specs.Prelude.{◌≡◌, ◌+◌, ◌++◌, ℕ, List, [], ◌∷◌, Option, IfSome, Ok}
+use Rattle.th_book.specs.Books.{book_answer}
+use Rattle.th_book.specs.Observed.{Observed}
+use Rattle.th_entries.specs.Feeds.{IsReading}
+use Rattle.th_entries.specs.Reviews.{IsFaultless, Reviews, parsed_of}
+use Rattle.th_entries.specs.Seen.{AddsBook}
+use Rattle.th_entries.specs.declared.seen.SeenNames.{SeenNames}
+use Rattle.th_entries.specs.declared.feeds.ReviewFeed.{ReviewFeed}
+use Rattle.th_entries.specs.declared.reviews.BookReview.{BookReview}
+
+-- a feed took these bytes: what it was to take with them it has taken
+abbrev pub AreTaken : {B F : Type 0} → (B → List ℕ → F → Type 0) → List ℕ → F → F → Type 0
+AreTaken {B} has_taken bytes old new = (start : B) → has_taken start bytes old → has_taken start [] new
+
+-- the review that a feed has read was put behind others, and so many names are known with it
+pub record IsAdded (feed : ReviewFeed) (old new : List BookReview) (more : SeenNames) : Type 0 where
+  pub review : BookReview
+  pub joined : new ≡ old ++ review ∷ []
+  pub reviewed : (names : SeenNames) (number : ℕ) (text : List ℕ) → IsReading names number text [] feed → IsFaultless number text → Reviews number (parsed_of text) review
+  pub named : (names : SeenNames) (number : ℕ) (text : List ℕ) → IsReading names number text [] feed → IsFaultless number text → AddsBook number (parsed_of text) names more
+
+-- The review of the book with this number was put behind others, and the names that it mentions were added to those of the books before. Its text is
+-- the one that is told, if one is, and gives the observations.
+pub record IsReviewedNext (number : ℕ) (told : Option (List ℕ)) (observations : List Observed) (old new : List BookReview) (names more : SeenNames) : Type 0 where
+  pub text : List ℕ
+  pub review : BookReview
+  pub is_told : IfSome told (λ own. own ≡ text)
+  pub answered : book_answer number text ≡ Ok observations
+  pub reviewed : Reviews number (parsed_of text) review
+  pub joined : new ≡ old ++ review ∷ []
+  pub named : AddsBook number (parsed_of text) names more
+
+-- a reader read books one after the other, numbered from this one on, and their observations were put behind others
+abbrev pub HasReadBooks : {R : Type 0} → (ℕ → Option (List ℕ) → List Observed → R → R → Type 0) → ℕ → List (Option (List ℕ)) → List Observed → List Observed → R → R → Type 0
+HasReadBooks has_read number [] before after old new = (after ≡ before) × (new ≡ old)
+HasReadBooks {R} has_read number (told ∷ tolds) before after old new =
+    (mid : R) × (observations : List Observed) × has_read number told observations old mid
+    × HasReadBooks has_read (number + 1) tolds (before ++ observations) after mid new

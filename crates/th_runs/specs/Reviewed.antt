@@ -1,0 +1,47 @@
+-- What a review prints.
+use Rattle.std.specs.Prelude.{◌≡◌, ℕ, ℤ, List, [], Option, IfSome}
+use Rattle.std.specs.List.{AllZip}
+use Rattle.th_book.specs.Lines.{ParsedLine}
+use Rattle.th_entries.specs.Reviews.{Reviews}
+use Rattle.th_entries.specs.Several.{numbered}
+use Rattle.th_entries.specs.Spellings.{spellings_of}
+use Rattle.th_entries.specs.declared.reviews.BookReview.{BookReview}
+use Rattle.th_network.specs.Networks.{Survey}
+use Rattle.th_reliability.specs.Numbers.{AreControls, AreStrengths}
+use Rattle.th_reliability.specs.SharedMistakes.{IsSharedMistake}
+use Rattle.th_reliability.specs.Sights.{in_sights}
+use Rattle.th_entries.specs.declared.spellings.Spelling.{Spelling}
+use Rattle.th_review.specs.Entries.{entries_of, sights_of}
+use Rattle.th_review.specs.Texts.{AreReviewTexts, Found, ReviewOutTexts}
+use Rattle.th_runs.specs.Adjusted.{Answer, IsAnswer, at_points_of}
+
+-- for each source the text that it gave: the one that it told, if it told one
+abbrev pub AreTold : List (Option (List ℕ)) → List (List ℕ) → Type 0
+AreTold tolds texts = AllZip (λ told text. IfSome told (λ own. own ≡ text)) tolds texts
+
+-- a review is that of a numbered book
+abbrev pub IsReviewOf : ℕ × List ParsedLine → BookReview → Type 0
+IsReviewOf book review = Reviews book.0 book.1 review
+
+-- the reviews are those of books with the texts that sources gave, numbered from this one on, and so are the names that are spelled in more than one way
+pub record AreReviewsOf (number : ℕ) (tolds : List (Option (List ℕ))) (reviews : List BookReview) (spellings : List Spelling) : Type 0 where
+  pub texts : List (List ℕ)
+  pub told : AreTold tolds texts
+  pub reviewed : AllZip IsReviewOf (numbered number texts) reviews
+  pub spelled : spellings ≡ spellings_of (numbered number texts)
+
+-- What was found of a survey and of the entries of its books: the strengths of its points, with its weights and with weights of 1, the controls of its
+-- observations, and for each entry what a mistake in it would do.
+pub record AreFound (survey : Survey) (books : List BookReview) (found : Found) : Type 0 where
+  pub strengths : AreStrengths survey found.strengths
+  pub unit_strengths : AreStrengths (record survey { weights = [] }) found.unit_strengths
+  pub controls : AreControls survey found.controls
+  pub mistakes : AllZip (λ entry mistake. IsSharedMistake survey (in_sights (sights_of entry)) mistake) (entries_of books) found.mistakes
+
+-- The texts are the review of a survey and of its books, for this limit of blunders in units of 10 nm: the heights are best, and what they print was found.
+pub record AreReviewed (survey : Survey) (books : List BookReview) (spellings : List Spelling) (limit : ℤ) (texts : ReviewOutTexts) : Type 0 where
+  pub answer : Answer
+  pub answers : IsAnswer survey answer
+  pub found : Found
+  pub finds : AreFound survey books found
+  pub printed : AreReviewTexts survey (at_points_of survey answer.low) (at_points_of survey answer.high) found books spellings limit texts

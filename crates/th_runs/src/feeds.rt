@@ -1,0 +1,105 @@
+//! A book that is read in pieces, and what takes them.
+ghost use Rattle.std.specs.Prelude.{◌≡◌, ◌++◌, ◌+◌, ◌-◌, ◌<◌, ◌≤◌, ℕ, List, IfSome, IfErr, OnOk, [], length, take};
+ghost use Rattle.th_book.specs.Limits.{max_book};
+ghost use Rattle.th_runs.specs.Inside.Readers.{AreTaken};
+ghost use Rattle.th_runs.specs.Runs.{IsRefusalOf, failed_reads, failed_writes};
+ghost use Rattle.th_devices.specs.Limits.{calls_before};
+ghost use Rattle.th_devices.specs.Transfer.{Advances};
+
+use crate::inputs::limit_of;
+use crate::refusals::{Input, Refusal};
+use std::alloc::AllocError;
+use th_book::BookFeed;
+use th_devices::{Failed, Source};
+use th_entries::ReviewFeed;
+
+/// How many bytes of a book are read at once, at most.
+const PIECE: usize = 4_096;
+
+/// What takes a book in pieces, however it is cut.
+pub(crate) trait Feed {
+    // What book it is, and what was known before it.
+    ghost Start: { Type 0 };
+
+    // All bytes of the book were taken but these last ones.
+    ghost has_taken: { Start → List ℕ → Self → Type 0 };
+
+    /// Takes the next piece of the book. After an allocation failure nothing is promised.
+    fn take(&mut self, piece: &[u8]) -> Result<(), AllocError>
+        ensures { OnOk result ((start : Start) (later : List ℕ) →
+            has_taken start (piece.now ++ later) self.old → has_taken start later self.new) };
+}
+
+impl Feed for BookFeed {
+    ghost use Rattle.std.specs.Prelude.{◌≡◌, ℕ, List};
+    ghost use Rattle.th_book.specs.Books.{book_answer};
+    ghost use Rattle.th_book.specs.Feeds.{feed_due};
+
+    ghost Start = { ℕ × List ℕ };
+
+    ghost has_taken = { λ start rest feed. feed_due feed rest ≡ book_answer start.0 start.1 };
+
+    fn take(&mut self, piece: &[u8]) -> Result<(), AllocError> {
+        self.feed(piece)
+    }
+}
+
+/// A book whose observations and whose review are read at once.
+#[derive(Drop)]
+pub(crate) struct ReviewedFeed {
+    pub(crate) observations: BookFeed,
+    pub(crate) review: ReviewFeed,
+}
+
+impl Feed for ReviewedFeed {
+    ghost use Rattle.std.specs.Prelude.{◌≡◌, ℕ, List};
+    ghost use Rattle.th_book.specs.Books.{book_answer};
+    ghost use Rattle.th_book.specs.Feeds.{feed_due};
+    ghost use Rattle.th_entries.specs.declared.seen.SeenNames.{SeenNames};
+    ghost use Rattle.th_entries.specs.Feeds.{IsReading};
+
+    ghost Start = { SeenNames × ℕ × List ℕ };
+
+    ghost has_taken = { λ start rest feed.
+        (feed_due feed.observations rest ≡ book_answer start.1 start.2)
+        × IsReading start.0 start.1 start.2 rest feed.review };
+
+    fn take(&mut self, piece: &[u8]) -> Result<(), AllocError> {
+        self.observations.feed(piece)?;
+        self.review.feed(piece)
+    }
+}
+
+/// Feeds the book with this number to its end, or to one byte more than a book may have.
+pub(crate) fn feed_from<S: Source, F: Feed>(
+    number: u32,
+    book: &mut S,
+    feed: &mut F,
+) -> Result<(), Refusal>
+    requires { S.calls book.old ≤ calls_before }
+    ensures fed { OnOk result ((front : List ℕ) × AreTaken F.has_taken front feed.old feed.new
+        × IfSome (S.left book.old) (λ text. front ≡ take (max_book + 1) text)) }
+    ensures refused { IfErr result (IsRefusalOf number (S.left book.old)) }
+    ensures read_fails { S.failures book.new ≡ S.failures book.old + failed_reads result }
+    ensures no_write { failed_writes result ≡ 0 }
+    ensures stands { Advances (max_book + 1) (S.left book.old) (S.left book.new) }
+    ensures reads { S.calls book.new ≤ S.calls book.old + max_book + 1 }
+{
+    let input = Input::Book(number);
+    let most = limit_of(input) as usize + 1;
+    let mut done = 0;
+    let mut piece = [0u8; PIECE];
+    'pieces: while done < most {
+        let asked = PIECE.min(most - done);
+        let count = match book.read(&mut piece[..asked]) {
+            Ok(count) => count,
+            Err(Failed) => return Err(Refusal::Read(input)),
+        };
+        if count == 0 {
+            return Ok(());
+        }
+        feed.take(&piece[..count])?;
+        done += count;
+    }
+    Ok(())
+}

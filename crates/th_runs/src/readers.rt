@@ -1,0 +1,162 @@
+//! What a run reads of its books.
+ghost use Rattle.std.specs.Prelude.{◌≡◌, ◌≢◌, ◌+◌, ◌<◌, ◌≤◌, [], ℕ, List, Option, IfErr, IfOk, OnOk};
+ghost use Rattle.th_book.specs.Limits.{max_book};
+ghost use Rattle.th_book.specs.Observed.{Observed};
+ghost use Rattle.th_entries.specs.Seen.{AreSeenInBooks};
+ghost use Rattle.th_runs.specs.Inside.Readers.{IsAdded};
+ghost use Rattle.th_runs.specs.Runs.{AreOfBook, IsRefusalOf, failed_reads, failed_writes};
+ghost use Rattle.th_devices.specs.Limits.{calls_before};
+ghost use Rattle.th_devices.specs.Transfer.{Advances};
+
+use crate::feeds::{ReviewedFeed, feed_from};
+use crate::refusals::Refusal;
+use std::alloc::{AllocError, Global};
+use std::mem;
+use th_book::{BookFault, BookFeed, BookKind, Observation};
+use th_devices::Source;
+use th_entries::{BookReview, ReviewFeed, SeenNames};
+
+/// What reads the books of a run, one after the other: their observations, and what else the run needs.
+pub(crate) trait BookReader {
+    // What is known after the book with this number, whose text is told or not, and its observations.
+    ghost has_read: { ℕ → Option (List ℕ) → List Observed → Self → Self → Type 0 };
+
+    /// The observations of the book with this number, which is read in pieces.
+    ///
+    /// Of the book one line is kept, and nothing else but what the reader is for.
+    fn read<S: Source>(
+        &mut self,
+        alloc: Global,
+        number: u32,
+        book: &mut S,
+    ) -> Result<Vec<Observation>, Refusal>
+        requires { S.calls book.old ≤ calls_before }
+        ensures ok { IfOk result (λ observations.
+            AreOfBook number (S.left book.old) observations.items) }
+        ensures read { IfOk result (λ observations.
+            has_read number (S.left book.old) observations.items self.old self.new) }
+        ensures refused { IfErr result (IsRefusalOf number (S.left book.old)) }
+        ensures read_fails { S.failures book.new ≡ S.failures book.old + failed_reads result }
+        ensures no_write { failed_writes result ≡ 0 }
+        ensures stands { Advances (max_book + 1) (S.left book.old) (S.left book.new) }
+        ensures reads { S.calls book.new ≤ S.calls book.old + max_book + 1 };
+}
+
+/// Reads the observations of books alone.
+#[derive(Drop)]
+pub(crate) struct ObservationReader;
+
+impl BookReader for ObservationReader {
+    ghost use Rattle.std.specs.Prelude.{⊤};
+
+    ghost has_read = { λ number told observations old new. ⊤ };
+
+    fn read<S: Source>(
+        &mut self,
+        alloc: Global,
+        number: u32,
+        book: &mut S,
+    ) -> Result<Vec<Observation>, Refusal> {
+        observations_of(alloc, number, book)
+    }
+}
+
+/// Reads the review of each book beside its observations.
+#[derive(Drop)]
+pub(crate) struct ReviewReader {
+    /// The reviews of the books that were read, in their order.
+    pub(crate) reviews: Vec<BookReview>,
+    /// The names that these books mention.
+    pub(crate) names: SeenNames,
+}
+
+impl ReviewReader {
+    /// No book was read.
+    pub(crate) fn new(alloc: Global) -> ReviewReader
+        ensures reviews { result.reviews.items ≡ [] }
+        ensures names { AreSeenInBooks [] result.names }
+    {
+        ReviewReader {
+            reviews: Vec::new(alloc),
+            names: SeenNames::new(alloc),
+        }
+    }
+
+    /// Puts the review of the next book behind the others, if the book has no fault.
+    fn add(&mut self, feed: ReviewFeed) -> Result<(), AllocError>
+        ensures { OnOk result (IsAdded feed self.old.reviews.items self.new.reviews.items self.new.names) }
+    {
+        let (review, names) = feed.finish()?;
+        self.reviews.push(review)?;
+        self.names = names;
+        Ok(())
+    }
+}
+
+impl BookReader for ReviewReader {
+    ghost use Rattle.th_runs.specs.Inside.Readers.{IsReviewedNext};
+
+    ghost has_read = { λ number told observations old new.
+        IsReviewedNext number told observations old.reviews.items new.reviews.items old.names new.names };
+
+    fn read<S: Source>(
+        &mut self,
+        alloc: Global,
+        number: u32,
+        book: &mut S,
+    ) -> Result<Vec<Observation>, Refusal> {
+        let names = mem::replace(&mut self.names, SeenNames::new(alloc));
+        let mut feed = ReviewedFeed {
+            observations: BookFeed::new(alloc, number),
+            review: ReviewFeed::new(alloc, number, names),
+        };
+        feed_from(number, book, &mut feed)?;
+        let ReviewedFeed {
+            observations,
+            review,
+        } = feed;
+        match observations.finish() {
+            Ok(observations) => {
+                self.add(review)?;
+                Ok(observations)
+            }
+            Err(fault) => Err(refusal_of(number, fault)),
+        }
+    }
+}
+
+/// The observations of the book with this number, which is read in pieces.
+///
+/// It keeps one line and the observations, and nothing else of the book.
+pub(crate) fn observations_of<S: Source>(
+    alloc: Global,
+    number: u32,
+    book: &mut S,
+) -> Result<Vec<Observation>, Refusal>
+    requires { S.calls book.old ≤ calls_before }
+    ensures ok { IfOk result (λ observations.
+        AreOfBook number (S.left book.old) observations.items) }
+    ensures refused { IfErr result (IsRefusalOf number (S.left book.old)) }
+    ensures read_fails { S.failures book.new ≡ S.failures book.old + failed_reads result }
+    ensures no_write { failed_writes result ≡ 0 }
+    ensures stands { Advances (max_book + 1) (S.left book.old) (S.left book.new) }
+    ensures reads { S.calls book.new ≤ S.calls book.old + max_book + 1 }
+{
+    let mut feed = BookFeed::new(alloc, number);
+    feed_from(number, book, &mut feed)?;
+    match feed.finish() {
+        Ok(observations) => Ok(observations),
+        Err(fault) => Err(refusal_of(number, fault)),
+    }
+}
+
+/// The refusal for a fault of the book with this number.
+fn refusal_of(number: u32, fault: BookFault) -> Refusal
+    ensures memory { fault.kind ≡ BookKind.NoMemory → result ≡ Refusal.NoMemory }
+    ensures book { fault.kind ≢ BookKind.NoMemory → result ≡ Refusal.Book number fault }
+{
+    match fault.kind {
+        BookKind::NoMemory => Refusal::NoMemory,
+        _ => Refusal::Book(number, fault),
+    }
+}

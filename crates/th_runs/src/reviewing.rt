@@ -1,0 +1,227 @@
+//! A run that reviews the height network of books: what would a mistake do in it?
+ghost use Rattle.std.specs.Prelude.{◌≡◌, ◌≤◌, ◌<◌, All, IfErr, IfOk, IfSome, List, Ok, OnOk, [], is_some, length, map};
+ghost use Rattle.th_devices.specs.Limits.{calls_before};
+ghost use Rattle.th_entries.specs.Stations.{HasOneStation};
+ghost use Rattle.th_entries.specs.declared.reviews.BookReview.{BookReview};
+ghost use Rattle.th_entries.specs.declared.spellings.Spelling.{Spelling};
+ghost use Rattle.std.specs.List.{AllZip};
+ghost use Rattle.th_reliability.specs.Numbers.{AreStrengths};
+ghost use Rattle.th_reliability.specs.SharedMistakes.{IsSharedMistake};
+ghost use Rattle.th_reliability.specs.Sights.{in_sights};
+ghost use Rattle.th_review.specs.Entries.{entries_of, sights_of};
+ghost use Rattle.th_review.specs.Texts.{ReviewOutTexts, bytes_of, found_in};
+ghost use Rattle.th_runs.specs.Inputs.{IsOwed, MakesNetwork, Meets, given, given_if_any, givens, owed_for_survey, surveyed};
+ghost use Rattle.th_runs.specs.Inside.Refused.{IsNetRefusal};
+ghost use Rattle.th_runs.specs.Reads.{EachBook, IfPresent, IsNamed, IsReadFor, Reviewing, refused};
+ghost use Rattle.th_runs.specs.Reviewed.{AreFound, AreReviewed, AreReviewsOf};
+ghost use Rattle.th_runs.specs.Writes.{IsWritten, IsWrittenFor};
+ghost use Rattle.th_network.specs.Networks.{Survey};
+ghost use Rattle.th_tables.specs.Rows.{AreBenchmarks, AreWeights};
+
+use crate::adjusting::adjust;
+use crate::outputs::{ReviewOuts, write_review_outs};
+use crate::readers::ReviewReader;
+use crate::refusals::{Input, Output, Refusal};
+use crate::surveys::{Inputs, Tables, network_of, read_inputs};
+use std::alloc::{AllocError, Global};
+use th_devices::{Sink, Source};
+use th_entries::laws::entry_of_several_books_has_one_station;
+use th_entries::{BookReview, Entry, Spelling};
+use th_network::Network;
+use th_network::laws::faults_exclude_each_other;
+use th_reliability::{Reliability, SharedMistake, Sights, shared_mistakes};
+use th_review::{Findings, ReviewTexts, entries_of, review_texts, sights_of};
+use th_tables::Weights;
+
+/// Reviews the height network of up to 16 books, over benchmarks and weights, which may be absent:
+/// writes the tables of its points, of its observations and of its entries, which say what a mistake in
+/// each would do, and a review for people. Heights and residuals are those of `run_adjust`.
+///
+/// An observation is marked as a blunder where its residual is above `limit` in size, in units of
+/// 10 nm. Inputs are read as `run_adjust` reads them, and refused as it refuses them. All outputs are
+/// made in memory before the first is begun.
+pub fn run_review<B: Source, T: Source, W: Source, P: Sink, O: Sink, E: Sink, R: Sink>(
+    alloc: Global,
+    books: &mut [B],
+    benchmarks: &mut T,
+    weights: &mut Option<W>,
+    limit: i64,
+    outs: &mut ReviewOuts<P, O, E, R>,
+) -> Result<(), Refusal>
+    requires few_books { length books.old ≤ 16 }
+    requires books_calls { All (λ book. B.calls book ≤ calls_before) books.old }
+    requires benchmarks_calls { T.calls benchmarks.old ≤ calls_before }
+    requires weights_calls { IfSome weights.old (λ own. W.calls own ≤ calls_before) }
+    requires points_calls { P.calls outs.old.points ≤ calls_before }
+    requires observations_calls { O.calls outs.old.observations ≤ calls_before }
+    requires entries_calls { E.calls outs.old.entries ≤ calls_before }
+    requires review_calls { R.calls outs.old.review ≤ calls_before }
+
+    // What the answer means.
+    ensures written { IsWritten result → ((survey : Survey) × (reviews : List BookReview)
+        × (spellings : List Spelling) × (texts : ReviewOutTexts)
+        × Meets (owed_for_survey (givens B.failures B.left books.old books.new)
+        (given T.failures T.left benchmarks.old benchmarks.new)
+        (given_if_any W.failures W.left weights.old weights.new)) (Ok survey)
+        × MakesNetwork survey
+        × AreReviewsOf 1 (map B.left books.old) reviews spellings
+        × AreReviewed survey reviews spellings limit texts
+        × IsWrittenFor P.held P.is_finished P.calls P.failures Output.Points (refused result)
+        texts.points outs.old.points outs.new.points
+        × IsWrittenFor O.held O.is_finished O.calls O.failures Output.Observations (refused result)
+        texts.observations outs.old.observations outs.new.observations
+        × IsWrittenFor E.held E.is_finished E.calls E.failures Output.Entries (refused result)
+        texts.entries outs.old.entries outs.new.entries
+        × IsWrittenFor R.held R.is_finished R.calls R.failures Output.Review (refused result)
+        texts.review outs.old.review outs.new.review) }
+    ensures refused { IfErr result (λ own. (IsWritten result → ⊥) → IsOwed (λ survey. survey)
+        (owed_for_survey (givens B.failures B.left books.old books.new)
+        (given T.failures T.left benchmarks.old benchmarks.new)
+        (given_if_any W.failures W.left weights.old weights.new)) own) }
+    ensures named { IfErr result (IsNamed (length books.old) (is_some weights.old) Reviewing) }
+    ensures untouched { (IsWritten result → ⊥) → outs.new ≡ outs.old }
+
+    // Each sink stands where it stood.
+    ensures points_spot { P.spot outs.new.points ≡ P.spot outs.old.points }
+    ensures observations_spot { O.spot outs.new.observations ≡ O.spot outs.old.observations }
+    ensures entries_spot { E.spot outs.new.entries ≡ E.spot outs.old.entries }
+    ensures review_spot { R.spot outs.new.review ≡ R.spot outs.old.review }
+
+    // How the sources are read.
+    ensures books { EachBook
+        (λ own. IsReadFor B.calls B.failures B.left (Input.Book own) (refused result))
+        1 books.old books.new }
+    ensures benchmarks { IsReadFor T.calls T.failures T.left Input.Benchmarks (refused result)
+        benchmarks.old benchmarks.new }
+    ensures weights { IfPresent (IsReadFor W.calls W.failures W.left Input.Weights (refused result))
+        weights.old weights.new }
+{
+    entry_of_several_books_has_one_station();
+    let mut reader = ReviewReader::new(alloc);
+    let inputs = read_inputs(alloc, &mut reader, books, benchmarks, weights)?;
+    let reviews = reader.reviews.as_slice();
+    let texts = texts_of(alloc, inputs, reviews, reader.names.found(), limit)?;
+    write_review_outs(outs, &texts)
+}
+
+/// The texts of what is reviewed, or the first fault of its network.
+fn texts_of(
+    alloc: Global,
+    inputs: Inputs,
+    reviews: &[BookReview],
+    spellings: &[Spelling],
+    limit: i64,
+) -> Result<ReviewTexts, Refusal>
+    requires benchmarks { AreBenchmarks inputs.tables.benchmarks }
+    requires weights { AreWeights inputs.tables.weights }
+    requires few { length reviews.now ≤ 16 }
+    requires stations { All (HasOneStation inputs.observations.items) (entries_of reviews.now) }
+    ensures texts { IfOk result (λ texts. AreReviewed (surveyed inputs.observations.items (record {
+      benchmarks = inputs.tables.benchmarks;
+      weights = inputs.tables.weights;
+    })) reviews.now spellings.now limit (bytes_of texts)) }
+    ensures network { OnOk result (MakesNetwork (surveyed inputs.observations.items (record {
+      benchmarks = inputs.tables.benchmarks;
+      weights = inputs.tables.weights;
+    }))) }
+    ensures refused { IfErr result (IsNetRefusal (surveyed inputs.observations.items (record {
+      benchmarks = inputs.tables.benchmarks;
+      weights = inputs.tables.weights;
+    }))) }
+{
+    let Inputs {
+        observations,
+        tables,
+    } = inputs;
+    let network = network_of(alloc, observations, &tables.benchmarks, &tables.weights)?;
+    texts_of_network(alloc, &network, reviews, spellings, limit)
+}
+
+/// The texts of a network.
+fn texts_of_network(
+    alloc: Global,
+    network: &Network,
+    reviews: &[BookReview],
+    spellings: &[Spelling],
+    limit: i64,
+) -> Result<ReviewTexts, Refusal>
+    requires network { MakesNetwork network.now }
+    requires weights { AreWeights network.now.weights }
+    requires few { length reviews.now ≤ 16 }
+    requires stations { All (HasOneStation network.now.observations) (entries_of reviews.now) }
+    ensures texts { IfOk result (λ texts. AreReviewed network.now reviews.now spellings.now limit (bytes_of texts)) }
+    ensures refused { IfErr result (λ own. own ≡ Refusal.NoMemory) }
+{
+    let adjusted = adjust(alloc, network)?;
+    let findings = findings_of(alloc, network, reviews)?;
+    let low = adjusted.spans.low.as_slice();
+    let high = adjusted.spans.high.as_slice();
+    Ok(review_texts(
+        alloc, network, low, high, &findings, reviews, spellings, limit,
+    )?)
+}
+
+/// What a review finds of a network and of the entries of its books.
+fn findings_of(
+    alloc: Global,
+    network: &Network,
+    reviews: &[BookReview],
+) -> Result<Findings, Refusal>
+    requires network { MakesNetwork network.now }
+    requires stations { All (HasOneStation network.now.observations) (entries_of reviews.now) }
+    ensures found { IfOk result (λ findings. AreFound network.now reviews.now (found_in findings)) }
+    ensures refused { IfErr result (λ own. own ≡ Refusal.NoMemory) }
+{
+    let unit_strengths = unit_strengths_of(alloc, network)?;
+    let mistakes = mistakes_of(alloc, network, reviews)?;
+    let Reliability {
+        strengths,
+        controls,
+    } = Reliability::of(alloc, network)?;
+    Ok(Findings {
+        strengths,
+        unit_strengths,
+        controls,
+        mistakes,
+    })
+}
+
+/// The strengths of a network's points if each observation weighs 1.
+fn unit_strengths_of(alloc: Global, network: &Network) -> Result<Vec<Option<u32>>, Refusal>
+    requires { MakesNetwork network.now }
+    ensures strengths { IfOk result (λ strengths.
+        AreStrengths (record network.now { weights = [] }) strengths.items) }
+    ensures refused { IfErr result (λ own. own ≡ Refusal.NoMemory) }
+{
+    faults_exclude_each_other();
+    let observations = Vec::from_slice(alloc, network.observations())?;
+    let weights = Weights::empty(alloc);
+    let unit = network_of(alloc, observations, network.benchmarks(), &weights)?;
+    Ok(Reliability::of(alloc, &unit)?.strengths)
+}
+
+/// What a mistake in each entry of the books would do.
+fn mistakes_of(
+    alloc: Global,
+    network: &Network,
+    reviews: &[BookReview],
+) -> Result<Vec<SharedMistake>, AllocError>
+    requires { All (HasOneStation network.now.observations) (entries_of reviews.now) }
+    ensures { IfOk result (λ mistakes. AllZip (λ entry mistake.
+        IsSharedMistake network.now (in_sights (sights_of entry)) mistake) (entries_of reviews.now) mistakes.items) }
+{
+    let entries = entries_of(alloc, reviews)?;
+    let sights = sights_of_all(alloc, &entries)?;
+    shared_mistakes(alloc, network, &sights)
+}
+
+/// The sights of each entry.
+fn sights_of_all(alloc: Global, entries: &[Entry]) -> Result<Vec<Sights>, AllocError>
+    ensures { IfOk result (λ sights. sights.items ≡ map sights_of entries.now) }
+{
+    let mut sights = Vec::with_capacity(alloc, entries.len())?;
+    for entry in entries {
+        sights.push(sights_of(entry))?;
+    }
+    Ok(sights)
+}
