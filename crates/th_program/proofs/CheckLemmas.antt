@@ -1,5 +1,5 @@
 -- What a check over a folder comes to.
-use Rattle.std.proofs.Common.{◌≡◌, ℕ, Bool, true, List, Some, Ok, Err, IfErr, IfOk, ap, sym, subst, ◌∙◌}
+use Rattle.std.proofs.Common.{◌≡◌, ℕ, Bool, true, List, Some, Ok, Err, IfErr, IfOk, sym, subst}
 use Rattle.std.specs.Prelude.{IsSomeAnd, Option, Result}
 use Rattle.th_checker.specs.declared.verdicts.Verdict.{Verdict}
 use Rattle.th_checker.specs.declared.verdicts.Verdict.TheVariants as verdict
@@ -7,24 +7,15 @@ use Rattle.th_devices.specs.Spots.{Spot, output}
 use Rattle.th_plans.specs.Asked.{Files}
 use Rattle.th_program.specs.Done.{Holds, IsChecked, UnlessWrite}
 use Rattle.th_program.specs.Owed.{Told, claim_owed}
-use Rattle.th_program.proofs.AdjustLemmas.{holds-whole, unless}
+use Rattle.th_program.proofs.OutputLemmas.{holds-whole}
+use Rattle.th_program.proofs.RefusalLemmas.{unless}
 use Rattle.th_runs.specs.Checked.{IsRight, IsVerdictOn, verdict_line, verdict_on}
-use Rattle.th_runs.specs.Inputs.{Claim, Given, IsOwed, MakesNetwork, Meets, Owed, owed_for_claim}
+use Rattle.th_runs.specs.Inputs.{Claim, IsOwed, MakesNetwork, Meets, Owed}
 use Rattle.th_runs.specs.Reads.{refused}
 use Rattle.th_runs.specs.Refusals.{status_of_verdict}
 use Rattle.th_runs.specs.Writes.{IsWritten, IsWrittenFor}
 use Rattle.th_runs.specs.declared.refusals.Output.TheVariants as out
 use Rattle.th_runs.specs.declared.refusals.Refusal.{Refusal}
-
--- the owed claim depends on what the inputs gave
-pub claim-same : (books books' : List Given) (benchmarks benchmarks' : Given) (weights weights' : Option Given) (certificate certificate' : Given)
-    → books ≡ books' → benchmarks ≡ benchmarks' → weights ≡ weights' → certificate ≡ certificate'
-    → owed_for_claim books benchmarks weights certificate ≡ owed_for_claim books' benchmarks' weights' certificate'
-claim-same books books' benchmarks benchmarks' weights weights' certificate certificate' same_books same_benchmarks same_weights same_certificate =
-    ap (λ own. owed_for_claim own benchmarks weights certificate) same_books
-    ∙ ap (λ own. owed_for_claim books' own weights certificate) same_benchmarks
-    ∙ ap (λ own. owed_for_claim books' benchmarks' own certificate) same_weights
-    ∙ ap (λ own. owed_for_claim books' benchmarks' weights' own) same_certificate
 
 -- a verdict that is right where it is yes
 right : (claim : Claim) (own : Verdict) → IsVerdictOn claim own → status_of_verdict own ≡ 0 → IsRight claim

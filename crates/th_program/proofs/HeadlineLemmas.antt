@@ -14,7 +14,7 @@ use Rattle.th_plans.specs.declared.faults.PlanFault.{PlanFault}
 use Rattle.th_plans.specs.declared.faults.PlanFault.TheVariants as fault
 use Rattle.th_plans.specs.declared.plans.Plan.{Plan}
 use Rattle.th_plans.specs.declared.plans.Plan.TheVariants as plan
-use Rattle.th_program.proofs.AdjustLemmas.{owed-same}
+use Rattle.th_program.proofs.OpenedLemmas.{owed-same}
 use Rattle.th_program.specs.Done.{AreDone, IsAdjusted, IsChecked, IsRefusedAdjust, IsRun, IsUsage, UnlessWrite}
 use Rattle.th_program.specs.Headline.{AskFor, IsAccepted, IsUnlucky}
 use Rattle.th_program.specs.Owed.{Told, claim_owed, given_by, given_by_books, survey_owed}
@@ -33,6 +33,7 @@ said_is : (words : List (List ℕ)) (own : Plan) (wanted : Asked) → IsPlanOf w
 said_is words plan.Standard wanted is asks = absurd (omega (arith, is, asks.0))
 said_is words (plan.List book) wanted is asks = sym is.2 ∙ asks.2
 said_is words (plan.Adjust inputs limit prefix) wanted is asks = sym is.2 ∙ asks.2
+said_is words (plan.Review inputs limit prefix) wanted is asks = sym is.2 ∙ asks.2
 said_is words (plan.Check inputs certificate) wanted is asks = sym is.2 ∙ asks.2
 
 -- words that ask for something have no fault but that there is no memory
@@ -139,6 +140,8 @@ ran_plan tells held has_failed old new (plan.List book) status (inl done) = inl 
 ran_plan tells held has_failed old new (plan.List book) status (inr (own, run)) = inr (own, run.status_is, tt)
 ran_plan tells held has_failed old new (plan.Adjust inputs limit prefix) status (inl done) = inl done.0
 ran_plan tells held has_failed old new (plan.Adjust inputs limit prefix) status (inr (own, run)) = inr (own, run.status_is, run.refused)
+ran_plan tells held has_failed old new (plan.Review inputs limit prefix) status (inl done) = inl tt
+ran_plan tells held has_failed old new (plan.Review inputs limit prefix) status (inr (own, run)) = inr (own, run.status_is, tt)
 ran_plan tells held has_failed old new (plan.Check inputs certificate) status (inl done) = inl done.0
 ran_plan tells held has_failed old new (plan.Check inputs certificate) status (inr (own, run)) = inr (own, run.status_is, run.refused)
 

@@ -1,8 +1,10 @@
 -- What the program does, over what a folder tells before and after.
-use Rattle.std.specs.Prelude.{◌⊎◌, ◌≢◌, ◌≡◌, ◌++◌, ◌∷◌, [], ℕ, ℤ, Bool, true, false, List, Option, Some, None, Ok, codes}
+use Rattle.std.specs.Prelude.{◌⊎◌, ◌≢◌, ◌≡◌, ◌++◌, ◌∷◌, [], ℕ, ℤ, Bool, true, false, List, Option, Some, None, Ok, codes, map}
 use Rattle.th_checker.specs.declared.verdicts.Verdict.{Verdict}
 use Rattle.th_book.specs.Observed.{Observed}
 use Rattle.th_devices.specs.Spots.{Spot, errors, file, input, output}
+use Rattle.th_entries.specs.declared.reviews.BookReview.{BookReview}
+use Rattle.th_entries.specs.declared.spellings.Spelling.{Spelling}
 use Rattle.th_network.specs.Networks.{Survey}
 use Rattle.th_plans.specs.Asked.{Files}
 use Rattle.th_plans.specs.Plans.{IsFaultOf, IsPlanOf, files}
@@ -11,10 +13,12 @@ use Rattle.th_plans.specs.declared.faults.PlanFault.TheVariants as fault
 use Rattle.th_plans.specs.declared.plans.Plan.{Plan}
 use Rattle.th_plans.specs.declared.plans.Plan.TheVariants as plan
 use Rattle.th_report.specs.Lists.{list_text}
+use Rattle.th_review.specs.Texts.{ReviewOutTexts}
 use Rattle.th_runs.specs.Adjusted.{AreOutputs, OutTexts}
 use Rattle.th_runs.specs.Checked.{IsRight, verdict_line, verdict_on}
-use Rattle.th_runs.specs.Inputs.{Claim, IsOwed, MakesNetwork, Meets}
+use Rattle.th_runs.specs.Inputs.{Claim, IsOwed, MakesNetwork, Meets, Owed}
 use Rattle.th_runs.specs.Refusals.{refusal_text, status_of, status_of_verdict}
+use Rattle.th_runs.specs.Reviewed.{AreReviewed, AreReviewsOf}
 use Rattle.th_runs.specs.Runs.{AreOfBook, IsRefusalOf}
 use Rattle.th_runs.specs.Writes.{Stage, Whole, Broken, Untouched, stage_of}
 use Rattle.th_runs.specs.declared.refusals.Output.TheVariants as out
@@ -45,6 +49,19 @@ report_spot prefix = file (prefix ++ codes ".report.txt")
 abbrev pub gsi_spot : List ℕ → Spot
 gsi_spot prefix = file (prefix ++ codes ".heights.gsi")
 
+-- and those of a review
+abbrev pub points_spot : List ℕ → Spot
+points_spot prefix = file (prefix ++ codes ".points.csv")
+
+abbrev pub observations_spot : List ℕ → Spot
+observations_spot prefix = file (prefix ++ codes ".observations.csv")
+
+abbrev pub entries_spot : List ℕ → Spot
+entries_spot prefix = file (prefix ++ codes ".entries.csv")
+
+abbrev pub review_spot : List ℕ → Spot
+review_spot prefix = file (prefix ++ codes ".review.txt")
+
 -- standard output has the list of the book that is at this spot
 pub record IsListed (tells : Bool) (old new : Told) (book : Spot) : Type 0 where
   pub observations : List Observed
@@ -63,6 +80,22 @@ pub record IsAdjusted (tells : Bool) (old new : Told) (from : Files) (limit : �
   pub certificate : IsLeft tells old new (stage_of out.Certificate answer) (certificate_spot prefix) texts.certificate
   pub report : IsLeft tells old new (stage_of out.Report answer) (report_spot prefix) texts.report
   pub gsi : IsLeft tells old new (stage_of out.Gsi answer) (gsi_spot prefix) texts.gsi
+
+-- the four files have the texts of a review of the named files: of the survey that they give, and of what their books hold beside it. All of them where there is
+-- no refusal. Where a write was refused, the files before it are whole and those behind it as they were
+pub record IsReviewed (tells : Bool) (old new : Told) (from : Files) (limit : ℤ) (prefix : List ℕ) (answer : Option Refusal) : Type 0 where
+  pub survey : Survey
+  pub reviews : List BookReview
+  pub spellings : List Spelling
+  pub texts : ReviewOutTexts
+  pub given : Meets (survey_owed old answer from) (Ok survey)
+  pub network : MakesNetwork survey
+  pub of_books : AreReviewsOf 1 (map (λ name. old (file name)) from.books) reviews spellings
+  pub reviewed : AreReviewed survey reviews spellings limit texts
+  pub points : IsLeft tells old new (stage_of out.Points answer) (points_spot prefix) texts.points
+  pub observations : IsLeft tells old new (stage_of out.Observations answer) (observations_spot prefix) texts.observations
+  pub entries : IsLeft tells old new (stage_of out.Entries answer) (entries_spot prefix) texts.entries
+  pub review : IsLeft tells old new (stage_of out.Review answer) (review_spot prefix) texts.review
 
 -- standard output has the line of the verdict on the claim that the named files give, and a yes is right
 pub record IsChecked (tells : Bool) (old new : Told) (from : Files) (certificate : List ℕ) (verdict : Verdict) : Type 0 where
@@ -83,19 +116,28 @@ abbrev pub IsDone : Bool → Told → Told → Plan → ℕ → Type 0
 IsDone tells old new plan.Standard status = (status ≡ 0) × IsListed tells old new input
 IsDone tells old new (plan.List book) status = (status ≡ 0) × IsListed tells old new (file book.now)
 IsDone tells old new (plan.Adjust inputs limit prefix) status = (status ≡ 0) × IsAdjusted tells old new (files inputs) limit prefix.now None
+IsDone tells old new (plan.Review inputs limit prefix) status = (status ≡ 0) × IsReviewed tells old new (files inputs) limit prefix.now None
 IsDone tells old new (plan.Check inputs certificate) status =
     (verdict : Verdict) × (status ≡ status_of_verdict verdict) × IsChecked tells old new (files inputs) certificate.now verdict
 
--- the refusal of an adjustment: its inputs owe it, or an output was not written, and those before it are
+-- the refusal of a run that writes files: an output was not written, and the files are left so, or it is the refusal that is owed
+abbrev pub IsRefusedWriting : Owed Survey → (Option Refusal → Type 0) → Refusal → Type 0
+IsRefusedWriting owed AreLeft (refusal.Write which) = AreLeft (Some (refusal.Write which))
+IsRefusedWriting owed AreLeft own = IsOwed (λ survey. survey) owed own
+
+-- the refusal of an adjustment, and of a review
 abbrev pub IsRefusedAdjust : Bool → Told → Told → Files → ℤ → List ℕ → Refusal → Type 0
-IsRefusedAdjust tells old new from limit prefix (refusal.Write which) = IsAdjusted tells old new from limit prefix (Some (refusal.Write which))
-IsRefusedAdjust tells old new from limit prefix own = IsOwed (λ survey. survey) (survey_owed old (Some own) from) own
+IsRefusedAdjust tells old new from limit prefix own = IsRefusedWriting (survey_owed old (Some own) from) (IsAdjusted tells old new from limit prefix) own
+
+abbrev pub IsRefusedReview : Bool → Told → Told → Files → ℤ → List ℕ → Refusal → Type 0
+IsRefusedReview tells old new from limit prefix own = IsRefusedWriting (survey_owed old (Some own) from) (IsReviewed tells old new from limit prefix) own
 
 -- the refusal is one of what a plan asks for: the one that the bytes at its inputs owe, where they are told
 abbrev pub IsRefused : Bool → Told → Told → Plan → Refusal → Type 0
 IsRefused tells old new plan.Standard own = IsRefusalOf 1 (old input) own
 IsRefused tells old new (plan.List book) own = IsRefusalOf 1 (old (file book.now)) own
 IsRefused tells old new (plan.Adjust inputs limit prefix) own = IsRefusedAdjust tells old new (files inputs) limit prefix.now own
+IsRefused tells old new (plan.Review inputs limit prefix) own = IsRefusedReview tells old new (files inputs) limit prefix.now own
 IsRefused tells old new (plan.Check inputs certificate) own =
     UnlessWrite own (IsOwed (λ claim. claim.survey) (claim_owed old (Some own) (files inputs) certificate.now) own)
 
@@ -103,9 +145,11 @@ IsRefused tells old new (plan.Check inputs certificate) own =
 abbrev pub IsOutputOf : Plan → Spot → Type 0
 IsOutputOf (plan.Adjust inputs limit prefix) spot =
     (spot ≡ heights_spot prefix.now) ⊎ (spot ≡ certificate_spot prefix.now) ⊎ (spot ≡ report_spot prefix.now) ⊎ (spot ≡ gsi_spot prefix.now)
+IsOutputOf (plan.Review inputs limit prefix) spot =
+    (spot ≡ points_spot prefix.now) ⊎ (spot ≡ observations_spot prefix.now) ⊎ (spot ≡ entries_spot prefix.now) ⊎ (spot ≡ review_spot prefix.now)
 IsOutputOf other spot = spot ≡ output
 
--- standard error has the line of a refusal, or says that there is no memory for it
+-- standard error has the line of a refusal, or says that the program is out of memory
 abbrev pub IsReported : Bool → Told → Refusal → Type 0
 IsReported tells told own = Holds tells told errors (refusal_text own ++ 10 ∷ []) ⊎ Holds tells told errors (codes "out of memory" ++ 10 ∷ [])
 
@@ -123,7 +167,7 @@ IsRun tells held has_failed old new asked status =
     (IsDone tells (held old) (held new) asked status × ((spot : Spot) → (IsOutputOf asked spot → ⊥) → held new spot ≡ held old spot))
     ⊎ ((own : Refusal) × IsRefusedRun tells held has_failed old new asked status own)
 
--- the status after words that are no plan: 4 for no memory, else 3
+-- the status after words that are no plan: 4 out of memory, else 3
 abbrev pub status_of_fault : PlanFault → ℕ
 status_of_fault fault.NoMemory = 4
 status_of_fault other = 3

@@ -7,18 +7,18 @@ ghost use Rattle.th_runs.specs.Inputs.{IsOwed};
 ghost use Rattle.th_runs.specs.Reads.{refused};
 ghost use Rattle.th_runs.specs.Writes.{IsWritten};
 
-use crate::opening::{Endings, close_outs, outs_of, source_if_any, sources_of};
+use crate::opening::{Four, close_sinks, sinks_of, sources_of};
 use std::alloc::Global;
-use th_devices::{Folder, Origin};
+use th_devices::Folder;
 use th_plans::{Inputs, Limit};
-use th_runs::{Refusal, run_adjust};
+use th_runs::{Outs, Refusal, run_adjust};
 
 /// How the names of the files end that an adjustment writes.
-const ENDINGS: Endings<'static> = Endings {
-    heights: ".heights.csv",
-    certificate: ".certificate.csv",
-    report: ".report.txt",
-    gsi: ".heights.gsi",
+const ENDINGS: Four<&str> = Four {
+    first: ".heights.csv",
+    second: ".certificate.csv",
+    third: ".report.txt",
+    fourth: ".heights.gsi",
 };
 
 /// Adjusts the network of the files of these names. The names of the four files that are written
@@ -44,18 +44,28 @@ pub fn adjust<F: Folder>(
         → spot ≢ gsi_spot prefix.now
         → F.held folder.new spot ≡ F.held folder.old spot }
 {
-    let mut books = sources_of(alloc, folder, inputs.books.names())?;
-    let mut benchmarks = folder.source(alloc, Origin::File(inputs.benchmarks))?;
-    let mut weights = source_if_any(alloc, folder, inputs.weights)?;
-    let mut outs = outs_of(alloc, folder, prefix, &ENDINGS)?;
+    let mut sources = sources_of(alloc, folder, inputs)?;
+    let sinks = sinks_of(alloc, folder, prefix, &ENDINGS)?;
+    let mut outs = Outs {
+        heights: sinks.first,
+        certificate: sinks.second,
+        report: sinks.third,
+        gsi: sinks.fourth,
+    };
     let answer = run_adjust(
         alloc,
-        books.as_mut_slice(),
-        &mut benchmarks,
-        &mut weights,
+        sources.books.as_mut_slice(),
+        &mut sources.benchmarks,
+        &mut sources.weights,
         limit.get(),
         &mut outs,
     );
-    close_outs(folder, outs);
+    let sinks = Four {
+        first: outs.heights,
+        second: outs.certificate,
+        third: outs.report,
+        fourth: outs.gsi,
+    };
+    close_sinks(folder, sinks);
     answer
 }

@@ -6,7 +6,7 @@ ghost use Rattle.th_program.specs.Done.{IsChecked, UnlessWrite};
 ghost use Rattle.th_program.specs.Owed.{claim_owed};
 ghost use Rattle.th_runs.specs.Inputs.{IsOwed};
 
-use crate::opening::{source_if_any, sources_of};
+use crate::opening::sources_of;
 use std::alloc::Global;
 use th_checker::Verdict;
 use th_devices::{Folder, Origin, Target};
@@ -27,16 +27,14 @@ pub fn check<F: Folder>(
     ensures untouched { IfErr result (λ own. UnlessWrite own (folder.new ≡ folder.old)) }
     ensures others { (spot : _) → spot ≢ output → F.held folder.new spot ≡ F.held folder.old spot }
 {
-    let mut books = sources_of(alloc, folder, inputs.books.names())?;
-    let mut benchmarks = folder.source(alloc, Origin::File(inputs.benchmarks))?;
-    let mut weights = source_if_any(alloc, folder, inputs.weights)?;
+    let mut sources = sources_of(alloc, folder, inputs)?;
     let mut certificate = folder.source(alloc, Origin::File(certificate))?;
     let mut out = folder.sink(alloc, Target::Output)?;
     let answer = run_check(
         alloc,
-        books.as_mut_slice(),
-        &mut benchmarks,
-        &mut weights,
+        sources.books.as_mut_slice(),
+        &mut sources.benchmarks,
+        &mut sources.weights,
         &mut certificate,
         &mut out,
     );

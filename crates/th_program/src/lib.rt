@@ -12,6 +12,7 @@ mod opening;
 mod adjusting;
 mod checking;
 mod listing;
+mod reviewing;
 
 // The program: a refusal is reported, a plan is run, arguments become a plan.
 mod arguments;
@@ -26,3 +27,4 @@ pub use arguments::{run_arguments, run_words};
 pub use checking::check;
 pub use listing::list;
 pub use plans::run_plan;
+pub use reviewing::review;

@@ -1,21 +1,49 @@
 //! The sources and sinks of a run, as a folder gives them.
-ghost use Rattle.std.specs.Prelude.{◌≢◌, true, ◌≡◌, IfOk, map, option_map, ◌++◌};
+ghost use Rattle.std.specs.Prelude.{◌≢◌, ◌≤◌, ◌≡◌, ◌++◌, IfOk, length, map, option_map};
 ghost use Rattle.th_devices.specs.Spots.{IsMade, file};
-ghost use Rattle.th_program.specs.Inside.Opened.{AreApart, AreOpened, IsOpenedIfAny, IsUntouched};
+ghost use Rattle.th_plans.specs.Limits.{max_books};
+ghost use Rattle.th_plans.specs.Plans.{files};
+ghost use Rattle.th_program.specs.Inside.Opened.{AreApart, AreOpened, EachIsOpened, IsOpenedIfAny, IsTaken, IsUntouched};
 
 use std::alloc::{AllocError, Global};
 use th_devices::{Folder, Origin, Target};
-use th_runs::Outs;
+use th_plans::Inputs;
+
+/// The sources that `adjust`, `review` and `check` read.
+#[derive(Drop)]
+pub(crate) struct Sources<S> {
+    pub(crate) books: Vec<S>,
+    pub(crate) benchmarks: S,
+    pub(crate) weights: Option<S>,
+}
+
+/// The sources of the files that the inputs name.
+pub(crate) fn sources_of<F: Folder>(
+    alloc: Global,
+    folder: &mut F,
+    inputs: &Inputs<'_>,
+) -> Result<Sources<F::In>, AllocError>
+    ensures same { folder.new ≡ folder.old }
+    ensures opened { IfOk result (λ sources. AreOpened F.held F.In.left F.In.calls F.In.failures
+        folder.old (files inputs.now) sources.books.items sources.benchmarks sources.weights) }
+    ensures few_books { IfOk result (λ sources. length sources.books.items ≤ max_books) }
+{
+    Ok(Sources {
+        books: books_of(alloc, folder, inputs.books.names())?,
+        benchmarks: folder.source(alloc, Origin::File(inputs.benchmarks))?,
+        weights: source_if_any(alloc, folder, inputs.weights)?,
+    })
+}
 
 /// The sources of the files of these names.
-pub(crate) fn sources_of<F: Folder>(
+fn books_of<F: Folder>(
     alloc: Global,
     folder: &mut F,
     names: &[&str],
 ) -> Result<Vec<F::In>, AllocError>
     ensures same { folder.new ≡ folder.old }
-    ensures opened { IfOk result (λ sources. AreOpened F.held F.In.left F.In.calls F.In.failures
-        folder.old (map (λ name. name.now) names.now) sources.items) }
+    ensures opened { IfOk result (λ sources. EachIsOpened F.held F.In.left F.In.calls
+        F.In.failures folder.old (map (λ name. name.now) names.now) sources.items) }
 {
     let mut sources = Vec::new(alloc);
     for name in names {
@@ -25,7 +53,7 @@ pub(crate) fn sources_of<F: Folder>(
 }
 
 /// The source of the file of this name, where there is a name.
-pub(crate) fn source_if_any<F: Folder>(
+fn source_if_any<F: Folder>(
     alloc: Global,
     folder: &mut F,
     name: Option<&str>,
@@ -40,37 +68,37 @@ pub(crate) fn source_if_any<F: Folder>(
     }
 }
 
-/// How the names of the four files that a run writes end.
-pub(crate) struct Endings<'a> {
-    pub(crate) heights: &'a str,
-    pub(crate) certificate: &'a str,
-    pub(crate) report: &'a str,
-    pub(crate) gsi: &'a str,
+/// Four things, one for each file that a run writes, in the order in which it writes them.
+#[derive(Drop)]
+pub(crate) struct Four<T> {
+    pub(crate) first: T,
+    pub(crate) second: T,
+    pub(crate) third: T,
+    pub(crate) fourth: T,
 }
 
-/// Four sinks, for the files whose names are the prefix and these endings.
-pub(crate) fn outs_of<F: Folder>(
+/// The sinks for the files whose names are the prefix and these endings.
+pub(crate) fn sinks_of<F: Folder>(
     alloc: Global,
     folder: &mut F,
     prefix: &str,
-    endings: &Endings<'_>,
-) -> Result<Outs<F::Out, F::Out, F::Out, F::Out>, AllocError>
+    endings: &Four<&str>,
+) -> Result<Four<F::Out>, AllocError>
     ensures same { folder.new ≡ folder.old }
-    ensures heights { IfOk result (λ outs. IsMade F.tells F.Out.spot F.Out.held F.Out.is_finished
-        F.Out.calls F.Out.failures (file (prefix.now ++ endings.now.heights.now)) outs.heights) }
-    ensures certificate { IfOk result (λ outs. IsMade F.tells F.Out.spot F.Out.held
-        F.Out.is_finished F.Out.calls F.Out.failures
-        (file (prefix.now ++ endings.now.certificate.now)) outs.certificate) }
-    ensures report { IfOk result (λ outs. IsMade F.tells F.Out.spot F.Out.held F.Out.is_finished
-        F.Out.calls F.Out.failures (file (prefix.now ++ endings.now.report.now)) outs.report) }
-    ensures gsi { IfOk result (λ outs. IsMade F.tells F.Out.spot F.Out.held F.Out.is_finished
-        F.Out.calls F.Out.failures (file (prefix.now ++ endings.now.gsi.now)) outs.gsi) }
+    ensures first { IfOk result (λ sinks. IsMade F.tells F.Out.spot F.Out.held F.Out.is_finished
+        F.Out.calls F.Out.failures (file (prefix.now ++ endings.now.first.now)) sinks.first) }
+    ensures second { IfOk result (λ sinks. IsMade F.tells F.Out.spot F.Out.held F.Out.is_finished
+        F.Out.calls F.Out.failures (file (prefix.now ++ endings.now.second.now)) sinks.second) }
+    ensures third { IfOk result (λ sinks. IsMade F.tells F.Out.spot F.Out.held F.Out.is_finished
+        F.Out.calls F.Out.failures (file (prefix.now ++ endings.now.third.now)) sinks.third) }
+    ensures fourth { IfOk result (λ sinks. IsMade F.tells F.Out.spot F.Out.held F.Out.is_finished
+        F.Out.calls F.Out.failures (file (prefix.now ++ endings.now.fourth.now)) sinks.fourth) }
 {
-    Ok(Outs {
-        heights: sink_of(alloc, folder, prefix, endings.heights)?,
-        certificate: sink_of(alloc, folder, prefix, endings.certificate)?,
-        report: sink_of(alloc, folder, prefix, endings.report)?,
-        gsi: sink_of(alloc, folder, prefix, endings.gsi)?,
+    Ok(Four {
+        first: sink_of(alloc, folder, prefix, endings.first)?,
+        second: sink_of(alloc, folder, prefix, endings.second)?,
+        third: sink_of(alloc, folder, prefix, endings.third)?,
+        fourth: sink_of(alloc, folder, prefix, endings.fourth)?,
     })
 }
 
@@ -91,45 +119,36 @@ fn sink_of<F: Folder>(
 }
 
 /// Gives four sinks back.
-pub(crate) fn close_outs<F: Folder>(folder: &mut F, outs: Outs<F::Out, F::Out, F::Out, F::Out>)
-    requires { AreApart (F.Out.spot outs.heights) (F.Out.spot outs.certificate)
-        (F.Out.spot outs.report) (F.Out.spot outs.gsi) }
-    ensures heights { F.Out.is_finished outs.heights ≡ true
-        → F.held folder.new (F.Out.spot outs.heights) ≡ F.Out.held outs.heights }
-    ensures certificate { F.Out.is_finished outs.certificate ≡ true
-        → F.held folder.new (F.Out.spot outs.certificate) ≡ F.Out.held outs.certificate }
-    ensures report { F.Out.is_finished outs.report ≡ true
-        → F.held folder.new (F.Out.spot outs.report) ≡ F.Out.held outs.report }
-    ensures gsi { F.Out.is_finished outs.gsi ≡ true
-        → F.held folder.new (F.Out.spot outs.gsi) ≡ F.Out.held outs.gsi }
-    ensures same_heights { IsUntouched F.Out.is_finished F.Out.calls outs.heights
-        → F.held folder.new (F.Out.spot outs.heights) ≡ F.held folder.old (F.Out.spot outs.heights) }
-    ensures same_certificate { IsUntouched F.Out.is_finished F.Out.calls outs.certificate
-        → F.held folder.new (F.Out.spot outs.certificate)
-        ≡ F.held folder.old (F.Out.spot outs.certificate) }
-    ensures same_report { IsUntouched F.Out.is_finished F.Out.calls outs.report
-        → F.held folder.new (F.Out.spot outs.report) ≡ F.held folder.old (F.Out.spot outs.report) }
-    ensures same_gsi { IsUntouched F.Out.is_finished F.Out.calls outs.gsi
-        → F.held folder.new (F.Out.spot outs.gsi) ≡ F.held folder.old (F.Out.spot outs.gsi) }
-    ensures untouched { IsUntouched F.Out.is_finished F.Out.calls outs.heights
-        → IsUntouched F.Out.is_finished F.Out.calls outs.certificate
-        → IsUntouched F.Out.is_finished F.Out.calls outs.report
-        → IsUntouched F.Out.is_finished F.Out.calls outs.gsi
+pub(crate) fn close_sinks<F: Folder>(folder: &mut F, sinks: Four<F::Out>)
+    requires { AreApart (F.Out.spot sinks.first) (F.Out.spot sinks.second)
+        (F.Out.spot sinks.third) (F.Out.spot sinks.fourth) }
+    ensures first { IsTaken F.Out.spot F.Out.held F.Out.is_finished F.Out.calls
+        (F.held folder.old) (F.held folder.new) sinks.first }
+    ensures second { IsTaken F.Out.spot F.Out.held F.Out.is_finished F.Out.calls
+        (F.held folder.old) (F.held folder.new) sinks.second }
+    ensures third { IsTaken F.Out.spot F.Out.held F.Out.is_finished F.Out.calls
+        (F.held folder.old) (F.held folder.new) sinks.third }
+    ensures fourth { IsTaken F.Out.spot F.Out.held F.Out.is_finished F.Out.calls
+        (F.held folder.old) (F.held folder.new) sinks.fourth }
+    ensures untouched { IsUntouched F.Out.is_finished F.Out.calls sinks.first
+        → IsUntouched F.Out.is_finished F.Out.calls sinks.second
+        → IsUntouched F.Out.is_finished F.Out.calls sinks.third
+        → IsUntouched F.Out.is_finished F.Out.calls sinks.fourth
         → folder.new ≡ folder.old }
-    ensures others { (spot : _) → spot ≢ F.Out.spot outs.heights
-        → spot ≢ F.Out.spot outs.certificate
-        → spot ≢ F.Out.spot outs.report
-        → spot ≢ F.Out.spot outs.gsi
+    ensures others { (spot : _) → spot ≢ F.Out.spot sinks.first
+        → spot ≢ F.Out.spot sinks.second
+        → spot ≢ F.Out.spot sinks.third
+        → spot ≢ F.Out.spot sinks.fourth
         → F.held folder.new spot ≡ F.held folder.old spot }
 {
-    let Outs {
-        heights,
-        certificate,
-        report,
-        gsi,
-    } = outs;
-    folder.close(heights);
-    folder.close(certificate);
-    folder.close(report);
-    folder.close(gsi);
+    let Four {
+        first,
+        second,
+        third,
+        fourth,
+    } = sinks;
+    folder.close(first);
+    folder.close(second);
+    folder.close(third);
+    folder.close(fourth);
 }

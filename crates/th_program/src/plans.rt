@@ -6,6 +6,7 @@ use crate::adjusting::adjust;
 use crate::checking::check;
 use crate::listing::list;
 use crate::refusals::refuse;
+use crate::reviewing::review;
 use std::alloc::Global;
 use th_devices::{Folder, Origin};
 use th_plans::Plan;
@@ -38,6 +39,11 @@ fn carry_out<F: Folder>(alloc: Global, folder: &mut F, plan: &Plan<'_>) -> Resul
             limit,
             prefix,
         } => adjust(alloc, folder, inputs, *limit, *prefix)?,
+        Plan::Review {
+            inputs,
+            limit,
+            prefix,
+        } => review(alloc, folder, inputs, *limit, *prefix)?,
         Plan::Check {
             inputs,
             certificate,

@@ -1,20 +1,10 @@
-use Rattle.std.proofs.Common.{◌≡◌, ◌∙◌, ◌+◌, ◌++◌, ◌∷◌, ℕ, List, [], ap, get_or, map, subst, take, rules}
+use Rattle.std.proofs.Common.{ℕ, List, arith}
 use Rattle.std.specs.Borrow.{Bor}
-use Rattle.std.proofs.lemmas.List.{get_or_default, map-append, take_more}
-use Rattle.th_devices.specs.Spots.{IsOpened, file}
-use Rattle.th_program.proofs.OpenedLemmas.{opened-more}
+use Rattle.std.proofs.lemmas.List.{length-map}
+use Rattle.th_program.proofs.OpenedLemmas.{opened-length}
 use Rattle.th_program.proofs.opening.sources_of.Goals as goal
 
-pub loop-name-preserved : goal.loop-name-preserved
-loop-name-preserved g c =
-    let names : List (Bor (List ℕ)) = c.args.names.now in
-    let i : ℕ = c.loop-name.name-index in
-    let none : Bor (List ℕ) = record { ref_ptr = c.args.names.ref_ptr; now = [] } in
-    let one = ap (λ (name : Bor (List ℕ)). name.now) (get_or_default names i _ none c.loop-name-test.true) in
-    let shown : map (λ (name : Bor (List ℕ)). name.now) (take (i + 1) names) ≡ map (λ (name : Bor (List ℕ)). name.now) (take i names) ++ (get_or names i none).now ∷ [] =
-    ap (map (λ (name : Bor (List ℕ)). name.now)) (take_more names i none c.loop-name-test.true)
-    ∙ map-append (λ (name : Bor (List ℕ)). name.now) (take i names) (get_or names i none ∷ []) in
-    let opened = subst (λ (name : List ℕ). IsOpened g.F.Folder.held g.F.In.Source.left g.F.In.Source.calls g.F.In.Source.failures (file name) c.loop-name.folder c.in_ok-source.field-0) one
-    c.in_ok-source.ensures.opened in
-    let more = opened-more _ _ _ _ _ _ _ _ _ c.loop-name.invariant.1 (rw c.loop-name.invariant.0 at opened) in
-    (search rules, rw shown (rw c.in_ok-push.ensures.items more))
+pub returns-clause-few_books : goal.returns-clause-few_books
+returns-clause-few_books g c =
+    let same = opened-length g.F.Folder.held g.F.In.Source.left g.F.In.Source.calls g.F.In.Source.failures _ _ _ c.in_ok-books_of.ensures.opened in
+    omega (arith, same, length-map c.names.result.now (λ (name : Bor (List ℕ)). name.now), c.names.ensures.few)

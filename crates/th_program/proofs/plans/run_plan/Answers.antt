@@ -1,5 +1,6 @@
 use Rattle.std.proofs.Common.{◌∙◌, ap, inr}
-use Rattle.th_program.proofs.AdjustLemmas.{refused-after, unless-map}
+use Rattle.th_program.proofs.RefusalLemmas.{unless-map}
+use Rattle.th_program.proofs.RunLemmas.{refused-after}
 use Rattle.th_program.proofs.plans.run_plan.Goals as goal
 
 pub returns-in-Err : goal.returns-in-Err

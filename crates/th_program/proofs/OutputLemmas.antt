@@ -1,0 +1,65 @@
+-- The files that a run over a folder writes.
+use Rattle.std.proofs.Common.{◌≡◌, ◌≢◌, ◌++◌, ℕ, Bool, true, List, [], None, Some, IfSome, ap, sym, ◌∙◌}
+use Rattle.std.specs.Prelude.{IsSomeAnd, Option}
+use Rattle.std.proofs.lemmas.List.{append_cancel_left}
+use Rattle.th_devices.specs.Spots.{IsMade, Spot, errors, file}
+use Rattle.th_program.specs.Done.{Holds, IsLeft}
+use Rattle.th_program.specs.Inside.Opened.{AreApart, IsTaken}
+use Rattle.th_program.specs.Owed.{Told}
+use Rattle.th_runs.specs.Writes.{Broken, Stage, StandsAt, Untouched, Whole}
+
+-- the name of a file
+abbrev name_of : Spot → List ℕ
+name_of (file name) = name
+name_of other = []
+
+-- files with one beginning and different ends are different
+pub ends-apart : (prefix first second : List ℕ) → first ≢ second → file (prefix ++ first) ≢ file (prefix ++ second)
+ends-apart prefix first second apart = λ same. apart (append_cancel_left prefix first second (ap name_of same))
+
+-- sinks are apart where their spots are
+pub sinks-apart : (first second third fourth first' second' third' fourth' : Spot) → first' ≡ first → second' ≡ second → third' ≡ third → fourth' ≡ fourth
+    → AreApart first second third fourth → AreApart first' second' third' fourth'
+sinks-apart first second third fourth first' second' third' fourth' is_first is_second is_third is_fourth apart =
+    rw is_first (rw is_second (rw is_third (rw is_fourth apart)))
+
+-- a sink that was made for a spot, used there, and given back
+pub record IsUsed {K : Type 0} (tells : Bool) (before after : Told) (spot_of : K → Spot) (held : K → Option (List ℕ)) (is_finished : K → Bool) (calls failures : K → ℕ) (spot : Spot) (old new : K) : Type 0 where
+  pub made : IsMade tells spot_of held is_finished calls failures spot old
+  pub there : spot_of new ≡ spot_of old
+  pub taken : IsTaken spot_of held is_finished calls before after new
+
+-- what is known where something is told
+where_told : {A : Type 0} (told : Option A) (P : Type 0) → IsSomeAnd told (λ _. Unit {0}) → IfSome told (λ _. P) → P
+where_told None P is known = absurd is
+where_told (Some x) P is known = known
+
+-- a sink that was written whole and given back
+pub holds-whole : {K : Type 0} (tells : Bool) (told : Told) (spot_of : K → Spot) (held : K → Option (List ℕ)) (is_finished : K → Bool) (calls : K → ℕ)
+    (text : List ℕ) (spot : Spot) (old new : K)
+    → (tells ≡ true → IsSomeAnd (held old) (λ _. Unit {0})) → spot_of new ≡ spot → (is_finished new ≡ true → told (spot_of new) ≡ held new)
+    → StandsAt held is_finished calls Whole text old new → Holds tells told spot text
+holds-whole tells told spot_of held is_finished calls text spot old new telling there closed stands =
+    λ tell. sym (ap told there) ∙ closed stands.1 ∙ where_told (held old) (held new ≡ Some text) (telling tell) stands.0
+
+-- a sink that was made for an output, written as far as an answer says, and given back
+pub left : {K : Type 0} (tells : Bool) (before after : Told) (spot_of : K → Spot) (held : K → Option (List ℕ)) (is_finished : K → Bool) (calls failures : K → ℕ)
+    (stage : Stage) (text : List ℕ) (spot : Spot) (old new : K) → IsUsed tells before after spot_of held is_finished calls failures spot old new
+    → StandsAt held is_finished calls stage text old new → IsLeft tells before after stage spot text
+left tells before after spot_of held is_finished calls failures Whole text spot old new used stands =
+    holds-whole tells after spot_of held is_finished calls text spot old new used.made.told (used.there ∙ used.made.there) used.taken.finished stands
+left tells before after spot_of held is_finished calls failures Broken text spot old new used stands = tt
+left tells before after spot_of held is_finished calls failures Untouched text spot old new used stands =
+    let there : spot_of new ≡ spot = used.there ∙ used.made.there in
+    sym (ap after there) ∙ used.taken.untouched (ap calls stands ∙ used.made.calls, ap is_finished stands ∙ used.made.unfinished) ∙ ap before there
+
+-- a file that is as it was after the run
+pub left-after : (tells : Bool) (before after later : Told) (stage : Stage) (name text : List ℕ) → later (file name) ≡ after (file name)
+    → IsLeft tells before after stage (file name) text → IsLeft tells before later stage (file name) text
+left-after tells before after later Whole name text same is = λ tell. same ∙ is tell
+left-after tells before after later Broken name text same is = tt
+left-after tells before after later Untouched name text same is = same ∙ is
+
+-- standard error is no file
+pub file-apart : (name : List ℕ) → file name ≢ errors
+file-apart name = λ e. cc e

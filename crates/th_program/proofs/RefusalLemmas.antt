@@ -1,0 +1,55 @@
+-- What the refusal of a run over a folder comes to.
+use Rattle.std.proofs.Common.{◌≡◌, Some, Ok, Err, IfErr, subst}
+use Rattle.std.specs.Prelude.{Option, Result}
+use Rattle.th_network.specs.Networks.{Survey}
+use Rattle.th_plans.specs.Asked.{Files}
+use Rattle.th_program.specs.Done.{IsRefusedWriting, UnlessWrite}
+use Rattle.th_program.specs.Owed.{Told, survey_owed}
+use Rattle.th_runs.specs.Inputs.{IsOwed, Owed}
+use Rattle.th_runs.specs.Reads.{refused}
+use Rattle.th_runs.specs.Writes.{IsWritten}
+use Rattle.th_runs.specs.declared.refusals.Refusal.{Refusal}
+use Rattle.th_runs.specs.declared.refusals.Refusal.TheVariants as refusal
+
+-- what holds of a refusal that is no write
+pub unless : (X : Type 0) (own : Refusal) (Own : Type 0) → ((IsWritten {X = X} (Err own) → ⊥) → Own) → UnlessWrite own Own
+unless X (refusal.Write which) Own known = tt
+unless X (refusal.Book number fault) Own known = known (λ w. w)
+unless X (refusal.Benchmarks fault) Own known = known (λ w. w)
+unless X (refusal.Weights fault) Own known = known (λ w. w)
+unless X (refusal.Certificate fault) Own known = known (λ w. w)
+unless X (refusal.Network fault) Own known = known (λ w. w)
+unless X (refusal.Read which) Own known = known (λ w. w)
+unless X refusal.NoMemory Own known = known (λ w. w)
+
+-- a refusal before outputs were begun is owed
+pub refused-owed : {X : Type 0} (before : Told) (files : Files) (given_owed : Owed Survey) (result : Result X Refusal)
+    → given_owed ≡ survey_owed before (refused result) files
+    → IfErr result (λ own. (IsWritten result → ⊥) → IsOwed (λ survey. survey) given_owed own)
+    → IfErr result (λ own. UnlessWrite own (IsOwed (λ survey. survey) (survey_owed before (Some own) files) own))
+refused-owed before files given_owed (Ok x) owed is = tt
+refused-owed {X = X} before files given_owed (Err own) owed is =
+    unless X own _ (λ unwritten. subst (λ (known : Owed Survey). IsOwed (λ survey. survey) known own) owed (is unwritten))
+
+-- what follows where no output was begun
+pub unless-map : (own : Refusal) (A B : Type 0) → (A → B) → UnlessWrite own A → UnlessWrite own B
+unless-map (refusal.Write which) A B f known = tt
+unless-map (refusal.Book number fault) A B f known = f known
+unless-map (refusal.Benchmarks fault) A B f known = f known
+unless-map (refusal.Weights fault) A B f known = f known
+unless-map (refusal.Certificate fault) A B f known = f known
+unless-map (refusal.Network fault) A B f known = f known
+unless-map (refusal.Read which) A B f known = f known
+unless-map refusal.NoMemory A B f known = f known
+
+-- where the files that a failed write leaves are left in another folder as well, so is the refusal
+pub refused-writing-map : (owed : Owed Survey) (AreLeft AreLeft' : Option Refusal → Type 0) (own : Refusal) → ((answer : Option Refusal) → AreLeft answer → AreLeft' answer)
+    → IsRefusedWriting owed AreLeft own → IsRefusedWriting owed AreLeft' own
+refused-writing-map owed AreLeft AreLeft' (refusal.Write which) f is = f (Some (refusal.Write which)) is
+refused-writing-map owed AreLeft AreLeft' (refusal.Book number fault) f is = is
+refused-writing-map owed AreLeft AreLeft' (refusal.Benchmarks fault) f is = is
+refused-writing-map owed AreLeft AreLeft' (refusal.Weights fault) f is = is
+refused-writing-map owed AreLeft AreLeft' (refusal.Certificate fault) f is = is
+refused-writing-map owed AreLeft AreLeft' (refusal.Network fault) f is = is
+refused-writing-map owed AreLeft AreLeft' (refusal.Read which) f is = is
+refused-writing-map owed AreLeft AreLeft' refusal.NoMemory f is = is

@@ -1,8 +1,0 @@
-use Rattle.std.proofs.Common.{◌≡◌, map, take}
-use Rattle.th_program.specs.Inside.Opened.{AreOpened}
-use Rattle.th_program.proofs.opening.sources_of.Given as goal
-
-abbrev pub invariant-loop-name : goal.invariant-loop-name
-invariant-loop-name g l =
-    (l.folder ≡ l.fn.folder)
-    × AreOpened g.F.Folder.held g.F.In.Source.left g.F.In.Source.calls g.F.In.Source.failures l.fn.folder (map (λ name. name.now) (take l.name-index l.names)) l.sources.items

@@ -1,0 +1,68 @@
+use Rattle.std.proofs.Common.{to_z, of_z, w64, ◌≡◌, ◌∙◌, ap, rules}
+use Rattle.std.specs.Prelude.{Option}
+use Rattle.th_devices.specs.Limits.{calls_before}
+use Rattle.th_plans.specs.Plans.{files}
+use Rattle.th_program.specs.Inside.Opened.{AreOpened}
+use Rattle.th_program.proofs.ReviewLemmas.{outputs-apart, reviewed}
+use Rattle.th_program.proofs.OpenedLemmas.{opened-fresh, survey-opened, tells-opened}
+use Rattle.th_program.proofs.OutputLemmas.{sinks-apart}
+use Rattle.th_program.proofs.RefusalLemmas.{refused-owed}
+use Rattle.th_runs.specs.Reads.{refused}
+use Rattle.th_runs.specs.declared.refusals.Refusal.{Refusal}
+use Rattle.th_program.proofs.reviewing.review.Goals as goal
+
+pub run_review-answer-requires-clause-books_calls : goal.run_review-answer-requires-clause-books_calls
+run_review-answer-requires-clause-books_calls g c =
+    rw c.as_mut_slice.ensures.value
+    (opened-fresh g.F.Folder.held g.F.In.Source.left g.F.In.Source.calls g.F.In.Source.failures _ _ _ calls_before c.in_ok-sources.ensures.opened.of_books)
+
+pub close_sinks-requires : goal.close_sinks-requires
+close_sinks-requires g c =
+    sinks-apart _ _ _ _ _ _ _ _
+    (c.run_review-answer.ensures.points_spot ∙ c.in_ok-sinks.ensures.first.there)
+    (c.run_review-answer.ensures.observations_spot ∙ c.in_ok-sinks.ensures.second.there)
+    (c.run_review-answer.ensures.entries_spot ∙ c.in_ok-sinks.ensures.third.there)
+    (c.run_review-answer.ensures.review_spot ∙ c.in_ok-sinks.ensures.fourth.there)
+    (outputs-apart c.args.prefix.now)
+
+pub returns-clause-reviewed : goal.returns-clause-reviewed
+returns-clause-reviewed g c =
+    let run = c.run_review-answer in
+    let answer : Option Refusal = refused c.run_review-answer.result in
+    let folder = c.args.folder.now in
+    let opened : AreOpened g.F.Folder.held g.F.In.Source.left g.F.In.Source.calls g.F.In.Source.failures folder (files c.args.inputs.now) c.as_mut_slice.result.now c.in_ok-sources.sources.benchmarks c.in_ok-sources.sources.weights =
+    rw c.as_mut_slice.ensures.value c.in_ok-sources.ensures.opened in
+    let owed = survey-opened g.F.Folder.held g.F.In.Source.left g.F.In.Source.calls g.F.In.Source.failures folder (files c.args.inputs.now) answer _ _ _ _ _ _
+    opened run.ensures.books run.ensures.benchmarks run.ensures.weights in
+    let tells = tells-opened g.F.Folder.held g.F.In.Source.left g.F.In.Source.calls g.F.In.Source.failures folder _ _ opened.of_books in
+    let same : c.sinks_of.new.folder ≡ c.args.folder.now = c.sinks_of.ensures.same ∙ c.sources_of.ensures.same in
+    let limit : to_z w64 (of_z w64 c.get.result) ≡ c.args.limit = search rules in
+    λ began. reviewed g.F.Folder.tells (g.F.Folder.held folder) (g.F.Folder.held c.close_sinks.new.folder) (files c.args.inputs.now) c.args.limit c.args.prefix.now
+    g.F.Out.Sink.spot g.F.Out.Sink.held g.F.Out.Sink.is_finished g.F.Out.Sink.calls g.F.Out.Sink.failures _ _ _ _ _ _ _ _ _ _ run.result tells owed
+    (record { made = c.in_ok-sinks.ensures.first; there = run.ensures.points_spot; taken = rw same at c.close_sinks.ensures.first })
+    (record { made = c.in_ok-sinks.ensures.second; there = run.ensures.observations_spot; taken = rw same at c.close_sinks.ensures.second })
+    (record { made = c.in_ok-sinks.ensures.third; there = run.ensures.entries_spot; taken = rw same at c.close_sinks.ensures.third })
+    (record { made = c.in_ok-sinks.ensures.fourth; there = run.ensures.review_spot; taken = rw same at c.close_sinks.ensures.fourth })
+    (rw limit at run.ensures.written began)
+
+pub returns-clause-refused : goal.returns-clause-refused
+returns-clause-refused g c =
+    let run = c.run_review-answer in
+    let answer : Option Refusal = refused c.run_review-answer.result in
+    let folder = c.args.folder.now in
+    let opened : AreOpened g.F.Folder.held g.F.In.Source.left g.F.In.Source.calls g.F.In.Source.failures folder (files c.args.inputs.now) c.as_mut_slice.result.now c.in_ok-sources.sources.benchmarks c.in_ok-sources.sources.weights =
+    rw c.as_mut_slice.ensures.value c.in_ok-sources.ensures.opened in
+    let owed = survey-opened g.F.Folder.held g.F.In.Source.left g.F.In.Source.calls g.F.In.Source.failures folder (files c.args.inputs.now) answer _ _ _ _ _ _
+    opened run.ensures.books run.ensures.benchmarks run.ensures.weights in
+    refused-owed (g.F.Folder.held folder) (files c.args.inputs.now) _ run.result owed run.ensures.refused
+
+pub returns-clause-others : goal.returns-clause-others
+returns-clause-others g c =
+    let run = c.run_review-answer.ensures in
+    let same : c.sinks_of.new.folder ≡ c.args.folder.now = c.sinks_of.ensures.same ∙ c.sources_of.ensures.same in
+    λ spot no_points no_observations no_entries no_review. c.close_sinks.ensures.others spot
+    (λ e. no_points (e ∙ run.points_spot ∙ c.in_ok-sinks.ensures.first.there))
+    (λ e. no_observations (e ∙ run.observations_spot ∙ c.in_ok-sinks.ensures.second.there))
+    (λ e. no_entries (e ∙ run.entries_spot ∙ c.in_ok-sinks.ensures.third.there))
+    (λ e. no_review (e ∙ run.review_spot ∙ c.in_ok-sinks.ensures.fourth.there))
+    ∙ ap (λ own. g.F.Folder.held own spot) same
