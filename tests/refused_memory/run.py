@@ -208,10 +208,7 @@ def arguments() -> argparse.Namespace:
 
 
 def run_all(folder: Folder, program: Path, calls: Path) -> None:
-    has_review = subprocess.run([str(HERE.parent / "has_review"), str(program)], check=False).returncode == 0
     for series in SERIES:
-        if series.words[0] == "review" and not has_review:
-            continue
         for and_all_behind in (False, True):
             print(refuse_in_turn(folder, program, series, and_all_behind), flush=True)
     for line in refuse_calls(folder, calls):

@@ -25,7 +25,7 @@ from typing import Dict, List, NamedTuple, Optional, Tuple
 
 import office
 from projects import Project, changed_certificate, random_project
-from runs import (DEFAULT_PROGRAM, ENDS, REVIEW_ENDS, Files, compare_files, differ, has_review, network_words, outcome_of, saved,
+from runs import (DEFAULT_PROGRAM, ENDS, REVIEW_ENDS, Files, compare_files, differ, network_words, outcome_of, saved,
                   second_adjustment, second_review, written)
 
 DEFAULT_PROJECTS = 1_000
@@ -77,7 +77,7 @@ def compare_check(program: Path, project: Project, files: Files, title: str, cer
     return outcome_of("check", second), differences
 
 
-def compare_project(program: Path, folder: Path, seed: int, number: int, with_review: bool) -> Comparison:
+def compare_project(program: Path, folder: Path, seed: int, number: int) -> Comparison:
     """Compares project `number`, which hangs on the seed and the number alone."""
     rng = Random(f"{seed} {number}")
     project = random_project(rng)
@@ -86,11 +86,9 @@ def compare_project(program: Path, folder: Path, seed: int, number: int, with_re
     second = second_adjustment(project)
     differences = differ("adjust", own, (second.status, second.standard_output, second.standard_error))
     differences += compare_files(project, some_of(written(folder), ENDS), second.files)
-    outcomes = [outcome_of("adjust", second)]
-    if with_review:
-        outcome, found = compare_review(program, project, files)
-        outcomes.append(outcome)
-        differences += found
+    outcome, found = compare_review(program, project, files)
+    outcomes = [outcome_of("adjust", second), outcome]
+    differences += found
     # Where a table was refused there is no certificate of one's own, but somebody else's is still checked.
     certificate = written(folder).get(".certificate.csv", b"kind,key,value\nV,2,0\nZ,cost,0\n")
     changed = [changed_certificate(rng, certificate) for _ in range(CHANGED_CERTIFICATES)]
@@ -104,10 +102,10 @@ def compare_project(program: Path, folder: Path, seed: int, number: int, with_re
 # The report
 
 
-def compare_in(scratch: Path, program: Path, seed: int, number: int, with_review: bool) -> Comparison:
+def compare_in(scratch: Path, program: Path, seed: int, number: int) -> Comparison:
     folder = scratch / f"project_{number:06}"
     folder.mkdir()
-    comparison = compare_project(program, folder, seed, number, with_review)
+    comparison = compare_project(program, folder, seed, number)
     if not comparison.differences:
         shutil.rmtree(folder)
     return comparison
@@ -148,9 +146,8 @@ def main() -> int:
     print(f"seed {chosen.seed}")
     scratch = Path(tempfile.mkdtemp(prefix="second_office_"))
     program = chosen.program.resolve()
-    with_review = has_review(program)
     with ThreadPoolExecutor(max_workers=chosen.workers) as executor:
-        comparisons = executor.map(lambda number: compare_in(scratch, program, chosen.seed, number, with_review), range(chosen.projects))
+        comparisons = executor.map(lambda number: compare_in(scratch, program, chosen.seed, number), range(chosen.projects))
         differing = report(comparisons)
     if not differing:
         shutil.rmtree(scratch)

@@ -30,7 +30,7 @@ from typing import Dict, Iterator, List, NamedTuple, Optional, Tuple
 
 import office
 from mutated import COUNT_OF_CHANGES, Case, changed_case, random_case
-from runs import (DEFAULT_PROGRAM, ENDS, REVIEW_ENDS, compare_files, differ, has_review, network_words, outcome_of, saved,
+from runs import (DEFAULT_PROGRAM, ENDS, REVIEW_ENDS, compare_files, differ, network_words, outcome_of, saved,
                   second_adjustment, second_review, written)
 
 DEFAULT_INPUTS = 1_000
@@ -127,9 +127,9 @@ def compare_case(program: str, case: Case) -> Tuple[str, float, List[str]]:
     return outcome_of(case.command, second), own.seconds, differences
 
 
-def compare_inputs(task: Tuple[str, str, Optional[int], range, bool]) -> Tally:
+def compare_inputs(task: Tuple[str, str, Optional[int], range]) -> Tally:
     """Compares a row of inputs, in a folder of its own: those of a seed, or those of --each-byte."""
-    scratch, program, seed, numbers, with_review = task
+    scratch, program, seed, numbers = task
     folder = Path(scratch) / f"worker_{os.getpid()}"
     folder.mkdir(exist_ok=True)
     os.chdir(folder)
@@ -138,8 +138,6 @@ def compare_inputs(task: Tuple[str, str, Optional[int], range, bool]) -> Tally:
     differences = []
     for number in numbers:
         case = changed_case(number) if seed is None else random_case(seed, number)
-        if case.command == "review" and not with_review:
-            case = case._replace(command="adjust")
         outcome, seconds, found = compare_case(program, case)
         outcomes[outcome] += 1
         slowest = max(slowest, seconds)
@@ -202,8 +200,7 @@ def main() -> int:
     scratch = tempfile.mkdtemp(prefix="mutated_inputs_")
     program = str(chosen.program.resolve())
     last = chosen.first + chosen.inputs
-    with_review = has_review(chosen.program)
-    tasks = ((scratch, program, chosen.seed, range(start, min(last, start + INPUTS_AT_A_TIME)), with_review)
+    tasks = ((scratch, program, chosen.seed, range(start, min(last, start + INPUTS_AT_A_TIME)))
              for start in range(chosen.first, last, INPUTS_AT_A_TIME))
     end = None if chosen.minutes is None else time.monotonic() + 60 * chosen.minutes
     with Pool(chosen.workers) as pool:

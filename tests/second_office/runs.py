@@ -1,7 +1,6 @@
 """Runs of the program on a project, and how their answers are compared with the second office's."""
 
 import re
-import subprocess
 from contextlib import suppress
 from pathlib import Path
 from typing import Dict, List, NamedTuple
@@ -65,11 +64,6 @@ def second_adjustment(project: Project) -> office.Answer:
 def second_review(project: Project) -> office.Answer:
     """What the second office says that a mistake would do in a project."""
     return office.review(project.inputs, limit_of(project))
-
-
-def has_review(program: Path) -> bool:
-    """Whether the program has the command `review` yet."""
-    return subprocess.run([str(ROOT / "tests" / "has_review"), str(program)], check=False).returncode == 0
 
 
 # Comparing
