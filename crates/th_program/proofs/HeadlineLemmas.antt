@@ -15,7 +15,7 @@ use Rattle.th_plans.specs.declared.faults.PlanFault.TheVariants as fault
 use Rattle.th_plans.specs.declared.plans.Plan.{Plan}
 use Rattle.th_plans.specs.declared.plans.Plan.TheVariants as plan
 use Rattle.th_program.proofs.OpenedLemmas.{owed-same}
-use Rattle.th_program.specs.Done.{AreDone, IsAdjusted, IsChecked, IsRefusedAdjust, IsRun, IsUsage, UnlessWrite}
+use Rattle.th_program.specs.Done.{AreDone, IsAdjusted, IsChecked, IsRefusedAdjust, IsRefusedCheck, IsRun, IsUsage}
 use Rattle.th_program.specs.Headline.{AskFor, IsAccepted, IsUnlucky}
 use Rattle.th_program.specs.Owed.{Told, claim_owed, given_by, given_by_books, survey_owed}
 use Rattle.th_runs.specs.Adjusted.{AreOutputs, OutTexts}
@@ -105,15 +105,15 @@ unlucky law tells old new from limit prefix survey (refusal.Write which) status 
 unlucky law tells old new from limit prefix survey (refusal.Read which) status accepted is refused = inr is
 unlucky law tells old new from limit prefix survey refusal.NoMemory status accepted is refused = inl is
 unlucky law tells old new from limit prefix survey (refusal.Book number fault) status accepted is refused =
-    by_status (refusal.Book number fault) status is (law (survey_owed old (Some (refusal.Book number fault)) from) survey (refusal.Book number fault) (survey_same old (refusal.Book number fault) (λ which. refl) from ∙ accepted.given) accepted.network refused)
+    by_status (refusal.Book number fault) status is (law (survey_owed old (Some (refusal.Book number fault)) from) survey (refusal.Book number fault) (survey_same old (refusal.Book number fault) (λ which. refl) from ∙ accepted.given) accepted.network refused.owes)
 unlucky law tells old new from limit prefix survey (refusal.Benchmarks fault) status accepted is refused =
-    by_status (refusal.Benchmarks fault) status is (law (survey_owed old (Some (refusal.Benchmarks fault)) from) survey (refusal.Benchmarks fault) (survey_same old (refusal.Benchmarks fault) (λ which. refl) from ∙ accepted.given) accepted.network refused)
+    by_status (refusal.Benchmarks fault) status is (law (survey_owed old (Some (refusal.Benchmarks fault)) from) survey (refusal.Benchmarks fault) (survey_same old (refusal.Benchmarks fault) (λ which. refl) from ∙ accepted.given) accepted.network refused.owes)
 unlucky law tells old new from limit prefix survey (refusal.Weights fault) status accepted is refused =
-    by_status (refusal.Weights fault) status is (law (survey_owed old (Some (refusal.Weights fault)) from) survey (refusal.Weights fault) (survey_same old (refusal.Weights fault) (λ which. refl) from ∙ accepted.given) accepted.network refused)
+    by_status (refusal.Weights fault) status is (law (survey_owed old (Some (refusal.Weights fault)) from) survey (refusal.Weights fault) (survey_same old (refusal.Weights fault) (λ which. refl) from ∙ accepted.given) accepted.network refused.owes)
 unlucky law tells old new from limit prefix survey (refusal.Certificate fault) status accepted is refused =
-    by_status (refusal.Certificate fault) status is (law (survey_owed old (Some (refusal.Certificate fault)) from) survey (refusal.Certificate fault) (survey_same old (refusal.Certificate fault) (λ which. refl) from ∙ accepted.given) accepted.network refused)
+    by_status (refusal.Certificate fault) status is (law (survey_owed old (Some (refusal.Certificate fault)) from) survey (refusal.Certificate fault) (survey_same old (refusal.Certificate fault) (λ which. refl) from ∙ accepted.given) accepted.network refused.owes)
 unlucky law tells old new from limit prefix survey (refusal.Network fault) status accepted is refused =
-    by_status (refusal.Network fault) status is (law (survey_owed old (Some (refusal.Network fault)) from) survey (refusal.Network fault) (survey_same old (refusal.Network fault) (λ which. refl) from ∙ accepted.given) accepted.network refused)
+    by_status (refusal.Network fault) status is (law (survey_owed old (Some (refusal.Network fault)) from) survey (refusal.Network fault) (survey_same old (refusal.Network fault) (λ which. refl) from ∙ accepted.given) accepted.network refused.owes)
 
 -- what is done, and what is refused, of what was asked for
 abbrev DoneAs : Bool → Told → Told → ℕ → Option Asked → Type 0
@@ -124,8 +124,7 @@ DoneAs tells old new status other = Unit {0}
 
 abbrev RefusedAs : Bool → Told → Told → Refusal → Option Asked → Type 0
 RefusedAs tells old new own (Some (adjust from limit prefix)) = IsRefusedAdjust tells old new from limit prefix own
-RefusedAs tells old new own (Some (check from certificate)) =
-    UnlessWrite own (IsOwed (λ claim. claim.survey) (claim_owed old (Some own) from certificate) own)
+RefusedAs tells old new own (Some (check from certificate)) = IsRefusedCheck old from certificate own
 RefusedAs tells old new own other = Unit {0}
 
 -- a run of what the words ask for is done or refused, unless memory was wanting before
@@ -243,15 +242,15 @@ pub confirmed : {F : Type 0} (tells : Bool) (held : F → Told) (has_failed : F 
 confirmed tells held has_failed law owed answered old new words status from certificate survey limit texts done asks accepted outputs there =
     by (ran tells held has_failed old new words status _ done asks)
   where
-    refused : (own : Refusal) → status ≡ status_of own → UnlessWrite own (IsOwed (λ claim. claim.survey) (claim_owed (held old) (Some own) from certificate) own) → IsUnlucky status
+    refused : (own : Refusal) → status ≡ status_of own → IsRefusedCheck (held old) from certificate own → IsUnlucky status
     refused (refusal.Write which) is owes = inr is
     refused (refusal.Read which) is owes = inr is
     refused refusal.NoMemory is owes = inl is
-    refused (refusal.Book number fault) is owes = confirmed_refused law owed (held old) from certificate survey limit texts (refusal.Book number fault) status accepted outputs there is (λ which. refl) owes
-    refused (refusal.Benchmarks fault) is owes = confirmed_refused law owed (held old) from certificate survey limit texts (refusal.Benchmarks fault) status accepted outputs there is (λ which. refl) owes
-    refused (refusal.Weights fault) is owes = confirmed_refused law owed (held old) from certificate survey limit texts (refusal.Weights fault) status accepted outputs there is (λ which. refl) owes
-    refused (refusal.Certificate fault) is owes = confirmed_refused law owed (held old) from certificate survey limit texts (refusal.Certificate fault) status accepted outputs there is (λ which. refl) owes
-    refused (refusal.Network fault) is owes = confirmed_refused law owed (held old) from certificate survey limit texts (refusal.Network fault) status accepted outputs there is (λ which. refl) owes
+    refused (refusal.Book number fault) is owes = confirmed_refused law owed (held old) from certificate survey limit texts (refusal.Book number fault) status accepted outputs there is (λ which. refl) owes.owes
+    refused (refusal.Benchmarks fault) is owes = confirmed_refused law owed (held old) from certificate survey limit texts (refusal.Benchmarks fault) status accepted outputs there is (λ which. refl) owes.owes
+    refused (refusal.Weights fault) is owes = confirmed_refused law owed (held old) from certificate survey limit texts (refusal.Weights fault) status accepted outputs there is (λ which. refl) owes.owes
+    refused (refusal.Certificate fault) is owes = confirmed_refused law owed (held old) from certificate survey limit texts (refusal.Certificate fault) status accepted outputs there is (λ which. refl) owes.owes
+    refused (refusal.Network fault) is owes = confirmed_refused law owed (held old) from certificate survey limit texts (refusal.Network fault) status accepted outputs there is (λ which. refl) owes.owes
 
     by : RanAs tells (held old) (held new) status (Some (check from certificate)) ⊎ (status ≡ 4) → (status ≡ 0) ⊎ IsUnlucky status
     by (inl (inl (verdict, is, checked))) =

@@ -1,13 +1,13 @@
 -- The sources that a folder gave.
-use Rattle.std.proofs.Common.{◌≡◌, ◌+◌, ◌≤◌, ℕ, List, [], ◌∷◌, ◌++◌, Some, None, length, map, ap, ap₂, ◌∙◌, refl, arith}
-use Rattle.std.specs.Prelude.{All, IfSome, Option, option_map}
+use Rattle.std.proofs.Common.{◌≡◌, ◌+◌, ◌≤◌, ℕ, List, Bool, [], ◌∷◌, ◌++◌, Some, None, IfErr, is_some, length, map, subst, ap, ap₂, ◌∙◌, refl, arith}
+use Rattle.std.specs.Prelude.{All, IfSome, Option, Result, option_map}
 use Rattle.std.proofs.lemmas.List.Elements.{All-cons}
 use Rattle.th_devices.specs.Spots.{IsOpened, file}
 use Rattle.th_program.specs.Inside.Opened.{AreOpened, EachIsOpened, IsOpenedIfAny}
 use Rattle.th_plans.specs.Asked.{Files}
 use Rattle.th_program.specs.Owed.{Told, claim_owed, given_by, given_by_books, survey_owed}
 use Rattle.th_runs.specs.Inputs.{Given, given, given_at, given_if_any, givens, owed_for_claim, owed_for_survey}
-use Rattle.th_runs.specs.Reads.{EachBook, IfPresent, IsReadFor, failed_reads_of}
+use Rattle.th_runs.specs.Reads.{EachBook, IfPresent, IsNamed, IsReadFor, Run, failed_reads_of}
 use Rattle.th_runs.specs.declared.refusals.Input.{Input}
 use Rattle.th_runs.specs.declared.refusals.Input.TheVariants as input
 use Rattle.th_runs.specs.declared.refusals.Refusal.{Refusal}
@@ -148,3 +148,20 @@ claim-opened held left calls failures folder from stated answer books books' ben
     (given-opened held left calls failures folder input.Benchmarks answer from.benchmarks benchmarks benchmarks' opened.of_benchmarks read_benchmarks.failed)
     (given-opened-if-any held left calls failures folder input.Weights answer from.weights weights weights' opened.of_weights read_weights)
     (given-opened held left calls failures folder input.Certificate answer stated certificate certificate' is_opened read_certificate.failed)
+
+-- a weights file is named just where there is a source for it
+weights-named : {F S : Type 0} (held : F → Told) (left : S → Option (List ℕ)) (calls failures : S → ℕ) (folder : F) (name : Option (List ℕ)) (source : Option S)
+    → IsOpenedIfAny held left calls failures folder name source → is_some source ≡ is_some name
+weights-named held left calls failures folder None None is = refl
+weights-named held left calls failures folder None (Some source) is = absurd is
+weights-named held left calls failures folder (Some name) None is = absurd is
+weights-named held left calls failures folder (Some name) (Some source) is = refl
+
+-- so a refusal of the run names one of the named files
+pub named-opened : {F S X : Type 0} (held : F → Told) (left : S → Option (List ℕ)) (calls failures : S → ℕ) (folder : F) (from : Files) (run : Run)
+    (result : Result X Refusal) (books : List S) (benchmarks : S) (weights : Option S) → AreOpened held left calls failures folder from books benchmarks weights
+    → IfErr result (IsNamed (length books) (is_some weights) run) → IfErr result (IsNamed (length from.books) (is_some from.weights) run)
+named-opened held left calls failures folder from run result books benchmarks weights opened named =
+    let few = opened-length held left calls failures folder from.books books opened.of_books in
+    let any = weights-named held left calls failures folder from.weights weights opened.of_weights in
+    subst (λ (n : ℕ). IfErr result (IsNamed n (is_some from.weights) run)) few (subst (λ (w : Bool). IfErr result (IsNamed (length books) w run)) any named)

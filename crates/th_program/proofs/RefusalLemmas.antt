@@ -3,10 +3,10 @@ use Rattle.std.proofs.Common.{◌≡◌, Some, Ok, Err, IfErr, subst}
 use Rattle.std.specs.Prelude.{Option, Result}
 use Rattle.th_network.specs.Networks.{Survey}
 use Rattle.th_plans.specs.Asked.{Files}
-use Rattle.th_program.specs.Done.{IsRefusedWriting, UnlessWrite}
+use Rattle.th_program.specs.Done.{IsRefusedFor, UnlessWrite}
 use Rattle.th_program.specs.Owed.{Told, survey_owed}
 use Rattle.th_runs.specs.Inputs.{IsOwed, Owed}
-use Rattle.th_runs.specs.Reads.{refused}
+use Rattle.th_runs.specs.Reads.{Run, refused}
 use Rattle.th_runs.specs.Writes.{IsWritten}
 use Rattle.th_runs.specs.declared.refusals.Refusal.{Refusal}
 use Rattle.th_runs.specs.declared.refusals.Refusal.TheVariants as refusal
@@ -43,13 +43,11 @@ unless-map (refusal.Read which) A B f known = f known
 unless-map refusal.NoMemory A B f known = f known
 
 -- where the files that a failed write leaves are left in another folder as well, so is the refusal
-pub refused-writing-map : (owed : Owed Survey) (AreLeft AreLeft' : Option Refusal → Type 0) (own : Refusal) → ((answer : Option Refusal) → AreLeft answer → AreLeft' answer)
-    → IsRefusedWriting owed AreLeft own → IsRefusedWriting owed AreLeft' own
-refused-writing-map owed AreLeft AreLeft' (refusal.Write which) f is = f (Some (refusal.Write which)) is
-refused-writing-map owed AreLeft AreLeft' (refusal.Book number fault) f is = is
-refused-writing-map owed AreLeft AreLeft' (refusal.Benchmarks fault) f is = is
-refused-writing-map owed AreLeft AreLeft' (refusal.Weights fault) f is = is
-refused-writing-map owed AreLeft AreLeft' (refusal.Certificate fault) f is = is
-refused-writing-map owed AreLeft AreLeft' (refusal.Network fault) f is = is
-refused-writing-map owed AreLeft AreLeft' (refusal.Read which) f is = is
-refused-writing-map owed AreLeft AreLeft' refusal.NoMemory f is = is
+pub refused-for-map : {Y : Type 0} (run : Run) (from : Files) (survey_of : Y → Survey) (owed : Owed Y) (AreLeft AreLeft' : Option Refusal → Type 0) (own : Refusal)
+    → ((answer : Option Refusal) → AreLeft answer → AreLeft' answer)
+    → IsRefusedFor run from survey_of owed AreLeft own → IsRefusedFor run from survey_of owed AreLeft' own
+refused-for-map run from survey_of owed AreLeft AreLeft' own f is = record {
+  named = is.named;
+  owes = is.owes;
+  left = λ write. f (Some own) (is.left write);
+}

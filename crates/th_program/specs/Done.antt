@@ -1,5 +1,5 @@
 -- What the program does, over what a folder tells before and after.
-use Rattle.std.specs.Prelude.{◌⊎◌, ◌≢◌, ◌≡◌, ◌++◌, ◌∷◌, [], ℕ, ℤ, Bool, true, false, List, Option, Some, None, Ok, codes, map}
+use Rattle.std.specs.Prelude.{◌⊎◌, ◌≢◌, ◌≡◌, ◌++◌, ◌∷◌, [], ℕ, ℤ, Bool, true, false, List, Option, Some, None, Ok, codes, is_some, length, map}
 use Rattle.th_checker.specs.declared.verdicts.Verdict.{Verdict}
 use Rattle.th_book.specs.Observed.{Observed}
 use Rattle.th_devices.specs.Spots.{Spot, errors, file, input, output}
@@ -17,6 +17,7 @@ use Rattle.th_review.specs.Texts.{ReviewOutTexts}
 use Rattle.th_runs.specs.Adjusted.{AreOutputs, OutTexts}
 use Rattle.th_runs.specs.Checked.{IsRight, verdict_line, verdict_on}
 use Rattle.th_runs.specs.Inputs.{Claim, IsOwed, MakesNetwork, Meets, Owed}
+use Rattle.th_runs.specs.Reads.{Adjusting, Checking, IsNamed, Reviewing, Run}
 use Rattle.th_runs.specs.Refusals.{refusal_text, status_of, status_of_verdict}
 use Rattle.th_runs.specs.Reviewed.{AreReviewed, AreReviewsOf}
 use Rattle.th_runs.specs.Runs.{AreOfBook, IsRefusalOf}
@@ -120,17 +121,29 @@ IsDone tells old new (plan.Review inputs limit prefix) status = (status ≡ 0) �
 IsDone tells old new (plan.Check inputs certificate) status =
     (verdict : Verdict) × (status ≡ status_of_verdict verdict) × IsChecked tells old new (files inputs) certificate.now verdict
 
--- the refusal of a run that writes files: an output was not written, and the files are left so, or it is the refusal that is owed
-abbrev pub IsRefusedWriting : Owed Survey → (Option Refusal → Type 0) → Refusal → Type 0
-IsRefusedWriting owed AreLeft (refusal.Write which) = AreLeft (Some (refusal.Write which))
-IsRefusedWriting owed AreLeft own = IsOwed (λ survey. survey) owed own
+-- an output was not written
+abbrev pub IsWrite : Refusal → Type 0
+IsWrite (refusal.Write which) = Unit {0}
+IsWrite other = ⊥
 
--- the refusal of an adjustment, and of a review
+-- The refusal of a run over the named files. It names a device of this run. Before outputs were begun it is the one that is owed, and where an output was not
+-- written the files are left so.
+pub record IsRefusedFor {X : Type 0} (run : Run) (from : Files) (survey_of : X → Survey) (owed : Owed X) (AreLeft : Option Refusal → Type 0) (own : Refusal) : Type 0 where
+  pub named : IsNamed (length from.books) (is_some from.weights) run own
+  pub owes : UnlessWrite own (IsOwed survey_of owed own)
+  pub left : IsWrite own → AreLeft (Some own)
+
+-- the refusal of an adjustment, of a review, and of a check
 abbrev pub IsRefusedAdjust : Bool → Told → Told → Files → ℤ → List ℕ → Refusal → Type 0
-IsRefusedAdjust tells old new from limit prefix own = IsRefusedWriting (survey_owed old (Some own) from) (IsAdjusted tells old new from limit prefix) own
+IsRefusedAdjust tells old new from limit prefix own =
+    IsRefusedFor Adjusting from (λ survey. survey) (survey_owed old (Some own) from) (IsAdjusted tells old new from limit prefix) own
 
 abbrev pub IsRefusedReview : Bool → Told → Told → Files → ℤ → List ℕ → Refusal → Type 0
-IsRefusedReview tells old new from limit prefix own = IsRefusedWriting (survey_owed old (Some own) from) (IsReviewed tells old new from limit prefix) own
+IsRefusedReview tells old new from limit prefix own =
+    IsRefusedFor Reviewing from (λ survey. survey) (survey_owed old (Some own) from) (IsReviewed tells old new from limit prefix) own
+
+abbrev pub IsRefusedCheck : Told → Files → List ℕ → Refusal → Type 0
+IsRefusedCheck old from certificate own = IsRefusedFor Checking from (λ claim. claim.survey) (claim_owed old (Some own) from certificate) (λ answer. Unit {0}) own
 
 -- the refusal is one of what a plan asks for: the one that the bytes at its inputs owe, where they are told
 abbrev pub IsRefused : Bool → Told → Told → Plan → Refusal → Type 0
@@ -138,8 +151,7 @@ IsRefused tells old new plan.Standard own = IsRefusalOf 1 (old input) own
 IsRefused tells old new (plan.List book) own = IsRefusalOf 1 (old (file book.now)) own
 IsRefused tells old new (plan.Adjust inputs limit prefix) own = IsRefusedAdjust tells old new (files inputs) limit prefix.now own
 IsRefused tells old new (plan.Review inputs limit prefix) own = IsRefusedReview tells old new (files inputs) limit prefix.now own
-IsRefused tells old new (plan.Check inputs certificate) own =
-    UnlessWrite own (IsOwed (λ claim. claim.survey) (claim_owed old (Some own) (files inputs) certificate.now) own)
+IsRefused tells old new (plan.Check inputs certificate) own = IsRefusedCheck old (files inputs) certificate.now own
 
 -- a plan writes there
 abbrev pub IsOutputOf : Plan → Spot → Type 0

@@ -1,10 +1,10 @@
 //! Adjusting the network of files of a folder.
-ghost use Rattle.std.specs.Prelude.{◌≡◌, ◌≢◌, IfErr, Some};
+ghost use Rattle.std.specs.Prelude.{◌≡◌, ◌≢◌, IfErr, Some, is_some, length};
 ghost use Rattle.th_program.specs.Done.{IsAdjusted, UnlessWrite, certificate_spot, gsi_spot, heights_spot, report_spot};
 ghost use Rattle.th_program.specs.Owed.{survey_owed};
 ghost use Rattle.th_plans.specs.Plans.{files};
 ghost use Rattle.th_runs.specs.Inputs.{IsOwed};
-ghost use Rattle.th_runs.specs.Reads.{refused};
+ghost use Rattle.th_runs.specs.Reads.{Adjusting, IsNamed, refused};
 ghost use Rattle.th_runs.specs.Writes.{IsWritten};
 
 use crate::opening::{Four, close_sinks, sinks_of, sources_of};
@@ -37,6 +37,8 @@ pub fn adjust<F: Folder>(
         (F.held folder.new) (files inputs.now) limit prefix.now (refused result) }
     ensures refused { IfErr result (λ own. UnlessWrite own (IsOwed (λ survey. survey)
         (survey_owed (F.held folder.old) (Some own) (files inputs.now)) own)) }
+    ensures named { IfErr result (IsNamed (length (files inputs.now).books)
+        (is_some (files inputs.now).weights) Adjusting) }
     ensures untouched { IfErr result (λ own. UnlessWrite own (folder.new ≡ folder.old)) }
     ensures others { (spot : _) → spot ≢ heights_spot prefix.now
         → spot ≢ certificate_spot prefix.now

@@ -1,10 +1,11 @@
 //! Checking a certificate of a folder.
-ghost use Rattle.std.specs.Prelude.{◌≡◌, ◌≢◌, IfErr, IfOk, Some};
+ghost use Rattle.std.specs.Prelude.{◌≡◌, ◌≢◌, IfErr, IfOk, Some, is_some, length};
 ghost use Rattle.th_devices.specs.Spots.{output};
 ghost use Rattle.th_plans.specs.Plans.{files};
 ghost use Rattle.th_program.specs.Done.{IsChecked, UnlessWrite};
 ghost use Rattle.th_program.specs.Owed.{claim_owed};
 ghost use Rattle.th_runs.specs.Inputs.{IsOwed};
+ghost use Rattle.th_runs.specs.Reads.{Checking, IsNamed};
 
 use crate::opening::sources_of;
 use std::alloc::Global;
@@ -24,6 +25,8 @@ pub fn check<F: Folder>(
         (files inputs.now) certificate.now) }
     ensures refused { IfErr result (λ own. UnlessWrite own (IsOwed (λ claim. claim.survey)
         (claim_owed (F.held folder.old) (Some own) (files inputs.now) certificate.now) own)) }
+    ensures named { IfErr result (IsNamed (length (files inputs.now).books)
+        (is_some (files inputs.now).weights) Checking) }
     ensures untouched { IfErr result (λ own. UnlessWrite own (folder.new ≡ folder.old)) }
     ensures others { (spot : _) → spot ≢ output → F.held folder.new spot ≡ F.held folder.old spot }
 {

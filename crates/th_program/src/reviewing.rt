@@ -1,10 +1,10 @@
 //! Reviewing the network of files of a folder.
-ghost use Rattle.std.specs.Prelude.{◌≡◌, ◌≢◌, IfErr, Some};
+ghost use Rattle.std.specs.Prelude.{◌≡◌, ◌≢◌, IfErr, Some, is_some, length};
 ghost use Rattle.th_program.specs.Done.{IsReviewed, UnlessWrite, entries_spot, observations_spot, points_spot, review_spot};
 ghost use Rattle.th_program.specs.Owed.{survey_owed};
 ghost use Rattle.th_plans.specs.Plans.{files};
 ghost use Rattle.th_runs.specs.Inputs.{IsOwed};
-ghost use Rattle.th_runs.specs.Reads.{refused};
+ghost use Rattle.th_runs.specs.Reads.{IsNamed, Reviewing, refused};
 ghost use Rattle.th_runs.specs.Writes.{IsWritten};
 
 use crate::opening::{Four, close_sinks, sinks_of, sources_of};
@@ -37,6 +37,8 @@ pub fn review<F: Folder>(
         (F.held folder.new) (files inputs.now) limit prefix.now (refused result) }
     ensures refused { IfErr result (λ own. UnlessWrite own (IsOwed (λ survey. survey)
         (survey_owed (F.held folder.old) (Some own) (files inputs.now)) own)) }
+    ensures named { IfErr result (IsNamed (length (files inputs.now).books)
+        (is_some (files inputs.now).weights) Reviewing) }
     ensures untouched { IfErr result (λ own. UnlessWrite own (folder.new ≡ folder.old)) }
     ensures others { (spot : _) → spot ≢ points_spot prefix.now
         → spot ≢ observations_spot prefix.now

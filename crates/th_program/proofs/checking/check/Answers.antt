@@ -4,8 +4,8 @@ use Rattle.th_devices.specs.Limits.{calls_before}
 use Rattle.th_plans.specs.Plans.{files}
 use Rattle.th_program.specs.Inside.Opened.{AreOpened}
 use Rattle.th_program.proofs.CheckLemmas.{checked, refused-claim}
-use Rattle.th_program.proofs.OpenedLemmas.{claim-opened, opened-fresh}
-use Rattle.th_runs.specs.Reads.{refused}
+use Rattle.th_program.proofs.OpenedLemmas.{claim-opened, named-opened, opened-fresh}
+use Rattle.th_runs.specs.Reads.{Checking, refused}
 use Rattle.th_runs.specs.declared.refusals.Refusal.{Refusal}
 use Rattle.th_program.proofs.checking.check.Goals as goal
 
@@ -37,3 +37,10 @@ returns-clause-refused g c =
     let owed = claim-opened g.F.Folder.held g.F.In.Source.left g.F.In.Source.calls g.F.In.Source.failures folder (files c.args.inputs.now) c.args.certificate.now answer _ _ _ _ _ _ _ _
     opened (rw c.sources_of.ensures.same at c.in_ok-certificate.ensures.opened) run.ensures.books run.ensures.benchmarks run.ensures.weights run.ensures.certificate in
     refused-claim (g.F.Folder.held folder) (files c.args.inputs.now) c.args.certificate.now _ run.result owed run.ensures.refused
+
+pub returns-clause-named : goal.returns-clause-named
+returns-clause-named g c =
+    let folder = c.args.folder.now in
+    let opened : AreOpened g.F.Folder.held g.F.In.Source.left g.F.In.Source.calls g.F.In.Source.failures folder (files c.args.inputs.now) c.as_mut_slice.result.now c.in_ok-sources.sources.benchmarks c.in_ok-sources.sources.weights =
+    rw c.as_mut_slice.ensures.value c.in_ok-sources.ensures.opened in
+    named-opened g.F.Folder.held g.F.In.Source.left g.F.In.Source.calls g.F.In.Source.failures folder (files c.args.inputs.now) Checking _ _ _ _ opened c.run_check-answer.ensures.named

@@ -4,10 +4,10 @@ use Rattle.th_devices.specs.Limits.{calls_before}
 use Rattle.th_plans.specs.Plans.{files}
 use Rattle.th_program.specs.Inside.Opened.{AreOpened}
 use Rattle.th_program.proofs.ReviewLemmas.{outputs-apart, reviewed}
-use Rattle.th_program.proofs.OpenedLemmas.{opened-fresh, survey-opened, tells-opened}
+use Rattle.th_program.proofs.OpenedLemmas.{named-opened, opened-fresh, survey-opened, tells-opened}
 use Rattle.th_program.proofs.OutputLemmas.{sinks-apart}
 use Rattle.th_program.proofs.RefusalLemmas.{refused-owed}
-use Rattle.th_runs.specs.Reads.{refused}
+use Rattle.th_runs.specs.Reads.{Reviewing, refused}
 use Rattle.th_runs.specs.declared.refusals.Refusal.{Refusal}
 use Rattle.th_program.proofs.reviewing.review.Goals as goal
 
@@ -66,3 +66,10 @@ returns-clause-others g c =
     (λ e. no_entries (e ∙ run.entries_spot ∙ c.in_ok-sinks.ensures.third.there))
     (λ e. no_review (e ∙ run.review_spot ∙ c.in_ok-sinks.ensures.fourth.there))
     ∙ ap (λ own. g.F.Folder.held own spot) same
+
+pub returns-clause-named : goal.returns-clause-named
+returns-clause-named g c =
+    let folder = c.args.folder.now in
+    let opened : AreOpened g.F.Folder.held g.F.In.Source.left g.F.In.Source.calls g.F.In.Source.failures folder (files c.args.inputs.now) c.as_mut_slice.result.now c.in_ok-sources.sources.benchmarks c.in_ok-sources.sources.weights =
+    rw c.as_mut_slice.ensures.value c.in_ok-sources.ensures.opened in
+    named-opened g.F.Folder.held g.F.In.Source.left g.F.In.Source.calls g.F.In.Source.failures folder (files c.args.inputs.now) Reviewing _ _ _ _ opened c.run_review-answer.ensures.named
