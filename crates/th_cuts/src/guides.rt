@@ -46,6 +46,6 @@ impl Guide {
         requires start { start < length self.now.levels.items }
         requires finish { finish < length self.now.levels.items }
     {
-        self.levels[finish as usize] == self.levels[start as usize].wrapping_add(1)
+        self.levels[finish as usize] == self.levels[start as usize].saturating_add(1)
     }
 }

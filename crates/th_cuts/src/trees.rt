@@ -324,7 +324,7 @@ impl Tree {
         }
         let before = self.step(parent);
         let limit = least(room, before.limit);
-        let level = before.level.wrapping_add(1);
+        let level = before.level.saturating_add(1);
         let place = self.steps.len();
         self.steps.push(Step {
             vertex: finish,
