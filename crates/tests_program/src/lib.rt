@@ -12,3 +12,5 @@ mod folders;
 mod commands;
 #[cfg(test)]
 mod refusals;
+#[cfg(test)]
+mod reviews;

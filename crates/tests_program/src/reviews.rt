@@ -1,0 +1,272 @@
+//! Reviews: what they leave in the four files, and what remains where they are refused.
+use crate::folders::{ROOM, file, project, put, run, same, shown};
+use std::process::Abort;
+use th_devices::MemoryFolder;
+
+/// A book with three sights over two setups. Its benchmark `X` and the pair of its weights are never
+/// observed. The texts are those of a program that shares no code with this one.
+const FIVE_LINES: &[u8] =
+    b"110001+0000000A 84..10+00000000 88..10+00001500\n110002+0000000B 33..00+00002345 87..10+00001300\n110003+0000000B 33..00+00002347\n110004+0000000B 84..10+00000000 88..10+00001450\n110005+0000000C 33..00+00001200 87..10+00001450\n";
+
+const POINTS: &[u8] = b"point,height,low,high,strength
+A,100.00000000,100.00000000,100.00000000,
+B,102.54500000,102.54500000,102.54700000,2
+C,103.74500000,103.74500000,103.74700000,1
+X,50.00000000,50.00000000,50.00000000,
+";
+
+const OBSERVATIONS: &[u8] = b"number,book,line,from,to,difference,weight,residual,control,mistake
+1,1,2,A,B,2.54500000,1,0.00000000,1,ties
+2,1,3,A,B,2.54700000,1,0.00200000,1,ties
+3,1,5,B,C,1.20000000,1,0.00000000,0,unchecked
+";
+
+const ENTRIES: &[u8] = b"book,line,word,station,length,sights,weight,mistake
+1,1,88,A,1.50000000,2,2,drags
+1,2,87,A,1.30000000,2,2,drags
+1,4,88,B,1.45000000,1,1,drags
+1,5,87,B,1.45000000,1,1,drags
+";
+
+const REVIEW: &[u8] = b"HEIGHT NETWORK REVIEW
+points                                 4
+benchmarks                             2
+observations                           3
+loops                                  1
+unchecked                              1
+hidden                                 0
+ties                                   2
+entries                                4
+weak entries                           4
+weakest point                          1
+
+BK     LINES    BLOCKS    SETUPS    SIGHTS
+ 1         5         5         2         3
+
+largest                                3
+blunder limit                 0.02000000
+   NO  BK      LINE  FROM              TO                  WT              RESIDUAL   CONTROL
+    2   1         3  A                 B                    1            0.00200000         1
+    1   1         2  A                 B                    1            0.00000000         1
+    3   1         5  B                 C                    1            0.00000000         0
+
+POINT                           HEIGHT              HIGH-LOW  STRENGTH  WITHSTANDS
+A                         100.00000000            0.00000000         -           -
+B                         102.54500000            0.00200000         2           0  =
+C                         103.74500000            0.00200000         1           0  1=
+X                          50.00000000            0.00000000         -           -
+
+   NO  BK      LINE  FROM              TO                  WT              RESIDUAL   CONTROL
+    1   1         2  A                 B                    1            0.00000000         1  =
+    2   1         3  A                 B                    1            0.00200000         1  =
+    3   1         5  B                 C                    1            0.00000000         0  0
+
+BK      LINE  WORD  STATION                         LENGTH  SIGHTS    WEIGHT
+ 1         1    88  A                           1.50000000       2         2  <
+ 1         2    87  A                           1.30000000       2         2  <
+ 1         4    88  B                           1.45000000       1         1  <
+ 1         5    87  B                           1.45000000       1         1  <
+
+notes                                  2
+weights record 2: C to B was never observed, but B to C was
+benchmarks record 3: X was never observed
+";
+
+/// The arguments that review the book with three sights.
+const FIVE: [&str; 8] = [
+    "review",
+    "--benchmarks",
+    "marks",
+    "--weights",
+    "unused",
+    "--out",
+    "out",
+    "five.gsi",
+];
+
+/// The arguments that review a sight there and one back.
+const BACK: [&str; 8] = [
+    "review",
+    "--benchmarks",
+    "heights",
+    "--weights",
+    "weights",
+    "--out",
+    "out",
+    "back.gsi",
+];
+
+/// The ends of the names of the files that a review writes, in order.
+const ENDS: [&str; 4] = [
+    "out.points.csv",
+    "out.observations.csv",
+    "out.entries.csv",
+    "out.review.txt",
+];
+
+/// The folder with the book of three sights and its tables.
+fn five(rt: &(impl AllocGlobal + Abort)) -> MemoryFolder {
+    let mut folder = project(rt, ROOM);
+    put(rt, &mut folder, "five.gsi", FIVE_LINES);
+    put(rt, &mut folder, "marks", b"point,height\nA,100\nX,50\n");
+    put(rt, &mut folder, "unused", b"from,to,weight\nC,B,4\n");
+    folder
+}
+
+/// No file of a review is there.
+fn has_no_review(folder: &MemoryFolder) -> bool {
+    ENDS.iter().all(|name| folder.file(name).is_none())
+}
+
+#[test]
+fn a_network_is_reviewed(rt: HostRuntime) {
+    let mut folder = five(&rt);
+    assert_eq!(rt; run(&rt, &mut folder, &FIVE), 0);
+    assert!(rt; same(file(&folder, "out.points.csv"), POINTS));
+    assert!(rt; same(file(&folder, "out.observations.csv"), OBSERVATIONS));
+    assert!(rt; same(file(&folder, "out.entries.csv"), ENTRIES));
+    assert!(rt; same(file(&folder, "out.review.txt"), REVIEW));
+    assert!(rt; folder.output().is_none());
+    assert!(rt; folder.errors().is_none());
+}
+
+/// The residual of the sight back is -0.01 m, so a limit of 10,000 micrometres is no smaller.
+#[test]
+fn a_residual_above_the_limit_is_marked(rt: HostRuntime) {
+    for (limit, mark) in [
+        ("10000", "-0.01000000         3\n"),
+        ("9999", "-0.01000000         3  *\n"),
+    ] {
+        let mut folder = project(&rt, ROOM);
+        let review = [
+            "review",
+            "--benchmarks",
+            "heights",
+            "--weights",
+            "weights",
+            "--blunder",
+            limit,
+            "--out",
+            "out",
+            "back.gsi",
+        ];
+        assert_eq!(rt; run(&rt, &mut folder, &review), 0);
+        let text = str::from_utf8(file(&folder, "out.review.txt")).unwrap_or("");
+        assert!(rt; text.contains(mark), "{text}");
+    }
+}
+
+#[test]
+fn an_adjustment_stays_beside_its_review(rt: HostRuntime) {
+    let mut folder = project(&rt, ROOM);
+    let adjust = [
+        "adjust",
+        "--benchmarks",
+        "heights",
+        "--weights",
+        "weights",
+        "--out",
+        "out",
+        "back.gsi",
+    ];
+    let mut adjusted = project(&rt, ROOM);
+    assert_eq!(rt; run(&rt, &mut adjusted, &adjust), 0);
+    assert_eq!(rt; run(&rt, &mut folder, &adjust), 0);
+    assert_eq!(rt; run(&rt, &mut folder, &BACK), 0);
+    for name in [
+        "out.heights.csv",
+        "out.certificate.csv",
+        "out.report.txt",
+        "out.heights.gsi",
+    ] {
+        assert!(rt; file(&folder, name).len() > 0, "{name}");
+        assert!(rt; same(file(&folder, name), file(&adjusted, name)), "{name}");
+    }
+    for name in ENDS {
+        assert!(rt; file(&folder, name).len() > 0, "{name}");
+        assert!(rt; adjusted.file(name).is_none(), "{name}");
+    }
+}
+
+/// Command lines, the status, and how the line on standard error begins.
+const REFUSED: [(&str, u8, &[u8]); 6] = [
+    (
+        "review --out out --benchmarks heights site.gsi faulty.gsi",
+        2,
+        b"book 2 line 1: B1 ",
+    ),
+    (
+        "review --out out --benchmarks site.gsi site.gsi",
+        2,
+        b"benchmarks record 1: E1 ",
+    ),
+    (
+        "review --out out --benchmarks heights --weights heights site.gsi",
+        2,
+        b"weights record 1: E1 ",
+    ),
+    (
+        "review --out out --benchmarks elsewhere site.gsi",
+        2,
+        b"network: N3 no benchmark for A\n",
+    ),
+    (
+        "review --out out --benchmarks heights none.gsi",
+        5,
+        b"read failed: book 1\n",
+    ),
+    (
+        "review --out out --benchmarks none site.gsi",
+        5,
+        b"read failed: benchmarks\n",
+    ),
+];
+
+#[test]
+fn a_refused_input_leaves_no_review(rt: HostRuntime) {
+    for (words, status, line) in REFUSED {
+        let mut folder = project(&rt, ROOM);
+        put(&rt, &mut folder, "faulty.gsi", b"no block\n");
+        put(&rt, &mut folder, "elsewhere", b"point,height\nX,50\n");
+        let mut review = Vec::new(rt.alloc());
+        for word in words.split(' ') {
+            review.push(word).expect(&rt, "memory");
+        }
+        assert_eq!(rt; run(&rt, &mut folder, review.as_slice()), status);
+        assert!(rt; shown(folder.errors()).starts_with(line));
+        assert!(rt; shown(folder.errors()).ends_with(b"\n"));
+        assert!(rt; folder.output().is_none());
+        assert!(rt; has_no_review(&folder));
+    }
+}
+
+/// The room of each sink, and the line where one of them has too little: the files have 116, 154, 172
+/// and 1,854 bytes.
+const TOO_LITTLE: [(usize, &[u8]); 4] = [
+    (115, b"write failed: points\n"),
+    (153, b"write failed: observations\n"),
+    (171, b"write failed: entries\n"),
+    (1_853, b"write failed: review\n"),
+];
+
+#[test]
+fn a_write_that_fails_leaves_the_files_before_it_whole(rt: HostRuntime) {
+    let mut whole = project(&rt, 1_854);
+    assert_eq!(rt; run(&rt, &mut whole, &BACK), 0);
+    for (failing, (room, line)) in TOO_LITTLE.into_iter().enumerate() {
+        let mut folder = project(&rt, room);
+        assert_eq!(rt; run(&rt, &mut folder, &BACK), 5);
+        assert!(rt; same(shown(folder.errors()), line));
+        for (place, name) in ENDS.into_iter().enumerate() {
+            let text = file(&whole, name);
+            if place < failing {
+                assert!(rt; same(file(&folder, name), text), "{name}");
+            } else if place == failing {
+                assert_eq!(rt; file(&folder, name).len(), room);
+                assert!(rt; text.starts_with(file(&folder, name)), "{name}");
+            } else {
+                assert!(rt; folder.file(name).is_none(), "{name}");
+            }
+        }
+    }
+}
