@@ -1,0 +1,20 @@
+-- The hashers with which a seed begins.
+use Rattle.std.specs.Prelude.{ℕ, Bool, true, false, List}
+use Rattle.std.specs.Hash.DefaultHasher as sip
+use Rattle.std.specs.Hash.FoldHasher as folding
+use Rattle.sha2.specs.Sha256.{sha256}
+use Rattle.th_hash.specs.declared.hashers.NameHasher.{NameHasher}
+use Rattle.th_hash.specs.declared.hashers.NameHasher.TheVariants.{Fast, Seeded}
+
+-- the hasher without a seed
+abbrev pub fast : NameHasher
+fast = Fast folding.initial
+
+-- the hasher that has hashed the SHA-256 digest of some content
+abbrev pub seeded : List ℕ → NameHasher
+seeded content = Seeded (sip.write sip.initial (sha256 content))
+
+-- whether a hasher has no seed
+abbrev pub is_fast : NameHasher → Bool
+is_fast (Fast _) = true
+is_fast (Seeded _) = false
