@@ -12,5 +12,9 @@ mod hashers;
 // what a map takes its hashers from
 mod seeds;
 
+// maps with a seed
+mod maps;
+
 pub use hashers::NameHasher;
+pub use maps::{NameMap, NameSet, insert_stated, reseed_set};
 pub use seeds::{FEW_NAMES, HashSeed};
