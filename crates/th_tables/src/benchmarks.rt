@@ -9,15 +9,15 @@ use crate::faults::{TableFault, TableKind};
 use crate::fields::{benchmark_in, is_benchmarks_header};
 use crate::limits::MAX_TABLE;
 use gsi_word::Name;
-use indexmap::IndexMap;
 use std::alloc::Global;
 use std::marker::Model;
 use th_csv::{Record, RecordReader};
+use th_hash::{FEW_NAMES, HashSeed, NameMap, insert_stated};
 
 /// The benchmarks: names and their heights in units of 10 nm, in the order of their table.
 #[derive(Debug, Drop)]
 pub struct Benchmarks {
-    heights: IndexMap<Name, i64>,
+    heights: NameMap<Name, i64>,
 }
 
 impl Model for Benchmarks {
@@ -75,14 +75,16 @@ pub fn read_benchmarks(alloc: Global, bytes: &[u8]) -> Result<Benchmarks, TableF
     }
     read_table(
         alloc,
+        bytes,
         &mut RecordReader::open(alloc, bytes),
         &mut Record::new(alloc),
     )
 }
 
-/// The benchmarks of the records of a table, the first of which is its header.
+/// The benchmarks of the records of a table with these bytes, the first of which is its header.
 fn read_table(
     alloc: Global,
+    bytes: &[u8],
     reader: &mut RecordReader<'_>,
     record: &mut Record,
 ) -> Result<Benchmarks, TableFault>
@@ -95,12 +97,14 @@ fn read_table(
     if !reader.next(record)? || !is_benchmarks_header(record) {
         return Err(TableFault::BAD_HEADER);
     }
-    read_rows(alloc, reader, record)
+    read_rows(alloc, bytes, reader, record)
 }
 
-/// The benchmarks of the records that a reader has left, the first of which is record 2.
+/// The benchmarks of the records that a reader has left of a table with these bytes. The first of them
+/// is record 2.
 fn read_rows(
     alloc: Global,
+    bytes: &[u8],
     reader: &mut RecordReader<'_>,
     record: &mut Record,
 ) -> Result<Benchmarks, TableFault>
@@ -109,7 +113,7 @@ fn read_rows(
     ensures rows { IfOk result (λ table. AreBenchmarks table) }
     ensures fault { IfErr result (λ fault. (fault ≡ no_memory) ⊎ (rows_after bytes_eq benchmark_in [] reader.old.records ≡ Err fault)) }
 {
-    let mut heights = IndexMap::new(alloc);
+    let mut heights = NameMap::with_hasher(alloc, HashSeed::none());
     let mut row = 1;
     'records: while reader.next(record)? {
         row += 1;
@@ -117,7 +121,7 @@ fn read_rows(
             Ok(benchmark) => benchmark,
             Err(kind) => return Err(TableFault { row, kind }),
         };
-        if heights.insert(name, height)?.is_some() {
+        if insert_stated(alloc, bytes, FEW_NAMES, &mut heights, name, height)?.is_some() {
             return Err(TableFault {
                 row,
                 kind: TableKind::Repeated,

@@ -8,18 +8,21 @@ use crate::faults::{TableFault, TableKind};
 use crate::fields::{is_weights_header, weighted_in};
 use crate::limits::MAX_TABLE;
 use gsi_word::Name;
-use indexmap::IndexMap;
 use std::alloc::Global;
 use std::marker::Model;
 use th_csv::{Record, RecordReader};
+use th_hash::{HashSeed, NameMap, insert_stated};
 
 /// How many bytes a row has as a rule.
 const ROW: usize = 16;
 
+/// The most pairs that are hashed without a seed: a network has no more observations.
+const FEW_PAIRS: usize = 40_000;
+
 /// The weights of observations by their station and target, in the order of their table.
 #[derive(Debug, Drop)]
 pub struct Weights {
-    weights: IndexMap<(Name, Name), u32>,
+    weights: NameMap<(Name, Name), u32>,
 }
 
 impl Model for Weights {
@@ -40,7 +43,7 @@ impl Weights {
         ensures rows { AreWeights result }
     {
         Weights {
-            weights: IndexMap::new(alloc),
+            weights: NameMap::with_hasher(alloc, HashSeed::none()),
         }
     }
 
@@ -98,16 +101,16 @@ pub fn read_weights(alloc: Global, bytes: &[u8]) -> Result<Weights, TableFault>
     }
     read_table(
         alloc,
-        bytes.len() / ROW,
+        bytes,
         &mut RecordReader::open(alloc, bytes),
         &mut Record::new(alloc),
     )
 }
 
-/// The weights of the records of a table, the first of which is its header, with room for so many.
+/// The weights of the records of a table with these bytes, the first of which is its header.
 fn read_table(
     alloc: Global,
-    room: usize,
+    bytes: &[u8],
     reader: &mut RecordReader<'_>,
     record: &mut Record,
 ) -> Result<Weights, TableFault>
@@ -120,14 +123,14 @@ fn read_table(
     if !reader.next(record)? || !is_weights_header(record) {
         return Err(TableFault::BAD_HEADER);
     }
-    read_rows(alloc, room, reader, record)
+    read_rows(alloc, bytes, reader, record)
 }
 
-/// The weights of the records that a reader has left, the first of which is record 2, with room for
-/// so many.
+/// The weights of the records that a reader has left of a table with these bytes. The first of them is
+/// record 2.
 fn read_rows(
     alloc: Global,
-    room: usize,
+    bytes: &[u8],
     reader: &mut RecordReader<'_>,
     record: &mut Record,
 ) -> Result<Weights, TableFault>
@@ -136,7 +139,8 @@ fn read_rows(
     ensures rows { IfOk result (λ table. AreWeights table) }
     ensures fault { IfErr result (λ fault. (fault ≡ no_memory) ⊎ (rows_after same_ends weighted_in [] reader.old.records ≡ Err fault)) }
 {
-    let mut weights = IndexMap::with_capacity(alloc, room)?;
+    let room = bytes.len() / ROW;
+    let mut weights = NameMap::with_capacity_and_hasher(alloc, room, HashSeed::none())?;
     let mut row = 1;
     'records: while reader.next(record)? {
         row += 1;
@@ -144,7 +148,7 @@ fn read_rows(
             Ok(weighted) => weighted,
             Err(kind) => return Err(TableFault { row, kind }),
         };
-        if weights.insert(ends, weight)?.is_some() {
+        if insert_stated(alloc, bytes, FEW_PAIRS, &mut weights, ends, weight)?.is_some() {
             return Err(TableFault {
                 row,
                 kind: TableKind::Repeated,
