@@ -1,3 +1,4 @@
 pub mod PointLemmas
 pub mod PointOrder
 pub mod PlaceLemmas
+pub mod NameLineLemmas

@@ -1,5 +1,5 @@
 -- The points are distinct: a name stands at its place alone, and both ends of an observation have a place.
-use Rattle.std.proofs.Common.{◌≡◌, ◌↔◌, ◌⊎◌, ℕ, ◌+◌, inl, inr, Bool, true, false, not, cond, ◌||◌, ℤ, List, [], ◌∷◌, ◌++◌, get_or, slice_get, length, map, Some, IsSome, is_some, All, Contains, bytes_eq, refl, sym, ap, ◌∙◌, subst, arith, one-add}
+use Rattle.std.proofs.Common.{◌≡◌, ◌↔◌, ◌⊎◌, ℕ, ◌+◌, inl, inr, Bool, true, false, not, cond, ◌||◌, List, [], ◌∷◌, ◌++◌, get_or, slice_get, length, map, Some, IsSome, is_some, All, Contains, bytes_eq, refl, sym, ap, ◌∙◌, subst, arith, one-add}
 use Rattle.std.specs.List.{IsDistinct}
 use Rattle.std.proofs.lemmas.Cmp.{nat_list_eq_equiv}
 use Rattle.std.proofs.lemmas.Bool.{false≢true, or_left, or_right}

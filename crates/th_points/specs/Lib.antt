@@ -1,3 +1,4 @@
 pub mod Points
 pub mod Places
 pub mod Ends
+pub mod Inside
