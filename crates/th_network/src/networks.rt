@@ -18,10 +18,10 @@ use crate::links::{Link, links_of};
 use crate::vertices::Vertices;
 use crate::weights::weights_of;
 use gsi_word::Name;
-use indexmap::IndexSet;
 use std::alloc::Global;
 use std::marker::Model;
 use th_book::Observation;
+use th_hash::NameSet;
 use th_points::Points;
 use th_tables::{Benchmarks, Weights};
 
@@ -32,7 +32,7 @@ pub struct Network<'a> {
     observations: Vec<Observation>,
     benchmarks: &'a Benchmarks,
     weights: &'a Weights,
-    points: IndexSet<Name>,
+    points: NameSet<Name>,
     ends: Vec<(usize, usize)>,
     listed: Vec<u32>,
     vertices: u32,
@@ -183,7 +183,7 @@ impl<'a> Network<'a> {
 /// vertices it has, and its arcs.
 #[derive(Drop)]
 struct Graph {
-    points: IndexSet<Name>,
+    points: NameSet<Name>,
     ends: Vec<(usize, usize)>,
     weights: Vec<u32>,
     vertices: u32,
