@@ -2,9 +2,10 @@
 
        colliding_names COUNT BITS
 
-   The maps of names hash with a seed that is fixed, so whoever picks the names can look for such. Of a name the length
-   is hashed, and then byte after byte; here the lowest BITS bits of the 32 that a map uses are zero. Names have eight
-   letters and digits, the first of them a letter, so that each is its own reduced form. */
+   Maps of few names hash without a seed, as `gsi_word::Name` and `std::hash::FoldHasher` define it: a name of eight
+   bytes is one number, which is multiplied once. This program finds names for which the lowest BITS bits of the 32
+   that a map uses are zero. Names have eight letters and digits, beginning with a letter, so that each is its own
+   reduced form. */
 #include <stdint.h>
 #include <stdio.h>
 #include <stdlib.h>
@@ -25,20 +26,10 @@ static uint64_t folded(uint64_t a, uint64_t b)
     return (uint64_t)product ^ (uint64_t)(product >> 64);
 }
 
-/* The length as eight bytes. */
-static uint64_t with_length(uint64_t state, uint64_t length)
-{
-    return folded(state ^ length, MULTIPLIER ^ (2 * 8));
-}
-
-static uint64_t with_byte(uint64_t state, uint64_t byte)
-{
-    return folded(state ^ (byte | byte << 8 | byte << 16), MULTIPLIER ^ (2 * 1));
-}
-
-static void extend(uint64_t state, int place)
+static void extend(uint64_t read, int place)
 {
     if (place == LENGTH) {
+        uint64_t state = folded(SEED ^ read, MULTIPLIER ^ (2 * LENGTH));
         if (((uint32_t)(state ^ (state >> 32)) & mask) == 0) {
             puts(name);
             wanted--;
@@ -49,7 +40,7 @@ static void extend(uint64_t state, int place)
         if (place == 0 && byte - ALPHABET >= 52)
             return;
         name[place] = *byte;
-        extend(with_byte(state, (unsigned char)*byte), place + 1);
+        extend(read | (uint64_t)(unsigned char)*byte << (8 * place), place + 1);
     }
 }
 
@@ -59,6 +50,6 @@ int main(int count, char **words)
         return 3;
     wanted = strtoul(words[1], NULL, 10);
     mask = (uint32_t)((1ull << strtoul(words[2], NULL, 10)) - 1);
-    extend(with_length(SEED, LENGTH), 0);
+    extend(0, 0);
     return wanted > 0;
 }

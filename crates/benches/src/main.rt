@@ -9,7 +9,8 @@
 //! - `certificate`: the writing, the reading and the checking of a certificate, beside the reading of its
 //!   book; it is written to a file, if one is named;
 //! - `adjust`, with a book, its benchmarks, its weights and a prefix: each stage of an adjustment, which is
-//!   written to files of the prefix, and the listing of its book.
+//!   written to files of the prefix, and the listing of its book;
+//! - `names`, with a file of names, one a line: putting them into a map that hashes without a seed.
 //!
 //! The best time of each step is printed. Without two words nothing is done.
 #![tactic(auto)]
@@ -24,6 +25,7 @@ mod writing;
 // The measurements.
 mod adjust;
 mod certificate;
+mod names;
 mod network;
 mod review;
 mod settle;
@@ -44,6 +46,7 @@ fn main(rt: HostRuntime) -> Result<()> {
         "review" => review::measure(&rt, rt.alloc(), repeats, files),
         "certificate" => certificate::measure(&rt, rt.alloc(), repeats, files),
         "adjust" => adjust::measure(&rt, rt.alloc(), repeats, files),
-        _ => Err(anyhow!("network, settle, review, certificate or adjust")),
+        "names" => names::measure(&rt, rt.alloc(), repeats, files),
+        _ => Err(anyhow!("network, settle, review, certificate, adjust or names")),
     }
 }
