@@ -137,15 +137,20 @@ impl Draft {
         self.cost.is_none() && self.flows.len() as u32 == self.count
     }
 
-    /// Adds what a record says.
-    pub fn add(&mut self, statement: Statement) -> Result<(), AllocError>
+    /// Adds what a record of some content says.
+    pub fn add(
+        &mut self,
+        alloc: Global,
+        content: &[u8],
+        statement: Statement,
+    ) -> Result<(), AllocError>
         requires { Follows self.old statement }
         ensures { OnOk result (self.new ≡ with_statement self.old statement) }
     {
         match statement {
-            Statement::Height(name, height) => self.heights.add(name, height)?,
-            Statement::Low(name, height) => self.low.add(name, height)?,
-            Statement::High(name, height) => self.high.add(name, height)?,
+            Statement::Height(name, height) => self.heights.add(alloc, content, name, height)?,
+            Statement::Low(name, height) => self.low.add(alloc, content, name, height)?,
+            Statement::High(name, height) => self.high.add(alloc, content, name, height)?,
             Statement::Flow(flow) => self.flows.push(flow)?,
             Statement::Cost(cost) => self.cost = Some(cost),
         }

@@ -6,15 +6,15 @@ ghost use Rattle.th_certificate.specs.Certified.{AreHeightRows, rows_at};
 ghost use Rattle.th_network.specs.Limits.{height_limit};
 
 use gsi_word::Name;
-use indexmap::IndexMap;
 use std::alloc::{AllocError, Global};
 use std::marker::Model;
+use th_hash::{FEW_NAMES, HashSeed, NameMap, insert_stated};
 
 /// Heights that a certificate states: names, and a height of each in units of 10 nm and below 10^17
 /// in size, in the order of their rows. Each name has one row.
 #[derive(Debug, Drop)]
 pub struct StatedHeights {
-    heights: IndexMap<Name, i64>,
+    heights: NameMap<Name, i64>,
 }
 
 impl Model for StatedHeights {
@@ -33,11 +33,11 @@ impl StatedHeights {
         ensures { result ≡ [] }
     {
         StatedHeights {
-            heights: IndexMap::new(alloc),
+            heights: NameMap::with_hasher(alloc, HashSeed::none()),
         }
     }
 
-    /// The heights of some points, listed in their order.
+    /// The heights of the points of a network, listed in their order. They are few, and need no seed.
     pub(crate) fn at_points(
         alloc: Global,
         points: &[Name],
@@ -50,7 +50,7 @@ impl StatedHeights {
     {
         let mut stated = StatedHeights::new(alloc);
         for (k, name) in points.iter().enumerate() {
-            stated.add(*name, heights[k])?;
+            stated.add(alloc, b"", *name, heights[k])?;
         }
         Ok(stated)
     }
@@ -89,14 +89,20 @@ impl StatedHeights {
             .map(|(name, height)| (*name, *height))
     }
 
-    /// Adds a row. Where memory is refused, the rows stay as they were.
-    pub(crate) fn add(&mut self, name: Name, height: i64) -> Result<(), AllocError>
+    /// Adds a row that some content states. Where memory is refused, the rows stay as they were.
+    pub(crate) fn add(
+        &mut self,
+        alloc: Global,
+        content: &[u8],
+        name: Name,
+        height: i64,
+    ) -> Result<(), AllocError>
         requires new { lookup (bytes_eq name) self.old ≡ None }
         requires in_range { unsigned_abs height < height_limit }
         ensures added { OnOk result (self.new ≡ self.old ++ (name, height) ∷ []) }
         ensures unchanged { OnErr result (self.new ≡ self.old) }
     {
-        self.heights.insert(name, height)?;
+        let _ = insert_stated(alloc, content, FEW_NAMES, &mut self.heights, name, height)?;
         Ok(())
     }
 }

@@ -27,14 +27,16 @@ pub fn read_certificate(alloc: Global, bytes: &[u8]) -> Result<Certificate, Cert
     }
     read_records(
         alloc,
+        bytes,
         &mut RecordReader::open(alloc, bytes),
         &mut Record::new(alloc),
     )
 }
 
-/// The certificate of records, the first of which is the header.
+/// The certificate of the records of some content, the first of which is the header.
 fn read_records(
     alloc: Global,
+    content: &[u8],
     reader: &mut RecordReader,
     record: &mut Record,
 ) -> Result<Certificate, CertFault>
@@ -54,7 +56,7 @@ fn read_records(
         });
     }
     match Draft::begin(alloc, record) {
-        Ok(draft) => read_rows(reader, record, draft),
+        Ok(draft) => read_rows(alloc, content, reader, record, draft),
         Err(kind) => Err(CertFault { row: 2, kind }),
     }
 }
@@ -71,8 +73,11 @@ fn is_header(fields: &Record) -> bool
     }
 }
 
-/// The certificate of a draft and the records that a reader has left, the first of which is record 3.
+/// The certificate of a draft and the records that a reader has left of some content, the first of
+/// which is record 3.
 fn read_rows(
+    alloc: Global,
+    content: &[u8],
     reader: &mut RecordReader,
     record: &mut Record,
     mut draft: Draft,
@@ -83,13 +88,15 @@ fn read_rows(
     ensures fault { IfErr result (λ fault.
         (fault ≡ no_memory) ⊎ (certificate_after reader.old.records 3 draft ≡ Err fault)) }
 {
-    let row = add_rows(reader, record, &mut draft)?;
+    let row = add_rows(alloc, content, reader, record, &mut draft)?;
     certificate_of_draft(row, draft)
 }
 
-/// Adds the records that a reader has left, the first of which is record 3, to a draft. Answers the
-/// number of the record after the last one.
+/// Adds the records that a reader has left of some content, the first of which is record 3, to a draft.
+/// Answers the number of the record after the last one.
 fn add_rows(
+    alloc: Global,
+    content: &[u8],
     reader: &mut RecordReader,
     record: &mut Record,
     draft: &mut Draft,
@@ -106,7 +113,7 @@ fn add_rows(
             Ok(statement) => statement,
             Err(kind) => return Err(CertFault { row, kind }),
         };
-        draft.add(statement)?;
+        draft.add(alloc, content, statement)?;
         row += 1;
     }
     Ok(row)

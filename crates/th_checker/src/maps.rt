@@ -7,9 +7,9 @@ ghost use Rattle.th_checker.specs.Inside.Tests.{AreListed, AreMaps, AreStated, l
 ghost use Rattle.th_checker.specs.Verdicts.{if_there, keeps, names_are, of_all_maps};
 
 use gsi_word::Name;
-use indexmap::IndexSet;
 use std::alloc::{AllocError, Global};
 use th_certificate::{Certificate, StatedHeights};
+use th_hash::NameSet;
 use th_tables::Benchmarks;
 
 /// The heights of a certificate at the points, in their order.
@@ -23,7 +23,7 @@ pub(crate) struct Maps {
 /// The heights of a certificate at the points; none where the names of a map are not just these.
 pub(crate) fn maps_at(
     alloc: Global,
-    points: &IndexSet<Name>,
+    points: &NameSet<Name>,
     certificate: &Certificate,
 ) -> Result<Option<Maps>, AllocError>
     ensures { IfOk result (λ found. MatchOption found
@@ -49,7 +49,7 @@ pub(crate) fn maps_at(
 /// these.
 fn span_at(
     alloc: Global,
-    points: &IndexSet<Name>,
+    points: &NameSet<Name>,
     span: Option<&StatedHeights>,
 ) -> Result<Option<Option<Vec<i64>>>, AllocError>
     ensures { IfOk result (λ found. MatchOption found
@@ -71,7 +71,7 @@ fn span_at(
 /// are not just these points.
 fn heights_at(
     alloc: Global,
-    points: &IndexSet<Name>,
+    points: &NameSet<Name>,
     stated: &StatedHeights,
 ) -> Result<Option<Vec<i64>>, AllocError>
     ensures { IfOk result (λ found. MatchOption found (names_are points.now.keys stated.now ≡ false)
@@ -104,7 +104,7 @@ fn height_near(stated: &StatedHeights, name: &Name, place: usize) -> Option<i64>
 }
 
 /// Whether each name that is stated is a point.
-fn are_points(points: &IndexSet<Name>, stated: &StatedHeights) -> bool
+fn are_points(points: &NameSet<Name>, stated: &StatedHeights) -> bool
     ensures { result ≡ list_all (λ row. list_any (bytes_eq row.0) points.now.keys) stated.now }
 {
     let mut k = 0;
@@ -118,7 +118,7 @@ fn are_points(points: &IndexSet<Name>, stated: &StatedHeights) -> bool
 }
 
 /// Whether a name is a point. The point at a place is asked first, as in `height_near`.
-fn is_point(points: &IndexSet<Name>, name: &Name, place: usize) -> bool
+fn is_point(points: &NameSet<Name>, name: &Name, place: usize) -> bool
     ensures { result ≡ list_any (bytes_eq name.now) points.now.keys }
 {
     match points.get_index(place) {
