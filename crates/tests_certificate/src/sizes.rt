@@ -1,6 +1,7 @@
 use crate::reading::{certificate_of, has_fault};
 use crate::surveys::{ROUND, observations_of, verdict_on};
 use crate::writing::{Best, written};
+use gsi_word::name_of;
 use std::alloc::Global;
 use std::process::Abort;
 
@@ -192,4 +193,50 @@ fn longest_certificate_is_read(rt: HostRuntime) {
     assert_eq!(rt; certificate.flows().len(), 40_000);
     text.push(b'\n').expect(&rt, "memory");
     has_fault(&rt, rt.alloc(), &text, "record 0: C6 too large");
+}
+
+/// How many heights a certificate states that has more than any network has points.
+const MANY: u32 = 10_000;
+
+/// A certificate of version 2 with this many rows of a letter, and these last rows.
+fn many_rows(rt: &impl Abort, alloc: Global, letter: &str, last: &[u8]) -> Vec<u8> {
+    let mut text = b"kind,key,value\nV,2,0\n"
+        .to_vec(alloc)
+        .expect(rt, "memory");
+    for number in 1..=MANY {
+        let row = format!(in alloc; "{letter},{number},{number}\n").expect(rt, "memory");
+        text.extend_from_slice(row.as_bytes()).expect(rt, "memory");
+    }
+    text.extend_from_slice(last).expect(rt, "memory");
+    text
+}
+
+/// Maps of many names hash with a seed of the certificate. Each height is still found, at its place.
+#[test]
+fn many_heights_are_read(rt: HostRuntime) {
+    let text = many_rows(&rt, rt.alloc(), "H", b"Z,cost,0\n");
+    let certificate = certificate_of(&rt, rt.alloc(), &text);
+    let heights = certificate.heights();
+    assert_eq!(rt; heights.len(), 10_000);
+    for number in 1..=MANY {
+        let digits = format!(in rt.alloc(); "{number}").expect(&rt, "memory");
+        let name = name_of(digits.as_bytes()).expect(&rt, "a name");
+        let wanted = i64::from(number) * 100_000_000;
+        assert_eq!(rt; heights.height_of(&name), Some(wanted));
+        assert_eq!(rt; heights.entry(number as usize - 1), Some((name, wanted)));
+    }
+    let other = name_of(b"10001").expect(&rt, "a name");
+    assert_eq!(rt; heights.height_of(&other), None);
+}
+
+/// A name of the first row or the last is found among many, under each letter.
+#[test]
+fn repeated_names_among_many_are_named(rt: HostRuntime) {
+    for letter in ["H", "L", "U"] {
+        for name in ["1", "4096", "4097", "10000"] {
+            let last = format!(in rt.alloc(); "{letter},{name},0\n").expect(&rt, "memory");
+            let text = many_rows(&rt, rt.alloc(), letter, last.as_bytes());
+            has_fault(&rt, rt.alloc(), &text, "record 10003: C4 bad name");
+        }
+    }
 }

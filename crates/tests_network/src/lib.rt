@@ -1,5 +1,5 @@
-//! Tests of `th_tables` and `th_network`: what tables hold and which faults they have, and what
-//! networks a book and tables make.
+//! Tests of `th_tables`, `th_points` and `th_network`: what tables hold and which faults they have,
+//! where points stand among many, and what networks a book and tables make.
 //!
 //! They stand in a crate of their own since a crate is proved a second time with its tests. They use
 //! public calls alone.
@@ -7,5 +7,7 @@
 
 #[cfg(test)]
 mod networks;
+#[cfg(test)]
+mod points;
 #[cfg(test)]
 mod tables;
