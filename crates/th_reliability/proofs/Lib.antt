@@ -15,3 +15,6 @@ pub mod NumberLemmas
 pub mod PullLemmas
 pub mod SharedLemmas
 pub mod SightLemmas
+pub mod RunLemmas
+pub mod BoundLemmas
+pub mod SingleLemmas

@@ -1,4 +1,4 @@
-use Rattle.std.specs.Prelude.{◌≡◌, ℕ, ◌<◌, ◌≤◌, ◌==◌, Bool, true, List, Contains, nat_lt, if◌then◌else◌}
+use Rattle.std.specs.Prelude.{◌≡◌, ℕ, ◌<◌, ◌≤◌, ◌==◌, Bool, true, List, Contains, Option, Some, None, nat_lt, if◌then◌else◌}
 use Rattle.th_book.specs.Observed.{Observed}
 use Rattle.th_network.specs.Networks.{Survey, points_of}
 use Rattle.th_reliability.specs.Cuts.{IsFreeSet}
@@ -34,6 +34,11 @@ abbrev pub shared_mistake_of : ℕ → ℕ → SharedMistake
 shared_mistake_of control weight =
     if nat_lt weight control then Shows
     else (if control == weight then Ties else Drags)
+
+-- what a mistake does in a group of one observation, with its control and weight: it shows where there is no control
+abbrev pub single_mistake_of : Option ℕ → ℕ → SharedMistake
+single_mistake_of None weight = Shows
+single_mistake_of (Some control) weight = shared_mistake_of control weight
 
 -- the worse of two mistakes: dragging is worse than a tie, and a tie worse than showing
 abbrev pub worse : SharedMistake → SharedMistake → SharedMistake

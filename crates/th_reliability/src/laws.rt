@@ -1,6 +1,6 @@
 //! Laws over the definitions alone. A law is its contract: it calls nothing and computes nothing.
 
-ghost use Rattle.std.specs.Prelude.{◌≡◌, ◌≢◌, ℕ, ◌-◌, ◌*◌, ◌<◌, ◌≤◌, ℤ, pos, ◌-ℤ◌, Bool, true, false, List, ◌∷◌, ◌++◌, All, Contains, IsSome, unsigned_abs};
+ghost use Rattle.std.specs.Prelude.{◌≡◌, ◌≢◌, ℕ, ◌-◌, ◌*◌, ◌<◌, ◌≤◌, ℤ, pos, ◌-ℤ◌, Bool, true, false, List, ◌∷◌, ◌++◌, All, Contains, IsSome, Option, Some, slice_get, unsigned_abs};
 ghost use Rattle.th_book.specs.Observed.{Observed};
 ghost use Rattle.th_cuts.specs.Cuts.{cut_weight};
 ghost use Rattle.th_network.specs.Heights.{IsHeights, Least, residual};
@@ -11,8 +11,9 @@ ghost use Rattle.th_points.specs.Points.{points};
 ghost use Rattle.th_reliability.specs.Blunders.{cost_outside, cost_up_to, weight_in};
 ghost use Rattle.th_reliability.specs.Cuts.{IsControl, IsFreeSet, IsStrength, cut};
 ghost use Rattle.th_reliability.specs.Edges.{edges_of, names_in, vertices_in};
-ghost use Rattle.th_reliability.specs.Groups.{IsGroupControl};
-ghost use Rattle.th_reliability.specs.SharedMistakes.{IsFreeWithPoint, IsSharedMistake, shared_mistake_of};
+ghost use Rattle.th_reliability.specs.Groups.{IsGroupControl, IsOnly};
+ghost use Rattle.th_reliability.specs.Numbers.{HasControl};
+ghost use Rattle.th_reliability.specs.SharedMistakes.{IsFreeWithPoint, IsSharedMistake, shared_mistake_of, single_mistake_of};
 ghost use Rattle.th_reliability.specs.declared.mistakes.SharedMistake.{SharedMistake};
 ghost use Rattle.th_reliability.specs.declared.mistakes.SharedMistake.TheVariants.{Shows};
 ghost use Rattle.th_tables.specs.Rows.{AreWeights, BenchmarkRows, WeightRows, height_of, weight_of};
@@ -227,11 +228,23 @@ pub fn shared_mistake_drags()
 
 /// The control of a group and its weight decide what a mistake does that the group shares, and it does
 /// one thing only. Where no free set holds a point, it shows: all heights are given.
+///
+/// In a group of one observation, the control of that observation decides it. Where the observation has
+/// none, its ends are benchmarks, and the mistake shows.
 pub fn control_decides_shared_mistake()
     ensures decided { (survey : Survey) (group : Observed → Bool) (control : ℕ)
         → IsGroupControl survey.observations survey.benchmarks survey.weights group control
         → IsSharedMistake survey group (shared_mistake_of control
         (weight_in survey.observations survey.weights group)) }
+    ensures single { (survey : Survey) (group : Observed → Bool) (place : ℕ) (o : Observed)
+        (control : Option ℕ)
+        → AreWeights survey.weights
+        → Anchored survey.observations survey.benchmarks
+        → IsOnly survey.observations group place
+        → slice_get survey.observations place ≡ Some o
+        → HasControl survey o control
+        → IsSharedMistake survey group (single_mistake_of control
+        (weight_of survey.weights o.station o.target)) }
     ensures one { (survey : Survey) (group : Observed → Bool) (first second : SharedMistake)
         → IsSharedMistake survey group first
         → IsSharedMistake survey group second

@@ -19,9 +19,11 @@ mod numbers;
 // What becomes of a mistake, by control and weight.
 mod mistakes;
 
-// What a mistake in an entry would do: its sights, the graphs in which they are turned round, and the
-// least cuts of these.
+// What a mistake in an entry would do: its sights and where they are, what their controls tell, the graphs in
+// which they are turned round, and the least cuts of these.
+mod bounds;
 mod pulls;
+mod runs;
 mod shared;
 mod sights;
 
@@ -29,6 +31,7 @@ mod sights;
 pub mod laws;
 
 pub use mistakes::{Mistake, SharedMistake};
-pub use numbers::Reliability;
+pub use numbers::{Reliability, point_strengths};
+pub use runs::Runs;
 pub use shared::shared_mistakes;
 pub use sights::Sights;

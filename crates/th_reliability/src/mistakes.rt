@@ -1,6 +1,6 @@
 ghost use Rattle.std.specs.Prelude.{◌≡◌};
 ghost use Rattle.th_reliability.specs.Mistakes.{mistake_of};
-ghost use Rattle.th_reliability.specs.SharedMistakes.{shared_mistake_of, worse};
+ghost use Rattle.th_reliability.specs.SharedMistakes.{shared_mistake_of, single_mistake_of, worse};
 
 /// What best heights make of a mistake in one observation.
 #[derive(Clone, Copy, Debug, PartialEq, Eq)]
@@ -53,6 +53,16 @@ impl SharedMistake {
             SharedMistake::Ties
         } else {
             SharedMistake::Drags
+        }
+    }
+
+    /// What a mistake does in an entry that serves one observation alone, with this control and weight.
+    pub(crate) fn of_one(control: Option<u32>, weight: u32) -> SharedMistake
+        ensures { result ≡ single_mistake_of control weight }
+    {
+        match control {
+            None => SharedMistake::Shows,
+            Some(control) => SharedMistake::of(control, weight),
         }
     }
 

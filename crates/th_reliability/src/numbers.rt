@@ -1,4 +1,5 @@
 ghost use Rattle.std.specs.Prelude.{IfOk};
+ghost use Rattle.th_reliability.specs.Inside.Graphs.{IsGraphOf};
 ghost use Rattle.th_reliability.specs.Numbers.{AreControls, AreStrengths};
 
 use crate::controls::controls_of;
@@ -24,9 +25,7 @@ impl Reliability {
         ensures strengths { IfOk result (λ found. AreStrengths network.now found.strengths.items) }
         ensures controls { IfOk result (λ found. AreControls network.now found.controls.items) }
     {
-        let _few = network.points();
-        let edges = edges_of(alloc, network)?;
-        let tree = CutTree::of(alloc, network.vertices(), edges)?;
+        let tree = tree_of(alloc, network)?;
         let strengths = strengths_of(alloc, network, &tree)?;
         let controls = controls_of(alloc, network, &tree)?;
         Ok(Reliability {
@@ -34,4 +33,22 @@ impl Reliability {
             controls,
         })
     }
+}
+
+/// For each point its strength, none where it is a benchmark, in point order: those of `Reliability`,
+/// without the controls.
+pub fn point_strengths(alloc: Global, network: &Network) -> Result<Vec<Option<u32>>, AllocError>
+    ensures { IfOk result (λ strengths. AreStrengths network.now strengths.items) }
+{
+    let tree = tree_of(alloc, network)?;
+    strengths_of(alloc, network, &tree)
+}
+
+/// The cut tree of the graph over a network's vertices.
+fn tree_of(alloc: Global, network: &Network) -> Result<CutTree, AllocError>
+    ensures { IfOk result (λ tree. IsGraphOf network.now tree) }
+{
+    let _few = network.points();
+    let edges = edges_of(alloc, network)?;
+    CutTree::of(alloc, network.vertices(), edges)
 }

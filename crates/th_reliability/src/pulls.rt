@@ -1,5 +1,4 @@
-ghost use Rattle.std.specs.Prelude.{◌≡◌, IfOk, false, map, true};
-ghost use Rattle.th_reliability.specs.Blunders.{weight_in};
+ghost use Rattle.std.specs.Prelude.{◌≡◌, IfOk, map};
 ghost use Rattle.th_reliability.specs.Inside.Pulls.{AreEdges, IsStation, merged as merged_vertex, pulled, pushed};
 ghost use Rattle.th_reliability.specs.Sights.{IsOfOneStation, in_sights};
 
@@ -22,27 +21,6 @@ pub(crate) fn station_of(network: &Network, edges: &[Edge], sights: &Sights) -> 
         }
     }
     0
-}
-
-/// What some sights weigh together.
-pub(crate) fn weight_of(network: &Network, edges: &[Edge], sights: &Sights) -> u32
-    requires { AreEdges network.now edges.now }
-    ensures { result ≡ weight_in network.now.observations network.now.weights (in_sights sights.now) }
-{
-    let observations = network.observations();
-    let mut weight = 0;
-    for (i, o) in observations.iter().enumerate() {
-        weight += own_weight(sights, o, edges[i]);
-    }
-    weight
-}
-
-/// What an observation with this edge weighs if it is one of some sights, and otherwise 0.
-fn own_weight(sights: &Sights, o: &Observation, edge: Edge) -> u32
-    ensures own { in_sights sights.now o.now ≡ true → result ≡ edge.weight }
-    ensures other { in_sights sights.now o.now ≡ false → result ≡ 0 }
-{
-    if sights.hold(o) { edge.weight } else { 0 }
 }
 
 /// The edges of the graph for sets that hold the station: each of the sights joins its target to vertex 0,

@@ -6,4 +6,3 @@ pub mod Heads
 pub mod Largest
 pub mod Reviews
 pub mod Texts
-pub mod Inside

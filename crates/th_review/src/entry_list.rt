@@ -4,11 +4,10 @@ ghost use Rattle.th_review.specs.Rows.{entry_rows, entry_weight};
 
 use crate::entries::sights_of;
 use crate::rows::EntryRow;
-use crate::runs::Runs;
 use std::alloc::{AllocError, Global};
 use th_entries::Entry;
 use th_network::Network;
-use th_reliability::SharedMistake;
+use th_reliability::{Runs, SharedMistake};
 
 /// The rows of entries, with what a mistake in each would do, listed in the order of the entries.
 ///
@@ -41,16 +40,5 @@ fn entry_weight(network: &Network, runs: &Runs<'_>, entry: &Entry) -> u32
     requires { runs.now.observations.now ≡ network.now.observations }
     ensures { result ≡ entry_weight network.now entry.now }
 {
-    // its points say that a network has few observations
-    let _ = network.points();
-    let sights = sights_of(entry);
-    let observations = network.observations();
-    let (start, end) = runs.run_of(&sights);
-    let mut sum = 0;
-    for i in start..end {
-        if sights.hold(&observations[i]) {
-            sum += network.weight(i);
-        }
-    }
-    sum
+    runs.weight_of(network, &sights_of(entry))
 }

@@ -6,9 +6,8 @@
 //! failure.
 #![tactic(auto)]
 
-// The entries of all books, and the sights of each: where these are among the observations.
+// The entries of all books, and the sights of each.
 mod entries;
-mod runs;
 
 // What the texts say of each point, observation and entry.
 mod entry_list;

@@ -5,7 +5,7 @@ ghost use Rattle.th_entries.specs.Stations.{HasOneStation};
 ghost use Rattle.th_entries.specs.declared.reviews.BookReview.{BookReview};
 ghost use Rattle.th_entries.specs.declared.spellings.Spelling.{Spelling};
 ghost use Rattle.std.specs.List.{AllZip};
-ghost use Rattle.th_reliability.specs.Numbers.{AreStrengths};
+ghost use Rattle.th_reliability.specs.Numbers.{AreControls, AreStrengths};
 ghost use Rattle.th_reliability.specs.SharedMistakes.{IsSharedMistake};
 ghost use Rattle.th_reliability.specs.Sights.{in_sights};
 ghost use Rattle.th_review.specs.Entries.{entries_of, sights_of};
@@ -29,7 +29,7 @@ use th_entries::laws::entry_of_several_books_has_one_station;
 use th_entries::{BookReview, Entry, Spelling};
 use th_network::Network;
 use th_network::laws::faults_exclude_each_other;
-use th_reliability::{Reliability, SharedMistake, Sights, shared_mistakes};
+use th_reliability::{Reliability, SharedMistake, Sights, point_strengths, shared_mistakes};
 use th_review::{Findings, ReviewTexts, entries_of, review_texts, sights_of};
 use th_tables::Weights;
 
@@ -173,11 +173,11 @@ fn findings_of(
     ensures refused { IfErr result (λ own. own ≡ Refusal.NoMemory) }
 {
     let unit_strengths = unit_strengths_of(alloc, network)?;
-    let mistakes = mistakes_of(alloc, network, reviews)?;
     let Reliability {
         strengths,
         controls,
     } = Reliability::of(alloc, network)?;
+    let mistakes = mistakes_of(alloc, network, &controls, reviews)?;
     Ok(Findings {
         strengths,
         unit_strengths,
@@ -197,22 +197,24 @@ fn unit_strengths_of(alloc: Global, network: &Network) -> Result<Vec<Option<u32>
     let observations = Vec::from_slice(alloc, network.observations())?;
     let weights = Weights::empty(alloc);
     let unit = network_of(alloc, observations, network.benchmarks(), &weights)?;
-    Ok(Reliability::of(alloc, &unit)?.strengths)
+    Ok(point_strengths(alloc, &unit)?)
 }
 
 /// What a mistake in each entry of the books would do.
 fn mistakes_of(
     alloc: Global,
     network: &Network,
+    controls: &[Option<u32>],
     reviews: &[BookReview],
 ) -> Result<Vec<SharedMistake>, AllocError>
-    requires { All (HasOneStation network.now.observations) (entries_of reviews.now) }
+    requires controls { AreControls network.now controls.now }
+    requires stations { All (HasOneStation network.now.observations) (entries_of reviews.now) }
     ensures { IfOk result (λ mistakes. AllZip (λ entry mistake.
         IsSharedMistake network.now (in_sights (sights_of entry)) mistake) (entries_of reviews.now) mistakes.items) }
 {
     let entries = entries_of(alloc, reviews)?;
     let sights = sights_of_all(alloc, &entries)?;
-    shared_mistakes(alloc, network, &sights)
+    shared_mistakes(alloc, network, controls, &sights)
 }
 
 /// The sights of each entry.

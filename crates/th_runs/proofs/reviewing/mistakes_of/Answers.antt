@@ -8,10 +8,10 @@ use Rattle.th_runs.proofs.EntryLemmas.{all_of_one_station, of_entries}
 use Rattle.th_runs.proofs.ReaderLemmas.{if_ok}
 use Rattle.th_runs.proofs.reviewing.mistakes_of.Goals as goal
 
-pub shared_mistakes-requires : goal.shared_mistakes-requires
-shared_mistakes-requires c =
+pub shared_mistakes-requires-clause-one : goal.shared_mistakes-requires-clause-one
+shared_mistakes-requires-clause-one c =
     subst (All (IsOfOneStation c.args.network.now.observations)) (sym (c.deref-2.ensures.value ∙ c.in_ok-sights.ensures ∙ ap (map sights_of) (c.deref.ensures.value ∙ c.in_ok-entries.ensures)))
-    (all_of_one_station c.args.network.now.observations (entries_of c.args.reviews.now) c.requires)
+    (all_of_one_station c.args.network.now.observations (entries_of c.args.reviews.now) c.requires.stations)
 
 pub returns : goal.returns
 returns c =

@@ -1,8 +1,8 @@
 use Rattle.std.proofs.Common.{rules}
 use Rattle.std.proofs.lemmas.List.Sorted.{IsPartitionPoint-from_clause}
-use Rattle.th_review.specs.Inside.Runs.{is_before}
-use Rattle.th_review.proofs.RunLemmas.{parted}
-use Rattle.th_review.proofs.runs.count_before.Goals as goal
+use Rattle.th_reliability.specs.Inside.Runs.{is_before}
+use Rattle.th_reliability.proofs.RunLemmas.{parted}
+use Rattle.th_reliability.proofs.runs.count_before.Goals as goal
 
 pub returns-clause-split : goal.returns-clause-split
 returns-clause-split c =

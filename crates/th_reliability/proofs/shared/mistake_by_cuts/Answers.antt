@@ -2,7 +2,7 @@ use Rattle.std.proofs.Common.{subst}
 use Rattle.th_reliability.specs.Sights.{in_sights}
 use Rattle.th_reliability.specs.Inside.Pulls.{IsStation}
 use Rattle.th_reliability.proofs.SharedLemmas.{fixed_station, joined_sights}
-use Rattle.th_reliability.proofs.shared.shared_mistake.Goals as goal
+use Rattle.th_reliability.proofs.shared.mistake_by_cuts.Goals as goal
 
 pub returns-then-station-eq0 : goal.returns-then-station-eq0
 returns-then-station-eq0 c =

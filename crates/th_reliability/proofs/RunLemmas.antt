@@ -9,7 +9,7 @@ use Rattle.th_tables.specs.Rows.{WeightRows, weight_of}
 use Rattle.th_reliability.specs.Blunders.{weight_in}
 use Rattle.th_reliability.specs.Sights.{in_sights}
 use Rattle.th_reliability.specs.declared.sights.Sights.{Sights}
-use Rattle.th_review.specs.Inside.Runs.{AreInOrder, HoldsSights, IsNoLater, is_before}
+use Rattle.th_reliability.specs.Inside.Runs.{AreInOrder, HoldsSights, IsNoLater, is_before}
 
 no_later_on : (o other last : Observed) → IsNoLater o other → IsNoLater other last → IsNoLater o last
 no_later_on o other last first next = (omega arith, λ same. omega (arith, same, first.0, first.1, next.0, next.1))

@@ -1,28 +1,50 @@
 //! Where the sights of an entry are among the observations of a network.
 ghost use Rattle.std.specs.Prelude.{◌≡◌, ◌≤◌, ◌↔◌, false, length, true};
 ghost use Rattle.std.specs.List.Sorted.{IsPartitionPoint};
-ghost use Rattle.th_review.specs.Inside.Runs.{AreInOrder, HoldsSights, is_before};
+ghost use Rattle.th_reliability.specs.Blunders.{weight_in};
+ghost use Rattle.th_reliability.specs.Inside.Runs.{AreInOrder, HoldsSights, is_before};
+ghost use Rattle.th_reliability.specs.Sights.{in_sights};
 
+use crate::sights::Sights;
 use th_book::Observation;
-use th_reliability::Sights;
+use th_network::Network;
 
 /// Observations, and whether they are in the order of books and lines, as those of a survey are.
 #[derive(Drop)]
-pub(crate) struct Runs<'a> {
-    pub(crate) observations: &'a [Observation],
+pub struct Runs<'a> {
+    pub observations: &'a [Observation],
     in_order: bool,
     ghost ordered: { in_order ≡ true → AreInOrder observations.now },
 }
 
 impl<'a> Runs<'a> {
     /// The runs of some observations.
-    pub(crate) fn of(observations: &'a [Observation]) -> Runs<'a>
+    pub fn of(observations: &'a [Observation]) -> Runs<'a>
         ensures { result.observations.now ≡ observations.now }
     {
         Runs {
             observations,
             in_order: are_in_order(observations),
         }
+    }
+
+    /// What some sights weigh together, where the runs are those of a network's observations. Where
+    /// these are in order, the time is that of one pass over the sights.
+    pub fn weight_of(&self, network: &Network, sights: &Sights) -> u32
+        requires { self.now.observations.now ≡ network.now.observations }
+        ensures { result ≡ weight_in network.now.observations network.now.weights (in_sights sights.now) }
+    {
+        // its points say that a network has few observations
+        let _ = network.points();
+        let observations = network.observations();
+        let (start, end) = self.run_of(sights);
+        let mut sum = 0;
+        for i in start..end {
+            if sights.hold(&observations[i]) {
+                sum += network.weight(i);
+            }
+        }
+        sum
     }
 
     /// From where to where the sights are, counted from 0. Where the observations are not in order,

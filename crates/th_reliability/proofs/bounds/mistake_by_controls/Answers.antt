@@ -1,0 +1,54 @@
+use Rattle.std.proofs.Common.{◌≡◌, ◌<◌, ◌+◌, ◌∙◌, ℕ, List, Option, Some, None, get_or, slice_get, length, ap, sym, subst, arith}
+use Rattle.std.specs.Prelude.{IfSome}
+use Rattle.std.proofs.lemmas.List.{get_or-map}
+use Rattle.std.proofs.lemmas.Option.{get_or_from_slice_get, slice_get-get_or}
+use Rattle.th_book.specs.Observed.{Observed}
+use Rattle.th_tables.specs.Rows.{AreWeights, weight_of}
+use Rattle.th_network.specs.Networks.{weights_of}
+use Rattle.th_reliability.specs.SharedMistakes.{IsSharedMistake}
+use Rattle.th_reliability.specs.Sights.{in_sights}
+use Rattle.th_reliability.specs.Inside.Bounds.{AreNoLess, IsNoBetter, IsNoWorse, worst_of}
+use Rattle.th_reliability.specs.Inside.Runs.{HoldsSights}
+use Rattle.th_reliability.specs.declared.mistakes.SharedMistake.{SharedMistake}
+use Rattle.th_reliability.proofs.BoundLemmas.{all_held, is_bounded, no_worse, none_held, one_held}
+use Rattle.th_reliability.proofs.bounds.mistake_by_controls.Goals as goal
+use Rattle.th_reliability.proofs.bounds.mistake_by_controls.Goals.{then-hold, else-hold}
+
+pub loop-i-preserved : goal.loop-i-preserved
+loop-i-preserved c =
+    let survey = c.args.network.now in
+    let group = in_sights c.args.sights.now in
+    let i = c.loop-i.i in
+    let o = c.index-observations-i.result in
+    let all = c.observations-observations.ensures.observations in
+    let within : i < length survey.observations = omega (arith, ap length c.requires.runs, c.run_of-start.ensures.within, c.loop-i-test.true) in
+    let is : o ≡ get_or survey.observations i o = c.index-observations-i.is ∙ ap (λ (os : List Observed). get_or os i o) all in
+    elim c.if-hold.branch [
+      | then-hold w ↦
+          let control : Option ℕ = get_or c.args.controls.now i None in
+          let weight_at = λ (o : Observed). weight_of survey.weights o.station o.target in
+          let at : slice_get survey.observations i ≡ Some o = slice_get-get_or survey.observations i o within ∙ ap Some (sym is) in
+          let weight : w.weight-own.result ≡ weight_at o = sym (get_or_from_slice_get (weights_of survey) i w.weight-own.result w.weight-own.result w.weight-own.ensures.weight) ∙ get_or-map weight_at survey.observations i o w.weight-own.result within ∙ ap weight_at (sym is) in
+          let more = one_held survey group c.loop-i.best w.of_one.result w.worse-best.result c.loop-i.least w.lesser-least.result control i w.weight-own.result o is within (sym c.hold.ensures ∙ w.if-hold.true) (c.requires.controls.are i o None at) weight w.of_one.ensures w.worse-best.ensures w.lesser-least.ensures.here w.lesser-least.ensures.kept c.loop-i.invariant.best c.loop-i.invariant.least in
+          record {
+            best = subst (IsNoBetter survey group) (sym w.best-is) more.0;
+            least = subst (λ (least : Option ℕ). AreNoLess survey group least (i + 1)) (sym w.least-is) more.1;
+          }
+      | else-hold w ↦
+          record {
+            best = subst (IsNoBetter survey group) (sym w.best-is) c.loop-i.invariant.best;
+            least = subst (λ (least : Option ℕ). AreNoLess survey group least (i + 1)) (sym w.least-is) (none_held survey group c.loop-i.least i o is within (sym c.hold.ensures ∙ w.if-hold.false) c.loop-i.invariant.least);
+          }
+    ]
+
+pub returns : goal.returns
+returns c =
+    let survey = c.args.network.now in
+    let sights = c.args.sights.now in
+    let group = in_sights sights in
+    let run : HoldsSights survey.observations sights c.run_of-start.result =
+    subst (λ (observations : List Observed). HoldsSights observations sights c.run_of-start.result) c.requires.runs c.run_of-start.ensures in
+    let all = all_held survey sights c.loop-i.least c.run_of-start.result c.loop-i.i run c.loop-i-test.false c.loop-i.invariant.least in
+    let worst : IsNoWorse survey group c.worst_of.result = subst (IsNoWorse survey group) (sym (c.worst_of.ensures ∙ ap (worst_of c.loop-i.least) c.requires.weight))
+    (no_worse survey group c.loop-i.least (subst AreWeights c.weights.ensures c.entry.ensures.rows) c.points.ensures.network.anchored all) in
+    subst (λ (found : Option SharedMistake). IfSome found (IsSharedMistake survey group)) (sym c.bounded.ensures) (is_bounded survey group c.loop-i.best c.worst_of.result c.loop-i.invariant.best worst)
