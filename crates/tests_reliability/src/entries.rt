@@ -1,18 +1,21 @@
-use crate::networks::{BUILDING_SITE, DAM, Worked};
+ghost use Rattle.th_reliability.specs.Numbers.{AreControls};
+
+use crate::networks::{BETWEEN_BENCHMARKS, BUILDING_SITE, DAM, THERE_AND_BACK, Worked};
 use std::alloc::Global;
 use std::process::Abort;
-use th_book::read_book;
+use th_book::{Observation, read_book};
 use th_network::Network;
-use th_reliability::{SharedMistake, Sights, shared_mistakes};
+use th_reliability::{Reliability, SharedMistake, Sights, shared_mistakes};
 use th_tables::{read_benchmarks, read_weights};
 
 /// The first and the last line of some sights, and what a mistake does that they share.
 type Entry = (u32, u32, SharedMistake);
 
-/// All sights of each station, and some of them. The values are those of the least difference over all
-/// sets of points, counted one by one.
-const ON_SITE: [Entry; 7] = [
+/// All sights of each station, some of them, and single ones. The values are those of the least
+/// difference over all sets of points, counted one by one.
+const ON_SITE: [Entry; 8] = [
     (3, 6, SharedMistake::Drags),
+    (3, 3, SharedMistake::Ties),
     (8, 11, SharedMistake::Drags),
     (8, 10, SharedMistake::Ties),
     (11, 11, SharedMistake::Shows),
@@ -21,8 +24,9 @@ const ON_SITE: [Entry; 7] = [
     (14, 14, SharedMistake::Shows),
 ];
 
-const ON_DAM: [Entry; 7] = [
+const ON_DAM: [Entry; 8] = [
     (3, 8, SharedMistake::Drags),
+    (3, 3, SharedMistake::Ties),
     (10, 14, SharedMistake::Drags),
     (16, 19, SharedMistake::Drags),
     (5, 5, SharedMistake::Ties),
@@ -31,35 +35,94 @@ const ON_DAM: [Entry; 7] = [
     (4, 4, SharedMistake::Shows),
 ];
 
+/// A sight between benchmarks, one that nothing checks, both, and lines without a sight.
+const AT_BENCHMARKS: [Entry; 4] = [
+    (2, 2, SharedMistake::Shows),
+    (3, 3, SharedMistake::Drags),
+    (1, 3, SharedMistake::Drags),
+    (1, 1, SharedMistake::Shows),
+];
+
+/// The heavier of two sights of one point, and the lighter.
+const ON_TWO_SIGHTS: [Entry; 2] = [(2, 2, SharedMistake::Drags), (4, 4, SharedMistake::Shows)];
+
 #[test]
 fn mistakes_in_entries_are_told_by_cuts(rt: HostRuntime) {
     try_entries(&rt, rt.alloc(), &BUILDING_SITE, &ON_SITE);
     try_entries(&rt, rt.alloc(), &DAM, &ON_DAM);
+    try_entries(&rt, rt.alloc(), &BETWEEN_BENCHMARKS, &AT_BENCHMARKS);
+    try_entries(&rt, rt.alloc(), &THERE_AND_BACK, &ON_TWO_SIGHTS);
 }
 
+/// Tries entries over the observations of a book, in their order and in the opposite one.
 fn try_entries(rt: &impl Abort, alloc: Global, row: &Worked, entries: &[Entry]) {
-    let (lines, benchmarks, weights, _, _) = row;
+    let (lines, _, _, _, _) = row;
     let mut book = Vec::new(alloc);
     for line in *lines {
         book.extend_from_slice(line).expect(rt, "memory");
     }
     let observations = read_book(alloc, 1, &book).expect(rt, "observations");
+    let mut opposite = Vec::new(alloc);
+    for o in observations.iter().rev() {
+        opposite.push(*o).expect(rt, "memory");
+    }
+    try_observations(rt, alloc, row, observations, entries);
+    try_observations(rt, alloc, row, opposite, entries);
+}
+
+fn try_observations(
+    rt: &impl Abort,
+    alloc: Global,
+    row: &Worked,
+    observations: Vec<Observation>,
+    entries: &[Entry],
+) {
+    let (_, benchmarks, weights, _, _) = row;
     let benchmarks = read_benchmarks(alloc, benchmarks).expect(rt, "benchmarks");
     let weights = read_weights(alloc, weights).expect(rt, "weights");
     let network = Network::build(alloc, observations, &benchmarks, &weights).expect(
         rt,
         "a network",
     );
-    for (first, last, mistake) in entries {
-        let sights = Sights {
-            book: 1,
-            first: *first,
-            last: *last,
-        };
-        let is_one = sights.are_of_one_station(&network);
-        assert!(rt; is_one);
-        let found = shared_mistakes(alloc, &network, &[sights]).expect(rt, "memory");
-        assert!(rt; found.len() == 1);
-        assert!(rt; found[0] == *mistake);
+    let found = Reliability::of(alloc, &network).expect(rt, "memory");
+    let mut before = entries.last();
+    for entry in entries {
+        if let Some(other) = before {
+            try_two(rt, alloc, &network, &found, other, entry);
+        }
+        before = Some(entry);
+    }
+}
+
+/// Tries two entries, each of them twice.
+fn try_two(
+    rt: &impl Abort,
+    alloc: Global,
+    network: &Network,
+    found: &Reliability,
+    first: &Entry,
+    second: &Entry,
+)
+    requires { AreControls network.now found.now.controls.items }
+{
+    let one = sights_of(first);
+    let two = sights_of(second);
+    let first_is_one = one.are_of_one_station(network);
+    assert!(rt; first_is_one);
+    let second_is_one = two.are_of_one_station(network);
+    assert!(rt; second_is_one);
+    let entries = [one, one, two, two];
+    let mistakes = shared_mistakes(alloc, network, &found.controls, &entries).expect(rt, "memory");
+    assert_eq!(rt; mistakes.len(), 4);
+    assert!(rt; mistakes[0] == first.2 && mistakes[1] == first.2);
+    assert!(rt; mistakes[2] == second.2 && mistakes[3] == second.2);
+}
+
+/// The sights of a row.
+fn sights_of(entry: &Entry) -> Sights {
+    Sights {
+        book: 1,
+        first: entry.0,
+        last: entry.1,
     }
 }

@@ -179,7 +179,7 @@ const RAILWAY_LINE: Worked = (
 );
 
 /// A sight between two benchmarks, and one from them to a point.
-const BETWEEN_BENCHMARKS: Worked = (
+pub(crate) const BETWEEN_BENCHMARKS: Worked = (
     &[
         b"110001+0000000A 84..10+00000000 87..10+00001200 88..10+00001500 \n",
         b"110002+0000000B 33..10-00002345 \n",
@@ -192,7 +192,7 @@ const BETWEEN_BENCHMARKS: Worked = (
 );
 
 /// Two sights of one point: of weight 3, and of weight 1 in the other direction.
-const THERE_AND_BACK: Worked = (
+pub(crate) const THERE_AND_BACK: Worked = (
     &[
         b"110001+0000000A 84..10+00000000 87..10+00001200 88..10+00001500 \n",
         b"110002+0000000B 33..10-00002345 \n",
