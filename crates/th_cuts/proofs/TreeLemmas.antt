@@ -11,7 +11,7 @@ use Rattle.th_cuts.specs.declared.edges.Edge.{Edge}
 use Rattle.th_cuts.specs.declared.trees.Step.{Step}
 use Rattle.th_cuts.specs.Cuts.{cut_weight, on_side}
 use Rattle.th_cuts.specs.Inside.Flows.{AreFullOut, HasRoom, IsFlow, edge_at, finish_of, flow_at, send}
-use Rattle.th_cuts.specs.Inside.Trees.{IsBack, IsStep, IsTree, at, count_left, is_placed, left, place_at, reached, step_at}
+use Rattle.th_cuts.specs.Inside.Trees.{AreApart, AreSteps, IsBack, IsStep, IsTree, at, count_left, is_placed, left, place_at, reached, step_at}
 use Rattle.th_cuts.proofs.FlowLemmas.{full_of_net, full_same, not_out, value_full, net_send, room_for_less, room_kept, send_bounded}
 
 -- a vertex with a place is none without
@@ -51,11 +51,32 @@ placed_more vertices edges flows source steps places new tree within vertex k is
         let long = length-append steps (new ∷ []) in
         (omega arith, ap (λ (i : ℕ). (with_new steps new i).vertex) (sym k_is) ∙ ap (λ (s : Step). s.vertex) (last steps new) ∙ sym same)
 
+pub steps_more : (edges : List Edge) (flows : List ℤ) (source : ℕ) (steps : List Step) (new : Step) → AreSteps edges flows source steps → 1 ≤ new.limit → new.parent < length steps → IsStep edges flows (step_at steps new.parent) new → AreSteps edges flows source (steps ++ new ∷ [])
+steps_more edges flows source steps new are limit after step =
+    let root = are.root in
+    let long = length-append steps (new ∷ []) in
+    let now = with_new steps new in
+    record {
+      root = omega arith;
+      root_vertex = ap (λ (s : Step). s.vertex) (old steps new 0 (omega arith)) ∙ are.root_vertex;
+      some = λ k h. below_more (λ k. 1 ≤ (now k).limit) (length steps)
+          (λ k h. subst (λ (s : Step). 1 ≤ s.limit) (sym (old steps new k h)) (are.some k h))
+          (subst (λ (s : Step). 1 ≤ s.limit) (sym (last steps new)) limit)
+          k (omega arith);
+      before = λ k h. below_more (λ k. 1 ≤ k → (now k).parent < k) (length steps)
+          (λ k h some. subst (λ (s : Step). s.parent < k) (sym (old steps new k h)) (are.before k h some))
+          (λ some. subst (λ (s : Step). s.parent < length steps) (sym (last steps new)) after)
+          k (omega arith);
+      grown = λ k h. below_more (λ k. 1 ≤ k → IsStep edges flows (now (now k).parent) (now k)) (length steps)
+          (λ k h some. let before = are.before k h some in subst (λ (s : Step). IsStep edges flows (now s.parent) s) (sym (old steps new k h)) (subst (λ (p : Step). IsStep edges flows p (step_at steps k)) (sym (old steps new (step_at steps k).parent (omega arith))) (are.grown k h some)))
+          (λ some. subst (λ (s : Step). IsStep edges flows (now s.parent) s) (sym (last steps new)) (subst (λ (p : Step). IsStep edges flows p new) (sym (old steps new new.parent after)) step))
+          k (omega arith);
+    }
+
 pub tree_more : (vertices : ℕ) (edges : List Edge) (flows : List ℤ) (source : ℕ) (steps : List Step) (places : List (Option ℕ)) (new : Step) → IsTree vertices edges flows source steps places → 1 ≤ new.limit → new.parent < length steps → IsStep edges flows (step_at steps new.parent) new → new.vertex < vertices → place_at places new.vertex ≡ None → IsTree vertices edges flows source (steps ++ new ∷ []) (slice_set places new.vertex (Some (length steps)))
 tree_more vertices edges flows source steps places new tree limit after step within none =
     let sized = tree.sized in
     let counted = tree.counted in
-    let root = tree.root in
     let set_long = length-set places new.vertex (Some (length steps)) in
     let long = length-append steps (new ∷ []) in
     let count = count_set places new.vertex (length steps) (omega arith) none in
@@ -63,20 +84,7 @@ tree_more vertices edges flows source steps places new tree limit after step wit
     record {
       sized = omega arith;
       counted = omega arith;
-      root = omega arith;
-      root_vertex = ap (λ (s : Step). s.vertex) (old steps new 0 (omega arith)) ∙ tree.root_vertex;
-      some = λ k h. below_more (λ k. 1 ≤ (now k).limit) (length steps)
-          (λ k h. subst (λ (s : Step). 1 ≤ s.limit) (sym (old steps new k h)) (tree.some k h))
-          (subst (λ (s : Step). 1 ≤ s.limit) (sym (last steps new)) limit)
-          k (omega arith);
-      before = λ k h. below_more (λ k. 1 ≤ k → (now k).parent < k) (length steps)
-          (λ k h some. subst (λ (s : Step). s.parent < k) (sym (old steps new k h)) (tree.before k h some))
-          (λ some. subst (λ (s : Step). s.parent < length steps) (sym (last steps new)) after)
-          k (omega arith);
-      grown = λ k h. below_more (λ k. 1 ≤ k → IsStep edges flows (now (now k).parent) (now k)) (length steps)
-          (λ k h some. let before = tree.before k h some in subst (λ (s : Step). IsStep edges flows (now s.parent) s) (sym (old steps new k h)) (subst (λ (p : Step). IsStep edges flows p (step_at steps k)) (sym (old steps new (step_at steps k).parent (omega arith))) (tree.grown k h some)))
-          (λ some. subst (λ (s : Step). IsStep edges flows (now s.parent) s) (sym (last steps new)) (subst (λ (p : Step). IsStep edges flows p new) (sym (old steps new new.parent after)) step))
-          k (omega arith);
+      are_steps = steps_more edges flows source steps new tree.are_steps limit after step;
       found = λ k h. below_more (λ k. place_at (slice_set places new.vertex (Some (length steps))) (now k).vertex ≡ Some k) (length steps)
           (λ k h. let is = tree.found k h in subst (λ (s : Step). place_at (slice_set places new.vertex (Some (length steps))) s.vertex ≡ Some k) (sym (old steps new k h)) (get_or-set_other places new.vertex (step_at steps k).vertex (Some (length steps)) None (placed_apart places (step_at steps k).vertex new.vertex k is none) ∙ is))
           (subst (λ (s : Step). place_at (slice_set places new.vertex (Some (length steps))) s.vertex ≡ Some (length steps)) (sym (last steps new)) (get_or-set_same places new.vertex (Some (length steps)) None (omega arith)))
@@ -93,6 +101,15 @@ count_none (place ∷ places) none =
     let rest = count_none places (λ v. none (suc v)) in
     omega arith
 
+pub steps_start : (edges : List Edge) (flows : List ℤ) (source : ℕ) (step : Step) → step.vertex ≡ source → 1 ≤ step.limit → AreSteps edges flows source (step ∷ [])
+steps_start edges flows source step is limit = record {
+  root = omega arith;
+  root_vertex = is;
+  some = λ k h. let first : 0 ≡ k = omega arith in subst (λ k. 1 ≤ (step_at (step ∷ []) k).limit) first limit;
+  before = λ k h some. absurd (omega arith);
+  grown = λ k h some. absurd (omega arith);
+}
+
 pub tree_start : (vertices : ℕ) (edges : List Edge) (flows : List ℤ) (source : ℕ) (step : Step) (places : List (Option ℕ)) → length places ≡ vertices → ((v : ℕ) → place_at places v ≡ None) → source < vertices → step.vertex ≡ source → 1 ≤ step.limit → IsTree vertices edges flows source (step ∷ []) (slice_set places source (Some 0))
 tree_start vertices edges flows source step places long none within is limit =
     let set_long = length-set places source (Some 0) in
@@ -102,11 +119,7 @@ tree_start vertices edges flows source step places long none within is limit =
     record {
       sized = omega arith;
       counted = omega arith;
-      root = omega arith;
-      root_vertex = is;
-      some = λ k h. let first : 0 ≡ k = omega arith in subst (λ k. 1 ≤ (step_at (step ∷ []) k).limit) first limit;
-      before = λ k h some. absurd (omega arith);
-      grown = λ k h some. absurd (omega arith);
+      are_steps = steps_start edges flows source step is limit;
       found = λ k h. let first : 0 ≡ k = omega arith in subst (λ k. place_at (slice_set places source (Some 0)) (step_at (step ∷ []) k).vertex ≡ Some k) first (ap (place_at (slice_set places source (Some 0))) is ∙ here);
       placed = λ vertex k there. elim (cases_Bool (eqb vertex source)) [
         | inl same ↦
@@ -126,12 +139,12 @@ apart_ways : (edges : List Edge) (flows : List ℤ) (p q a b : Step) → IsStep 
 apart_ways edges flows p q a b one two apart edge forward =
     apart (sym one.finish ∙ ap (λ (i : ℕ). finish_of (record { edge = i; is_forward = a.way.is_forward }) (edge_at edges i)) (sym edge) ∙ ap (λ (t : Bool). finish_of (record { edge = b.way.edge; is_forward = t }) (edge_at edges b.way.edge)) forward ∙ two.finish)
 
-pub back_step : (vertices : ℕ) (edges : List Edge) (first : List ℤ) (source sink amount : ℕ) (steps : List Step) (places : List (Option ℕ)) (flows : List ℤ) (here : ℕ) → IsTree vertices edges first source steps places → IsBack edges first sink amount steps flows here → 1 ≤ here → HasRoom edges flows amount (step_at steps here).way × IsBack edges first sink amount steps (send amount flows (step_at steps here).way) (step_at steps here).parent
-back_step vertices edges first source sink amount steps places flows here tree back some =
+pub back_step : (edges : List Edge) (first : List ℤ) (source sink amount : ℕ) (steps : List Step) (flows : List ℤ) (here : ℕ) → AreSteps edges first source steps → AreApart steps → IsBack edges first sink amount steps flows here → 1 ≤ here → HasRoom edges flows amount (step_at steps here).way × IsBack edges first sink amount steps (send amount flows (step_at steps here).way) (step_at steps here).parent
+back_step edges first source sink amount steps flows here are each_apart back some =
     let step = step_at steps here in
     let parent = step_at steps step.parent in
-    let is = tree.grown here back.within some in
-    let before = tree.before here back.within some in
+    let is = are.grown here back.within some in
+    let before = are.before here back.within some in
     let enough = back.enough in
     let less = is.less in
     let within = back.within in
@@ -145,10 +158,9 @@ back_step vertices edges first source sink amount steps places flows here tree b
         bounded = send_bounded edges flows amount step.way back.bounded room;
         rooms = λ k h more.
             let inside : k < length steps = omega arith in
-            let other = tree.grown k inside more in
+            let other = are.grown k inside more in
             let apart : step.vertex ≡ (step_at steps k).vertex → ⊥ = λ same.
-            let e = sym (tree.found here within) ∙ ap (place_at places) same ∙ tree.found k inside in
-            let same_place : here ≡ k = cc in
+            let same_place = each_apart here k within inside same in
             absurd (omega arith) in
             room_kept edges flows amount (step_at steps k).limit step.way (step_at steps k).way back.bounded among room (back.rooms k (omega arith) more) (apart_ways edges first parent (step_at steps (step_at steps k).parent) step (step_at steps k) is other apart);
         moved = λ inside.
@@ -161,16 +173,21 @@ back_step vertices edges first source sink amount steps places flows here tree b
     )
 
 -- back at the source, all has been sent
-pub back_done : (vertices : ℕ) (edges : List Edge) (first : List ℤ) (source sink amount value : ℕ) (steps : List Step) (places : List (Option ℕ)) (flows : List ℤ) → IsTree vertices edges first source steps places → IsBack edges first sink amount steps flows 0 → IsFlow edges source sink value first → IsFlow edges source sink (value + amount) flows
-back_done vertices edges first source sink amount value steps places flows tree back flow = record {
+pub back_done : (edges : List Edge) (first : List ℤ) (source sink amount value : ℕ) (steps : List Step) (flows : List ℤ) → AreSteps edges first source steps → IsBack edges first sink amount steps flows 0 → IsFlow edges source sink value first → IsFlow edges source sink (value + amount) flows
+back_done edges first source sink amount value steps flows are back flow = record {
   within = back.bounded;
   valued = λ inside in_it out.
       let moved = back.moved inside in
       let before = flow.valued inside in_it out in
-      let root = ap (λ (v : ℕ). at amount (inside v)) tree.root_vertex ∙ ap (at amount) in_it in
+      let root = ap (λ (v : ℕ). at amount (inside v)) are.root_vertex ∙ ap (at amount) in_it in
       let end = ap (at amount) out in
       omega (arith, ints);
 }
+
+-- ---- a tree's steps lead to different vertices
+pub tree_apart : (vertices : ℕ) (edges : List Edge) (flows : List ℤ) (source : ℕ) (steps : List Step) (places : List (Option ℕ)) → IsTree vertices edges flows source steps places → AreApart steps
+tree_apart vertices edges flows source steps places tree j k h i same =
+    let e = sym (tree.found j h) ∙ ap (place_at places) same ∙ tree.found k i in cc
 
 -- ---- each vertex that is reached is one of the vertices
 place_within : (places : List (Option ℕ)) (v k : ℕ) → place_at places v ≡ Some k → v < length places
@@ -192,8 +209,8 @@ on_side_is (place ∷ places) (suc vertex) = on_side_is places vertex
 
 pub source_reached : (vertices : ℕ) (edges : List Edge) (flows : List ℤ) (source : ℕ) (steps : List Step) (places : List (Option ℕ)) → IsTree vertices edges flows source steps places → on_side (map is_placed places) source ≡ true
 source_reached vertices edges flows source steps places tree =
-    let root = tree.root in
-    sym (on_side_is places source) ∙ ap is_placed (ap (place_at places) (sym tree.root_vertex) ∙ tree.found 0 (omega arith))
+    let root = tree.are_steps.root in
+    sym (on_side_is places source) ∙ ap is_placed (ap (place_at places) (sym tree.are_steps.root_vertex) ∙ tree.found 0 (omega arith))
 
 pub side_weighs : (vertices : ℕ) (edges : List Edge) (flows : List ℤ) (source sink value : ℕ) (steps : List Step) (places : List (Option ℕ)) → IsTree vertices edges flows source steps places → IsFlow edges source sink value flows → place_at places sink ≡ None → (reached places sink ≡ false → AreFullOut edges flows (reached places)) → cut_weight (on_side (map is_placed places)) edges ≡ value
 side_weighs vertices edges flows source sink value steps places tree flow none full =
@@ -203,13 +220,13 @@ side_weighs vertices edges flows source sink value steps places tree flow none f
 -- ---- whatever holds the source and has no way with room out of it holds all that is reached
 steps_inside : (vertices : ℕ) (edges : List Edge) (flows : List ℤ) (source : ℕ) (steps : List Step) (places : List (Option ℕ)) (inside : ℕ → Bool) → IsTree vertices edges flows source steps places → AreFullOut edges flows inside → inside source ≡ true → (most k : ℕ) → k < most → k < length steps → inside (step_at steps k).vertex ≡ true
 steps_inside vertices edges flows source steps places inside tree full in_it zero k h within = absurd (omega arith)
-steps_inside vertices edges flows source steps places inside tree full in_it (suc most) zero h within = ap inside tree.root_vertex ∙ in_it
+steps_inside vertices edges flows source steps places inside tree full in_it (suc most) zero h within = ap inside tree.are_steps.root_vertex ∙ in_it
 steps_inside vertices edges flows source steps places inside tree full in_it (suc most) (suc k) h within =
     let step = step_at steps (suc k) in
-    let before = tree.before (suc k) within (omega arith) in
-    let is = tree.grown (suc k) within (omega arith) in
+    let before = tree.are_steps.before (suc k) within (omega arith) in
+    let is = tree.are_steps.grown (suc k) within (omega arith) in
     let parent = steps_inside vertices edges flows source steps places inside tree full in_it most step.parent (omega arith) (omega arith) in
-    sym (ap inside is.finish) ∙ not_out edges flows inside step.limit step.way full is.among (tree.some (suc k) within) is.room (ap inside is.start ∙ parent)
+    sym (ap inside is.finish) ∙ not_out edges flows inside step.limit step.way full is.among (tree.are_steps.some (suc k) within) is.room (ap inside is.start ∙ parent)
 
 pub reached_inside : (vertices : ℕ) (edges : List Edge) (flows : List ℤ) (source sink value : ℕ) (steps : List Step) (places : List (Option ℕ)) (inside : ℕ → Bool) → IsTree vertices edges flows source steps places → IsFlow edges source sink value flows → inside source ≡ true → inside sink ≡ false → cut_weight inside edges ≡ value → (vertex : ℕ) → on_side (map is_placed places) vertex ≡ true → inside vertex ≡ true
 reached_inside vertices edges flows source sink value steps places inside tree flow in_it out weighs vertex on =

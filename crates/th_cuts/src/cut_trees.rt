@@ -3,6 +3,7 @@ ghost use Rattle.th_cuts.specs.Cuts.{IsLeastCut, cut_weight};
 
 use crate::branches::Branches;
 use crate::edges::Edge;
+use crate::merges::merged;
 use std::alloc::{AllocError, Global};
 use std::marker::Model;
 
@@ -34,7 +35,8 @@ impl CutTree {
         ensures cuts { IfOk result (λ tree. (inside : ℕ → Bool)
             → cut_weight inside tree.edges ≡ cut_weight inside edges.items) }
     {
-        let branches = Branches::of(alloc, vertices, edges)?;
+        let merged = merged(alloc, &edges)?;
+        let branches = Branches::of(alloc, vertices, merged)?;
         Ok(CutTree { branches })
     }
 

@@ -7,6 +7,7 @@ use crate::flows::Flow;
 use crate::graphs::Graph;
 use crate::guides::Guide;
 use crate::neighbours::Neighbours;
+use crate::paths::Path;
 use crate::trees::Tree;
 use std::alloc::{AllocError, Global};
 
@@ -72,18 +73,21 @@ pub(crate) fn least_cut_along(
         → (vertex : ℕ) → on_side cut.side.items vertex ≡ true → inside vertex ≡ true) }
 {
     let mut flow = Flow::none(alloc, graph)?;
+    let mut guide = Guide::new(alloc, graph)?;
+    let mut path = Path::new(alloc);
     'flowing: loop {
-        let tree = Tree::grow(alloc, graph, &flow.flows, neighbours)?;
-        match tree.place_of(graph.sink) {
-            Some(last) => {
-                let mut guide = Guide::of(alloc, graph, neighbours, &tree.steps)?;
-                flow.send(graph, &tree, last);
-                flow.send_more(alloc, graph, neighbours, &mut guide)?;
-            }
-            None => {
-                let value = flow.value;
-                let side = tree.side(alloc)?;
-                return Ok(Cut { value, side });
+        let before = flow.value;
+        guide.aim(graph, &flow.flows, neighbours)?;
+        flow.send_more(graph, neighbours, &mut guide, &mut path)?;
+        if flow.value == before {
+            let tree = Tree::grow(alloc, graph, &flow.flows, neighbours)?;
+            match tree.place_of(graph.sink) {
+                Some(last) => flow.send(graph, &tree.steps, last),
+                None => {
+                    let value = flow.value;
+                    let side = tree.side(alloc)?;
+                    return Ok(Cut { value, side });
+                }
             }
         }
     }

@@ -2,13 +2,14 @@ ghost use Rattle.std.specs.Prelude.{◌≡◌, ◌+◌, ◌<◌, ◌≤◌, ℕ,
 ghost use Rattle.th_cuts.specs.Inside.Flows.{AreBounded, IsFlow};
 ghost use Rattle.th_cuts.specs.Inside.Guides.{IsGuide};
 ghost use Rattle.th_cuts.specs.Inside.Neighbours.{AreNeighbours};
-ghost use Rattle.th_cuts.specs.Inside.Trees.{IsTree, place_at, step_at};
+ghost use Rattle.th_cuts.specs.Inside.Trees.{AreApart, AreSteps, step_at};
 
 use crate::graphs::Graph;
 use crate::guides::Guide;
 use crate::neighbours::Neighbours;
+use crate::paths::Path;
 use crate::rooms::raise;
-use crate::trees::{Step, Tree};
+use crate::trees::Step;
 use std::alloc::{AllocError, Global};
 
 /// A flow from the source to the sink.
@@ -30,56 +31,57 @@ impl Flow {
         Ok(Flow { flows, value: 0 })
     }
 
-    /// Sends as much as has room from the source to the sink, along the ways of a tree.
-    pub fn send(&mut self, graph: &Graph, tree: &Tree, last: usize)
+    /// Sends as much as has room from the source to the sink, along the ways that lead to a step.
+    pub fn send(&mut self, graph: &Graph, steps: &[Step], last: usize)
         requires flow { IsFlow graph.now.edges.now graph.now.source graph.now.sink
             self.old.value self.old.flows.items }
-        requires tree { IsTree graph.now.vertices graph.now.edges.now self.old.flows.items
-            graph.now.source tree.now.steps.items tree.now.places.items }
-        requires last { place_at tree.now.places.items graph.now.sink ≡ Some last }
+        requires steps { AreSteps graph.now.edges.now self.old.flows.items graph.now.source steps.now }
+        requires apart { AreApart steps.now }
+        requires within { last < length steps.now }
+        requires last { (step_at steps.now last).vertex ≡ graph.now.sink }
         ensures flow { IsFlow graph.now.edges.now graph.now.source graph.now.sink
             self.new.value self.new.flows.items }
         ensures more { self.old.value < self.new.value }
         ensures small { self.new.value ≤ 40000000 }
     {
-        let amount = tree.step(last).limit;
-        augment(graph, &mut self.flows, &tree.steps, &tree.places, last);
+        let amount = steps[last].limit;
+        augment(graph, &mut self.flows, steps, last);
         self.value += amount;
     }
 
     /// Sends more along ways that lead one level on, until no such ways lead to the sink.
     pub fn send_more(
         &mut self,
-        alloc: Global,
         graph: &Graph,
         neighbours: &Neighbours,
         guide: &mut Guide,
+        path: &mut Path,
     ) -> Result<(), AllocError>
         requires flow { IsFlow graph.now.edges.now graph.now.source graph.now.sink
             self.old.value self.old.flows.items }
         requires neighbours { AreNeighbours graph.now.vertices (length graph.now.edges.now)
             neighbours.now.starts.items neighbours.now.ways.items }
-        requires guide { IsGuide graph.now.vertices guide.old.levels.items guide.old.cursors.items }
+        requires guide { IsGuide graph.now.vertices guide.old }
         ensures flow { IfOk result (λ _. IsFlow graph.now.edges.now graph.now.source graph.now.sink
             self.new.value self.new.flows.items) }
         ensures more { IfOk result (λ _. self.old.value ≤ self.new.value) }
+        ensures guide { IfOk result (λ _. IsGuide graph.now.vertices guide.new) }
+        ensures small { IfOk result (λ _. self.old.value < self.new.value → self.new.value ≤ 40000000) }
     {
-        'sending: loop {
-            let tree = Tree::dive(alloc, graph, &self.flows, neighbours, guide)?;
-            let Some(last) = tree.place_of(graph.sink) else {
-                return Ok(());
-            };
-            self.send(graph, &tree, last);
+        'sending: while path.find(graph, &self.flows, neighbours, guide)? {
+            self.send(graph, &path.steps, path.steps.len() - 1);
         }
+        Ok(())
     }
 }
 
-/// Sends as much as has room from the source to the sink, along the ways of a tree.
-fn augment(graph: &Graph, flows: &mut [i64], steps: &[Step], places: &[Option<usize>], last: usize)
+/// Sends as much as has room from the source to the sink, along the ways that lead to a step.
+fn augment(graph: &Graph, flows: &mut [i64], steps: &[Step], last: usize)
     requires flows { AreBounded graph.now.edges.now flows.old }
-    requires tree { IsTree graph.now.vertices graph.now.edges.now flows.old graph.now.source steps.now places.now }
-    requires last { place_at places.now graph.now.sink ≡ Some last }
+    requires steps { AreSteps graph.now.edges.now flows.old graph.now.source steps.now }
+    requires apart { AreApart steps.now }
     requires within { last < length steps.now }
+    requires last { (step_at steps.now last).vertex ≡ graph.now.sink }
     ensures { (value : ℕ) → IsFlow graph.now.edges.now graph.now.source graph.now.sink value flows.old
         → IsFlow graph.now.edges.now graph.now.source graph.now.sink
         (value + (step_at steps.now last).limit) flows.new }

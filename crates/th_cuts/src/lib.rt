@@ -2,19 +2,21 @@
 //!
 //! `least_cut` sends flow along shortest ways with room from the source to the sink until none is left.
 //! The vertices that the last search reached are the side of a cut whose weight is the flow's value,
-//! and no cut weighs less. `CutTree` keeps one such cut for each vertex, and finds the least cut between
-//! any two from them.
+//! and no cut weighs less. `CutTree` merges edges between the same vertices, keeps one such cut for each
+//! vertex, and finds the least cut between any two from them.
 #![tactic(auto)]
 
 // The graph: edges, the ways along them, and the ways from each vertex.
 mod edges;
 mod graphs;
+mod merges;
 mod neighbours;
 
 // One cut: room along ways, searches, flows.
 mod cuts;
 mod flows;
 mod guides;
+mod paths;
 mod rooms;
 mod trees;
 

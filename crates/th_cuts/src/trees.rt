@@ -1,12 +1,10 @@
-ghost use Rattle.std.specs.Prelude.{◌≡◌, ◌<◌, ◌≤◌, false, true, suc, IfOk, IfSome, length, map};
+ghost use Rattle.std.specs.Prelude.{◌≡◌, ◌<◌, ◌≤◌, false, true, suc, IfOk, length, map};
 ghost use Rattle.th_cuts.specs.Inside.Flows.{AreBounded, AreFullOut, IsFullOut};
-ghost use Rattle.th_cuts.specs.Inside.Guides.{IsGuide};
 ghost use Rattle.th_cuts.specs.Inside.Neighbours.{AreNeighbours};
 ghost use Rattle.th_cuts.specs.Inside.Trees.{IsTree, is_placed, place_at, reached, step_at};
 
 use crate::edges::Way;
 use crate::graphs::Graph;
-use crate::guides::Guide;
 use crate::neighbours::Neighbours;
 use crate::rooms::room;
 use std::alloc::{AllocError, Global};
@@ -22,8 +20,6 @@ pub(crate) struct Step {
     pub way: Way,
     /// How much can flow along all ways that lead here from the source.
     pub limit: u32,
-    /// How many ways lead here from the source.
-    pub level: u32,
 }
 
 /// The steps of a search, in the order in which they were taken.
@@ -60,98 +56,13 @@ impl Tree {
         }
     }
 
-    /// Searches from the source in depth, along ways with room that lead one level on, until the sink is
-    /// reached or no such way is left to be tried.
-    pub fn dive(
-        alloc: Global,
-        graph: &Graph,
-        flows: &[i64],
-        neighbours: &Neighbours,
-        guide: &mut Guide,
-    ) -> Result<Tree, AllocError>
-        requires flows { AreBounded graph.now.edges.now flows.now }
-        requires neighbours { AreNeighbours graph.now.vertices (length graph.now.edges.now)
-            neighbours.now.starts.items neighbours.now.ways.items }
-        requires guide { IsGuide graph.now.vertices guide.old.levels.items guide.old.cursors.items }
-        ensures tree { IfOk result (λ tree. IsTree graph.now.vertices graph.now.edges.now flows.now
-            graph.now.source tree.steps.items tree.places.items) }
-        ensures guide { IfOk result (λ _.
-            IsGuide graph.now.vertices guide.new.levels.items guide.new.cursors.items) }
-    {
-        let mut tree = Tree::new(alloc, graph, flows)?;
-        let mut place = 0;
-        let most = neighbours
-            .ways
-            .len()
-            .saturating_add(2 * graph.vertices as usize);
-        'diving: for _ in 0..most {
-            match tree.dive_from(graph, flows, neighbours, guide, place)? {
-                Some(next) => place = next,
-                None => return Ok(tree),
-            }
-        }
-        Ok(tree)
-    }
-
-    /// Takes a step that leads one level on from a place, or goes back where no such way is left to be
-    /// tried, and says where that leads, if it leads anywhere.
-    fn dive_from(
-        &mut self,
-        graph: &Graph,
-        flows: &[i64],
-        neighbours: &Neighbours,
-        guide: &mut Guide,
-        place: usize,
-    ) -> Result<Option<usize>, AllocError>
-        requires flows { AreBounded graph.now.edges.now flows.now }
-        requires neighbours { AreNeighbours graph.now.vertices (length graph.now.edges.now)
-            neighbours.now.starts.items neighbours.now.ways.items }
-        requires guide { IsGuide graph.now.vertices guide.old.levels.items guide.old.cursors.items }
-        requires tree { IsTree graph.now.vertices graph.now.edges.now flows.now
-            graph.now.source self.old.steps.items self.old.places.items }
-        requires place { place < length self.old.steps.items }
-        ensures tree { IfOk result (λ _. IsTree graph.now.vertices graph.now.edges.now flows.now
-            graph.now.source self.new.steps.items self.new.places.items) }
-        ensures guide { IfOk result (λ _.
-            IsGuide graph.now.vertices guide.new.levels.items guide.new.cursors.items) }
-        ensures place { IfOk result (λ next.
-            IfSome next (λ next. next < length self.new.steps.items)) }
-    {
-        let step = self.step(place);
-        if step.vertex == graph.sink {
-            return Ok(None);
-        }
-        let number = guide.cursors[step.vertex as usize];
-        let (_, end) = neighbours.range(step.vertex);
-        if number >= end {
-            return Ok(if place == 0 { None } else { Some(step.parent) });
-        }
-        let neighbour = neighbours.ways[number];
-        if guide.leads_on(step.vertex, neighbour.finish) {
-            if self.reach(graph, flows, neighbour.way)? {
-                return Ok(Some(self.steps.len() - 1));
-            }
-        }
-        guide.cursors[step.vertex as usize] = number + 1;
-        Ok(Some(place))
-    }
-
     /// The source alone.
     fn new(alloc: Global, graph: &Graph, flows: &[i64]) -> Result<Tree, AllocError>
         ensures { IfOk result (λ tree. IsTree graph.now.vertices graph.now.edges.now flows.now
             graph.now.source tree.steps.items tree.places.items) }
     {
         let mut steps = Vec::new(alloc);
-        steps.push(Step {
-            vertex: graph.source,
-            parent: 0,
-            way: Way {
-                edge: 0,
-                is_forward: true,
-            },
-            limit: u32::MAX,
-            level: 0,
-        })?;
+        steps.push(first_step(graph))?;
         let mut places = vec![in alloc; None; graph.vertices as usize]?;
         places[graph.source as usize] = Some(0);
         Ok(Tree { steps, places })
@@ -324,14 +235,12 @@ impl Tree {
         }
         let before = self.step(parent);
         let limit = least(room, before.limit);
-        let level = before.level.saturating_add(1);
         let place = self.steps.len();
         self.steps.push(Step {
             vertex: finish,
             parent,
             way,
             limit,
-            level,
         })?;
         self.places[finish as usize] = Some(place);
         Ok(true)
@@ -364,8 +273,24 @@ impl Tree {
     }
 }
 
+/// The step that reaches the source.
+pub(crate) fn first_step(graph: &Graph) -> Step
+    ensures vertex { result.vertex ≡ graph.now.source }
+    ensures limit { 1 ≤ result.limit }
+{
+    Step {
+        vertex: graph.source,
+        parent: 0,
+        way: Way {
+            edge: 0,
+            is_forward: true,
+        },
+        limit: u32::MAX,
+    }
+}
+
 /// The smaller of two amounts.
-fn least(a: u32, b: u32) -> u32
+pub(crate) fn least(a: u32, b: u32) -> u32
     ensures first { result ≤ a }
     ensures second { result ≤ b }
     ensures some { 1 ≤ a → 1 ≤ b → 1 ≤ result }

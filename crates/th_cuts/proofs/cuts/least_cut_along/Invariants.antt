@@ -1,9 +1,13 @@
 use Rattle.std.proofs.Common.{◌-◌}
 use Rattle.th_cuts.specs.Inside.Flows.{IsFlow}
+use Rattle.th_cuts.specs.Inside.Guides.{IsGuide}
 use Rattle.th_cuts.proofs.cuts.least_cut_along.Given as goal
 
 abbrev pub invariant-flowing : goal.invariant-flowing
-invariant-flowing l = IsFlow l.graph.edges.now l.graph.source l.graph.sink l.flow.value l.flow.flows.items
+invariant-flowing l = record {
+  flow : IsFlow l.graph.edges.now l.graph.source l.graph.sink l.flow.value l.flow.flows.items;
+  guide : IsGuide l.graph.vertices l.guide;
+}
 
 abbrev pub decreases-flowing : goal.decreases-flowing
 decreases-flowing l = 40000000 - l.flow.value
