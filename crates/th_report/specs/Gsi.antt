@@ -1,11 +1,13 @@
 -- Heights as GSI-16 blocks.
-use Rattle.std.specs.Prelude.{ℕ, ℤ, ◌+◌, ◌-◌, ◌/◌, ◌==◌, ◌&&◌, not, Bool, false, List, [], ◌∷◌, ◌++◌, codes, length, replicate, unsigned_abs}
+use Rattle.std.specs.Prelude.{ℕ, ℤ, ◌+◌, ◌-◌, ◌/◌, ◌==◌, ◌&&◌, not, Bool, false, List, [], ◌∷◌, ◌++◌, codes, if◌then◌else◌, length, replicate, unsigned_abs, Option, Some, None, Result, Ok}
 use Rattle.std.specs.Int.{is_negative}
 use Rattle.std.specs.List.{enumerate_from, flat_map}
 use Rattle.th_units.specs.Metres.{last_digits}
+use Rattle.gsi_word.specs.Names.{name_of}
 use Rattle.gsi_word.specs.Words.{Parts, parts}
 use Rattle.gsi_word.specs.declared.words.Width.TheVariants.{Sixteen}
-use Rattle.gsi_block.specs.Blocks.{BlockParts}
+use Rattle.gsi_block.specs.Blocks.{BlockParts, block_at}
+use Rattle.gsi_block.specs.declared.faults.BlockFault.{BlockFault}
 use Rattle.gsi_block.specs.Writing.{block_text}
 use Rattle.th_network.specs.Networks.{Survey, points_of}
 
@@ -44,3 +46,17 @@ text_of_point heights (number, name) = point_text number name (heights name)
 -- the text: a line for each point, in point order, numbered from 1
 abbrev pub gsi_text : Survey → (List ℕ → ℤ) → List ℕ
 gsi_text survey heights = flat_map (text_of_point heights) (enumerate_from 1 (points_of survey))
+
+-- the name in the data of a block's first word, where that is a word 11
+abbrev pub name_in : List Parts → Option (List ℕ)
+name_in [] = None
+name_in (word ∷ words) = if word.index == 11 then name_of word.body else None
+
+-- the name that is read from a line, where that is a block
+abbrev pub name_read : Result (Option BlockParts) BlockFault → Option (List ℕ)
+name_read (Ok (Some block)) = name_in block.words
+name_read other = None
+
+-- the name on a line
+abbrev pub name_on : List ℕ → Option (List ℕ)
+name_on line = name_read (block_at line)

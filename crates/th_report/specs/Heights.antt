@@ -1,7 +1,7 @@
 -- The file of heights.
-use Rattle.std.specs.Prelude.{ℕ, ℤ, List, [], ◌∷◌, codes, map}
+use Rattle.std.specs.Prelude.{ℕ, ℤ, List, [], ◌∷◌, codes, map, take}
 use Rattle.th_units.specs.Metres.{metres}
-use Rattle.th_csv.specs.Records.{Fields}
+use Rattle.th_csv.specs.Records.{Fields, records_of}
 use Rattle.th_csv.specs.Texts.{csv_text}
 use Rattle.th_network.specs.Networks.{Survey, points_of}
 
@@ -20,3 +20,11 @@ height_record low high name = height_fields name (low name) (high name)
 -- the text: the names of the fields, and then a record for each point, in point order
 abbrev pub heights_text : Survey → (List ℕ → ℤ) → (List ℕ → ℤ) → List ℕ
 heights_text survey low high = csv_text (heights_header ∷ map (height_record low high) (points_of survey))
+
+-- what a heights file shows of points and their heights: of each record the first three fields, which are all but the highest best height
+abbrev pub printed_heights : List ℕ → List Fields
+printed_heights text = map (take 3) (records_of text)
+
+-- the name of a point, and its height, which is the lowest best one, in metres
+abbrev pub printed_height : (List ℕ → ℤ) → List ℕ → Fields
+printed_height low name = name ∷ metres (low name) ∷ metres (low name) ∷ []

@@ -1,5 +1,6 @@
 pub mod Lists
 pub mod Heights
 pub mod Columns
+pub mod Lines
 pub mod Reports
 pub mod Gsi
