@@ -1,5 +1,5 @@
 -- A folder in memory: its files, the last that was closed first, and its standard streams.
-use Rattle.std.specs.Prelude.{◌<◌, ◌||◌, ℕ, Bool, true, false, List, [], ◌∷◌, Option, Some, None, Vec, drop, if◌then◌else◌, nat_lt, option_map, string_bytes}
+use Rattle.std.specs.Prelude.{ℕ, Bool, false, List, [], ◌∷◌, Option, Some, None, Vec, drop, if◌then◌else◌, nat_lt, option_map, string_bytes}
 use Rattle.std.specs.Option.{option_map_or}
 use Rattle.std.specs.Str.{bytes_eq}
 use Rattle.th_devices.specs.Memory.{TextSinkState}

@@ -2,7 +2,7 @@
 //!
 //! A contract of a program over a folder speaks of the folder before and after alone. The devices
 //! that come from it do not appear there.
-ghost use Rattle.std.specs.Prelude.{◌≡◌, Bool, List, Option, ℕ, IfOk};
+ghost use Rattle.std.specs.Prelude.{◌≡◌, ◌↔◌, Bool, List, None, Option, ℕ, IfOk, IsTrue, false, true};
 ghost use Rattle.th_devices.specs.Origins.{spot_of_origin, spot_of_target};
 ghost use Rattle.th_devices.specs.Spots.{IsClosed, IsMade, IsOpened, Spot, errors};
 
@@ -41,9 +41,13 @@ pub trait Folder {
     // The bytes at each spot, where they are told.
     ghost held: { Self → Spot → Option (List ℕ) };
 
-    // Whether a call failed of the sink that was last given back for a spot. Only a folder that tells
-    // knows.
+    // Whether a call failed of the sink whose bytes are at a spot. Only a folder that tells knows.
     ghost has_failed: { Self → Spot → Bool };
+
+    /// Whether writing the file `output` would change the file `input`: they are one file under two
+    /// names, or the first is written in place of the second.
+    fn would_change(&self, output: &str, input: &str) -> bool
+        ensures { tells ≡ true → (IsTrue result ↔ (output.now ≡ input.now)) };
 
     /// A source of the bytes there. Nothing is opened yet.
     fn source(&mut self, alloc: Global, origin: Origin<'_>) -> Result<Self::In, AllocError>
@@ -64,8 +68,12 @@ pub trait Folder {
         ensures made { IsMade tells Self.Out.spot Self.Out.held Self.Out.is_finished Self.Out.calls
             Self.Out.failures errors result };
 
-    /// Takes a sink back. Unless the sink was never called, its bytes are at its spot then.
+    /// Takes a sink back. The bytes of a sink that was finished are at its spot then, and a file whose
+    /// sink was not finished is as it was.
     fn close(&mut self, sink: Self::Out)
         ensures { IsClosed tells held has_failed Self.Out.spot Self.Out.held Self.Out.is_finished
             Self.Out.calls Self.Out.failures sink self.old self.new };
+
+    // A folder that does not tell the bytes that are written tells none.
+    ghost tells_or_not: { (folder : Self) (spot : Spot) → tells ≡ false → held folder spot ≡ None };
 }

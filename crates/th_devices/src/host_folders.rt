@@ -1,12 +1,16 @@
 //! The files and standard streams of the system as a folder.
+ghost use Rattle.std.proofs.Common.{refl};
 ghost use Rattle.std.specs.Prelude.{◌≡◌, false, true, None};
 
 use crate::choices::{OneOf, Untold};
 use crate::errors::StandardError;
-use crate::files::{FileSink, FileSource};
+use crate::file_sinks::{FileSink, UNFINISHED};
+use crate::files::FileSource;
 use crate::folders::{Folder, Origin, Target};
 use crate::streams::{StandardInput, StandardOutput};
 use std::alloc::{AllocError, Global};
+use std::fs;
+use std::os::unix::fs::MetadataExt;
 use std::rt::Files;
 
 /// The files and standard streams of the system. It tells nothing of their bytes.
@@ -45,9 +49,7 @@ impl<'a, R: Files + Input + Print + Eprint> Folder for HostFolder<'a, R> {
 
     fn sink(&mut self, alloc: Global, target: Target<'_>) -> Result<Self::Out, AllocError> {
         Ok(match target {
-            Target::File(name) => {
-                OneOf::First(FileSink::new(self.rt, String::from_str(alloc, name)?))
-            }
+            Target::File(name) => OneOf::First(FileSink::new(alloc, self.rt, name)?),
             Target::Output => OneOf::Second(OneOf::First(StandardOutput::new(self.rt))),
         })
     }
@@ -57,6 +59,28 @@ impl<'a, R: Files + Input + Print + Eprint> Folder for HostFolder<'a, R> {
     }
 
     fn close(&mut self, sink: Self::Out) {
-        let _ = sink;
+        if let OneOf::First(mut file) = sink {
+            file.discard();
+        }
+    }
+
+    fn would_change(&self, output: &str, input: &str) -> bool {
+        let finished = input.strip_suffix(UNFINISHED).unwrap_or(input);
+        is_same_file(self.rt, output, input) || is_same_file(self.rt, output, finished)
+    }
+
+    ghost tells_or_not = { λ _ _ _. refl };
+}
+
+/// Whether both names are one, or the system tells that they name one file.
+fn is_same_file<R: Files>(files: &R, first: &str, second: &str) -> bool {
+    if first == second {
+        return true;
+    }
+    match (fs::metadata(files, first), fs::metadata(files, second)) {
+        (Ok(first), Ok(second)) => {
+            first.ino() != 0 && first.ino() == second.ino() && first.dev() == second.dev()
+        }
+        _ => false,
     }
 }

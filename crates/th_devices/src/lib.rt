@@ -16,6 +16,7 @@ mod folders;
 // Devices.
 mod choices;
 mod errors;
+mod file_sinks;
 mod files;
 mod memory;
 mod streams;
@@ -33,7 +34,8 @@ pub mod laws;
 pub use choices::{OneOf, Untold};
 pub use devices::{Counts, Failed, Sink, Source};
 pub use errors::StandardError;
-pub use files::{FileSink, FileSource};
+pub use file_sinks::FileSink;
+pub use files::FileSource;
 pub use folders::{Folder, Origin, Target};
 pub use host_folders::HostFolder;
 pub use limits::{CALL_LIMIT, CALLS_BEFORE};

@@ -321,7 +321,7 @@ impl Folder for MemoryFolder {
     fn close(&mut self, sink: Self::Out) {
         match sink {
             MemorySink::File(mut shelf) => {
-                if shelf.sink.is_called() || shelf.sink.is_finished() {
+                if shelf.sink.is_finished() {
                     shelf.next = mem::replace(&mut self.files, Files::End);
                     self.files = Files::More(shelf);
                 }
@@ -338,4 +338,10 @@ impl Folder for MemoryFolder {
             }
         }
     }
+
+    fn would_change(&self, output: &str, input: &str) -> bool {
+        output == input
+    }
+
+    ghost tells_or_not = { λ folder spot e. cc e };
 }

@@ -1,4 +1,4 @@
-use Rattle.std.proofs.Common.{◌≡◌, ◌+◌, ◌-◌, ap, arith, drop, length, length-drop, take}
+use Rattle.std.proofs.Common.{◌≡◌, ◌-◌, ap, arith, drop, length, length-drop, take}
 use Rattle.std.proofs.lemmas.Grind.{common_steps}
 use Rattle.std.proofs.lemmas.List.{take_all}
 use Rattle.th_devices.proofs.MemoryLemmas.{given-on}
