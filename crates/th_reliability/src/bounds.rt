@@ -1,9 +1,11 @@
 //! What the controls of an entry's observations tell of a mistake in it.
 //!
-//! The set that a control is of shows how much worse than the whole of the entry one of its sights may be
-//! checked, so the mistake does nothing better than in that sight alone. And any set that parts the ends of
-//! one of the sights cuts as much as its control and weight, so the mistake does nothing worse than where the
-//! least of these faces twice the weight of the entry.
+//! Controls bound what a mistake does from both sides:
+//!
+//! - The set of points that a sight has its control from is one of the sets that decide. So the mistake does
+//!   nothing better than it would in that sight alone.
+//! - A set that cuts some of the sights cuts at least the control and the weight of each of these. Where that
+//!   is above twice the weight of all sights, the others outweigh them in each such set.
 ghost use Rattle.std.specs.Prelude.{◌≡◌, ℕ, IfSome, Option};
 ghost use Rattle.th_reliability.specs.Blunders.{weight_in};
 ghost use Rattle.th_reliability.specs.Inside.Bounds.{IsNoLess, bounded, worst_of};
