@@ -56,3 +56,27 @@ fn refused_settlings_are_made_again(rt: HostRuntime) {
     }
     assert!(rt; 46 <= refusals && refusals < 200, "{refusals}");
 }
+
+/// Calls, cycles and steps are counted on from the most that a settling may start with.
+#[test]
+fn the_largest_counts_are_counted_on(rt: HostRuntime) {
+    let book = joined(&rt, rt.alloc(), &[SETUP, SIGHT, LONGER]);
+    let tables = tables_of(&rt, rt.alloc(), A_AT_100, b"");
+    let network = network_of(&rt, rt.alloc(), &book, &tables);
+    let mut search = RefusingSearch {
+        refused: 0,
+        calls: MAX_COUNTED,
+        refusals: 0,
+        cycles: MAX_COUNTED,
+    };
+    let mut steps = Steps::after(MAX_COUNTED);
+    let settled = settle(rt.alloc(), &network, &mut search, &mut steps).expect(&rt, "memory");
+    let rise = steps.count().wrapping_sub(MAX_COUNTED);
+    assert!(rt; 1 <= rise);
+    assert_eq!(rt; search.cycles, steps.count());
+    assert_eq!(rt;
+        search.calls.wrapping_sub(MAX_COUNTED),
+        rise.wrapping_add(44)
+    );
+    assert_eq!(rt; settled.flows.as_slice(), [-1i64, 1].as_slice());
+}

@@ -83,7 +83,8 @@ fn one_pair_is_settled(rt: HostRuntime) {
     settle_exact(&rt, rt.alloc(), &book, 2, 40_000);
 }
 
-/// As many points as a network takes, each but A sighted ten times from A.
+/// As many points and as many observations as a network takes: each point but A is sighted ten times
+/// from A, and the first ten times more.
 #[test]
 fn many_targets_are_settled(rt: HostRuntime) {
     let mut book = joined(&rt, rt.alloc(), &[SETUP]);
@@ -91,13 +92,14 @@ fn many_targets_are_settled(rt: HostRuntime) {
         let sight = format!(in rt.alloc();
             "110002+000P{target:04} 33..00+00002345 87..10+00001300 \n"
         ).expect(&rt, "memory");
-        add(&rt, &mut book, sight.as_bytes(), 10);
+        let times = if target == 0 { 20 } else { 10 };
+        add(&rt, &mut book, sight.as_bytes(), times);
     }
-    settle_exact(&rt, rt.alloc(), &book, 4_000, 39_990);
+    settle_exact(&rt, rt.alloc(), &book, 4_000, 40_000);
 }
 
 /// A line of as many points as a network takes, each but the first sighted ten times from the one
-/// before it, 0.545 m below.
+/// before it, 2.545 m below. The last point is more than 10 km above the first.
 #[test]
 fn a_line_is_settled(rt: HostRuntime) {
     let mut book = Vec::new(rt.alloc());
@@ -107,7 +109,7 @@ fn a_line_is_settled(rt: HostRuntime) {
             "110001+{point:08} 84..10+00000000 88..10+00001500 \n"
         ).expect(&rt, "memory");
         let sight = format!(in rt.alloc();
-            "110002+{next:08} 33..00+00000345 87..10+00001300 \n"
+            "110002+{next:08} 33..00+00002345 87..10+00001300 \n"
         ).expect(&rt, "memory");
         add(&rt, &mut book, setup.as_bytes(), 1);
         add(&rt, &mut book, sight.as_bytes(), 10);
@@ -122,5 +124,23 @@ fn a_line_is_settled(rt: HostRuntime) {
         outcome.settled.heights.as_slice()
     );
     assert_eq!(rt; outcome.spans.low.as_slice().len(), 4_000);
-    assert_eq!(rt; outcome.spans.low.as_slice().last(), Some(&227_945_500_000));
+    assert_eq!(rt;
+        outcome.spans.low.as_slice().last(),
+        Some(&1_027_745_500_000)
+    );
+}
+
+/// Two sights of B that differ by 20 km: any height between them is best.
+#[test]
+fn a_wide_span_is_found(rt: HostRuntime) {
+    let lowest = b"110002+0000000B 33..00-10000000 87..10+00001300 \n";
+    let highest = b"110003+0000000B 33..00+10000000 87..10+00001300 \n";
+    let book = joined(&rt, rt.alloc(), &[SETUP, lowest, highest]);
+    let tables = tables_of(&rt, rt.alloc(), A_AT_100, b"");
+    let network = network_of(&rt, rt.alloc(), &book, &tables);
+    let outcome = settled_over(&rt, rt.alloc(), &network, LabelSearch::new());
+    let low: [i64; 2] = [10_000_000_000, -989_980_000_000];
+    let high: [i64; 2] = [10_000_000_000, 1_010_020_000_000];
+    assert_eq!(rt; outcome.spans.low.as_slice(), low.as_slice());
+    assert_eq!(rt; outcome.spans.high.as_slice(), high.as_slice());
 }

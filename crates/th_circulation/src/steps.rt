@@ -24,6 +24,13 @@ impl Steps {
         Steps { count: 0 }
     }
 
+    /// So many steps, from which a caller that kept an earlier count goes on.
+    pub fn after(count: u128) -> Steps
+        ensures { result ≡ count }
+    {
+        Steps { count }
+    }
+
     /// How many steps were counted.
     pub fn count(&self) -> u128
         ensures { result ≡ self.now }
