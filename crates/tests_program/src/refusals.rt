@@ -73,6 +73,9 @@ fn a_table_that_is_a_book_is_refused(rt: HostRuntime) {
 #[test]
 fn a_write_that_fails_leaves_the_files_before_it_whole(rt: HostRuntime) {
     let mut folder = project(&rt, 110);
+    put(&rt, &mut folder, "out.heights.csv", b"old heights");
+    put(&rt, &mut folder, "out.certificate.csv", b"old certificate");
+    put(&rt, &mut folder, "out.report.txt", b"old report");
     let adjust = [
         "adjust",
         "--benchmarks",
@@ -86,8 +89,8 @@ fn a_write_that_fails_leaves_the_files_before_it_whole(rt: HostRuntime) {
     assert!(rt;
         file(&folder, "out.heights.csv").ends_with(b"B,102.54500000,102.54500000,102.54500000\n")
     );
-    assert_eq!(rt; file(&folder, "out.certificate.csv").len(), 110);
-    assert!(rt; folder.file("out.report.txt").is_none());
+    assert!(rt; same(file(&folder, "out.certificate.csv"), b"old certificate"));
+    assert!(rt; same(file(&folder, "out.report.txt"), b"old report"));
     assert!(rt; folder.file("out.heights.gsi").is_none());
 }
 

@@ -2,9 +2,9 @@
 use Rattle.std.proofs.Common.{◌≡◌, ◌≢◌, ◌++◌, ℕ, Bool, true, List, [], None, Some, IfSome, ap, sym, ◌∙◌}
 use Rattle.std.specs.Prelude.{IsSomeAnd, Option}
 use Rattle.std.proofs.lemmas.List.{append_cancel_left}
-use Rattle.th_devices.specs.Spots.{IsMade, Spot, errors, file}
+use Rattle.th_devices.specs.Spots.{IsMade, Spot, errors, file, is_file}
 use Rattle.th_program.specs.Done.{Holds, IsLeft}
-use Rattle.th_program.specs.Inside.Opened.{AreApart, IsTaken}
+use Rattle.th_program.specs.Inside.Opened.{AreApart, AreFiles, IsTaken}
 use Rattle.th_program.specs.Owed.{Told}
 use Rattle.th_runs.specs.Writes.{Broken, Stage, StandsAt, Untouched, Whole}
 
@@ -22,6 +22,16 @@ pub sinks-apart : (first second third fourth first' second' third' fourth' : Spo
     → AreApart first second third fourth → AreApart first' second' third' fourth'
 sinks-apart first second third fourth first' second' third' fourth' is_first is_second is_third is_fourth apart =
     rw is_first (rw is_second (rw is_third (rw is_fourth apart)))
+
+-- sinks are files where their spots are
+pub sinks-are-files : (first second third fourth : List ℕ) (first' second' third' fourth' : Spot) → first' ≡ file first → second' ≡ file second → third' ≡ file third
+    → fourth' ≡ file fourth → AreFiles first' second' third' fourth'
+sinks-are-files first second third fourth first' second' third' fourth' is_first is_second is_third is_fourth = record {
+  is_first = ap is_file is_first;
+  is_second = ap is_file is_second;
+  is_third = ap is_file is_third;
+  is_fourth = ap is_file is_fourth;
+}
 
 -- a sink that was made for a spot, used there, and given back
 pub record IsUsed {K : Type 0} (tells : Bool) (before after : Told) (spot_of : K → Spot) (held : K → Option (List ℕ)) (is_finished : K → Bool) (calls failures : K → ℕ) (spot : Spot) (old new : K) : Type 0 where
@@ -48,16 +58,18 @@ pub left : {K : Type 0} (tells : Bool) (before after : Told) (spot_of : K → Sp
     → StandsAt held is_finished calls stage text old new → IsLeft tells before after stage spot text
 left tells before after spot_of held is_finished calls failures Whole text spot old new used stands =
     holds-whole tells after spot_of held is_finished calls text spot old new used.made.told (used.there ∙ used.made.there) used.taken.finished stands
-left tells before after spot_of held is_finished calls failures Broken text spot old new used stands = tt
+left tells before after spot_of held is_finished calls failures Broken text spot old new used stands =
+    let there : spot_of new ≡ spot = used.there ∙ used.made.there in
+    sym (ap after there) ∙ used.taken.unfinished stands.0 ∙ ap before there
 left tells before after spot_of held is_finished calls failures Untouched text spot old new used stands =
     let there : spot_of new ≡ spot = used.there ∙ used.made.there in
-    sym (ap after there) ∙ used.taken.untouched (ap calls stands ∙ used.made.calls, ap is_finished stands ∙ used.made.unfinished) ∙ ap before there
+    sym (ap after there) ∙ used.taken.unfinished (ap is_finished stands ∙ used.made.unfinished) ∙ ap before there
 
 -- a file that is as it was after the run
 pub left-after : (tells : Bool) (before after later : Told) (stage : Stage) (name text : List ℕ) → later (file name) ≡ after (file name)
     → IsLeft tells before after stage (file name) text → IsLeft tells before later stage (file name) text
 left-after tells before after later Whole name text same is = λ tell. same ∙ is tell
-left-after tells before after later Broken name text same is = tt
+left-after tells before after later Broken name text same is = same ∙ is
 left-after tells before after later Untouched name text same is = same ∙ is
 
 -- standard error is no file

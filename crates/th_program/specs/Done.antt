@@ -31,10 +31,10 @@ use Rattle.th_program.specs.Owed.{Told, claim_owed, survey_owed}
 abbrev pub Holds : Bool → Told → Spot → List ℕ → Type 0
 Holds tells told spot text = tells ≡ true → told spot ≡ Some text
 
--- what is at the spot of an output with this text, by how far it was written: all of it, or what was there before. Of an output that failed this says nothing
+-- what is at the spot of an output with this text, by how far it was written: all of it, or what was there before, also where the output failed
 abbrev pub IsLeft : Bool → Told → Told → Stage → Spot → List ℕ → Type 0
 IsLeft tells old new Whole spot text = Holds tells new spot text
-IsLeft tells old new Broken spot text = Unit {0}
+IsLeft tells old new Broken spot text = new spot ≡ old spot
 IsLeft tells old new Untouched spot text = new spot ≡ old spot
 
 -- where the outputs of an adjustment are: the names of their files begin with the prefix
@@ -70,7 +70,7 @@ pub record IsListed (tells : Bool) (old new : Told) (book : Spot) : Type 0 where
   pub listed : Holds tells new output (list_text observations)
 
 -- the four files have the texts of an adjustment of the survey that the named files give, all of them where there is no refusal. Where a write was refused, the
--- files before it are whole and those behind it as they were
+-- files before it are whole, and its own and those behind it as they were
 pub record IsAdjusted (tells : Bool) (old new : Told) (from : Files) (limit : ℤ) (prefix : List ℕ) (answer : Option Refusal) : Type 0 where
   pub survey : Survey
   pub texts : OutTexts
@@ -83,7 +83,7 @@ pub record IsAdjusted (tells : Bool) (old new : Told) (from : Files) (limit : �
   pub gsi : IsLeft tells old new (stage_of out.Gsi answer) (gsi_spot prefix) texts.gsi
 
 -- the four files have the texts of a review of the named files: of the survey that they give, and of what their books hold beside it. All of them where there is
--- no refusal. Where a write was refused, the files before it are whole and those behind it as they were
+-- no refusal. Where a write was refused, the files before it are whole, and its own and those behind it as they were
 pub record IsReviewed (tells : Bool) (old new : Told) (from : Files) (limit : ℤ) (prefix : List ℕ) (answer : Option Refusal) : Type 0 where
   pub survey : Survey
   pub reviews : List BookReview

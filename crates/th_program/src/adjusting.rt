@@ -25,7 +25,7 @@ const ENDINGS: Four<&str> = Four {
 /// begin with the prefix.
 ///
 /// After a write that failed, the files before that one in the order heights, certificate, report,
-/// GSI-16 are whole, and those behind it are as they were.
+/// GSI-16 are whole, and its own and those behind it are as they were.
 pub fn adjust<F: Folder>(
     alloc: Global,
     folder: &mut F,

@@ -3,7 +3,7 @@ ghost use Rattle.std.specs.Prelude.{◌≢◌, ◌≤◌, ◌≡◌, ◌++◌, I
 ghost use Rattle.th_devices.specs.Spots.{IsMade, file};
 ghost use Rattle.th_plans.specs.Limits.{max_books};
 ghost use Rattle.th_plans.specs.Plans.{files};
-ghost use Rattle.th_program.specs.Inside.Opened.{AreApart, AreOpened, EachIsOpened, IsOpenedIfAny, IsTaken, IsUntouched};
+ghost use Rattle.th_program.specs.Inside.Opened.{AreApart, AreFiles, AreOpened, EachIsOpened, IsOpenedIfAny, IsTaken, IsUntouched};
 
 use std::alloc::{AllocError, Global};
 use th_devices::{Folder, Origin, Target};
@@ -120,7 +120,9 @@ fn sink_of<F: Folder>(
 
 /// Gives four sinks back.
 pub(crate) fn close_sinks<F: Folder>(folder: &mut F, sinks: Four<F::Out>)
-    requires { AreApart (F.Out.spot sinks.first) (F.Out.spot sinks.second)
+    requires apart { AreApart (F.Out.spot sinks.first) (F.Out.spot sinks.second)
+        (F.Out.spot sinks.third) (F.Out.spot sinks.fourth) }
+    requires files { AreFiles (F.Out.spot sinks.first) (F.Out.spot sinks.second)
         (F.Out.spot sinks.third) (F.Out.spot sinks.fourth) }
     ensures first { IsTaken F.Out.spot F.Out.held F.Out.is_finished F.Out.calls
         (F.held folder.old) (F.held folder.new) sinks.first }

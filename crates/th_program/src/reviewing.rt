@@ -25,7 +25,7 @@ const ENDINGS: Four<&str> = Four {
 /// four files that are written begin with the prefix.
 ///
 /// After a write that failed, the files before that one in the order points, observations, entries,
-/// review are whole, and those behind it are as they were.
+/// review are whole, and its own and those behind it are as they were.
 pub fn review<F: Folder>(
     alloc: Global,
     folder: &mut F,

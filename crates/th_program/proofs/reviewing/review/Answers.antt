@@ -5,7 +5,7 @@ use Rattle.th_plans.specs.Plans.{files}
 use Rattle.th_program.specs.Inside.Opened.{AreOpened}
 use Rattle.th_program.proofs.ReviewLemmas.{outputs-apart, reviewed}
 use Rattle.th_program.proofs.OpenedLemmas.{named-opened, opened-fresh, survey-opened, tells-opened}
-use Rattle.th_program.proofs.OutputLemmas.{sinks-apart}
+use Rattle.th_program.proofs.OutputLemmas.{sinks-apart, sinks-are-files}
 use Rattle.th_program.proofs.RefusalLemmas.{refused-owed}
 use Rattle.th_runs.specs.Reads.{Reviewing, refused}
 use Rattle.th_runs.specs.declared.refusals.Refusal.{Refusal}
@@ -16,14 +16,22 @@ run_review-answer-requires-clause-books_calls g c =
     rw c.as_mut_slice.ensures.value
     (opened-fresh g.F.Folder.held g.F.In.Source.left g.F.In.Source.calls g.F.In.Source.failures _ _ _ calls_before c.in_ok-sources.ensures.opened.of_books)
 
-pub close_sinks-requires : goal.close_sinks-requires
-close_sinks-requires g c =
+pub close_sinks-requires-clause-apart : goal.close_sinks-requires-clause-apart
+close_sinks-requires-clause-apart g c =
     sinks-apart _ _ _ _ _ _ _ _
     (c.run_review-answer.ensures.points_spot ∙ c.in_ok-sinks.ensures.first.there)
     (c.run_review-answer.ensures.observations_spot ∙ c.in_ok-sinks.ensures.second.there)
     (c.run_review-answer.ensures.entries_spot ∙ c.in_ok-sinks.ensures.third.there)
     (c.run_review-answer.ensures.review_spot ∙ c.in_ok-sinks.ensures.fourth.there)
     (outputs-apart c.args.prefix.now)
+
+pub close_sinks-requires-clause-files : goal.close_sinks-requires-clause-files
+close_sinks-requires-clause-files g c =
+    sinks-are-files _ _ _ _ _ _ _ _
+    (c.run_review-answer.ensures.points_spot ∙ c.in_ok-sinks.ensures.first.there)
+    (c.run_review-answer.ensures.observations_spot ∙ c.in_ok-sinks.ensures.second.there)
+    (c.run_review-answer.ensures.entries_spot ∙ c.in_ok-sinks.ensures.third.there)
+    (c.run_review-answer.ensures.review_spot ∙ c.in_ok-sinks.ensures.fourth.there)
 
 pub returns-clause-reviewed : goal.returns-clause-reviewed
 returns-clause-reviewed g c =
