@@ -4,14 +4,22 @@
 //! The program is `th_program` over the files and streams of the system.
 #![tactic(auto)]
 
+use std::io::IsTerminal;
 use std::process::ExitCode;
 use std::rt::Env;
 use std::{env, io};
 use th_devices::HostFolder;
 use th_program::run_arguments;
 
+/// What is reported where the book that is listed is typed.
+const TYPED: &str =
+    "reading a book from the terminal, up to Ctrl-D; for help, write 'height_office --help'\n";
+
 fn main(rt: HostRuntime) -> ExitCode {
     let words = words_of(&rt);
+    if matches!(&words, Ok(words) if words.len() <= 1) && rt.stdin().is_terminal() {
+        let _ = rt.eprint(TYPED);
+    }
     let mut folder = HostFolder::new(&rt);
     ExitCode::from(run_arguments(rt.alloc(), &mut folder, words))
 }

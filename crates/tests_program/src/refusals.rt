@@ -109,3 +109,13 @@ fn words_that_are_no_plan_change_nothing(rt: HostRuntime) {
     assert!(rt; folder.output().is_none());
     assert!(rt; same(file(&folder, "site.gsi"), BOOK));
 }
+
+#[test]
+fn help_and_version_are_printed(rt: HostRuntime) {
+    for word in ["--help", "--version"] {
+        let mut folder = project(&rt, ROOM);
+        assert_eq!(rt; run(&rt, &mut folder, &[word]), 3);
+        assert!(rt; shown(folder.output()).ends_with(b"\n"));
+        assert!(rt; folder.errors().is_none());
+    }
+}

@@ -1,5 +1,7 @@
 -- What the program does, over what a folder tells before and after.
 use Rattle.std.specs.Prelude.{◌⊎◌, ◌≢◌, ◌≡◌, ◌++◌, ◌∷◌, [], ℕ, ℤ, Bool, true, false, List, Option, Some, None, Ok, codes, is_some, length, map}
+use Rattle.clap.specs.Words.{kind_of}
+use Rattle.clap.specs.declared.error.kind.ErrorKind.TheVariants.{DisplayHelp, DisplayVersion}
 use Rattle.th_checker.specs.declared.verdicts.Verdict.{Verdict}
 use Rattle.th_book.specs.Observed.{Observed}
 use Rattle.th_devices.specs.Spots.{Spot, errors, file, input, output}
@@ -184,10 +186,16 @@ abbrev pub status_of_fault : PlanFault → ℕ
 status_of_fault fault.NoMemory = 4
 status_of_fault other = 3
 
--- words that are no plan have their status, and change nothing but standard error
+-- no request for help or the version, whose text goes to standard output
+abbrev pub IsNoHelp : PlanFault → Type 0
+IsNoHelp (fault.Line error) = (kind_of error ≢ DisplayHelp) × (kind_of error ≢ DisplayVersion)
+IsNoHelp other = Unit {0}
+
+-- words that are no plan have their status. A fault changes nothing but standard error, and help and the version nothing but that and standard output
 pub record IsUsage {F : Type 0} (held : F → Told) (old new : F) (own : PlanFault) (status : ℕ) : Type 0 where
   pub status_is : status ≡ status_of_fault own
-  pub others : (spot : Spot) → spot ≢ errors → held new spot ≡ held old spot
+  pub fault : IsNoHelp own → (spot : Spot) → spot ≢ errors → held new spot ≡ held old spot
+  pub others : (spot : Spot) → spot ≢ errors → spot ≢ output → held new spot ≡ held old spot
 
 -- the program did what the words ask for, its own name first: it ran their plan, or they are none
 abbrev pub AreDone : {F : Type 0} → Bool → (F → Told) → (F → Spot → Bool) → F → F → List (List ℕ) → ℕ → Type 0

@@ -1,9 +1,9 @@
 //! Doing what the arguments of a command line ask for.
-ghost use Rattle.std.specs.Prelude.{◌≡◌, ◌≢◌, ◌⊎◌, IfErr, IfOk, map, string_bytes};
+ghost use Rattle.std.specs.Prelude.{◌≡◌, ◌≢◌, ◌⊎◌, IfErr, IfOk, false, map, string_bytes};
 ghost use Rattle.std.specs.IoError.{error_kind};
 ghost use Rattle.std.specs.declared.io.ErrorKind.TheVariants.{InvalidData};
-ghost use Rattle.th_devices.specs.Spots.{errors};
-ghost use Rattle.th_program.specs.Done.{AreDone, IsUsage};
+ghost use Rattle.th_devices.specs.Spots.{errors, output};
+ghost use Rattle.th_program.specs.Done.{AreDone, IsNoHelp, IsUsage};
 ghost use Rattle.th_plans.specs.Plans.{IsFaultOf};
 
 use crate::plans::run_plan;
@@ -12,7 +12,7 @@ use std::alloc::Global;
 use std::convert::AsStr;
 use std::io;
 use std::io::ErrorKind;
-use th_devices::Folder;
+use th_devices::{Folder, Target, write_all};
 use th_plans::{PlanFault, plan};
 use th_runs::{NO_MEMORY, Refusal, USAGE};
 
@@ -48,7 +48,8 @@ pub fn run_words<F: Folder, S: AsStr>(alloc: Global, folder: &mut F, words: &[S]
     }
 }
 
-/// Reports what is wrong with the words, and answers the status to end with.
+/// Reports what is wrong with the words, or prints the help or version that they request, and answers
+/// the status to end with.
 fn usage<F: Folder>(alloc: Global, folder: &mut F, fault: &PlanFault) -> u8
     ensures { IsUsage F.held folder.old folder.new fault.now result }
 {
@@ -56,8 +57,33 @@ fn usage<F: Folder>(alloc: Global, folder: &mut F, fault: &PlanFault) -> u8
         return refuse(alloc, folder, &Refusal::NoMemory);
     }
     match format!(in alloc; "{fault}") {
+        Ok(text) if is_help(fault) => print(alloc, folder, text.as_bytes()),
         Ok(text) => report(folder, text.as_bytes()),
         Err(_) => report(folder, b"out of memory\n"),
     }
     USAGE
+}
+
+/// Whether the words request help or the version.
+fn is_help(fault: &PlanFault) -> bool
+    ensures { IsNoHelp fault.now → result ≡ false }
+{
+    match fault {
+        PlanFault::Line(error) => !error.use_stderr(),
+        PlanFault::TooManyBooks | PlanFault::NoMemory => false,
+    }
+}
+
+/// Writes a text to standard output.
+fn print<F: Folder>(alloc: Global, folder: &mut F, text: &[u8])
+    ensures { (spot : _) → spot ≢ errors → spot ≢ output
+        → F.held folder.new spot ≡ F.held folder.old spot }
+{
+    match folder.sink(alloc, Target::Output) {
+        Ok(mut out) => {
+            let _ = write_all(&mut out, text);
+            folder.close(out);
+        }
+        Err(_) => report(folder, b"out of memory\n"),
+    }
 }
