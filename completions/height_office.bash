@@ -1,0 +1,32 @@
+# Completion of height_office for bash.
+_height_office() {
+    local word=${COMP_WORDS[COMP_CWORD]} before=${COMP_WORDS[COMP_CWORD - 1]} options=
+    COMPREPLY=()
+    if [ "$COMP_CWORD" = 1 ]; then
+        mapfile -t COMPREPLY < <(compgen -W 'list adjust review check help --help --version' -- "$word")
+        return
+    fi
+    case $before in
+        --benchmarks | --weights | --certificate | --out)
+            compopt -o filenames
+            mapfile -t COMPREPLY < <(compgen -f -- "$word")
+            return
+            ;;
+        --blunder)
+            return
+            ;;
+    esac
+    case ${COMP_WORDS[1]} in
+        list) options='--help' ;;
+        adjust | review) options='--benchmarks --weights --blunder --out --help' ;;
+        check) options='--benchmarks --weights --certificate --help' ;;
+        help) options='list adjust review check' ;;
+    esac
+    if [[ $word == -* || ${COMP_WORDS[1]} == help ]]; then
+        mapfile -t COMPREPLY < <(compgen -W "$options" -- "$word")
+    else
+        compopt -o filenames
+        mapfile -t COMPREPLY < <(compgen -f -- "$word")
+    fi
+}
+complete -F _height_office height_office

@@ -1,0 +1,17 @@
+# Completion of height_office for fish.
+set -l commands list adjust review check help
+set -l in_network '__fish_seen_subcommand_from adjust review'
+set -l in_inputs '__fish_seen_subcommand_from adjust review check'
+complete -c height_office -f -n "not __fish_seen_subcommand_from $commands" -a list -d 'Print the height differences of a book'
+complete -c height_office -f -n "not __fish_seen_subcommand_from $commands" -a adjust -d 'Adjust the network of books'
+complete -c height_office -f -n "not __fish_seen_subcommand_from $commands" -a review -d 'Report what a mistake would do'
+complete -c height_office -f -n "not __fish_seen_subcommand_from $commands" -a check -d 'Check a certificate'
+complete -c height_office -f -n "not __fish_seen_subcommand_from $commands" -a help -d 'How to use a command'
+complete -c height_office -f -n '__fish_seen_subcommand_from help' -a 'list adjust review check'
+complete -c height_office -s h -l help -d 'How to use the program'
+complete -c height_office -s V -l version -n "not __fish_seen_subcommand_from $commands" -d 'The version'
+complete -c height_office -l benchmarks -r -F -n $in_inputs -d 'The table of benchmarks'
+complete -c height_office -l weights -r -F -n $in_inputs -d 'The table of weights'
+complete -c height_office -l blunder -x -n $in_network -d 'Mark residuals above this size, in micrometres'
+complete -c height_office -l out -r -F -n $in_network -d 'The beginning of the names of the outputs'
+complete -c height_office -l certificate -r -F -n '__fish_seen_subcommand_from check' -d 'The certificate'
