@@ -6,8 +6,8 @@ PREFIX ?= /usr/local
 BOOK ?= examples/building_site.gsi
 LOG := build.log
 
-.PHONY: help run list build calls check test gate examples statuses documents made-up compare office mutated \
-	each-byte memory attacks hostile bench install clean
+.PHONY: help run list toolchain build built calls check test gate examples statuses killed completions documents \
+	made-up compare office mutated each-byte memory attacks hostile bench install uninstall clean
 
 help:
 	@echo 'make run       prove and build the program, adjust an example project, show its report and check its certificate'
@@ -18,6 +18,8 @@ help:
 	@echo 'make gate      rt ci alone'
 	@echo 'make examples  compare what the built program gives for examples/ with the files there'
 	@echo 'make statuses  run the built program on command lines that fail, and compare status and lines'
+	@echo 'make killed    kill runs over existing outputs, which must stay whole files, old or new (RUNS=$(RUNS))'
+	@echo 'make completions  test the completions for bash, zsh and fish'
 	@echo 'make documents test the pages: commands, links, sizes, and docs/THEOREM.md against the definitions'
 	@echo 'make made-up   fail where product code creates an allocation failure itself, but in the listed places'
 	@echo 'make compare   compare the built program with the second reader on mutated books (BOOKS=$(BOOKS) SEED=$(SEED))'
@@ -28,7 +30,8 @@ help:
 	@echo 'make attacks   try the edits of attacks/, more mistakes that the prover must refuse (an hour); no part of make test'
 	@echo 'make hostile   time and memory of books, tables, certificates and networks that are made to cost time'
 	@echo 'make bench     throughput and peak memory: listing, networks, certificates, settling beside other solvers, adjusting, reviewing'
-	@echo 'make install   copy the built program and its manual page below $(PREFIX)'
+	@echo 'make install   copy the built program, its manual page and completions below $(PREFIX); proves nothing'
+	@echo 'make uninstall remove them'
 	@echo 'make clean     remove what was built'
 
 run: build
@@ -37,10 +40,17 @@ run: build
 list: build
 	@$(PROGRAM) list $(BOOK)
 
-# `rt run` is what builds; an empty book is listed on the way.
-build:
-	@echo 'proving and building $(PROGRAM): about 40 minutes at first, seconds where nothing changed; the log is $(LOG)'
-	@cd crates/height_office && rt run < /dev/null > ../../$(LOG) 2>&1 || { tail -n 40 ../../$(LOG); exit 1; }
+toolchain:
+	@command -v rt > /dev/null || { echo 'this needs the Rattle toolchain: its command rt is not found'; exit 1; }
+	@command -v python3 > /dev/null || { echo 'this needs Python 3.8 or later: python3 is not found'; exit 1; }
+
+build: toolchain
+	@echo 'proving and building $(PROGRAM): long at first, seconds where nothing changed; the log is $(LOG)'
+	@tests/build --log $(CURDIR)/$(LOG)
+
+# For what needs the program and does not build it.
+built:
+	@test -x $(PROGRAM) || { echo 'this needs the built program: run `make build` first'; exit 1; }
 
 # What `make memory` runs beside the program.
 calls:
@@ -49,21 +59,28 @@ calls:
 check:
 	@echo 'proving what changed; the log is $(LOG)'
 	@rt all check > $(LOG) 2>&1 || { tail -n 40 $(LOG); exit 1; }
-	@$(MAKE) --no-print-directory build calls examples statuses documents made-up compare office mutated memory
+	@$(MAKE) --no-print-directory build calls examples statuses killed completions documents made-up compare office mutated memory
 
 # The gate leaves the program that it proved and built, so nothing is proved again after it.
-test: gate examples statuses documents made-up compare office mutated memory
+test: gate examples statuses killed completions documents made-up compare office mutated memory
 
 gate:
 	@rt ci
 
-examples:
+examples: built
 	@tests/examples
 
-statuses:
+statuses: built
 	@tests/statuses
 
-documents:
+RUNS ?= 100
+killed: built
+	@tests/killed --program $(PROGRAM) --runs $(RUNS)
+
+completions: built
+	@tests/completions $(PROGRAM)
+
+documents: built
 	@tests/documents $(PROGRAM)
 
 made-up:
@@ -71,31 +88,31 @@ made-up:
 
 BOOKS ?= 10000
 SEED ?= 20240607
-compare:
+compare: built
 	@python3 tests/second_reader/self_test.py
 	@python3 tests/second_reader/compare.py --program $(PROGRAM) --books $(BOOKS) --seed $(SEED)
 
 PROJECTS ?= 1000
 NETWORKS ?= 1000
-office:
+office: built
 	@python3 tests/second_office/self_test.py
 	@python3 tests/second_office/try_laws.py --networks $(NETWORKS)
 	@python3 tests/second_office/compare.py --program $(PROGRAM) --projects $(PROJECTS) --seed $(SEED)
 
 INPUTS ?= 1000
-mutated:
+mutated: built
 	@python3 tests/second_office/compare_mutated.py --program $(PROGRAM) --inputs $(INPUTS) --seed $(SEED)
 
-each-byte:
+each-byte: built
 	@python3 tests/second_office/compare_mutated.py --program $(PROGRAM) --each-byte
 
-memory:
+memory: built
 	@tests/refused_memory/run.py --program $(PROGRAM) --calls $(CALLS)
 
 attacks:
 	@tests/attacks
 
-hostile:
+hostile: built
 	@bench/hostile/run --program $(PROGRAM)
 
 bench: build
@@ -107,9 +124,20 @@ bench: build
 	@bench/review/run --program $(PROGRAM)
 	@$(MAKE) --no-print-directory hostile
 
-install: build
+SHARE = $(DESTDIR)$(PREFIX)/share
+INSTALLED = $(DESTDIR)$(PREFIX)/bin/height_office $(SHARE)/man/man1/height_office.1 \
+	$(SHARE)/bash-completion/completions/height_office $(SHARE)/zsh/site-functions/_height_office \
+	$(SHARE)/fish/vendor_completions.d/height_office.fish
+
+install: built
 	install -D $(PROGRAM) $(DESTDIR)$(PREFIX)/bin/height_office
-	install -D -m 644 docs/height_office.1 $(DESTDIR)$(PREFIX)/share/man/man1/height_office.1
+	install -D -m 644 docs/height_office.1 $(SHARE)/man/man1/height_office.1
+	install -D -m 644 completions/height_office.bash $(SHARE)/bash-completion/completions/height_office
+	install -D -m 644 completions/_height_office $(SHARE)/zsh/site-functions/_height_office
+	install -D -m 644 completions/height_office.fish $(SHARE)/fish/vendor_completions.d/height_office.fish
+
+uninstall:
+	rm -f $(INSTALLED)
 
 clean:
 	rm -rf crates/*/out $(LOG)
