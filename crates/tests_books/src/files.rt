@@ -1,5 +1,7 @@
 //! What no clause says of files: that calls succeed, what real files then hold, and that a call which
 //! the system fails is not tried again.
+ghost use Rattle.std.specs.Prelude.{◌≡◌};
+
 use crate::devices::TEXT;
 use crate::failing_files::FailingFiles;
 use std::fs;
@@ -18,11 +20,9 @@ fn named(rt: &(impl AllocGlobal + Abort), name: &str) -> String {
 }
 
 /// A sink for the file of this name.
-fn sink<'a, R: Files>(
-    rt: &(impl AllocGlobal + Abort),
-    files: &'a R,
-    name: &str,
-) -> FileSink<'a, R> {
+fn sink<'a, R: Files>(rt: &(impl AllocGlobal + Abort), files: &'a R, name: &str) -> FileSink<'a, R>
+    ensures { result.counts.calls ≡ 0 }
+{
     FileSink::new(rt.alloc(), files, name)
         .ok()
         .expect(rt, "the sink")
