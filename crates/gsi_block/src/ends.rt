@@ -11,6 +11,7 @@ const WINDOW: usize = 63;
 
 /// How many bytes stand before the first one of an end. Where an end stands at the front, as behind
 /// an empty line, nothing is searched.
+#[inline(always)]
 pub(crate) fn line_len(text: &[u8]) -> usize
     ensures place { result ≡ prefix_len is_in_line text.now }
     ensures within { result ≤ length text.now }
@@ -39,6 +40,7 @@ fn line_len_within(window: &[u8]) -> usize
 }
 
 /// How many bytes the end has that stands at the front, none where nothing stands there.
+#[inline(always)]
 pub(crate) fn end_len(bytes: &[u8]) -> usize
     ensures { result ≡ end_len bytes.now }
 {
@@ -50,6 +52,7 @@ pub(crate) fn end_len(bytes: &[u8]) -> usize
 }
 
 /// Whether the end that stands at the front is a CR without an LF.
+#[inline(always)]
 pub(crate) fn is_lone_return(bytes: &[u8]) -> bool
     ensures { result ≡ is_lone_return bytes.now }
 {
@@ -61,6 +64,7 @@ pub(crate) fn is_lone_return(bytes: &[u8]) -> bool
 }
 
 /// How many bytes at the front belong to an end before them: an LF where that end was a CR.
+#[inline(always)]
 pub(crate) fn feed_len(after_return: bool, bytes: &[u8]) -> usize
     ensures { result ≡ feed_len after_return bytes.now }
 {

@@ -49,6 +49,8 @@ impl Lines {
     /// piece. The bytes that are left are for the next call.
     ///
     /// An LF right behind a CR that ended a line belongs to that end, also in a later piece.
+    // Inlined with what it calls: two readers call it for every line, and a call would double its cost.
+    #[inline(always)]
     pub fn take(&mut self, piece: &[u8]) -> (usize, bool)
         ensures within { result.0 ≤ length piece.now }
         ensures complete { result.1 ≡ self.new.complete }
@@ -74,6 +76,7 @@ impl Lines {
     }
 
     /// The line that is complete, without its end: of a longer one its first `MAX_KEPT` bytes.
+    #[inline(always)]
     pub fn line(&self) -> &[u8]
         requires { IsTrue self.now.complete }
         ensures { result.now ≡ self.now.line }
@@ -94,6 +97,7 @@ impl Lines {
     }
 
     /// Begins the next line where one is complete.
+    #[inline(always)]
     fn begin(&mut self)
         ensures line { self.new.line ≡ begun self.old }
         ensures complete { self.new.complete ≡ false }
@@ -106,6 +110,7 @@ impl Lines {
     }
 
     /// Keeps the next bytes of the line that has begun, as many as there is room for.
+    #[inline(always)]
     fn keep(&mut self, bytes: &[u8])
         requires { IsTrue (list_all is_in_line bytes.now) }
         ensures { self.new ≡ record self.old { line = cut_line (self.old.line ++ bytes.now) } }
