@@ -30,3 +30,4 @@ pub mod SpanLemmas
 pub mod NoArcs
 pub mod BestExists
 pub mod ExtremesExist
+pub mod AnswerLemmas

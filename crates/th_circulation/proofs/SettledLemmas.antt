@@ -1,9 +1,13 @@
 -- What the graph's flows and heights are of the observations and points.
 use Rattle.std.proofs.Common.{◌≡◌, ℕ, ◌*◌, ℤ, pos, ◌-ℤ◌, ◌*ℤ◌, List, [], ◌∷◌, Option, true, map, unwrap_or, unsigned_abs, refl, ap, sym, ◌∙◌, subst, arith}
 use Rattle.std.proofs.lemmas.Int.{ints}
+use Rattle.std.proofs.lemmas.List.{length-map}
+use Rattle.std.proofs.lemmas.List.Elements.{All-cons, All-nil, recursion_from_All}
+use Rattle.std.specs.Prelude.{◌≤◌, All, length}
 use Rattle.std.specs.Option.{IsSome}
-use Rattle.std.specs.List.{AllByRecursion}
+use Rattle.std.specs.List.{AllByRecursion, AllZip}
 use Rattle.th_book.specs.Observed.{Observed}
+use Rattle.th_tables.specs.Limits.{max_weight}
 use Rattle.th_tables.specs.Rows.{BenchmarkRows, WeightRows, weight_of}
 use Rattle.th_points.specs.Points.{points}
 use Rattle.th_points.specs.Places.{place_of}
@@ -15,7 +19,8 @@ use Rattle.th_network.specs.Vertices.{vertex_of}
 use Rattle.th_network.specs.declared.links.Link.{Link}
 use Rattle.th_points.proofs.PointLemmas.{EndsAmong, ends_are_points, is_among}
 use Rattle.th_points.proofs.PlaceLemmas.{at_place_of, benchmark_is_point}
-use Rattle.th_circulation.specs.Inside.Flows.{IsFlow, ShowsLinks, residuals}
+use Rattle.th_circulation.specs.Best.{AreOfObservations}
+use Rattle.th_circulation.specs.Inside.Flows.{AreBounded, IsFlow, ShowsLinks, residuals}
 use Rattle.th_circulation.specs.Inside.Phases.{differences_in}
 use Rattle.th_circulation.specs.Inside.Placed.{ArePlaced, placed}
 use Rattle.th_circulation.proofs.NameLemmas.{flow_circulates, shows_same}
@@ -64,3 +69,20 @@ settled_keeps survey listed heights are name height e =
     let observations = survey.observations in
     let benchmarks = survey.benchmarks in
     listed_placed observations benchmarks heights listed name are (benchmark_is_point observations benchmarks name (subst IsSome (sym e) refl)) ∙ ap (λ (found : Option ℤ). unwrap_or found (heights (vertex_of observations benchmarks name) -ℤ heights 0)) e
+
+light_flows : (most : ℕ) (weights : List ℕ) (flows : List ℤ) → AllByRecursion (λ weight. weight ≤ most) weights → AreBounded weights flows
+    → (length flows ≡ length weights) × All (λ flow. unsigned_abs flow ≤ most) flows
+light_flows most [] [] light bounded = (refl, All-nil (λ own. unsigned_abs own ≤ most))
+light_flows most [] (flow ∷ flows) light bounded = absurd bounded
+light_flows most (weight ∷ weights) [] light bounded = absurd bounded
+light_flows most (weight ∷ weights) (flow ∷ flows) light bounded =
+    let later = light_flows most weights flows light.1 bounded.1 in
+    let within : unsigned_abs flow ≤ most = omega (arith, bounded.0, light.0) in
+    (omega (arith, later.0), All-cons (λ own. unsigned_abs own ≤ most) flow flows within later.1)
+
+-- the flows of a graph are one for each observation, and none is larger in size than the greatest weight
+pub settled_flows : (survey : Survey) (flows : List ℤ) → All (λ weight. weight ≤ max_weight) (weights_of survey) → IsFlow (arcs_of survey) (weights_of survey) flows
+    → AreOfObservations survey flows
+settled_flows survey flows light flow =
+    let both = light_flows max_weight (weights_of survey) flows (recursion_from_All (λ weight. weight ≤ max_weight) (weights_of survey) light) flow.bounded in
+    record { each = both.0 ∙ length-map survey.observations (λ o. weight_of survey.weights o.station o.target); in_range = both.1 }

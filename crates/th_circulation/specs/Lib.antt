@@ -1,4 +1,5 @@
 pub mod Limits
 pub mod Extremes
+pub mod Best
 pub mod Misreadings
 pub mod Inside

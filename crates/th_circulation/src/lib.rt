@@ -1,5 +1,6 @@
 //! Circulations of a height network, and the heights that they show.
 //!
+//! `best_heights` finds the lowest and the highest best heights of a network. It takes two steps:
 //! `settle` finds heights that cost least and the circulation that shows it (`Settled`), over any
 //! search; `spans` the lowest and the highest of all heights that cost as little (`Spans`). A guide
 //! proposes cycles to `settle`, which believes only what it has checked: without the guide it is slow,
@@ -32,9 +33,13 @@ mod residuals;
 mod spanning;
 mod spreading;
 
+// Both in one call.
+mod best;
+
 // What holds of the definitions alone.
 pub mod laws;
 
+pub use best::{BestHeights, best_heights};
 pub use settled::{Flows, Heights, Settled, Spans};
 pub use settling::settle;
 pub use spanning::spans;

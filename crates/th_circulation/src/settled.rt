@@ -30,6 +30,13 @@ impl Heights {
     {
         self.units.as_slice()
     }
+
+    /// The list of the heights.
+    pub(crate) fn into_vec(self) -> Vec<i64>
+        ensures { result.items ≡ self }
+    {
+        self.units
+    }
 }
 
 /// A flow for each observation of a network, in their order.
@@ -59,6 +66,13 @@ impl Flows {
         ensures { result.now ≡ self.now }
     {
         self.flows.as_slice()
+    }
+
+    /// The list of the flows.
+    pub(crate) fn into_vec(self) -> Vec<i64>
+        ensures { result.items ≡ self }
+    {
+        self.flows
     }
 }
 

@@ -3,6 +3,7 @@ ghost use Rattle.th_circulation.specs.Inside.Bounds.{raised_bound};
 ghost use Rattle.th_circulation.specs.Inside.Flows.{IsFlow, ShowsLinks, residuals};
 ghost use Rattle.th_circulation.specs.Inside.Graphs.{AreWithin};
 ghost use Rattle.th_circulation.specs.Inside.Phases.{differences_in};
+ghost use Rattle.th_circulation.specs.Best.{AreOfObservations};
 ghost use Rattle.th_circulation.specs.Limits.{max_counted};
 ghost use Rattle.th_network.specs.Limits.{height_limit};
 ghost use Rattle.th_network.specs.Circulation.{Circulation, Shows};
@@ -49,6 +50,7 @@ pub fn settle<S: Search>(
         length settled.heights ≡ length (points_of network.now)) }
     ensures in_range { IfOk result (λ settled.
         All (λ height. unsigned_abs height < height_limit) settled.heights) }
+    ensures flows { IfOk result (λ settled. AreOfObservations network.now settled.flows) }
 
     // What was counted.
     ensures more_steps { steps.old ≤ steps.new }

@@ -1,12 +1,14 @@
-use Rattle.std.proofs.Common.{◌<◌, ℤ, List, All, length, unsigned_abs, ap, sym, ◌∙◌, subst, refl, arith}
+use Rattle.std.proofs.Common.{◌<◌, ◌≤◌, ℕ, ℤ, List, All, length, unsigned_abs, ap, sym, ◌∙◌, subst, refl, arith}
 use Rattle.th_network.specs.Circulation.{Circulation, Shows}
 use Rattle.th_network.specs.Heights.{IsHeights, heights_at}
 use Rattle.th_network.specs.Networks.{arcs_of, points_of, weights_of}
 use Rattle.th_search.specs.Potentials.{value_at}
+use Rattle.th_tables.specs.Limits.{max_weight}
+use Rattle.th_circulation.specs.Best.{AreOfObservations}
 use Rattle.th_circulation.specs.Inside.Placed.{ArePlaced}
 use Rattle.th_network.specs.Limits.{height_limit}
 use Rattle.th_circulation.proofs.HeightLemmas.{written}
-use Rattle.th_circulation.proofs.SettledLemmas.{settled_circulates, settled_keeps, settled_shows}
+use Rattle.th_circulation.proofs.SettledLemmas.{settled_circulates, settled_flows, settled_keeps, settled_shows}
 use Rattle.th_circulation.proofs.settling.settle.Goals as goal
 
 pub returns-clause-circulation : goal.returns-clause-circulation
@@ -43,3 +45,9 @@ returns-clause-in_range g c =
     let long = c.deref_mut.ensures.len in
     let is = c.new.ensures ∙ written c.in_ok-heights.heights.len c.place.new.listed c.in_ok-heights.heights.items (omega arith) (omega arith) in
     subst (All (λ height. unsigned_abs height < height_limit)) (sym is) c.place.ensures.in_range
+
+pub returns-clause-flows : goal.returns-clause-flows
+returns-clause-flows g c =
+    let survey = c.args.network.now in
+    let light = subst (All (λ (weight : ℕ). weight ≤ max_weight)) c.in_ok-weights.ensures.weights c.in_ok-weights.ensures.light in
+    subst (AreOfObservations survey) (sym c.new-2.ensures) (settled_flows survey c.in_ok-work.work.flows.items light c.in_ok-work.ensures.flow)

@@ -1,0 +1,36 @@
+-- What the best heights of a survey are, and what shows it.
+use Rattle.std.specs.Prelude.{◌≡◌, ◌≤◌, ℕ, ℤ, List, All, length, unsigned_abs}
+use Rattle.th_network.specs.Circulation.{Circulation, Shows}
+use Rattle.th_network.specs.Heights.{LeastFine, heights_at}
+use Rattle.th_network.specs.Networks.{AreAtPoints, Survey, points_of}
+use Rattle.th_tables.specs.Limits.{max_weight}
+use Rattle.th_circulation.specs.Extremes.{High, Low}
+
+-- the map of heights that are listed in point order
+abbrev pub at_points_of : Survey → List ℤ → List ℕ → ℤ
+at_points_of survey heights = heights_at (points_of survey) heights
+
+-- a flow for each observation, at most the greatest weight in size
+pub record AreOfObservations (survey : Survey) (flows : List ℤ) : Type 0 where
+  pub each : length flows ≡ length survey.observations
+  pub in_range : All (λ flow. unsigned_abs flow ≤ max_weight) flows
+
+-- lowest and highest heights in point order, and a flow for each observation
+pub record Best : Type 0 where
+  pub low : List ℤ
+  pub high : List ℤ
+  pub flows : List ℤ
+
+-- The heights are the lowest and the highest of all that cost least, one for each point and below 10^17 units in size, and the flows are a circulation that
+-- shows both. So no heights that keep the benchmarks cost less than either, in whole units or in any finer one.
+pub record IsBest (survey : Survey) (best : Best) : Type 0 where
+  pub low : Low survey.observations survey.benchmarks survey.weights (at_points_of survey best.low)
+  pub high : High survey.observations survey.benchmarks survey.weights (at_points_of survey best.high)
+  pub low_at_points : AreAtPoints survey best.low
+  pub high_at_points : AreAtPoints survey best.high
+  pub circulation : Circulation survey.observations survey.benchmarks survey.weights best.flows
+  pub shows_low : Shows survey.observations survey.weights best.flows (at_points_of survey best.low)
+  pub shows_high : Shows survey.observations survey.weights best.flows (at_points_of survey best.high)
+  pub each_flow : AreOfObservations survey best.flows
+  pub low_least : LeastFine survey.observations survey.benchmarks survey.weights (at_points_of survey best.low)
+  pub high_least : LeastFine survey.observations survey.benchmarks survey.weights (at_points_of survey best.high)
