@@ -1,9 +1,9 @@
 // The same networks by LEMON: the least cost of a circulation, by the network simplex and by cost scaling.
 //
-//     lemon_flow FILE REPEATS
+//     lemon_flow FILE REPEATS [cpu]
 //
 // FILE has the numbers of vertices and links, and then a line 'tail head difference weight' for each link. One line is printed: the best
-// time of each in microseconds, making the solver and solving together, and what the best flows gain.
+// time of each in microseconds, making the solver and solving together, and what the best flows gain. With `cpu` it is processor time.
 #include <lemon/cost_scaling.h>
 #include <lemon/network_simplex.h>
 #include <lemon/smart_graph.h>
@@ -12,6 +12,8 @@
 #include <chrono>
 #include <cstdio>
 #include <cstdlib>
+#include <cstring>
+#include <ctime>
 #include <vector>
 
 using lemon::SmartDigraph;
@@ -47,15 +49,23 @@ bool read(const char* path, Network& network) {
     return true;
 }
 
+enum class Clock { wall, processor };
+
+long long now(Clock clock) {
+    if (clock == Clock::processor) return static_cast<long long>(std::clock()) * 1'000'000 / CLOCKS_PER_SEC;
+    const auto time = std::chrono::steady_clock::now().time_since_epoch();
+    return std::chrono::duration_cast<std::chrono::microseconds>(time).count();
+}
+
 template <class Solver>
-Best solve(const Network& network, int repeats) {
+Best solve(const Network& network, int repeats, Clock clock) {
     Best best;
     for (int i = 0; i <= repeats; i++) {
-        const auto start = std::chrono::steady_clock::now();
+        const long long start = now(clock);
         Solver solver(network.graph);
         solver.lowerMap(network.lower).upperMap(network.upper).costMap(network.cost);
         if (solver.run() != Solver::OPTIMAL) std::exit(1);
-        const auto time = std::chrono::duration_cast<std::chrono::microseconds>(std::chrono::steady_clock::now() - start).count();
+        const long long time = now(clock) - start;
         if (best.microseconds < 0 || time < best.microseconds) best.microseconds = time;
         // A gain may be above 2^63: it is printed modulo 2^64, and compared so.
         best.gain = -solver.template totalCost<Number>();
@@ -67,10 +77,12 @@ Best solve(const Network& network, int repeats) {
 
 int main(int count, char** words) {
     Network network;
-    if (count != 3 || !read(words[1], network)) return 2;
+    if (count < 3 || count > 4 || !read(words[1], network)) return 2;
+    if (count == 4 && std::strcmp(words[3], "cpu") != 0) return 2;
+    const Clock clock = count == 4 ? Clock::processor : Clock::wall;
     const int repeats = std::atoi(words[2]);
-    const Best simplex = solve<lemon::NetworkSimplex<SmartDigraph, Number, Number>>(network, repeats);
-    const Best scaling = solve<lemon::CostScaling<SmartDigraph, Number, Number>>(network, repeats);
+    const Best simplex = solve<lemon::NetworkSimplex<SmartDigraph, Number, Number>>(network, repeats, clock);
+    const Best scaling = solve<lemon::CostScaling<SmartDigraph, Number, Number>>(network, repeats, clock);
     if (simplex.gain != scaling.gain) return 1;
     std::printf("%lld %lld %lld\n", simplex.microseconds, scaling.microseconds, simplex.gain);
     return 0;
