@@ -5,7 +5,7 @@ use Rattle.th_checker.specs.declared.verdicts.Verdict.{Verdict}
 use Rattle.th_checker.specs.declared.verdicts.Verdict.TheVariants as verdict
 use Rattle.th_devices.specs.Spots.{Spot, output}
 use Rattle.th_plans.specs.Asked.{Files}
-use Rattle.th_program.specs.Done.{Holds, IsChecked, UnlessWrite}
+use Rattle.th_program.specs.Done.{Holds, IsChecked}
 use Rattle.th_program.specs.Owed.{Told, claim_owed}
 use Rattle.th_program.proofs.OutputLemmas.{holds-whole}
 use Rattle.th_program.proofs.RefusalLemmas.{unless}
@@ -13,7 +13,7 @@ use Rattle.th_runs.specs.Checked.{IsRight, IsVerdictOn, verdict_line, verdict_on
 use Rattle.th_runs.specs.Inputs.{Claim, IsOwed, MakesNetwork, Meets, Owed}
 use Rattle.th_runs.specs.Reads.{refused}
 use Rattle.th_runs.specs.Refusals.{status_of_verdict}
-use Rattle.th_runs.specs.Writes.{IsWritten, IsWrittenFor}
+use Rattle.th_runs.specs.Writes.{IsWritten, IsWrittenFor, UnlessWrite}
 use Rattle.th_runs.specs.declared.refusals.Output.TheVariants as out
 use Rattle.th_runs.specs.declared.refusals.Refusal.{Refusal}
 

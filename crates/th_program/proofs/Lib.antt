@@ -1,4 +1,5 @@
 pub mod OpenedLemmas
+pub mod ListLemmas
 pub mod OutputLemmas
 pub mod RefusalLemmas
 pub mod AdjustLemmas

@@ -2,10 +2,10 @@
 use Rattle.std.proofs.Common.{◌≡◌, ◌+◌, ◌≤◌, ℕ, List, Bool, [], ◌∷◌, ◌++◌, Some, None, IfErr, is_some, length, map, subst, ap, ap₂, ◌∙◌, refl, arith}
 use Rattle.std.specs.Prelude.{All, IfSome, Option, Result, option_map}
 use Rattle.std.proofs.lemmas.List.Elements.{All-cons}
-use Rattle.th_devices.specs.Spots.{IsOpened, file}
+use Rattle.th_devices.specs.Spots.{IsOpened, Spot, file}
 use Rattle.th_program.specs.Inside.Opened.{AreOpened, EachIsOpened, IsOpenedIfAny}
 use Rattle.th_plans.specs.Asked.{Files}
-use Rattle.th_program.specs.Owed.{Told, claim_owed, given_by, given_by_books, survey_owed}
+use Rattle.th_program.specs.Owed.{Told, claim_owed, given_by, given_by_books, given_from, survey_owed}
 use Rattle.th_runs.specs.Inputs.{Given, given, given_at, given_if_any, givens, owed_for_claim, owed_for_survey}
 use Rattle.th_runs.specs.Reads.{EachBook, IfPresent, IsNamed, IsReadFor, Run, failed_reads_of}
 use Rattle.th_runs.specs.declared.refusals.Input.{Input}
@@ -43,14 +43,22 @@ opened-length held left calls failures folder (first ∷ names) (one ∷ sources
     let more = opened-length held left calls failures folder names sources are.1 in omega (arith, more)
 
 -- what a source gave that was read for a run
+pub given-there : {F S : Type 0} (held : F → Told) (left : S → Option (List ℕ)) (calls failures : S → ℕ) (folder : F)
+    (which : Input) (answer : Option Refusal) (spot : Spot) (old new : S)
+    → IsOpened held left calls failures spot folder old → failures new ≡ failures old + failed_reads_of which answer
+    → given failures left old new ≡ given_from (held folder) answer which spot
+given-there held left calls failures folder which answer spot old new is failed =
+    let none : failures old ≡ 0 = is.failures in
+    let some : failures new ≡ failed_reads_of which answer = omega (arith, none, failed) in
+    ap₂ (λ before after. given_at before after (left old)) none some ∙ ap (given_at 0 (failed_reads_of which answer)) is.tells
+
+-- and the source of a file
 pub given-opened : {F S : Type 0} (held : F → Told) (left : S → Option (List ℕ)) (calls failures : S → ℕ) (folder : F)
     (which : Input) (answer : Option Refusal) (name : List ℕ) (old new : S)
     → IsOpened held left calls failures (file name) folder old → failures new ≡ failures old + failed_reads_of which answer
     → given failures left old new ≡ given_by (held folder) answer which name
 given-opened held left calls failures folder which answer name old new is failed =
-    let none : failures old ≡ 0 = is.failures in
-    let some : failures new ≡ failed_reads_of which answer = omega (arith, none, failed) in
-    ap₂ (λ before after. given_at before after (left old)) none some ∙ ap (given_at 0 (failed_reads_of which answer)) is.tells
+    given-there held left calls failures folder which answer (file name) old new is failed
 
 -- what the sources of books gave
 pub givens-opened : {F S : Type 0} (held : F → Told) (left : S → Option (List ℕ)) (calls failures : S → ℕ) (folder : F)

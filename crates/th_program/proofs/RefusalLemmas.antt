@@ -3,11 +3,11 @@ use Rattle.std.proofs.Common.{◌≡◌, Some, Ok, Err, IfErr, subst}
 use Rattle.std.specs.Prelude.{Option, Result}
 use Rattle.th_network.specs.Networks.{Survey}
 use Rattle.th_plans.specs.Asked.{Files}
-use Rattle.th_program.specs.Done.{IsRefusedFor, UnlessWrite}
+use Rattle.th_program.specs.Done.{IsRefusedFor}
 use Rattle.th_program.specs.Owed.{Told, survey_owed}
 use Rattle.th_runs.specs.Inputs.{IsOwed, Owed}
 use Rattle.th_runs.specs.Reads.{Run, refused}
-use Rattle.th_runs.specs.Writes.{IsWritten}
+use Rattle.th_runs.specs.Writes.{IsWritten, UnlessWrite}
 use Rattle.th_runs.specs.declared.refusals.Refusal.{Refusal}
 use Rattle.th_runs.specs.declared.refusals.Refusal.TheVariants as refusal
 
@@ -41,6 +41,11 @@ unless-map (refusal.Certificate fault) A B f known = f known
 unless-map (refusal.Network fault) A B f known = f known
 unless-map (refusal.Read which) A B f known = f known
 unless-map refusal.NoMemory A B f known = f known
+
+-- also for an answer that may be none
+pub unless-all : {X : Type 0} (A B : Type 0) (result : Result X Refusal) → (A → B) → IfErr result (λ own. UnlessWrite own A) → IfErr result (λ own. UnlessWrite own B)
+unless-all A B (Ok x) f known = tt
+unless-all A B (Err own) f known = unless-map own A B f known
 
 -- where the files that a failed write leaves are left in another folder as well, so is the refusal
 pub refused-for-map : {Y : Type 0} (run : Run) (from : Files) (survey_of : Y → Survey) (owed : Owed Y) (AreLeft AreLeft' : Option Refusal → Type 0) (own : Refusal)

@@ -18,16 +18,15 @@ use Rattle.th_report.specs.Lists.{list_text}
 use Rattle.th_review.specs.Texts.{ReviewOutTexts}
 use Rattle.th_runs.specs.Adjusted.{AreOutputs, OutTexts}
 use Rattle.th_runs.specs.Checked.{IsRight, verdict_line, verdict_on}
-use Rattle.th_runs.specs.Inputs.{Claim, IsOwed, MakesNetwork, Meets, Owed}
-use Rattle.th_runs.specs.Reads.{Adjusting, Checking, IsNamed, Reviewing, Run}
+use Rattle.th_runs.specs.Inputs.{Claim, IsOwed, MakesNetwork, Meets, MeetsRefusal, Owed}
+use Rattle.th_runs.specs.Reads.{Adjusting, Checking, IsNamed, IsOfList, Reviewing, Run}
 use Rattle.th_runs.specs.Refusals.{refusal_text, status_of, status_of_verdict}
 use Rattle.th_runs.specs.Reviewed.{AreReviewed, AreReviewsOf}
-use Rattle.th_runs.specs.Runs.{AreOfBook, IsRefusalOf}
-use Rattle.th_runs.specs.Writes.{Stage, Whole, Broken, Untouched, stage_of}
+use Rattle.th_runs.specs.Writes.{Stage, UnlessWrite, Whole, Broken, Untouched, stage_of}
 use Rattle.th_runs.specs.declared.refusals.Output.TheVariants as out
 use Rattle.th_runs.specs.declared.refusals.Refusal.{Refusal}
 use Rattle.th_runs.specs.declared.refusals.Refusal.TheVariants as refusal
-use Rattle.th_program.specs.Owed.{Told, claim_owed, survey_owed}
+use Rattle.th_program.specs.Owed.{Told, book_owed, claim_owed, survey_owed}
 
 -- a folder that tells has this text at the spot
 abbrev pub Holds : Bool → Told → Spot → List ℕ → Type 0
@@ -68,7 +67,7 @@ review_spot prefix = file (prefix ++ codes ".review.txt")
 -- standard output has the list of the book that is at this spot
 pub record IsListed (tells : Bool) (old new : Told) (book : Spot) : Type 0 where
   pub observations : List Observed
-  pub of_book : AreOfBook 1 (old book) observations
+  pub given : Meets (book_owed old None book) (Ok observations)
   pub listed : Holds tells new output (list_text observations)
 
 -- the four files have the texts of an adjustment of the survey that the named files give, all of them where there is no refusal. Where a write was refused, the
@@ -109,11 +108,6 @@ pub record IsChecked (tells : Bool) (old new : Told) (from : Files) (certificate
   pub line : Holds tells new output (verdict_line verdict)
   pub right : status_of_verdict verdict ≡ 0 → IsRight claim
 
--- what holds of a refusal before any output was begun
-abbrev pub UnlessWrite : Refusal → Type 0 → Type 0
-UnlessWrite (refusal.Write which) Own = Unit {0}
-UnlessWrite other Own = Own
-
 -- what a plan asks for was done, with this status
 abbrev pub IsDone : Bool → Told → Told → Plan → ℕ → Type 0
 IsDone tells old new plan.Standard status = (status ≡ 0) × IsListed tells old new input
@@ -127,6 +121,11 @@ IsDone tells old new (plan.Check inputs certificate) status =
 abbrev pub IsWrite : Refusal → Type 0
 IsWrite (refusal.Write which) = Unit {0}
 IsWrite other = ⊥
+
+-- The refusal of a list of the book at this spot. It names the book or the list, and before the list was begun it is the one that is owed.
+pub record IsRefusedList (old : Told) (book : Spot) (own : Refusal) : Type 0 where
+  pub named : IsOfList own
+  pub owes : UnlessWrite own (MeetsRefusal (book_owed old (Some own) book) own)
 
 -- The refusal of a run over the named files. It names a device of this run. Before outputs were begun it is the one that is owed, and where an output was not
 -- written the files are left so.
@@ -149,8 +148,8 @@ IsRefusedCheck old from certificate own = IsRefusedFor Checking from (λ claim. 
 
 -- the refusal is one of what a plan asks for: the one that the bytes at its inputs owe, where they are told
 abbrev pub IsRefused : Bool → Told → Told → Plan → Refusal → Type 0
-IsRefused tells old new plan.Standard own = IsRefusalOf 1 (old input) own
-IsRefused tells old new (plan.List book) own = IsRefusalOf 1 (old (file book.now)) own
+IsRefused tells old new plan.Standard own = IsRefusedList old input own
+IsRefused tells old new (plan.List book) own = IsRefusedList old (file book.now) own
 IsRefused tells old new (plan.Adjust inputs limit prefix) own = IsRefusedAdjust tells old new (files inputs) limit prefix.now own
 IsRefused tells old new (plan.Review inputs limit prefix) own = IsRefusedReview tells old new (files inputs) limit prefix.now own
 IsRefused tells old new (plan.Check inputs certificate) own = IsRefusedCheck old (files inputs) certificate.now own

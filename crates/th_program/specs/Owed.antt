@@ -1,9 +1,10 @@
 -- What a run over a folder is owed by what is there.
 use Rattle.std.specs.Prelude.{◌+◌, ℕ, List, [], ◌∷◌, Option, option_map}
+use Rattle.th_book.specs.Observed.{Observed}
 use Rattle.th_devices.specs.Spots.{Spot, file}
 use Rattle.th_network.specs.Networks.{Survey}
 use Rattle.th_plans.specs.Asked.{Files}
-use Rattle.th_runs.specs.Inputs.{Claim, Given, Owed, given_at, owed_for_claim, owed_for_survey}
+use Rattle.th_runs.specs.Inputs.{Claim, Given, Owed, given_at, owed_for_book, owed_for_claim, owed_for_survey}
 use Rattle.th_runs.specs.Reads.{failed_reads_of}
 use Rattle.th_runs.specs.declared.refusals.Input.{Input}
 use Rattle.th_runs.specs.declared.refusals.Input.TheVariants as input
@@ -13,14 +14,22 @@ use Rattle.th_runs.specs.declared.refusals.Refusal.{Refusal}
 abbrev pub Told : Type 0
 Told = Spot → Option (List ℕ)
 
--- what a file gave a run that ended with this refusal, or with none: a read failed where the refusal says so, and else it gave what stood there
+-- what a spot gave a run that ended with this refusal, or with none: a read failed where the refusal says so, and else it gave what was there
+abbrev pub given_from : Told → Option Refusal → Input → Spot → Given
+given_from told answer which spot = given_at 0 (failed_reads_of which answer) (told spot)
+
+-- what a file gave
 abbrev pub given_by : Told → Option Refusal → Input → List ℕ → Given
-given_by told answer which name = given_at 0 (failed_reads_of which answer) (told (file name))
+given_by told answer which name = given_from told answer which (file name)
 
 -- what the files of books gave, with their numbers from this one on
 abbrev pub given_by_books : Told → Option Refusal → ℕ → List (List ℕ) → List Given
 given_by_books told answer number (name ∷ names) = given_by told answer (input.Book number) name ∷ given_by_books told answer (number + 1) names
 given_by_books told answer number [] = []
+
+-- what a list is owed of the book that is at this spot: its observations, or its first fault
+abbrev pub book_owed : Told → Option Refusal → Spot → Owed (List Observed)
+book_owed told answer spot = owed_for_book 1 (given_from told answer (input.Book 1) spot)
 
 -- what a run is owed that reads these files: the survey that they say, or their first fault
 abbrev pub survey_owed : Told → Option Refusal → Files → Owed Survey

@@ -2,10 +2,11 @@
 ghost use Rattle.std.specs.Prelude.{◌≡◌, ◌≢◌, IfErr, IfOk, Some, is_some, length};
 ghost use Rattle.th_devices.specs.Spots.{output};
 ghost use Rattle.th_plans.specs.Plans.{files};
-ghost use Rattle.th_program.specs.Done.{IsChecked, UnlessWrite};
+ghost use Rattle.th_program.specs.Done.{IsChecked};
 ghost use Rattle.th_program.specs.Owed.{claim_owed};
 ghost use Rattle.th_runs.specs.Inputs.{IsOwed};
 ghost use Rattle.th_runs.specs.Reads.{Checking, IsNamed};
+ghost use Rattle.th_runs.specs.Writes.{UnlessWrite};
 
 use crate::opening::sources_of;
 use std::alloc::Global;

@@ -2,8 +2,8 @@
 ghost use Rattle.std.specs.Prelude.{◌≡◌, ◌≢◌, OnOk, IfErr};
 ghost use Rattle.th_devices.specs.Origins.{spot_of_origin};
 ghost use Rattle.th_devices.specs.Spots.{output};
-ghost use Rattle.th_program.specs.Done.{IsListed, UnlessWrite};
-ghost use Rattle.th_runs.specs.Runs.{IsRefusalOf};
+ghost use Rattle.th_program.specs.Done.{IsListed, IsRefusedList};
+ghost use Rattle.th_runs.specs.Writes.{UnlessWrite};
 
 use std::alloc::Global;
 use th_devices::{Folder, Origin, Target};
@@ -13,7 +13,7 @@ use th_runs::{Refusal, run_list};
 pub fn list<F: Folder>(alloc: Global, folder: &mut F, book: Origin<'_>) -> Result<(), Refusal>
     ensures listed { OnOk result (IsListed F.tells (F.held folder.old) (F.held folder.new)
         (spot_of_origin book.entry)) }
-    ensures refused { IfErr result (IsRefusalOf 1 (F.held folder.old (spot_of_origin book.entry))) }
+    ensures refused { IfErr result (IsRefusedList (F.held folder.old) (spot_of_origin book.entry)) }
     ensures untouched { IfErr result (λ own. UnlessWrite own (folder.new ≡ folder.old)) }
     ensures others { (spot : _) → spot ≢ output → F.held folder.new spot ≡ F.held folder.old spot }
 {

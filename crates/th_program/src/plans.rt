@@ -1,6 +1,7 @@
 //! Running a plan.
 ghost use Rattle.std.specs.Prelude.{◌≡◌, IfErr, IfOk};
-ghost use Rattle.th_program.specs.Done.{IsDone, IsOutputOf, IsRefused, IsRun, UnlessWrite};
+ghost use Rattle.th_program.specs.Done.{IsDone, IsOutputOf, IsRefused, IsRun};
+ghost use Rattle.th_runs.specs.Writes.{UnlessWrite};
 
 use crate::adjusting::adjust;
 use crate::checking::check;

@@ -1,11 +1,11 @@
 //! Reviewing the network of files of a folder.
 ghost use Rattle.std.specs.Prelude.{◌≡◌, ◌≢◌, IfErr, Some, is_some, length};
-ghost use Rattle.th_program.specs.Done.{IsReviewed, UnlessWrite, entries_spot, observations_spot, points_spot, review_spot};
+ghost use Rattle.th_program.specs.Done.{IsReviewed, entries_spot, observations_spot, points_spot, review_spot};
 ghost use Rattle.th_program.specs.Owed.{survey_owed};
 ghost use Rattle.th_plans.specs.Plans.{files};
 ghost use Rattle.th_runs.specs.Inputs.{IsOwed};
 ghost use Rattle.th_runs.specs.Reads.{IsNamed, Reviewing, refused};
-ghost use Rattle.th_runs.specs.Writes.{IsWritten};
+ghost use Rattle.th_runs.specs.Writes.{IsWritten, UnlessWrite};
 
 use crate::opening::{Four, close_sinks, sinks_of, sources_of};
 use std::alloc::Global;

@@ -2,8 +2,8 @@
 ghost use Rattle.std.specs.Prelude.{◌≡◌, ◌≤◌, ◌+◌, ◌<◌, All, IfErr, IfOk, IfSome, Ok, OnOk, true, false, is_some, length};
 ghost use Rattle.th_devices.specs.Limits.{calls_before};
 ghost use Rattle.th_runs.specs.Checked.{IsVerdictOn, verdict_line, verdict_on};
-ghost use Rattle.th_runs.specs.Inputs.{Claim, IsOwed, MakesNetwork, Meets, given, given_if_any, givens, owed_for_claim, surveyed};
-ghost use Rattle.th_runs.specs.Inside.Refused.{IsNetRefusal, MeetsRefusal};
+ghost use Rattle.th_runs.specs.Inputs.{Claim, IsOwed, MakesNetwork, Meets, MeetsRefusal, given, given_if_any, givens, owed_for_claim, surveyed};
+ghost use Rattle.th_runs.specs.Inside.Refused.{IsNetRefusal};
 ghost use Rattle.th_runs.specs.Reads.{Checking, EachBook, IfPresent, IsNamed, IsReadFor, IsWithin, network_place, outputs_place, place, refused};
 ghost use Rattle.th_runs.specs.Writes.{IsWritten, IsWrittenFor};
 

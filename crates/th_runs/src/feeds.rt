@@ -2,9 +2,9 @@
 ghost use Rattle.std.specs.Prelude.{◌≡◌, ◌++◌, ◌+◌, ◌-◌, ◌<◌, ◌≤◌, ℕ, List, IfSome, IfErr, OnOk, [], length, take};
 ghost use Rattle.th_book.specs.Limits.{max_book};
 ghost use Rattle.th_runs.specs.Inside.Readers.{AreTaken};
-ghost use Rattle.th_runs.specs.Runs.{IsRefusalOf, failed_reads, failed_writes};
+ghost use Rattle.th_runs.specs.Inputs.{MeetsRefusal, given, owed_for_book};
+ghost use Rattle.th_runs.specs.Reads.{IsOfBook, IsReadFor, refused};
 ghost use Rattle.th_devices.specs.Limits.{calls_before};
-ghost use Rattle.th_devices.specs.Transfer.{Advances};
 
 use crate::inputs::limit_of;
 use crate::refusals::{Input, Refusal};
@@ -79,11 +79,11 @@ pub(crate) fn feed_from<S: Source, F: Feed>(
     requires { S.calls book.old ≤ calls_before }
     ensures fed { OnOk result ((front : List ℕ) × AreTaken F.has_taken front feed.old feed.new
         × IfSome (S.left book.old) (λ text. front ≡ take (max_book + 1) text)) }
-    ensures refused { IfErr result (IsRefusalOf number (S.left book.old)) }
-    ensures read_fails { S.failures book.new ≡ S.failures book.old + failed_reads result }
-    ensures no_write { failed_writes result ≡ 0 }
-    ensures stands { Advances (max_book + 1) (S.left book.old) (S.left book.new) }
-    ensures reads { S.calls book.new ≤ S.calls book.old + max_book + 1 }
+    ensures refused { IfErr result (MeetsRefusal
+        (owed_for_book number (given S.failures S.left book.old book.new))) }
+    ensures named { IfErr result (IsOfBook number) }
+    ensures book { IsReadFor S.calls S.failures S.left (Input.Book number) (refused result)
+        book.old book.new }
 {
     let input = Input::Book(number);
     let most = limit_of(input) as usize + 1;

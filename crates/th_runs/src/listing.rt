@@ -1,14 +1,17 @@
 //! A run that lists the observations of one book.
-ghost use Rattle.std.specs.Prelude.{◌≡◌, ◌≢◌, ◌+◌, ◌<◌, ◌≤◌, IfErr, OnOk, Err, true};
-ghost use Rattle.th_book.specs.Limits.{max_book};
-ghost use Rattle.th_runs.specs.Runs.{HoldsList, HoldsListBeginning, IsCalledForList, IsRefusalOf, failed_reads, failed_writes};
+ghost use Rattle.std.specs.Prelude.{◌≡◌, ◌≤◌, IfErr, List, Ok};
+ghost use Rattle.th_book.specs.Observed.{Observed};
 ghost use Rattle.th_devices.specs.Limits.{calls_before};
-ghost use Rattle.th_devices.specs.Transfer.{Advances};
+ghost use Rattle.th_report.specs.Lists.{list_text};
+ghost use Rattle.th_runs.specs.Inputs.{Meets, MeetsRefusal, given, owed_for_book};
+ghost use Rattle.th_runs.specs.Reads.{IsOfList, IsReadFor, refused};
+ghost use Rattle.th_runs.specs.Writes.{IsWritten, IsWrittenFor, UnlessWrite};
 
+use crate::outputs::write_out;
 use crate::readers::observations_of;
-use crate::refusals::{Output, Refusal};
+use crate::refusals::{Input, Output, Refusal};
 use std::alloc::Global;
-use th_devices::{Failed, Sink, Source, write_all};
+use th_devices::{Sink, Source};
 use th_report::list_text;
 
 /// Lists the observations of a book.
@@ -20,31 +23,21 @@ pub fn run_list<S: Source, K: Sink>(alloc: Global, book: &mut S, out: &mut K) ->
     requires out_calls { K.calls out.old ≤ calls_before }
 
     // What the answer means.
-    ensures listed { OnOk result (HoldsList 1 (S.left book.old) (K.held out.old) (K.held out.new)) }
-    ensures finished { OnOk result (K.is_finished out.new ≡ true) }
-    ensures refused { IfErr result (IsRefusalOf 1 (S.left book.old)) }
-    ensures read_fails { S.failures book.new ≡ S.failures book.old + failed_reads result }
-    ensures write_fails { K.failures out.new ≡ K.failures out.old + failed_writes result }
-
+    ensures written { IsWritten result → ((observations : List Observed)
+        × Meets (owed_for_book 1 (given S.failures S.left book.old book.new)) (Ok observations)
+        × IsWrittenFor K.held K.is_finished K.calls K.failures Output.List (refused result)
+        (list_text observations) out.old out.new) }
+    ensures refused { IfErr result (λ own. UnlessWrite own (MeetsRefusal
+        (owed_for_book 1 (given S.failures S.left book.old book.new)) own)) }
+    ensures named { IfErr result IsOfList }
+    ensures untouched { IfErr result (λ own. UnlessWrite own (out.new ≡ out.old)) }
     ensures spot { K.spot out.new ≡ K.spot out.old }
 
-    // What holds after a refusal.
-    ensures untouched { IfErr result (λ refusal.
-        refusal ≢ Refusal.Write Output.List → out.new ≡ out.old) }
-    ensures beginning { result ≡ Err (Refusal.Write Output.List)
-        → HoldsListBeginning 1 (S.left book.old) (K.calls out.old + 1 < K.calls out.new)
-        (K.held out.old) (K.held out.new) }
-
-    // How often the output is called, and how far the book is read.
-    ensures writes { IfErr result (λ refusal. refusal ≡ Refusal.Write Output.List)
-        → IsCalledForList 1 (S.left book.old) (K.calls out.old) (K.calls out.new) }
-    ensures stands { Advances (max_book + 1) (S.left book.old) (S.left book.new) }
-    ensures reads { S.calls book.new ≤ S.calls book.old + max_book + 1 }
+    // How the book is read.
+    ensures book { IsReadFor S.calls S.failures S.left (Input.Book 1) (refused result)
+        book.old book.new }
 {
     let observations = observations_of(alloc, 1, book)?;
     let text = list_text(alloc, observations.as_slice())?;
-    match write_all(out, text.as_slice()) {
-        Ok(()) => Ok(()),
-        Err(Failed) => Err(Refusal::Write(Output::List)),
-    }
+    write_out(Output::List, out, text.as_slice())
 }

@@ -1,15 +1,14 @@
 //! What a run reads of its books.
-ghost use Rattle.std.specs.Prelude.{◌≡◌, ◌≢◌, ◌+◌, ◌<◌, ◌≤◌, [], ℕ, List, Option, IfErr, IfOk, OnOk};
-ghost use Rattle.th_book.specs.Limits.{max_book};
+ghost use Rattle.std.specs.Prelude.{◌≡◌, ◌≢◌, ◌≤◌, [], ℕ, List, Option, IfErr, IfOk, Ok, OnOk};
 ghost use Rattle.th_book.specs.Observed.{Observed};
 ghost use Rattle.th_entries.specs.Seen.{AreSeenInBooks};
 ghost use Rattle.th_runs.specs.Inside.Readers.{IsAdded};
-ghost use Rattle.th_runs.specs.Runs.{AreOfBook, IsRefusalOf, failed_reads, failed_writes};
+ghost use Rattle.th_runs.specs.Inputs.{Meets, MeetsRefusal, given, owed_for_book};
+ghost use Rattle.th_runs.specs.Reads.{IsOfBook, IsReadFor, refused};
 ghost use Rattle.th_devices.specs.Limits.{calls_before};
-ghost use Rattle.th_devices.specs.Transfer.{Advances};
 
 use crate::feeds::{ReviewedFeed, feed_from};
-use crate::refusals::Refusal;
+use crate::refusals::{Input, Refusal};
 use std::alloc::{AllocError, Global};
 use std::mem;
 use th_book::{BookFault, BookFeed, BookKind, Observation};
@@ -31,15 +30,15 @@ pub(crate) trait BookReader {
         book: &mut S,
     ) -> Result<Vec<Observation>, Refusal>
         requires { S.calls book.old ≤ calls_before }
-        ensures ok { IfOk result (λ observations.
-            AreOfBook number (S.left book.old) observations.items) }
+        ensures ok { IfOk result (λ observations. Meets
+            (owed_for_book number (given S.failures S.left book.old book.new)) (Ok observations.items)) }
         ensures read { IfOk result (λ observations.
             has_read number (S.left book.old) observations.items self.old self.new) }
-        ensures refused { IfErr result (IsRefusalOf number (S.left book.old)) }
-        ensures read_fails { S.failures book.new ≡ S.failures book.old + failed_reads result }
-        ensures no_write { failed_writes result ≡ 0 }
-        ensures stands { Advances (max_book + 1) (S.left book.old) (S.left book.new) }
-        ensures reads { S.calls book.new ≤ S.calls book.old + max_book + 1 };
+        ensures refused { IfErr result (MeetsRefusal
+            (owed_for_book number (given S.failures S.left book.old book.new))) }
+        ensures named { IfErr result (IsOfBook number) }
+        ensures book { IsReadFor S.calls S.failures S.left (Input.Book number) (refused result)
+            book.old book.new };
 }
 
 /// Reads the observations of books alone.
@@ -134,13 +133,13 @@ pub(crate) fn observations_of<S: Source>(
     book: &mut S,
 ) -> Result<Vec<Observation>, Refusal>
     requires { S.calls book.old ≤ calls_before }
-    ensures ok { IfOk result (λ observations.
-        AreOfBook number (S.left book.old) observations.items) }
-    ensures refused { IfErr result (IsRefusalOf number (S.left book.old)) }
-    ensures read_fails { S.failures book.new ≡ S.failures book.old + failed_reads result }
-    ensures no_write { failed_writes result ≡ 0 }
-    ensures stands { Advances (max_book + 1) (S.left book.old) (S.left book.new) }
-    ensures reads { S.calls book.new ≤ S.calls book.old + max_book + 1 }
+    ensures ok { IfOk result (λ observations. Meets
+        (owed_for_book number (given S.failures S.left book.old book.new)) (Ok observations.items)) }
+    ensures refused { IfErr result (MeetsRefusal
+        (owed_for_book number (given S.failures S.left book.old book.new))) }
+    ensures named { IfErr result (IsOfBook number) }
+    ensures book { IsReadFor S.calls S.failures S.left (Input.Book number) (refused result)
+        book.old book.new }
 {
     let mut feed = BookFeed::new(alloc, number);
     feed_from(number, book, &mut feed)?;
@@ -154,6 +153,7 @@ pub(crate) fn observations_of<S: Source>(
 fn refusal_of(number: u32, fault: BookFault) -> Refusal
     ensures memory { fault.kind ≡ BookKind.NoMemory → result ≡ Refusal.NoMemory }
     ensures book { fault.kind ≢ BookKind.NoMemory → result ≡ Refusal.Book number fault }
+    ensures named { IsOfBook number result }
 {
     match fault.kind {
         BookKind::NoMemory => Refusal::NoMemory,

@@ -1,13 +1,23 @@
-use Rattle.th_runs.proofs.BookFronts.{answer_told, refused_as_told}
+use Rattle.std.proofs.Common.{◌+◌, ◌∙◌, Ok, sym, arith}
+use Rattle.th_book.specs.Books.{book_answer}
+use Rattle.th_book.specs.Limits.{max_book}
+use Rattle.th_runs.proofs.Fronts.{book_answer-take}
+use Rattle.th_runs.proofs.Givens.{book_fault, meets_fault, meets_front}
+use Rattle.th_runs.specs.declared.refusals.Input.TheVariants as input
+use Rattle.th_runs.specs.declared.refusals.Refusal.TheVariants as refusal
 use Rattle.th_runs.proofs.readers.observations_of.Goals as goal
 
 pub returns-in-Ok-clause-ok : goal.returns-in-Ok-clause-ok
 returns-in-Ok-clause-ok g c =
     let fed = c.in_ok-feed_from.ensures.fed in
-    answer_told c.args.number (g.S.Source.left c.args.book.now) fed.0 c.feed_from.new.feed _ (fed.1 (c.args.number, fed.0) (c.new-feed.ensures.owes fed.0)) fed.2 c.in-Ok.ensures.ok
+    let took = fed.1 (c.args.number, fed.0) (c.new-feed.ensures.owes fed.0) in
+    meets_front (input.Book c.args.number) (refusal.Book c.args.number) (book_answer c.args.number) (max_book + 1) _ _ _ fed.0 (Ok c.in-Ok.observations.items)
+    (omega (arith, c.in_ok-feed_from.ensures.book.failed)) (book_answer-take c.args.number) fed.2 (sym took ∙ c.in-Ok.ensures.ok)
 
 pub returns-in-Err-clause-refused : goal.returns-in-Err-clause-refused
 returns-in-Err-clause-refused g c =
     let fed = c.in_ok-feed_from.ensures.fed in
-    refused_as_told c.args.number (g.S.Source.left c.args.book.now) fed.0 c.feed_from.new.feed c.in-Err.fault c.refusal_of.result (fed.1 (c.args.number, fed.0) (c.new-feed.ensures.owes fed.0)) fed.2
-    c.in-Err.ensures.fault c.refusal_of.ensures.memory c.refusal_of.ensures.book
+    let took = fed.1 (c.args.number, fed.0) (c.new-feed.ensures.owes fed.0) in
+    meets_fault (input.Book c.args.number) (refusal.Book c.args.number) (book_answer c.args.number) (max_book + 1) _ _ _ fed.0 c.in-Err.fault c.refusal_of.result
+    (omega (arith, c.in_ok-feed_from.ensures.book.failed)) (book_answer-take c.args.number) fed.2
+    (book_fault (refusal.Book c.args.number) _ _ _ c.refusal_of.ensures.memory c.refusal_of.ensures.book (λ other. sym took ∙ c.in-Err.ensures.fault other))
