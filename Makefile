@@ -13,7 +13,7 @@ help:
 	@echo 'make run       prove and build the program, adjust an example project, show its report and check its certificate'
 	@echo 'make list      prove and build the program, and list a book (BOOK=$(BOOK))'
 	@echo 'make build     prove and build the program: $(PROGRAM)'
-	@echo 'make check     while you work: prove what changed, then all of the below down to memory but the gate and each-byte'
+	@echo 'make check     while you work: prove what changed, then all of the below down to memory but the gate, guides and each-byte'
 	@echo 'make test      the gate (every proof from nothing, must-fail edits, tests, program runs), and then the same'
 	@echo 'make gate      rt ci alone'
 	@echo 'make examples  compare what the built program gives for examples/ with the files there'
