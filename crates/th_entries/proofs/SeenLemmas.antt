@@ -7,13 +7,12 @@ use Rattle.std.specs.Cmp.Lexicographic.{bytes_decides}
 use Rattle.std.proofs.lemmas.List.{append-nil}
 use Rattle.std.proofs.lemmas.List.Elements.{All-filter}
 use Rattle.std.proofs.lemmas.List.Folds.{find-append, list_any_none}
-use Rattle.indexmap.specs.IndexMap.{get}
 use Rattle.gsi_word.specs.Words.{parts_of}
 use Rattle.gsi_word.specs.Names.{same_name}
 use Rattle.gsi_word.specs.declared.words.Word.{Word}
 use Rattle.th_book.specs.declared.entries.Entered.{Entered}
 use Rattle.th_entries.specs.Spellings.{Mention, differing, differs, is_of}
-use Rattle.th_entries.specs.Seen.{AreSeenIn, spelled_in}
+use Rattle.th_entries.specs.Seen.{AreSeenIn, spelled_at, spelled_in}
 use Rattle.th_entries.specs.Inside.Seen.{mention_by}
 use Rattle.th_entries.specs.declared.seen.SeenNames.{SeenNames}
 use Rattle.th_entries.specs.declared.seen.Spelled.{Spelled}
@@ -93,23 +92,23 @@ other-first : (mentions : List Mention) (mention : Mention) → is_other mention
 other-first mentions mention = ap (λ found. option_map_or (differs_from mention) found false) (find-push mentions mention)
 
 -- what a map says of all names, and what was found, are those of one more mention
-seen-next : (mentions : List Mention) (mention : Mention) (old new : SeenNames) → AreSeenIn mentions old → new.found.items ≡ old.found.items ++ found_with mentions mention → ((name : List ℕ) → same_name mention.here.name name ≡ false → get same_name new.spelled name ≡ get same_name old.spelled name) → get same_name new.spelled mention.here.name ≡ option_map (spelled_by (was_other mentions mention || is_other mentions mention)) (first_of mentions mention) → AreSeenIn (mentions ++ mention ∷ []) new
+seen-next : (mentions : List Mention) (mention : Mention) (old new : SeenNames) → AreSeenIn mentions old → new.found.items ≡ old.found.items ++ found_with mentions mention → ((name : List ℕ) → same_name mention.here.name name ≡ false → spelled_at new name ≡ spelled_at old name) → spelled_at new mention.here.name ≡ option_map (spelled_by (was_other mentions mention || is_other mentions mention)) (first_of mentions mention) → AreSeenIn (mentions ++ mention ∷ []) new
 seen-next mentions mention old new was found others own = record {
   found = found ∙ ap (λ front. front ++ found_with mentions mention) was.found ∙ sym (found-push mentions mention);
   spelled = λ name. go name (same_name mention.here.name name) refl;
 }
   where
-    go : (name : List ℕ) (same : Bool) → same_name mention.here.name name ≡ same → get same_name new.spelled name ≡ spelled_in (mentions ++ mention ∷ []) name
-    go name true e = subst (λ own. get same_name new.spelled own ≡ spelled_in (mentions ++ mention ∷ []) own) ((bytes_decides mention.here.name name).0 e) (own ∙ sym (spelled-own mentions mention))
+    go : (name : List ℕ) (same : Bool) → same_name mention.here.name name ≡ same → spelled_at new name ≡ spelled_in (mentions ++ mention ∷ []) name
+    go name true e = subst (λ own. spelled_at new own ≡ spelled_in (mentions ++ mention ∷ []) own) ((bytes_decides mention.here.name name).0 e) (own ∙ sym (spelled-own mentions mention))
     go name false e = others name e ∙ was.spelled name ∙ sym (spelled-other mentions mention name (flip name mention.here.name ∙ e))
 
 -- a map that did not change says the same of each name
-unchanged : (mentions : List Mention) (mention : Mention) (names : SeenNames) → AreSeenIn mentions names → found_with mentions mention ≡ [] → get same_name names.spelled mention.here.name ≡ option_map (spelled_by (was_other mentions mention || is_other mentions mention)) (first_of mentions mention) → AreSeenIn (mentions ++ mention ∷ []) names
+unchanged : (mentions : List Mention) (mention : Mention) (names : SeenNames) → AreSeenIn mentions names → found_with mentions mention ≡ [] → spelled_at names mention.here.name ≡ option_map (spelled_by (was_other mentions mention || is_other mentions mention)) (first_of mentions mention) → AreSeenIn (mentions ++ mention ∷ []) names
 unchanged mentions mention names was none own =
     seen-next mentions mention names names was (sym (append-nil names.found.items) ∙ ap (λ last. names.found.items ++ last) (sym none)) (λ name other. refl) own
 
 -- a name that no mention is of
-pub first-seen : (mentions : List Mention) (mention : Mention) (old new : SeenNames) → AreSeenIn mentions old → get same_name old.spelled mention.here.name ≡ None → new.found.items ≡ old.found.items → ((name : List ℕ) → same_name mention.here.name name ≡ false → get same_name new.spelled name ≡ get same_name old.spelled name) → get same_name new.spelled mention.here.name ≡ Some (Alike (record { items = mention.bytes })) → AreSeenIn (mentions ++ mention ∷ []) new
+pub first-seen : (mentions : List Mention) (mention : Mention) (old new : SeenNames) → AreSeenIn mentions old → spelled_at old mention.here.name ≡ None → new.found.items ≡ old.found.items → ((name : List ℕ) → same_name mention.here.name name ≡ false → spelled_at new name ≡ spelled_at old name) → spelled_at new mention.here.name ≡ Some (Alike (record { items = mention.bytes })) → AreSeenIn (mentions ++ mention ∷ []) new
 first-seen mentions mention old new was none found others own =
     seen-next mentions mention old new was
     (found ∙ sym (append-nil old.found.items) ∙ ap (λ last. old.found.items ++ last) (sym (ap (λ other. cond other (cond (was_other mentions mention) [] (mention.here ∷ [])) []) alike)))
@@ -133,7 +132,7 @@ first-seen mentions mention old new was none found others own =
     alike = other-first mentions mention ∙ ap (λ found. option_map_or (differs_from mention) found false) first ∙ ap not (itself mention.bytes)
 
 -- a name of which some mention differs
-pub seen-otherwise : (mentions : List Mention) (mention : Mention) (names : SeenNames) → AreSeenIn mentions names → get same_name names.spelled mention.here.name ≡ Some Otherwise → AreSeenIn (mentions ++ mention ∷ []) names
+pub seen-otherwise : (mentions : List Mention) (mention : Mention) (names : SeenNames) → AreSeenIn mentions names → spelled_at names mention.here.name ≡ Some Otherwise → AreSeenIn (mentions ++ mention ∷ []) names
 seen-otherwise mentions mention names was known =
     go (find (is_of mention.here.name) mentions) (was_other mentions mention) refl refl (sym (was.spelled mention.here.name) ∙ known)
   where
@@ -161,7 +160,7 @@ bytes_in None = []
 bytes_in (Some (Alike own)) = own.items
 bytes_in (Some Otherwise) = []
 
-is-first : (mentions : List Mention) (mention : Mention) (names : SeenNames) (bytes : List ℕ) → AreSeenIn mentions names → get same_name names.spelled mention.here.name ≡ Some (Alike (record { items = bytes })) → IsFirst mentions mention bytes
+is-first : (mentions : List Mention) (mention : Mention) (names : SeenNames) (bytes : List ℕ) → AreSeenIn mentions names → spelled_at names mention.here.name ≡ Some (Alike (record { items = bytes })) → IsFirst mentions mention bytes
 is-first mentions mention names bytes was known =
     go (find (is_of mention.here.name) mentions) (was_other mentions mention) refl refl (sym (was.spelled mention.here.name) ∙ known)
   where
@@ -179,7 +178,7 @@ differs-first mentions mention bytes same is e =
     ∙ ap not e
 
 -- data that are the same once more
-pub seen-alike : (mentions : List Mention) (mention : Mention) (names : SeenNames) (bytes : List ℕ) → AreSeenIn mentions names → get same_name names.spelled mention.here.name ≡ Some (Alike (record { items = bytes })) → bytes_eq bytes mention.bytes ≡ true → AreSeenIn (mentions ++ mention ∷ []) names
+pub seen-alike : (mentions : List Mention) (mention : Mention) (names : SeenNames) (bytes : List ℕ) → AreSeenIn mentions names → spelled_at names mention.here.name ≡ Some (Alike (record { items = bytes })) → bytes_eq bytes mention.bytes ≡ true → AreSeenIn (mentions ++ mention ∷ []) names
 seen-alike mentions mention names bytes was known same =
     unchanged mentions mention names was
     (ap (λ (other : Bool). cond other (cond (was_other mentions mention) [] (mention.here ∷ [])) []) alike)
@@ -192,7 +191,7 @@ seen-alike mentions mention names bytes was known same =
     alike = differs-first mentions mention bytes true is same
 
 -- other data for the first time
-pub seen-differing : (mentions : List Mention) (mention : Mention) (old new : SeenNames) (bytes : List ℕ) → AreSeenIn mentions old → get same_name old.spelled mention.here.name ≡ Some (Alike (record { items = bytes })) → bytes_eq bytes mention.bytes ≡ false → new.found.items ≡ old.found.items ++ mention.here ∷ [] → ((name : List ℕ) → same_name mention.here.name name ≡ false → get same_name new.spelled name ≡ get same_name old.spelled name) → get same_name new.spelled mention.here.name ≡ Some Otherwise → AreSeenIn (mentions ++ mention ∷ []) new
+pub seen-differing : (mentions : List Mention) (mention : Mention) (old new : SeenNames) (bytes : List ℕ) → AreSeenIn mentions old → spelled_at old mention.here.name ≡ Some (Alike (record { items = bytes })) → bytes_eq bytes mention.bytes ≡ false → new.found.items ≡ old.found.items ++ mention.here ∷ [] → ((name : List ℕ) → same_name mention.here.name name ≡ false → spelled_at new name ≡ spelled_at old name) → spelled_at new mention.here.name ≡ Some Otherwise → AreSeenIn (mentions ++ mention ∷ []) new
 seen-differing mentions mention old new bytes was known differ found others own =
     seen-next mentions mention old new was
     (found ∙ ap (λ last. old.found.items ++ last) (sym (ap (λ (other : Bool). cond other (cond (was_other mentions mention) [] (mention.here ∷ [])) []) other ∙ ap (λ (before : Bool). cond before [] (mention.here ∷ [])) is.before)))

@@ -1,8 +1,9 @@
 -- What is known of the names that books mention.
 use Rattle.std.specs.Prelude.{◌≡◌, ℕ, ◌++◌, List, [], ◌∷◌, Option, if◌then◌else◌, find, option_map}
+use Rattle.std.specs.BTreeMap.{get}
+use Rattle.std.specs.Cmp.Lexicographic.{slice_cmp}
 use Rattle.std.specs.List.{list_any}
-use Rattle.indexmap.specs.IndexMap.{get}
-use Rattle.gsi_word.specs.Names.{same_name}
+use Rattle.std.specs.Ordering.{nat_cmp}
 use Rattle.th_book.specs.Lines.{ParsedLine}
 use Rattle.th_entries.specs.Spellings.{Mention, differing, is_of, mentions_of, spellings_in}
 use Rattle.th_entries.specs.declared.seen.SeenNames.{SeenNames}
@@ -14,10 +15,14 @@ abbrev pub spelled_in : List Mention → List ℕ → Option Spelled
 spelled_in mentions name =
     option_map (λ first. if list_any (is_of name) (differing mentions) then Otherwise else Alike (record { items = first.bytes })) (find (is_of name) mentions)
 
+-- how a name is spelled so far, in a map whose names are in the order of their bytes
+abbrev pub spelled_at : SeenNames → List ℕ → Option Spelled
+spelled_at names name = get (slice_cmp nat_cmp) names.spelled name
+
 -- all that is known of names is what these mentions say
 pub record AreSeenIn (mentions : List Mention) (names : SeenNames) : Type 0 where
   pub found : names.found.items ≡ spellings_in mentions
-  pub spelled : (name : List ℕ) → get same_name names.spelled name ≡ spelled_in mentions name
+  pub spelled : (name : List ℕ) → spelled_at names name ≡ spelled_in mentions name
 
 -- all that is known of names is what these books say, which have no fault
 abbrev pub AreSeenInBooks : List (ℕ × List ParsedLine) → SeenNames → Type 0

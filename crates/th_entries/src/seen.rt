@@ -6,8 +6,8 @@ ghost use Rattle.th_entries.specs.Inside.Seen.{IsSeenNext, mention_by};
 use crate::spellings::Spelling;
 use arrayvec::ArrayVec;
 use gsi_word::{Name, Word};
-use indexmap::IndexMap;
 use std::alloc::{AllocError, Global};
+use std::collections::BTreeMap;
 use th_book::Entered;
 
 /// The most bytes of data that a word has.
@@ -24,9 +24,12 @@ enum Spelled {
 
 /// The names that the stations and targets of books have, and how they are spelled. It passes from one
 /// book to the next.
+///
+/// The names are kept in order, so that each costs the logarithm of their number, whatever they are. A
+/// hash could have no seed that covers the names still to come.
 #[derive(Drop)]
 pub struct SeenNames {
-    spelled: IndexMap<Name, Spelled>,
+    spelled: BTreeMap<Name, Spelled>,
     found: Vec<Spelling>,
 }
 
@@ -39,7 +42,7 @@ impl SeenNames {
         ensures { AreSeenInBooks [] result }
     {
         SeenNames {
-            spelled: IndexMap::new(alloc),
+            spelled: BTreeMap::new(alloc),
             found: Vec::new(alloc),
         }
     }

@@ -1,16 +1,48 @@
 -- Notes of rows, one row further.
-use Rattle.std.proofs.Common.{◌≡◌, ◌<◌, ◌+◌, ◌++◌, ◌∷◌, [], ◌||◌, ℕ, Bool, true, false, cond, List, Option, None, Some, drop, get_or, length, slice_get, refl, sym, ap, ◌∙◌, arith, append_assoc}
+use Rattle.std.proofs.Common.{◌≡◌, ◌<◌, ◌+◌, ◌++◌, ◌∷◌, [], ◌||◌, ◌&&◌, ℕ, Bool, true, false, cond, List, Option, None, Some, drop, get_or, length, slice_get, refl, sym, ap, ◌∙◌, arith, append_assoc}
 use Rattle.std.specs.List.{cons_option, enumerate_from, filter_map}
-use Rattle.std.specs.Option.{is_some}
+use Rattle.std.specs.BTreeSet.{BTreeSet, Updates}
+use Rattle.std.specs.Cmp.Lexicographic.{slice_cmp}
+use Rattle.std.specs.Ordering.{is_eq, nat_cmp, ordering_then}
+use Rattle.std.specs.declared.cmp.Ordering.{Ordering}
+use Rattle.std.specs.declared.cmp.Ordering.TheVariants.{Less, Equal, Greater}
 use Rattle.std.proofs.lemmas.Option.{get_or_from_slice_get, slice_get_within}
+use Rattle.std.proofs.lemmas.Map.Text.{is_eq-slice_cmp}
+use Rattle.gsi_word.specs.Names.{same_name, same_pair}
 use Rattle.th_report.proofs.RowLemmas.{drop-first}
+use Rattle.th_notes.specs.Inside.Sets.{has_name, has_pair}
 
 -- whether a key is there, after one more
-pub some_more : {V : Type 0} → (b : Bool) (v : V) (old : Option V) → is_some (cond b (Some v) old) ≡ (is_some old || b)
-some_more true v None = refl
-some_more true v (Some x) = refl
-some_more false v None = refl
-some_more false v (Some x) = refl
+true_more : (b old : Bool) → cond b true old ≡ (old || b)
+true_more true true = refl
+true_more true false = refl
+true_more false true = refl
+true_more false false = refl
+
+-- two pairs are one in order where both ends are
+both_equal : (first second : Ordering) → is_eq (ordering_then first second) ≡ (is_eq first && is_eq second)
+both_equal Less second = refl
+both_equal Equal second = refl
+both_equal Greater second = refl
+
+-- a set of names has a name more
+pub one_more_name : (old new : BTreeSet (List ℕ)) (own name : List ℕ) → Updates (slice_cmp nat_cmp) old new own true → has_name new name ≡ (has_name old name || same_name own name)
+one_more_name old new own name updates =
+    updates.0 name ∙ true_more (is_eq (slice_cmp nat_cmp own name)) (has_name old name) ∙ ap (λ same. has_name old name || same) (is_eq-slice_cmp own name)
+
+-- the order of pairs
+abbrev pair_cmp : List ℕ × List ℕ → List ℕ × List ℕ → Ordering
+pair_cmp pair other = ordering_then (slice_cmp nat_cmp pair.0 other.0) (slice_cmp nat_cmp pair.1 other.1)
+
+-- a set of pairs has a pair more
+pub one_more_pair : (old new : BTreeSet (List ℕ × List ℕ)) (own ends : List ℕ × List ℕ) → Updates pair_cmp old new own true → has_pair new ends ≡ (has_pair old ends || same_pair own ends)
+one_more_pair old new own ends updates =
+    updates.0 ends
+    ∙ true_more (is_eq (pair_cmp own ends)) (has_pair old ends)
+    ∙ ap (λ same. has_pair old ends || same)
+    (both_equal (slice_cmp nat_cmp own.0 ends.0) (slice_cmp nat_cmp own.1 ends.1)
+    ∙ ap (λ first. first && is_eq (slice_cmp nat_cmp own.1 ends.1)) (is_eq-slice_cmp own.0 ends.0)
+    ∙ ap (λ second. same_name own.0 ends.0 && second) (is_eq-slice_cmp own.1 ends.1))
 
 module _ {X Y : Type 0} (start : ℕ) (choose : ℕ × X → Option Y) (rows : List X) where
   -- what is chosen of the rows from a place on, of which the first of all has the number where they start

@@ -2,4 +2,5 @@ pub mod Limits
 pub mod Books
 pub mod Repeats
 pub mod Findings
+pub mod Inside
 pub mod Notes

@@ -1,21 +1,21 @@
 //! The notes of the tables of benchmarks and of weights.
-ghost use Rattle.std.specs.Prelude.{◌≡◌, ◌<◌, ◌+◌, ◌^◌, ◌++◌, ℕ, ℤ, List, IfOk, OnOk, Some, is_some, length, slice_get};
-ghost use Rattle.indexmap.specs.IndexMap.{get};
-ghost use Rattle.gsi_word.specs.Names.{same_name, same_pair};
+ghost use Rattle.std.specs.Prelude.{◌≡◌, ◌<◌, ◌+◌, ◌^◌, ◌++◌, ℕ, ℤ, List, IfOk, OnOk, Some, length, slice_get};
 ghost use Rattle.th_notes.specs.Findings.{benchmark_notes, name_note, pair_note, was_observed, was_seen, weight_notes};
+ghost use Rattle.th_notes.specs.Inside.Sets.{has_name, has_pair};
 
 use crate::notes::Note;
 use gsi_word::Name;
-use indexmap::IndexMap;
 use std::alloc::{AllocError, Global};
+use std::collections::BTreeSet;
 use th_book::Observation;
 use th_tables::{Benchmarks, Weights};
 
-/// The pairs of a station and a target that were observed.
-type Pairs = IndexMap<(Name, Name), ()>;
+/// The pairs of a station and a target that were observed, in order: each costs the logarithm of their
+/// number, whatever the names are.
+type Pairs = BTreeSet<(Name, Name)>;
 
-/// The names of points that were observed.
-type Names = IndexMap<Name, ()>;
+/// The names of points that were observed, likewise.
+type Names = BTreeSet<Name>;
 
 /// Adds a note of each row of the table of benchmarks that was never observed.
 pub(crate) fn add_benchmark_notes(
@@ -39,13 +39,13 @@ pub(crate) fn add_benchmark_notes(
 /// The names of the ends of observations.
 fn names_of(alloc: Global, observations: &[Observation]) -> Result<Names, AllocError>
     ensures { IfOk result (λ names. (name : List ℕ)
-        → is_some (get same_name names name) ≡ was_seen observations.now name) }
+        → has_name names name ≡ was_seen observations.now name) }
 {
-    let mut names = IndexMap::new(alloc);
+    let mut names = BTreeSet::new(alloc);
     for o in observations {
         let (station, target) = o.ends();
-        names.insert(station, ())?;
-        names.insert(target, ())?;
+        names.insert(station)?;
+        names.insert(target)?;
     }
     Ok(names)
 }
@@ -55,7 +55,7 @@ fn benchmark_note(k: usize, benchmarks: &Benchmarks, names: &Names) -> Option<No
     requires within { k < length benchmarks.now }
     requires few { length benchmarks.now < 2 ^ 63 }
     ensures { (name : List ℕ) (height : ℤ) → slice_get benchmarks.now k ≡ Some (name, height)
-        → result ≡ name_note (k + 2) name (is_some (get same_name names.now name)) }
+        → result ≡ name_note (k + 2) name (has_name names.now name) }
 {
     let (name, _) = benchmarks.entry(k)?;
     name_note(k as u64 + 2, &name, names)
@@ -63,9 +63,9 @@ fn benchmark_note(k: usize, benchmarks: &Benchmarks, names: &Names) -> Option<No
 
 /// The note of a row of the table of benchmarks with this name, if that was never observed.
 fn name_note(row: u64, name: &Name, names: &Names) -> Option<Note>
-    ensures { result ≡ name_note row name.now (is_some (get same_name names.now name.now)) }
+    ensures { result ≡ name_note row name.now (has_name names.now name.now) }
 {
-    if names.contains_key(name) {
+    if names.contains(name) {
         return None;
     }
     Some(Note::UnseenBenchmark { row, name: *name })
@@ -93,11 +93,11 @@ pub(crate) fn add_weight_notes(
 /// The pairs of a station and a target that were observed.
 fn pairs_of(alloc: Global, observations: &[Observation]) -> Result<Pairs, AllocError>
     ensures { IfOk result (λ pairs. (ends : List ℕ × List ℕ)
-        → is_some (get same_pair pairs ends) ≡ was_observed observations.now ends) }
+        → has_pair pairs ends ≡ was_observed observations.now ends) }
 {
-    let mut pairs = IndexMap::with_capacity(alloc, observations.len())?;
+    let mut pairs = BTreeSet::new(alloc);
     for o in observations {
-        pairs.insert(o.ends(), ())?;
+        pairs.insert(o.ends())?;
     }
     Ok(pairs)
 }
@@ -108,8 +108,8 @@ fn row_note(k: usize, weights: &Weights, pairs: &Pairs) -> Option<Note>
     requires within { k < length weights.now }
     requires few { length weights.now < 2 ^ 63 }
     ensures { (ends : List ℕ × List ℕ) (weight : ℕ) → slice_get weights.now k ≡ Some (ends, weight)
-        → result ≡ pair_note (k + 2) ends (is_some (get same_pair pairs.now ends))
-        (is_some (get same_pair pairs.now (ends.1, ends.0))) }
+        → result ≡ pair_note (k + 2) ends (has_pair pairs.now ends)
+        (has_pair pairs.now (ends.1, ends.0)) }
 {
     let (ends, _) = weights.entry(k)?;
     pair_note(k as u64 + 2, &ends, pairs)
@@ -117,14 +117,14 @@ fn row_note(k: usize, weights: &Weights, pairs: &Pairs) -> Option<Note>
 
 /// The note of a row of the table of weights with this pair, if that was never observed.
 fn pair_note(row: u64, ends: &(Name, Name), pairs: &Pairs) -> Option<Note>
-    ensures { result ≡ pair_note row ends.now (is_some (get same_pair pairs.now ends.now))
-        (is_some (get same_pair pairs.now (ends.now.1, ends.now.0))) }
+    ensures { result ≡ pair_note row ends.now (has_pair pairs.now ends.now)
+        (has_pair pairs.now (ends.now.1, ends.now.0)) }
 {
     let (station, target) = *ends;
-    if pairs.contains_key(&(station, target)) {
+    if pairs.contains(&(station, target)) {
         return None;
     }
-    if pairs.contains_key(&(target, station)) {
+    if pairs.contains(&(target, station)) {
         return Some(Note::TurnedWeight {
             row,
             station,

@@ -1,13 +1,12 @@
 use Rattle.std.proofs.Common.{◌≡◌, ◌||◌, ℕ, Bool, true, false, List, get_or, take, refl, sym, ap, ◌∙◌, arith}
 use Rattle.std.specs.List.{list_any}
-use Rattle.std.specs.Option.{is_some}
 use Rattle.std.proofs.lemmas.List.{take_all}
 use Rattle.std.proofs.lemmas.List.Folds.{list_any_more}
-use Rattle.indexmap.specs.IndexMap.{get}
 use Rattle.gsi_word.specs.Names.{same_name}
 use Rattle.th_book.specs.Observed.{Observed}
 use Rattle.th_notes.specs.Findings.{was_seen}
-use Rattle.th_notes.proofs.FindingLemmas.{some_more}
+use Rattle.th_notes.specs.Inside.Sets.{has_name}
+use Rattle.th_notes.proofs.FindingLemmas.{one_more_name}
 use Rattle.th_notes.proofs.tables.names_of.Goals as goal
 
 either_of : (a b c : Bool) → ((a || b) || c) ≡ (a || (b || c))
@@ -22,12 +21,11 @@ loop-o-preserved c =
     let is : o ≡ get_or observations i o = c.o-item.is in
     λ name.
     let ends_at : Observed → Bool = λ (o : Observed). same_name o.station name || same_name o.target name in
-    let old : Bool = is_some (get same_name c.loop-o.names name) in
-    let first : is_some (get same_name c.insert.new.self name) ≡ (old || same_name o.station name) =
-    ap is_some (c.in_ok-insert.ensures.updates.0 name) ∙ some_more (same_name c.ends-station.result.0 name) _ (get same_name c.loop-o.names name) ∙ ap (λ (station : List ℕ). old || same_name station name) c.ends-station.ensures.station in
-    ap is_some (c.in_ok-insert-2.ensures.updates.0 name)
-    ∙ some_more (same_name c.ends-station.result.1 name) _ (get same_name c.insert.new.self name)
-    ∙ ap (λ (target : List ℕ). is_some (get same_name c.insert.new.self name) || same_name target name) c.ends-station.ensures.target
+    let old : Bool = has_name c.loop-o.names name in
+    let first : has_name c.insert.new.self name ≡ (old || same_name o.station name) =
+    one_more_name c.loop-o.names c.insert.new.self c.ends-station.result.0 name c.in_ok-insert.ensures.updates ∙ ap (λ (station : List ℕ). old || same_name station name) c.ends-station.ensures.station in
+    one_more_name c.insert.new.self _ c.ends-station.result.1 name c.in_ok-insert-2.ensures.updates
+    ∙ ap (λ (target : List ℕ). has_name c.insert.new.self name || same_name target name) c.ends-station.ensures.target
     ∙ ap (λ (b : Bool). b || same_name o.target name) first
     ∙ either_of old (same_name o.station name) (same_name o.target name)
     ∙ ap (λ (b : Bool). b || ends_at o) (c.loop-o.invariant name)

@@ -1,13 +1,12 @@
 use Rattle.std.proofs.Common.{◌≡◌, ◌||◌, Bool, List, get_or, take, sym, ap, ◌∙◌, arith}
 use Rattle.std.specs.List.{list_any}
-use Rattle.std.specs.Option.{is_some}
 use Rattle.std.proofs.lemmas.List.{take_all}
 use Rattle.std.proofs.lemmas.List.Folds.{list_any_more}
-use Rattle.indexmap.specs.IndexMap.{get}
 use Rattle.gsi_word.specs.Names.{same_pair}
 use Rattle.th_book.specs.Observed.{Observed}
 use Rattle.th_notes.specs.Findings.{was_observed}
-use Rattle.th_notes.proofs.FindingLemmas.{some_more}
+use Rattle.th_notes.specs.Inside.Sets.{has_pair}
+use Rattle.th_notes.proofs.FindingLemmas.{one_more_pair}
 use Rattle.th_notes.proofs.tables.pairs_of.Goals as goal
 
 pub loop-o-preserved : goal.loop-o-preserved
@@ -18,10 +17,9 @@ loop-o-preserved c =
     let is : o ≡ get_or observations i o = c.o-item.is in
     λ ends.
     let runs : Observed → Bool = λ (o : Observed). same_pair (o.station, o.target) ends in
-    let old : Bool = is_some (get same_pair c.loop-o.pairs ends) in
+    let old : Bool = has_pair c.loop-o.pairs ends in
     let key : same_pair c.ends.result ends ≡ runs o = λ j. same_pair (c.ends.ensures.station j, c.ends.ensures.target j) ends in
-    ap is_some (c.in_ok-insert.ensures.updates.0 ends)
-    ∙ some_more (same_pair c.ends.result ends) _ (get same_pair c.loop-o.pairs ends)
+    one_more_pair c.loop-o.pairs _ c.ends.result ends c.in_ok-insert.ensures.updates
     ∙ ap (λ (b : Bool). old || b) key
     ∙ ap (λ (b : Bool). b || runs o) (c.loop-o.invariant ends)
     ∙ ap (λ (o : Observed). list_any runs (take i observations) || runs o) is
