@@ -9,3 +9,5 @@
 mod entries;
 #[cfg(test)]
 mod networks;
+#[cfg(test)]
+mod sizes;

@@ -208,7 +208,23 @@ pub(crate) const THERE_AND_BACK: Worked = (
 /// No observation, and one benchmark.
 const ALONE: Worked = (&[], b"point,height\nA,100\n", b"", &[(b"A", None)], &[]);
 
-const ROWS: [Worked; 7] = [
+/// No observation, and no benchmark either.
+const NOTHING: Worked = (&[], b"point,height\n", b"", &[], &[]);
+
+/// Sights between benchmarks, and no point that is none.
+const BENCHMARKS_ALONE: Worked = (
+    &[
+        b"110001+0000000A 84..10+00000000 87..10+00001200 88..10+00001500 \n",
+        b"110002+0000000B 33..10-00002345 \n",
+        b"110003+0000000B 33..10-00002346 \n",
+    ],
+    b"point,height\nA,100\nB,103\nX,5\n",
+    b"",
+    &[(b"A", None), (b"B", None), (b"X", None)],
+    &[None, None],
+);
+
+const ROWS: [Worked; 9] = [
     BUILDING_SITE,
     CELLAR,
     DAM,
@@ -216,6 +232,8 @@ const ROWS: [Worked; 7] = [
     BETWEEN_BENCHMARKS,
     THERE_AND_BACK,
     ALONE,
+    NOTHING,
+    BENCHMARKS_ALONE,
 ];
 
 #[test]

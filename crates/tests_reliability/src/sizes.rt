@@ -1,0 +1,80 @@
+//! As many sights as a network takes, all of one pair, with the greatest weight.
+ghost use Rattle.th_reliability.specs.Numbers.{AreControls};
+
+use std::alloc::Global;
+use std::process::Abort;
+use th_book::{Observation, read_book};
+use th_network::Network;
+use th_reliability::{Reliability, SharedMistake, Sights, shared_mistakes};
+use th_tables::{read_benchmarks, read_weights};
+
+/// How many sights a network takes.
+const SIGHTS: u32 = 40_000;
+
+/// So many sights from A to B. They are on the lines from 2 on.
+fn one_pair(rt: &impl Abort, alloc: Global) -> Vec<Observation> {
+    let setup = b"110001+0000000A 84..10+00000000 88..10+00001500 87..10+00001300 \n";
+    let mut book = setup.to_vec(alloc).expect(rt, "memory");
+    for _sight in 0..SIGHTS {
+        book.extend_from_slice(b"110002+0000000B 33..00+00002345 \n")
+            .expect(rt, "memory");
+    }
+    read_book(alloc, 1, &book).expect(rt, "observations")
+}
+
+/// Sights on some lines, and what a mistake does that they share: it shows where the others weigh more.
+const SHARED: [(u32, u32, SharedMistake); 5] = [
+    (2, 2, SharedMistake::Shows),
+    (2, 20_000, SharedMistake::Shows),
+    (2, 20_001, SharedMistake::Ties),
+    (2, 20_002, SharedMistake::Drags),
+    (2, 40_001, SharedMistake::Drags),
+];
+
+/// Looks at what a mistake does in the sights on some lines.
+fn try_shared(
+    rt: &impl Abort,
+    alloc: Global,
+    network: &Network,
+    found: &Reliability,
+    row: &(u32, u32, SharedMistake),
+)
+    requires { AreControls network.now found.now.controls.items }
+{
+    let (first, last, wanted) = *row;
+    let own = Sights {
+        book: 1,
+        first,
+        last,
+    };
+    let is_one = own.are_of_one_station(network);
+    assert!(rt; is_one);
+    let entries = [own];
+    let mistakes = shared_mistakes(alloc, network, &found.controls, &entries).expect(rt, "memory");
+    assert_eq!(rt; mistakes.len(), 1);
+    assert!(rt; mistakes[0] == wanted, "{first} to {last}");
+}
+
+#[test]
+fn one_pair_is_held_by_all_its_sights(rt: HostRuntime) {
+    let alloc = rt.alloc();
+    let observations = one_pair(&rt, alloc);
+    let benchmarks = read_benchmarks(alloc, b"point,height\nA,100\n").expect(&rt, "benchmarks");
+    let weights = read_weights(alloc, b"from,to,weight\nA,B,1000\n").expect(&rt, "weights");
+    let network = Network::build(alloc, observations, &benchmarks, &weights).expect(
+        &rt,
+        "a network",
+    );
+    let found = Reliability::of(alloc, &network).expect(&rt, "memory");
+    assert!(rt; found.strengths.as_slice() == [None, Some(40_000_000)].as_slice());
+    assert_eq!(rt; found.controls.len(), 40_000);
+    assert!(rt;
+        found
+            .controls
+            .iter()
+            .all(|control| *control == Some(39_999_000))
+    );
+    for row in &SHARED {
+        try_shared(&rt, alloc, &network, &found, row);
+    }
+}
