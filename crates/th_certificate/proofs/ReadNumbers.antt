@@ -15,6 +15,7 @@ use Rattle.th_network.specs.Limits.{height_limit}
 use Rattle.th_certificate.specs.Numbers.{cost_in, count_in, flow_in, height_from, height_in, writes}
 use Rattle.th_certificate.specs.Limits.{max_flows}
 use Rattle.th_certificate.specs.declared.faults.CertKind.TheVariants.{BadNumber, TooLarge}
+use Rattle.th_tables.specs.Limits.{max_weight}
 
 is_digit_from_bounds : (byte : ℕ) → 48 ≤ byte → byte ≤ 57 → is_digit byte ≡ true
 is_digit_from_bounds byte low high = grind (arith, nat_tests)
@@ -92,7 +93,7 @@ flow_written place key field digits negative size key_is digits_are minus bare =
     ∙ ap (λ negative. Ok (signed negative (number digits))) minus
     ∙ ap (λ size. Ok (signed negative size)) digits_are.value
 
-pub flow_in-decimal : (place : ℕ) (flow : ℤ) → place ≤ max_flows → unsigned_abs flow ≤ 1000 → flow_in place (decimal place) (signed_decimal flow) ≡ Ok flow
+pub flow_in-decimal : (place : ℕ) (flow : ℤ) → place ≤ max_flows → unsigned_abs flow ≤ max_weight → flow_in place (decimal place) (signed_decimal flow) ≡ Ok flow
 flow_in-decimal place (pos size) few small =
     let key = decimal_written place 9 (omega arith) (omega arith) (omega arith) (omega arith) in
     let digits = decimal_written size 9 (omega arith) (omega arith) (omega arith) (omega arith) in

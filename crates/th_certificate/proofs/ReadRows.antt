@@ -21,6 +21,7 @@ use Rattle.th_certificate.specs.declared.statements.Statement.{Statement}
 use Rattle.th_certificate.specs.declared.statements.Statement.TheVariants.{Flow, Cost}
 use Rattle.th_certificate.proofs.PointLemmas.{lookup-rows_before}
 use Rattle.th_certificate.proofs.ReadNumbers.{flow_in-decimal, height_in-metres}
+use Rattle.th_tables.specs.Limits.{max_weight}
 
 -- a point whose row can be read: its name is in reduced form and its height in its range
 abbrev pub IsReadable : (List ℕ → ℤ) → List ℕ → Type 0
@@ -75,7 +76,7 @@ module _ (version count : ℕ) (heights low high : HeightRows) where
       ap (λ b. if b then states Flow (flow_in (length flows + 1) key number) else Err BadKind) test
 
   -- the flows, one after the other
-  pub flows_read : (done todo : List ℤ) (rest : List Fields) (number : ℕ) → length done + length todo ≤ count → count ≤ max_flows → AllByRecursion (λ flow. unsigned_abs flow ≤ 1000) todo
+  pub flows_read : (done todo : List ℤ) (rest : List Fields) (number : ℕ) → length done + length todo ≤ count → count ≤ max_flows → AllByRecursion (λ flow. unsigned_abs flow ≤ max_weight) todo
       → certificate_after (map flow_row (enumerate_from (length done + 1) todo) ++ rest) number (flowing version count heights low high done)
       ≡ certificate_after rest (number + length todo) (flowing version count heights low high (done ++ todo))
   flows_read done [] rest number few counts each =

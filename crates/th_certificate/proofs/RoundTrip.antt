@@ -1,5 +1,5 @@
 -- The text of a certificate is read as what it says.
-use Rattle.std.proofs.Common.{◌≡◌, ◌<◌, ◌≤◌, ◌+◌, ℕ, ℤ, false, if◌then◌else◌, List, [], ◌∷◌, ◌++◌, length, map, codes, decimal, Some, None, Ok, Err, nat_lt, unsigned_abs, refl, ap, ◌∙◌, length-append, arith}
+use Rattle.std.proofs.Common.{◌≡◌, ◌<◌, ◌≤◌, ◌+◌, ◌-◌, ◌*◌, ℕ, ℤ, false, if◌then◌else◌, List, [], ◌∷◌, ◌++◌, length, map, codes, decimal, Some, None, Ok, Err, nat_lt, unsigned_abs, refl, ap, ◌∙◌, length-append, arith}
 use Rattle.std.specs.List.{AllByRecursion, enumerate_from}
 use Rattle.std.proofs.lemmas.Bool.Decides.{nat_tests}
 use Rattle.std.proofs.lemmas.List.{length-map}
@@ -11,11 +11,11 @@ use Rattle.th_csv.specs.Texts.{HasField, IsUnmarked, csv_text}
 use Rattle.th_csv.proofs.RoundTripLemmas.{records_of_csv_text, unmarked_text}
 use Rattle.th_network.specs.Networks.{AreInRange, Survey, points_of}
 use Rattle.th_certificate.specs.Certified.{HeightRows}
-use Rattle.th_network.specs.Limits.{height_limit}
+use Rattle.th_network.specs.Limits.{height_limit, max_observations, max_points}
 use Rattle.th_certificate.specs.Faults.{too_long}
 use Rattle.th_certificate.specs.Numbers.{count_in}
 use Rattle.th_certificate.specs.Reading.{after, certificate_after, certificate_in, certificate_of}
-use Rattle.th_certificate.specs.Limits.{max_certificate}
+use Rattle.th_certificate.specs.Limits.{max_certificate, max_flows}
 use Rattle.th_certificate.specs.Statements.{begun, counted, empty_draft}
 use Rattle.th_certificate.specs.Texts.{AreOfObservations, IsCertifiable, cost_of, cost_row, end_rows, flow_row, header_row, height_row, heights_at_points, rows_of_version_1, rows_of_version_2, text_of_version_1, text_of_version_2, version_row}
 use Rattle.th_certificate.specs.declared.statements.Statement.TheVariants.{Height, Low, High}
@@ -23,9 +23,14 @@ use Rattle.th_certificate.proofs.ReadNumbers.{cost_in-decimal, count_in-decimal}
 use Rattle.th_certificate.proofs.ReadRows.{IsReadable, cost_read, flowing, flows_read, heights_read}
 use Rattle.th_certificate.proofs.SurveyLemmas.{IsDistinct-points, cost_of_small}
 use Rattle.th_certificate.proofs.TextLengths.{IsShortRow, length-csv_text, short_cost, short_flows, short_header, short_heights, short_version}
+use Rattle.th_tables.specs.Limits.{max_weight}
+
+-- the most rows of a certificate: three heights for each point, a flow for each observation, the header, the version and the cost
+abbrev most_rows : ℕ
+most_rows = 3 * max_points + max_observations + 3
 
 -- rows that are few and short are read as the records that they are
-read_text : (rows : List Fields) → AllByRecursion IsShortRow rows → AllByRecursion HasField rows → IsUnmarked (csv_text rows) → length rows ≤ 60000 → certificate_of (csv_text rows) ≡ certificate_in rows
+read_text : (rows : List Fields) → AllByRecursion IsShortRow rows → AllByRecursion HasField rows → IsUnmarked (csv_text rows) → length rows ≤ most_rows → certificate_of (csv_text rows) ≡ certificate_in rows
 read_text rows short fields unmarked few =
     let bound = length-csv_text rows short in
     let within : nat_lt max_certificate (length (csv_text rows)) ≡ false = grind (arith, nat_tests) in
@@ -59,9 +64,9 @@ readable survey heights certifiable in_range =
 -- the rows of flows and of the cost
 end_short : (survey : Survey) (heights : List ℕ → ℤ) (flows : List ℤ) → IsCertifiable survey → AreInRange survey heights → AreOfObservations survey flows → AllByRecursion IsShortRow (end_rows flows (cost_of survey heights))
 end_short survey heights flows certifiable in_range are =
-    let few : length survey.observations ≤ 40000 = omega (arith, certifiable.network.few_observations) in
+    let few : length survey.observations ≤ max_observations = omega (arith, certifiable.network.few_observations) in
     joined IsShortRow (map flow_row (enumerate_from 1 flows)) (cost_row (cost_of survey heights) ∷ [])
-    (short_flows 1 flows (omega (arith, are.each)) (recursion_from_All (λ flow. unsigned_abs flow ≤ 1000) flows are.in_range))
+    (short_flows 1 flows (omega (arith, are.each)) (recursion_from_All (λ flow. unsigned_abs flow ≤ max_weight) flows are.in_range))
     (short_cost (cost_of survey heights) (cost_of_small survey heights certifiable in_range), tt)
 
 end_fields : (flows : List ℤ) (cost : ℕ) → AllByRecursion HasField (end_rows flows cost)
@@ -74,7 +79,7 @@ length-heights : (survey : Survey) (letter : List ℕ) (heights : List ℕ → �
 length-heights survey letter heights = length-map (heights_at_points survey heights) (height_row letter) ∙ length-map (points_of survey) (λ name. (name, heights name))
 
 -- the version row begins its draft
-begins : (version : List ℕ) (n count : ℕ) (rest : List Fields) → begun (version_row version count) ≡ counted (Some n) (count_in (decimal count)) → count ≤ 40000
+begins : (version : List ℕ) (n count : ℕ) (rest : List Fields) → begun (version_row version count) ≡ counted (Some n) (count_in (decimal count)) → count ≤ max_flows
     → certificate_in (header_row ∷ version_row version count ∷ rest) ≡ certificate_after rest 3 (empty_draft n count)
 begins version n count rest says few = ap (after 2 (certificate_after rest 3)) (says ∙ ap (counted (Some n)) (count_in-decimal count few))
 
@@ -85,9 +90,9 @@ ends : (survey : Survey) (version number : ℕ) (heights low high : HeightRows) 
 ends survey version number heights low high map_of flows certifiable in_range are =
     let count = length survey.observations in
     let cost = cost_of survey map_of in
-    let few : length survey.observations ≤ 40000 = omega (arith, certifiable.network.few_observations) in (
+    let few : length survey.observations ≤ max_observations = omega (arith, certifiable.network.few_observations) in (
       (number + length flows) + 1,
-      flows_read version count heights low high [] flows (cost_row cost ∷ []) number (omega (arith, are.each)) few (recursion_from_All (λ flow. unsigned_abs flow ≤ 1000) flows are.in_range)
+      flows_read version count heights low high [] flows (cost_row cost ∷ []) number (omega (arith, are.each)) few (recursion_from_All (λ flow. unsigned_abs flow ≤ max_weight) flows are.in_range)
           ∙ cost_read version count heights low high flows cost (number + length flows) are.each (cost_in-decimal cost (cost_of_small survey map_of certifiable in_range)),
     )
 
@@ -97,11 +102,11 @@ read_version_1 survey heights flows certifiable in_range are =
     let count = length survey.observations in
     let rows = rows_of_version_1 survey heights flows in
     let each = readable survey heights certifiable in_range in
-    let few : length survey.observations ≤ 40000 = omega (arith, certifiable.network.few_observations) in
-    let points : length (points_of survey) ≤ 4000 = omega (arith, certifiable.network.few_points) in
+    let few : length survey.observations ≤ max_observations = omega (arith, certifiable.network.few_observations) in
+    let points : length (points_of survey) ≤ max_points = omega (arith, certifiable.network.few_points) in
     let tail = end_rows flows (cost_of survey heights) in
     let body = map (height_row (codes "H")) (heights_at_points survey heights) in
-    let size : length (body ++ tail) ≤ 50000 = omega (arith, length-append body tail, length-heights survey (codes "H") heights, length-end_rows flows (cost_of survey heights), are.each) in
+    let size : length (body ++ tail) ≤ most_rows - 2 = omega (arith, length-append body tail, length-heights survey (codes "H") heights, length-end_rows flows (cost_of survey heights), are.each) in
     let short : AllByRecursion IsShortRow rows = (short_header, (short_version (codes "1") count (omega arith) few, joined IsShortRow body tail (short_heights (codes "H") (points_of survey) heights (omega arith) each) (end_short survey heights flows certifiable in_range are))) in
     let fields : AllByRecursion HasField rows = (omega arith, (omega arith, joined HasField body tail (heights_have_fields (codes "H") (heights_at_points survey heights)) (end_fields flows (cost_of survey heights)))) in
     read_text rows short fields (unmarked_text 107 _ refl) (omega (arith, size))
@@ -119,14 +124,14 @@ read_version_2 survey heights low high flows certifiable in_range low_in_range h
     let each = readable survey heights certifiable in_range in
     let low_each = readable survey low certifiable low_in_range in
     let high_each = readable survey high certifiable high_in_range in
-    let few : length survey.observations ≤ 40000 = omega (arith, certifiable.network.few_observations) in
-    let points : length (points_of survey) ≤ 4000 = omega (arith, certifiable.network.few_points) in
+    let few : length survey.observations ≤ max_observations = omega (arith, certifiable.network.few_observations) in
+    let points : length (points_of survey) ≤ max_points = omega (arith, certifiable.network.few_points) in
     let distinct = IsDistinct-points survey.observations survey.benchmarks in
     let tail = end_rows flows (cost_of survey heights) in
     let h = map (height_row (codes "H")) (heights_at_points survey heights) in
     let l = map (height_row (codes "L")) (heights_at_points survey low) in
     let u = map (height_row (codes "U")) (heights_at_points survey high) in
-    let size : length (h ++ (l ++ (u ++ tail))) ≤ 55000 =
+    let size : length (h ++ (l ++ (u ++ tail))) ≤ most_rows - 2 =
     omega (
       arith,
       length-append h (l ++ (u ++ tail)),

@@ -9,7 +9,8 @@ use Rattle.std.proofs.lemmas.List.Sums.{sum_by-le}
 use Rattle.std.proofs.lemmas.Map.Entries.{All-lookup}
 use Rattle.std.proofs.lemmas.Map.Keys.{IsDistinct-cons, IsDistinct-head, IsDistinct-tail}
 use Rattle.std.proofs.lemmas.Slice.Eq.{bytes_eq-Decides}
-use Rattle.th_book.specs.Observed.{IsBetweenPoints, Observed}
+use Rattle.th_book.specs.Observed.{IsBetweenPoints, Observed, largest_difference}
+use Rattle.th_tables.specs.Limits.{max_weight}
 use Rattle.th_tables.specs.Rows.{AreWeights, BenchmarkRows, WeightRows, same_ends, weight_of}
 use Rattle.th_network.specs.Heights.{residual}
 use Rattle.th_network.specs.Networks.{AreInRange, Survey, points_of}
@@ -18,7 +19,7 @@ use Rattle.th_points.proofs.PointLemmas.{EndsAmong, ends_are_points}
 use Rattle.th_certificate.specs.Certified.{cost_limit}
 use Rattle.th_network.specs.Limits.{height_limit}
 use Rattle.th_certificate.specs.Texts.{IsCertifiable, cost_of}
-use Rattle.th_certificate.specs.Inside.Costs.{most_residual}
+use Rattle.th_certificate.specs.Limits.{most_residual}
 
 -- what an observation adds to the cost
 abbrev weighted : WeightRows → (List ℕ → ℤ) → Observed → ℕ
@@ -69,22 +70,22 @@ at_point P (first ∷ names) name each among = by (bytes_eq name first) (bytes_e
     by true equal more among = subst P (sym (equal refl)) each.0
     by false equal more among = more among
 
--- no weight is above 1,000
-pub weight_small : (weights : WeightRows) (station target : List ℕ) → AreWeights weights → weight_of weights station target ≤ 1000
+-- no weight is above the largest
+pub weight_small : (weights : WeightRows) (station target : List ℕ) → AreWeights weights → weight_of weights station target ≤ max_weight
 weight_small weights station target valid =
-    either (lookup (same_ends (station, target)) weights) (All-lookup (λ weight. (1 ≤ weight) × (weight ≤ 1000)) (same_ends (station, target)) weights valid.weights)
+    either (lookup (same_ends (station, target)) weights) (All-lookup (λ weight. (1 ≤ weight) × (weight ≤ max_weight)) (same_ends (station, target)) weights valid.weights)
   where
-    either : (found : Option ℕ) → IfSome found (λ weight. (1 ≤ weight) × (weight ≤ 1000)) → unwrap_or found 1 ≤ 1000
+    either : (found : Option ℕ) → IfSome found (λ weight. (1 ≤ weight) × (weight ≤ max_weight)) → unwrap_or found 1 ≤ max_weight
     either None h = omega arith
     either (Some weight) h = h.1
 
 -- a residual of heights in their range is in its range
-pub residual_small : (difference target station : ℤ) → unsigned_abs difference ≤ 3000000000000 → unsigned_abs target < height_limit → unsigned_abs station < height_limit → unsigned_abs (difference -ℤ (target -ℤ station)) ≤ most_residual
+pub residual_small : (difference target station : ℤ) → unsigned_abs difference ≤ largest_difference → unsigned_abs target < height_limit → unsigned_abs station < height_limit → unsigned_abs (difference -ℤ (target -ℤ station)) ≤ most_residual
 residual_small difference target station a b c = omega (arith, ints)
 
 -- each weighted residual of a network is in its range
 each_small : (weights : WeightRows) (heights : List ℕ → ℤ) (names : List (List ℕ)) (observations : List Observed) → AreWeights weights → AllByRecursion (λ name. unsigned_abs (heights name) < height_limit) names
-    → AllByRecursion IsBetweenPoints observations → AllByRecursion (EndsAmong names) observations → AllByRecursion (λ o. weighted weights heights o ≤ 1000 * most_residual) observations
+    → AllByRecursion IsBetweenPoints observations → AllByRecursion (EndsAmong names) observations → AllByRecursion (λ o. weighted weights heights o ≤ max_weight * most_residual) observations
 each_small weights heights names [] valid each between among = tt
 each_small weights heights names (o ∷ observations) valid each between among = (
   mul-le-mul (weight_small weights o.station o.target valid)
@@ -101,9 +102,9 @@ cost_of_small survey heights certifiable in_range =
     (recursion_from_All (λ name. unsigned_abs (heights name) < height_limit) (points_of survey) in_range)
     (recursion_from_All IsBetweenPoints survey.observations certifiable.between)
     (ends_are_points survey.observations survey.benchmarks) in
-    let bound = sum_by-le (weighted survey.weights heights) (1000 * most_residual) survey.observations (All-from_recursion (λ o. weighted survey.weights heights o ≤ 1000 * most_residual) survey.observations each) in
+    let bound = sum_by-le (weighted survey.weights heights) (max_weight * most_residual) survey.observations (All-from_recursion (λ o. weighted survey.weights heights o ≤ max_weight * most_residual) survey.observations each) in
     let few = certifiable.network.few_observations in
-    omega (arith, bound, mul-le-mul few (le_itself (1000 * most_residual)))
+    omega (arith, bound, mul-le-mul few (le_itself (max_weight * most_residual)))
   where
     le_itself : (n : ℕ) → n ≤ n
     le_itself n = omega arith

@@ -10,7 +10,7 @@ use Rattle.csv.specs.Writing.{default_writer, escaped, field_text, fields_text, 
 use Rattle.gsi_word.specs.Bytes.{is_data, is_zero}
 use Rattle.gsi_word.specs.Names.{name_of, reduced}
 use Rattle.gsi_word.specs.Limits.{max_name}
-use Rattle.th_units.specs.Metres.{last_digits, metres, size_in_metres}
+use Rattle.th_units.specs.Metres.{last_digits, metre, metres, size_in_metres}
 use Rattle.th_units.proofs.Digits.{length-last_digits}
 use Rattle.th_csv.specs.Records.{Fields}
 use Rattle.th_csv.specs.Texts.{csv_text, row_text}
@@ -19,6 +19,7 @@ use Rattle.th_network.specs.Limits.{height_limit}
 use Rattle.th_certificate.specs.Limits.{max_flows}
 use Rattle.th_certificate.specs.Texts.{cost_row, flow_row, header_row, height_row, version_row}
 use Rattle.th_certificate.proofs.ReadRows.{IsReadable}
+use Rattle.th_tables.specs.Limits.{max_weight}
 
 -- a quote is doubled, and no other byte
 length-escaped : (field : List ℕ) → length (escaped default_writer field) ≤ 2 * length field
@@ -80,9 +81,9 @@ length-size : (size : ℕ) → size < height_limit → length (size_in_metres si
 length-size size small =
     omega (
       arith,
-      length-append (decimal (size / 100000000)) (46 ∷ last_digits 8 (size % 100000000)),
-      length-last_digits 8 (size % 100000000),
-      length-decimal-le_wide 9 (size / 100000000) (omega arith) (omega arith) (omega arith),
+      length-append (decimal (size / metre)) (46 ∷ last_digits 8 (size % metre)),
+      length-last_digits 8 (size % metre),
+      length-decimal-le_wide 9 (size / metre) (omega arith) (omega arith) (omega arith),
     )
 
 length-metres : (height : ℤ) → unsigned_abs height < height_limit → length (metres height) ≤ 19
@@ -100,11 +101,11 @@ short_heights letter (name ∷ names) heights one each = (
 )
 
 -- a flow of at most 1,000 in size has at most five bytes
-length-flow : (flow : ℤ) → unsigned_abs flow ≤ 1000 → length (signed_decimal flow) ≤ 5
+length-flow : (flow : ℤ) → unsigned_abs flow ≤ max_weight → length (signed_decimal flow) ≤ 5
 length-flow (pos size) small = length-decimal-le_wide 5 size (omega arith) (omega arith) (omega arith)
 length-flow (negsuc size) small = omega (arith, length-decimal-le_wide 4 (suc size) (omega arith) (omega arith) (omega arith))
 
-pub short_flows : (first : ℕ) (flows : List ℤ) → first + length flows ≤ 40001 → AllByRecursion (λ flow. unsigned_abs flow ≤ 1000) flows → AllByRecursion IsShortRow (map flow_row (enumerate_from first flows))
+pub short_flows : (first : ℕ) (flows : List ℤ) → first + length flows ≤ max_flows + 1 → AllByRecursion (λ flow. unsigned_abs flow ≤ max_weight) flows → AllByRecursion IsShortRow (map flow_row (enumerate_from first flows))
 short_flows first [] few each = tt
 short_flows first (flow ∷ flows) few each = (
   short_row (codes "F") (decimal first) (signed_decimal flow) (omega (arith, length-decimal-le_wide 5 first (omega arith) (omega arith) (omega arith), length-flow flow each.0)),

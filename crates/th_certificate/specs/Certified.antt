@@ -1,8 +1,9 @@
 -- What a certificate says.
-use Rattle.std.specs.Prelude.{◌≡◌, ◌<◌, ℕ, ℤ, pos, List, All, Option, Some, None, bytes_eq, unsigned_abs, unwrap_or, map}
+use Rattle.std.specs.Prelude.{◌≡◌, ◌<◌, ◌^◌, ℕ, ℤ, pos, List, All, Option, Some, None, bytes_eq, unsigned_abs, unwrap_or, map}
 use Rattle.std.specs.List.{IsDistinct}
 use Rattle.std.specs.Map.{keys_of, lookup}
 use Rattle.th_network.specs.Limits.{height_limit}
+use Rattle.th_certificate.specs.Limits.{max_cost_digits, max_digits}
 
 -- rows of heights: names, and a height of each in units of 10 nm
 abbrev pub HeightRows : Type 0
@@ -16,13 +17,13 @@ rows_at names heights = map (λ name. (name, heights name)) names
 abbrev pub stated_height : HeightRows → List ℕ → ℤ
 stated_height rows name = unwrap_or (lookup (bytes_eq name) rows) (pos 0)
 
--- the size that each flow stays below
+-- the size that each flow stays below: 10^9
 abbrev pub flow_limit : ℕ
-flow_limit = 1000000000
+flow_limit = 10 ^ max_digits
 
 -- what each cost stays below: 10^30 units
 abbrev pub cost_limit : ℕ
-cost_limit = 1000000000000000000000000000000
+cost_limit = 10 ^ max_cost_digits
 
 -- What a certificate says: its version, 1 or 2; heights, and in version 2 the lowest and the highest of the best heights; a flow for each observation, in
 -- their order; and a cost. Whether it is right is another matter.

@@ -1,4 +1,6 @@
-use Rattle.std.specs.Prelude.{ℕ}
+use Rattle.std.specs.Prelude.{ℕ, ◌+◌, ◌*◌}
+use Rattle.th_book.specs.Observed.{largest_difference}
+use Rattle.th_network.specs.Limits.{height_limit, max_observations}
 
 -- the most bytes that a certificate has: 8 MiB
 abbrev pub max_certificate : ℕ
@@ -6,4 +8,16 @@ max_certificate = 8388608
 
 -- the most observations that a certificate may count
 abbrev pub max_flows : ℕ
-max_flows = 40000
+max_flows = max_observations
+
+-- the most digits of a count, of the number of a flow and of a flow, zeros in front among them; and of a height before its dot
+abbrev pub max_digits : ℕ
+max_digits = 9
+
+-- the most digits of a cost, zeros in front among them
+abbrev pub max_cost_digits : ℕ
+max_cost_digits = 30
+
+-- the size that no residual exceeds: an observed difference, and two heights
+abbrev pub most_residual : ℕ
+most_residual = largest_difference + 2 * height_limit

@@ -1,6 +1,6 @@
 -- The numbers of a certificate. Digits are counted as they stand, zeros in front among them.
 use Rattle.std.specs.Prelude.{ℕ, ℤ, ◌&&◌, ◌==◌, Bool, List, length, Result, Ok, Err, if◌then◌else◌, nat_le}
-use Rattle.th_certificate.specs.Limits.{max_flows}
+use Rattle.th_certificate.specs.Limits.{max_cost_digits, max_digits, max_flows}
 use Rattle.th_units.specs.Lengths.{are_digits, number, signed}
 use Rattle.th_units.specs.Metres.{has_minus, value, without_sign}
 use Rattle.th_units.specs.declared.faults.LenFault.{LenFault}
@@ -21,7 +21,7 @@ height_in field = height_from (value field)
 -- the count of observations: one to nine digits, at most 40,000
 abbrev pub count_in : List ℕ → Result ℕ CertKind
 count_in field =
-    if are_digits field then (if nat_le (length field) 9 && nat_le (number field) max_flows then Ok (number field) else Err TooLarge) else Err BadNumber
+    if are_digits field then (if nat_le (length field) max_digits && nat_le (number field) max_flows then Ok (number field) else Err TooLarge) else Err BadNumber
 
 -- whether a field has the digits of just this number, however many zeros before it
 abbrev pub writes : List ℕ → ℕ → Bool
@@ -32,9 +32,9 @@ writes field n = are_digits field && (number field == n)
 abbrev pub flow_in : ℕ → List ℕ → List ℕ → Result ℤ CertKind
 flow_in place key field =
     if writes key place && are_digits (without_sign field)
-    then (if nat_le (length key) 9 && nat_le (length (without_sign field)) 9 then Ok (signed (has_minus field) (number (without_sign field))) else Err TooLarge)
+    then (if nat_le (length key) max_digits && nat_le (length (without_sign field)) max_digits then Ok (signed (has_minus field) (number (without_sign field))) else Err TooLarge)
     else Err BadNumber
 
 -- the cost: one to thirty digits
 abbrev pub cost_in : List ℕ → Result ℕ CertKind
-cost_in field = if are_digits field then (if nat_le (length field) 30 then Ok (number field) else Err TooLarge) else Err BadNumber
+cost_in field = if are_digits field then (if nat_le (length field) max_cost_digits then Ok (number field) else Err TooLarge) else Err BadNumber

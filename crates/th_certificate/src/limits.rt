@@ -1,8 +1,10 @@
+use th_network::MAX_OBSERVATIONS;
+
 /// How many bytes a certificate has at most.
 pub const MAX_CERTIFICATE: usize = 8_388_608;
 
 /// How many flows a certificate has at most.
-pub const MAX_FLOWS: u32 = 40_000;
+pub const MAX_FLOWS: u32 = MAX_OBSERVATIONS as u32;
 
 /// How many digits a count, the number of a flow and a flow have at most, zeros in front among them.
 pub(crate) const MAX_DIGITS: usize = 9;

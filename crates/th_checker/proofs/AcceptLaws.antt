@@ -18,7 +18,7 @@ use Rattle.th_certificate.specs.Texts.{AreOfObservations, IsCertifiable, cost_of
 use Rattle.th_certificate.proofs.PointLemmas.{stated_height-rows_at}
 use Rattle.th_certificate.proofs.RoundTrip.{read_version_1, read_version_2}
 use Rattle.th_checker.specs.Accepted.{AreShownRows, IsShown}
-use Rattle.std.specs.Prelude.{IfSome, ◌≤◌, ◌+◌, unsigned_abs}
+use Rattle.std.specs.Prelude.{IfSome, ◌≤◌, unsigned_abs}
 use Rattle.std.specs.List.{AllZip}
 use Rattle.th_tables.specs.Rows.{WeightRows, weight_of}
 use Rattle.th_certificate.specs.Certified.{HeightRows}
@@ -32,6 +32,7 @@ use Rattle.th_checker.specs.Verdicts.{first_not_slack, first_too_large, first_un
 use Rattle.th_checker.specs.declared.verdicts.Reason.TheVariants.{PointsDiffer, BenchmarkMoved, FlowCount, FlowTooLarge, Unbalanced, NotSlack, WrongCost, LowNotSlack, HighNotSlack}
 use Rattle.th_checker.specs.declared.verdicts.Verdict.TheVariants.{Yes}
 use Rattle.th_checker.proofs.AcceptLemmas.{cost_agrees, keep_each, keeps-rows, names_are-rows_at, none_not_slack, none_too_large, none_unbalanced, rows_agree}
+use Rattle.th_tables.specs.Limits.{max_weight}
 
 -- each benchmark is a point
 benchmark_among : (names : List (List ℕ)) (benchmarks : BenchmarkRows) (rest : BenchmarkRows) → ((name : List ℕ) → list_any (bytes_eq name) (map (λ row. row.0) rest) ≡ true → list_any (bytes_eq name) names ≡ true)
@@ -194,19 +195,19 @@ shown_accepted observations benchmarks weights certificate valid shown =
     (same_test (length flows) (length observations) (one_each weights observations flows shown.circulation.bounded)) pass.0 pass.1 (slack_shown survey flows certificate.heights shown.heights)
     (same_test certificate.cost (cost observations weights (stated_height certificate.heights)) shown.costs) (span_slack survey flows certificate.low shown.low) (span_slack survey flows certificate.high shown.high)
 
-flows_small : (weights : WeightRows) (observations : List Observed) (flows : List ℤ) → AreWeights weights → AllZip (λ o flow. unsigned_abs flow ≤ weight_of weights o.station o.target) observations flows → AllByRecursion (λ flow. unsigned_abs flow ≤ 1000) flows
+flows_small : (weights : WeightRows) (observations : List Observed) (flows : List ℤ) → AreWeights weights → AllZip (λ o flow. unsigned_abs flow ≤ weight_of weights o.station o.target) observations flows → AllByRecursion (λ flow. unsigned_abs flow ≤ max_weight) flows
 flows_small weights [] [] valid each = tt
 flows_small weights [] (flow ∷ flows) valid each = absurd each
 flows_small weights (o ∷ observations) [] valid each = absurd each
 flows_small weights (o ∷ observations) (flow ∷ flows) valid each =
     let first = each.0 in
     let most = weight_small weights o.station o.target valid in
-    (let small : unsigned_abs flow ≤ 1000 = omega (arith, first, most) in small, flows_small weights observations flows valid each.1)
+    (let small : unsigned_abs flow ≤ max_weight = omega (arith, first, most) in small, flows_small weights observations flows valid each.1)
 
 of_observations : (survey : Survey) (flows : List ℤ) → IsCertifiable survey → Circulation survey.observations survey.benchmarks survey.weights flows → AreOfObservations survey flows
 of_observations survey flows certifiable circulation = record {
   each = one_each survey.weights survey.observations flows circulation.bounded;
-  in_range = All-from_recursion (λ flow. unsigned_abs flow ≤ 1000) flows (flows_small survey.weights survey.observations flows certifiable.weights circulation.bounded);
+  in_range = All-from_recursion (λ flow. unsigned_abs flow ≤ max_weight) flows (flows_small survey.weights survey.observations flows certifiable.weights circulation.bounded);
 }
 
 pub read_1_accepted : (survey : Survey) (heights : List ℕ → ℤ) (flows : List ℤ) → IsCertifiable survey → AreBenchmarks survey.benchmarks → Shown survey heights flows

@@ -82,17 +82,17 @@ balances_more points pairs i s t flow old once new so_far within pair a b first 
     }
 
 -- what one flow adds is small
-added_small : (place : ℕ) (s t : ℕ) (flow : ℤ) → unsigned_abs flow < flow_limit → unsigned_abs (added_at place ((s, t), flow)) ≤ 2000000000
+added_small : (place : ℕ) (s t : ℕ) (flow : ℤ) → unsigned_abs flow < flow_limit → unsigned_abs (added_at place ((s, t), flow)) ≤ 2 * flow_limit
 added_small place s t flow small = by (t == place) (s == place)
   where
-    by : (first other : Bool) → unsigned_abs ((if first then flow else pos 0) -ℤ (if other then flow else pos 0)) ≤ 2000000000
+    by : (first other : Bool) → unsigned_abs ((if first then flow else pos 0) -ℤ (if other then flow else pos 0)) ≤ 2 * flow_limit
     by true true = omega (arith, ints, small)
     by true false = omega (arith, ints, small)
     by false true = omega (arith, ints, small)
     by false false = omega (arith, ints, small)
 
 pub small_more : (old once new : List ℤ) (i s t : ℕ) (flow : ℤ) (place : ℕ) → s < length old → t < length old → unsigned_abs flow < flow_limit → once ≡ set old s (get_or old s (pos 0) +ℤ neg_ℤ flow) → new ≡ set once t (get_or once t (pos 0) +ℤ flow)
-    → unsigned_abs (get_or old place (pos 0)) ≤ i * 2000000000 → unsigned_abs (get_or new place (pos 0)) ≤ (i + 1) * 2000000000
+    → unsigned_abs (get_or old place (pos 0)) ≤ i * (2 * flow_limit) → unsigned_abs (get_or new place (pos 0)) ≤ (i + 1) * (2 * flow_limit)
 small_more old once new i s t flow place a b small first second so_far =
     let both : new ≡ set (set old s (get_or old s (pos 0) +ℤ neg_ℤ flow)) t (get_or (set old s (get_or old s (pos 0) +ℤ neg_ℤ flow)) t (pos 0) +ℤ flow) =
     second ∙ ap (λ (once : List ℤ). set once t (get_or once t (pos 0) +ℤ flow)) first in
@@ -100,5 +100,5 @@ small_more old once new i s t flow place a b small first second so_far =
     let added = added_small place s t flow small in
     sum_small (get_or new place (pos 0)) (get_or old place (pos 0)) (added_at place ((s, t), flow)) i value so_far added
   where
-    sum_small : (x y z : ℤ) (i : ℕ) → x ≡ y +ℤ z → unsigned_abs y ≤ i * 2000000000 → unsigned_abs z ≤ 2000000000 → unsigned_abs x ≤ (i + 1) * 2000000000
+    sum_small : (x y z : ℤ) (i : ℕ) → x ≡ y +ℤ z → unsigned_abs y ≤ i * (2 * flow_limit) → unsigned_abs z ≤ 2 * flow_limit → unsigned_abs x ≤ (i + 1) * (2 * flow_limit)
     sum_small x y z i is a b = omega (arith, ints)

@@ -8,12 +8,13 @@ use Rattle.std.proofs.lemmas.Option.{get_or_from_slice_get, slice_get_within}
 use Rattle.th_tables.specs.Rows.{AreBenchmarks, BenchmarkRows}
 use Rattle.th_certificate.specs.Certified.{AreHeightRows, HeightRows, stated_height}
 use Rattle.th_network.specs.Limits.{height_limit}
+use Rattle.th_units.specs.Limits.{max_len}
 
 -- the height of a benchmark by its place
-pub benchmark_small : (rows : BenchmarkRows) (k : ℕ) (row : List ℕ × ℤ) → AreBenchmarks rows → slice_get rows k ≡ Some row → unsigned_abs row.1 ≤ 1000000000000
+pub benchmark_small : (rows : BenchmarkRows) (k : ℕ) (row : List ℕ × ℤ) → AreBenchmarks rows → slice_get rows k ≡ Some row → unsigned_abs row.1 ≤ max_len
 benchmark_small rows k row valid found =
-    subst (λ (row : List ℕ × ℤ). unsigned_abs row.1 ≤ 1000000000000) (get_or_from_slice_get rows k row row found)
-    (All-get_or (λ row. unsigned_abs row.1 ≤ 1000000000000) rows k row (slice_get_within rows k row found) valid.heights)
+    subst (λ (row : List ℕ × ℤ). unsigned_abs row.1 ≤ max_len) (get_or_from_slice_get rows k row row found)
+    (All-get_or (λ row. unsigned_abs row.1 ≤ max_len) rows k row (slice_get_within rows k row found) valid.heights)
 
 -- the height of a row by its place
 pub row_small : (rows : HeightRows) (k : ℕ) (row : List ℕ × ℤ) → AreHeightRows rows → slice_get rows k ≡ Some row → unsigned_abs row.1 < height_limit

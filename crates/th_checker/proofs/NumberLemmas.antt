@@ -9,7 +9,7 @@ use Rattle.std.proofs.lemmas.List.Elements.{All-get_or}
 use Rattle.std.proofs.lemmas.Int.{fits_signed_from_abs, to_z-of_z, unsigned_abs-mul}
 use Rattle.th_certificate.specs.Certified.{AreFlows, flow_limit}
 use Rattle.th_network.specs.Limits.{height_limit}
-use Rattle.th_checker.specs.Inside.Tests.{most_residual}
+use Rattle.th_certificate.specs.Limits.{most_residual}
 
 -- two of them are the same where they stand for the same
 pub same_z : (x y : ℤ) → unsigned_abs x < 2 ^ 63 → unsigned_abs y < 2 ^ 63 → of_z w64 x ≡ of_z w64 y → x ≡ y

@@ -5,8 +5,9 @@ ghost use Rattle.th_network.specs.Limits.{max_observations};
 ghost use Rattle.th_book.specs.Observed.{largest_difference};
 ghost use Rattle.th_tables.specs.Rows.{weight_of};
 ghost use Rattle.th_certificate.specs.Certified.{AreFlows, flow_limit};
+ghost use Rattle.th_certificate.specs.Limits.{most_residual};
 ghost use Rattle.th_network.specs.Limits.{height_limit};
-ghost use Rattle.th_checker.specs.Inside.Tests.{AreBelow, is_slack_at, most_residual, residual_at};
+ghost use Rattle.th_checker.specs.Inside.Tests.{AreBelow, is_slack_at, residual_at};
 
 use std::alloc::{AllocError, Global};
 use th_book::Observation;

@@ -14,10 +14,6 @@ use Rattle.th_checker.specs.declared.verdicts.Reason.TheVariants.{NotSlack, Wron
 use Rattle.th_checker.specs.declared.verdicts.Verdict.{Verdict}
 use Rattle.th_checker.specs.declared.verdicts.Verdict.TheVariants.{Yes}
 
--- the size that no residual exceeds
-abbrev pub most_residual : ℕ
-most_residual = 203000000000000000
-
 -- both places of a pair are below the limit
 abbrev pub AreBelow : ℕ → ℕ × ℕ → Type 0
 AreBelow limit pair = (pair.0 < limit) × (pair.1 < limit)

@@ -1,4 +1,4 @@
-use Rattle.std.proofs.Common.{◌≡◌, ◌<◌, List, ℕ, Some, slice_get, unsigned_abs, to_z, of_z, w64, subst, sym, ap, ◌∙◌, arith}
+use Rattle.std.proofs.Common.{◌≡◌, ◌<◌, List, ℕ, Some, slice_get, unsigned_abs, w64, subst, sym, ap, ◌∙◌, arith}
 use Rattle.std.proofs.lemmas.Cmp.{nat_list_eq_equiv}
 use Rattle.std.proofs.lemmas.Int.{fits_signed_from_abs, to_z-of_z}
 use Rattle.std.proofs.lemmas.Map.Entries.{lookup_from_place}

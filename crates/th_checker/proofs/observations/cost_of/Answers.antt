@@ -3,10 +3,10 @@ use Rattle.std.specs.List.{zip}
 use Rattle.std.proofs.lemmas.List.{take_all}
 use Rattle.std.proofs.lemmas.List.Elements.{All-get_or}
 use Rattle.std.proofs.lemmas.List.Sums.{sum_by_more}
-use Rattle.th_checker.specs.Inside.Tests.{most_residual}
 use Rattle.th_checker.proofs.NumberLemmas.{plain}
 use Rattle.th_checker.proofs.ZipLemmas.{length_zip, pair_at}
 use Rattle.th_checker.proofs.observations.cost_of.Goals as goal
+use Rattle.th_certificate.specs.Limits.{most_residual}
 
 -- the weighted size
 abbrev weighted : ℕ × ℤ → ℕ

@@ -5,10 +5,11 @@ use Rattle.std.proofs.lemmas.List.{length-map, take_all}
 use Rattle.std.proofs.lemmas.List.Elements.{All-get_or, All-push}
 use Rattle.std.proofs.lemmas.Slice.Zip.{get_or-zip, length-zip}
 use Rattle.th_book.specs.Observed.{Observed}
-use Rattle.th_checker.specs.Inside.Tests.{AreBelow, most_residual, residual_at}
+use Rattle.th_checker.specs.Inside.Tests.{AreBelow, residual_at}
 use Rattle.th_checker.proofs.NumberLemmas.{plain_height}
 use Rattle.th_checker.proofs.PositionLemmas.{map_more}
 use Rattle.th_checker.proofs.observations.residuals_of.Goals as goal
+use Rattle.th_certificate.specs.Limits.{most_residual}
 
 pub loop-i-preserved : goal.loop-i-preserved
 loop-i-preserved c =

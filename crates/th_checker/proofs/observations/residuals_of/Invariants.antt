@@ -1,7 +1,8 @@
 use Rattle.std.proofs.Common.{◌≡◌, ◌≤◌, All, map, take, unsigned_abs}
 use Rattle.std.specs.List.{zip}
-use Rattle.th_checker.specs.Inside.Tests.{most_residual, residual_at}
+use Rattle.th_checker.specs.Inside.Tests.{residual_at}
 use Rattle.th_checker.proofs.observations.residuals_of.Given as goal
+use Rattle.th_certificate.specs.Limits.{most_residual}
 
 abbrev pub invariant-loop-i : goal.invariant-loop-i
 invariant-loop-i l = record {
