@@ -12,4 +12,5 @@ pub mod RowLemmas
 pub mod RowsHeard
 pub mod RowsRead
 pub mod VersionLemmas
+pub mod FaultKinds
 pub mod FirstFaultLaws

@@ -24,16 +24,16 @@ use Rattle.th_certificate.proofs.StatementLemmas.{either_of, none_there, states_
 use Rattle.th_certificate.proofs.RowLemmas.{AllZip-none, SayFlows-more, SayHeights-more, distinct-none, more_before_none, none_and_none}
 
 -- a field that is just this text
-same_text : (field text : List ℕ) → bytes_eq field text ≡ true → field ≡ text
+pub same_text : (field text : List ℕ) → bytes_eq field text ≡ true → field ≡ text
 same_text field text h = (bytes_eq-Decides field text).0 h
 
 -- a row of a name that none of the earlier ones has
-record IsNext (letter : List ℕ) (earlier : HeightRows) (row : Fields) (it : List ℕ × ℤ) : Type 0 where
-  reads : IsHeightRow letter row it
-  new : lookup (bytes_eq it.0) earlier ≡ None
+pub record IsNext (letter : List ℕ) (earlier : HeightRows) (row : Fields) (it : List ℕ × ℤ) : Type 0 where
+  pub reads : IsHeightRow letter row it
+  pub new : lookup (bytes_eq it.0) earlier ≡ None
 
 -- what is known of a record and the statement that it makes after a draft
-abbrev IsSaid : Draft → Fields → Statement → Type 0
+abbrev pub IsSaid : Draft → Fields → Statement → Type 0
 IsSaid draft row (Height name height) = (may_have_height draft ≡ true) × IsNext (codes "H") draft.heights row (name, height)
 IsSaid draft row (Low name height) = (may_have_low draft ≡ true) × IsNext (codes "L") draft.low row (name, height)
 IsSaid draft row (High name height) = (may_have_high draft ≡ true) × IsNext (codes "U") draft.high row (name, height)
@@ -89,7 +89,7 @@ said_known draft kind key number statement h =
     (λ h. cc h)))))
 
 -- a record that says something
-statement_known : (draft : Draft) (row : Fields) (statement : Statement) → statement_of draft row ≡ Ok statement → IsSaid draft row statement
+pub statement_known : (draft : Draft) (row : Fields) (statement : Statement) → statement_of draft row ≡ Ok statement → IsSaid draft row statement
 statement_known draft [] statement h = cc h
 statement_known draft (kind ∷ []) statement h = cc h
 statement_known draft (kind ∷ key ∷ []) statement h = cc h
@@ -97,7 +97,7 @@ statement_known draft (kind ∷ key ∷ number ∷ []) statement h = said_known 
 statement_known draft (kind ∷ key ∷ number ∷ more ∷ others) statement h = cc h
 
 -- nothing is said after the cost
-before_cost : (draft : Draft) (row : Fields) (statement : Statement) → IsSaid draft row statement → is_none draft.cost ≡ true
+pub before_cost : (draft : Draft) (row : Fields) (statement : Statement) → IsSaid draft row statement → is_none draft.cost ≡ true
 before_cost draft row (Height name height) is = first_of (is_none draft.cost) _ is.0
 before_cost draft row (Low name height) is = first_of (is_none draft.cost) _ (first_of (may_have_high draft) _ is.0)
 before_cost draft row (High name height) is = first_of (is_none draft.cost) _ is.0
@@ -332,12 +332,12 @@ rows_after done (this ∷ left) number draft it heard h = by (statement_of draft
         closed cost (statement_known draft this (Cost cost) is) (none_after_cost left (number + 1) (with_statement draft (Cost cost)) cost it refl h)
 
 -- a version row begins an empty draft
-record Begins (row : Fields) (draft : Draft) : Type 0 where
-  version : ℕ
-  count : ℕ
-  empty : draft ≡ empty_draft version count
-  known : (1 ≤ version) × (version ≤ 2)
-  row_is : IsVersionRow row version count
+pub record Begins (row : Fields) (draft : Draft) : Type 0 where
+  pub version : ℕ
+  pub count : ℕ
+  pub empty : draft ≡ empty_draft version count
+  pub known : (1 ≤ version) × (version ≤ 2)
+  pub row_is : IsVersionRow row version count
 
 -- a version that is read is 1 or 2
 version_known : (key : List ℕ) (version : ℕ) → version_in key ≡ Some version → (1 ≤ version) × (version ≤ 2)
@@ -353,7 +353,7 @@ version_known key version h = by (bytes_eq key (codes "1")) (bytes_eq key (codes
     by false false h = cc h
 
 -- the draft that is begun
-begins : (row : Fields) (draft : Draft) → begun row ≡ Ok draft → Begins row draft
+pub begins : (row : Fields) (draft : Draft) → begun row ≡ Ok draft → Begins row draft
 begins [] draft h = cc h
 begins (kind ∷ []) draft h = cc h
 begins (kind ∷ key ∷ []) draft h = cc h
@@ -393,7 +393,7 @@ none_heard version count known = record {
 }
 
 -- the header
-header_known : (row : Fields) → is_header row ≡ true → row ≡ header_row
+pub header_known : (row : Fields) → is_header row ≡ true → row ≡ header_row
 header_known [] h = cc h
 header_known (kind ∷ []) h = cc h
 header_known (kind ∷ key ∷ []) h = cc h

@@ -4,7 +4,7 @@ ghost use Rattle.std.specs.Prelude.{◌≡◌, ◌≤◌, ◌↔◌, ℕ, ℤ, L
 ghost use Rattle.th_csv.specs.Records.{Fields, records_of};
 ghost use Rattle.th_network.specs.Networks.{AreInRange, Survey};
 ghost use Rattle.th_certificate.specs.Certified.{Certified};
-ghost use Rattle.th_certificate.specs.FirstFaults.{IsFirstFault};
+ghost use Rattle.th_certificate.specs.FirstFaults.{IsFault, IsFaultless, IsFirstFault};
 ghost use Rattle.th_certificate.specs.Reading.{certificate_in, certificate_of};
 ghost use Rattle.th_certificate.specs.Limits.{max_certificate};
 ghost use Rattle.th_certificate.specs.Rows.{IsCertificate};
@@ -20,12 +20,16 @@ pub fn certificate_is_its_rows()
         ↔ ((length bytes ≤ max_certificate) × IsCertificate (records_of bytes) certified) }
 {}
 
-/// Where records are no certificate, the fault is that of the first record that has one: those before
-/// it are a certificate or only end too early, and whatever comes behind it changes nothing.
+/// Records are refused exactly for the first of them that has a fault, or for the one that is missing
+/// at their end. Which fault a record has depends on what it is and on the records above it. Bytes
+/// have no other fault but that they are too many, and they are read where they have none.
 pub fn fault_is_the_first()
-    ensures { (records : List Fields) (fault : CertFault)
-        → certificate_in records ≡ Err fault
-        → IsFirstFault records fault }
+    ensures records { (records : List Fields) (fault : CertFault)
+        → (certificate_in records ≡ Err fault) ↔ IsFirstFault records fault }
+    ensures bytes { (bytes : List ℕ) (fault : CertFault)
+        → (certificate_of bytes ≡ Err fault) ↔ IsFault bytes fault }
+    ensures none { (bytes : List ℕ)
+        → ((certified : Certified) × (certificate_of bytes ≡ Ok certified)) ↔ IsFaultless bytes }
 {}
 
 /// The text of version 1 is read as the certificate with just these heights, flows and their cost.
