@@ -1,8 +1,6 @@
 -- The text of rows, part by part.
-use Rattle.std.proofs.Common.{◌≡◌, ◌<◌, ◌≤◌, ◌+◌, ℕ, List, [], ◌∷◌, ◌++◌, Some, None, length, get_or, drop, map, slice_get, Result, IfOk, Vec, subst, sym, ap, ◌∙◌, ◌⊎◌, inl, inr, append_assoc}
-use Rattle.std.proofs.lemmas.List.{append-nil, drop_all, drop_more}
-use Rattle.std.proofs.lemmas.List.Concat.{flat_map-append, flat_map-cons}
-use Rattle.std.proofs.lemmas.Option.{get_or_from_slice_get, slice_get_cases, slice_get_within}
+use Rattle.std.proofs.Common.{◌≡◌, ℕ, List, [], ◌++◌, Result, IfOk, Vec, subst, sym, ap, ◌∙◌, append_assoc}
+use Rattle.std.proofs.lemmas.List.Concat.{flat_map-append}
 use Rattle.std.specs.declared.alloc.AllocError.{AllocError}
 use Rattle.std.specs.declared.alloc.Global.{Global}
 use Rattle.th_csv.specs.Records.{Fields}
@@ -32,29 +30,3 @@ written_joined t0 t1 t2 t3 t4 t5 t6 front a b c d e e0 e1 e2 e3 e4 e5 e6 =
 -- a text that is made holds another that is the same
 pub holds_same : (result : Result (Vec ℕ Global) AllocError) (text other : List ℕ) → IfOk result (λ made. made.items ≡ text) → text ≡ other → IfOk result (λ made. made.items ≡ other)
 holds_same result text other h same = subst (λ t. IfOk result (λ made. made.items ≡ t)) same h
-
--- past the last row
-pub past_all : {X : Type 0} (xs : List X) (k : ℕ) → None ≡ slice_get xs k → length xs ≤ k
-past_all {X} xs k none = by (slice_get_cases xs k).1
-  where
-    by : ((x : X) × (k < length xs) × (slice_get xs k ≡ Some x) × (get_or xs k x ≡ x)) ⊎ ((length xs ≤ k) × (slice_get xs k ≡ None)) → length xs ≤ k
-    by (inl some) = absurd (cc (none ∙ some.2))
-    by (inr past) = past.0
-
-module _ {X : Type 0} (row : X → Fields) where
-  -- one row more
-  pub text_more : (xs : List X) (k : ℕ) (x : X) (text text' all : List ℕ) → Some x ≡ slice_get xs k → text' ≡ text ++ row_text (row x)
-      → text ++ csv_text (map row (drop k xs)) ≡ all → text' ++ csv_text (map row (drop (k + 1) xs)) ≡ all
-  text_more xs k x text text' all found written so_far =
-      let within : k < length xs = slice_get_within xs k x (sym found) in
-      ap (λ front. front ++ csv_text (map row (drop (k + 1) xs))) written
-      ∙ append_assoc text (row_text (row x)) (csv_text (map row (drop (k + 1) xs)))
-      ∙ ap (λ rest. text ++ rest) (sym (flat_map-cons row_text (row x) (map row (drop (k + 1) xs))))
-      ∙ ap (λ first. text ++ csv_text (row first ∷ map row (drop (k + 1) xs))) (sym (get_or_from_slice_get xs k x x (sym found)))
-      ∙ ap (λ left. text ++ csv_text (map row left)) (sym (drop_more xs k x within))
-      ∙ so_far
-
-  -- no row is left
-  pub text_all : (xs : List X) (k : ℕ) (text all : List ℕ) → None ≡ slice_get xs k → text ++ csv_text (map row (drop k xs)) ≡ all → text ≡ all
-  text_all xs k text all none so_far =
-      sym (append-nil text) ∙ ap (λ left. text ++ csv_text (map row left)) (sym (drop_all k xs (past_all xs k none))) ∙ so_far

@@ -1,8 +1,6 @@
-ghost use Rattle.std.specs.Prelude.{◌≡◌, ◌<◌, ◌^◌, ◌++◌, ◌∷◌, [], All, IfOk, IfSome, None, OnErr, OnOk, bytes_eq, length, slice_get, unsigned_abs, ◌==◌};
-ghost use Rattle.std.specs.List.{IsDistinct};
+ghost use Rattle.std.specs.Prelude.{◌≡◌, ◌<◌, ◌^◌, ◌++◌, ◌∷◌, [], IfSome, None, OnErr, OnOk, bytes_eq, length, slice_get, unsigned_abs, ◌==◌};
 ghost use Rattle.std.specs.Map.{lookup};
-ghost use Rattle.th_network.specs.Heights.{heights_at};
-ghost use Rattle.th_certificate.specs.Certified.{AreHeightRows, rows_at};
+ghost use Rattle.th_certificate.specs.Certified.{AreHeightRows};
 ghost use Rattle.th_network.specs.Limits.{height_limit};
 
 use gsi_word::Name;
@@ -35,24 +33,6 @@ impl StatedHeights {
         StatedHeights {
             heights: NameMap::with_hasher(alloc, HashSeed::none()),
         }
-    }
-
-    /// The heights of the points of a network, listed in their order. They are few, and need no seed.
-    pub(crate) fn at_points(
-        alloc: Global,
-        points: &[Name],
-        heights: &[i64],
-    ) -> Result<StatedHeights, AllocError>
-        requires distinct { IsDistinct bytes_eq points.now }
-        requires each { length heights.now ≡ length points.now }
-        requires in_range { All (λ height. unsigned_abs height < height_limit) heights.now }
-        ensures { IfOk result (λ stated. stated ≡ rows_at points.now (heights_at points.now heights.now)) }
-    {
-        let mut stated = StatedHeights::new(alloc);
-        for (k, name) in points.iter().enumerate() {
-            stated.add(alloc, b"", *name, heights[k])?;
-        }
-        Ok(stated)
     }
 
     /// How many rows there are.

@@ -32,4 +32,4 @@ pub use faults::{CertFault, CertKind};
 pub use heights::StatedHeights;
 pub use limits::{MAX_CERTIFICATE, MAX_FLOWS};
 pub use reading::read_certificate;
-pub use writing::write_certificate;
+pub use writing::{certificate_text, write_certificate};

@@ -9,7 +9,7 @@ ghost use Rattle.th_tables.specs.Rows.{AreWeights};
 ghost use Rattle.th_certificate.specs.Texts.{AreOfObservations, IsCertifiable, cost_row, flow_row, header_row, height_row, heights_at_points, text_of_version_2, version_row};
 
 use crate::costs::cost_of;
-use crate::heights::StatedHeights;
+use gsi_word::Name;
 use itoa::Buffer;
 use std::alloc::{AllocError, Global};
 use th_circulation::{Settled, Spans};
@@ -18,9 +18,7 @@ use th_network::Network;
 use th_units::metre_text;
 
 /// The text of the certificate, of version 2, that heights, a circulation and spans make over a
-/// network: a height, a lowest and a highest height for each point, in point order, a flow for each
-/// observation, and what the heights cost. Over a table of weights, the network is one whose
-/// certificates are read back.
+/// network: that of `certificate_text`.
 pub fn write_certificate(
     alloc: Global,
     network: &Network,
@@ -38,19 +36,46 @@ pub fn write_certificate(
         settled.now.flows) }
     ensures certifiable { OnOk result (AreWeights network.now.weights → IsCertifiable network.now) }
 {
-    let cost = cost_of(alloc, network, settled.heights.as_slice())?;
-    let mut writer = RowWriter::new(alloc);
-    write_front(&mut writer, network.observations().len() as u64)?;
-    write_heights(
+    certificate_text(
         alloc,
-        &mut writer,
-        b"H",
         network,
         settled.heights.as_slice(),
-    )?;
-    write_heights(alloc, &mut writer, b"L", network, spans.low.as_slice())?;
-    write_heights(alloc, &mut writer, b"U", network, spans.high.as_slice())?;
-    write_flows(&mut writer, settled.flows.as_slice())?;
+        spans.low.as_slice(),
+        spans.high.as_slice(),
+        settled.flows.as_slice(),
+    )
+}
+
+/// The text of the certificate, of version 2, of heights, lowest and highest heights, and flows over
+/// a network: a row of each map for each point, in point order, a flow for each observation, and what
+/// the heights cost. Heights are listed in the order of the points, in units of 10 nm. Over a table
+/// of weights, the network is one whose certificates are read back.
+pub fn certificate_text(
+    alloc: Global,
+    network: &Network,
+    heights: &[i64],
+    low: &[i64],
+    high: &[i64],
+    flows: &[i64],
+) -> Result<Vec<u8>, AllocError>
+    requires heights { AreAtPoints network.now heights.now }
+    requires low { AreAtPoints network.now low.now }
+    requires high { AreAtPoints network.now high.now }
+    requires flows { AreOfObservations network.now flows.now }
+    ensures text { IfOk result (λ text. text.items ≡ text_of_version_2 network.now
+        (heights_at (points_of network.now) heights.now)
+        (heights_at (points_of network.now) low.now)
+        (heights_at (points_of network.now) high.now)
+        flows.now) }
+    ensures certifiable { OnOk result (AreWeights network.now.weights → IsCertifiable network.now) }
+{
+    let cost = cost_of(alloc, network, heights)?;
+    let mut writer = RowWriter::new(alloc);
+    write_front(&mut writer, network.observations().len() as u64)?;
+    write_heights(&mut writer, b"H", network, heights)?;
+    write_heights(&mut writer, b"L", network, low)?;
+    write_heights(&mut writer, b"U", network, high)?;
+    write_flows(&mut writer, flows)?;
     write_cost(&mut writer, cost)?;
     writer.into_text()
 }
@@ -67,7 +92,6 @@ fn write_front(writer: &mut RowWriter, count: u64) -> Result<(), AllocError>
 
 /// Writes the rows of heights that are listed in point order, under the letter of their kind.
 fn write_heights(
-    alloc: Global,
     writer: &mut RowWriter,
     letter: &[u8],
     network: &Network,
@@ -79,27 +103,25 @@ fn write_heights(
     ensures network { OnOk result (IsNetwork network.now.observations network.now.benchmarks) }
     ensures names { OnOk result (All (λ name. name_of name ≡ Some name) (points_of network.now)) }
 {
-    let stated = StatedHeights::at_points(alloc, network.points(), heights)?;
-    write_rows(writer, letter, &stated)
-}
-
-/// Writes rows of heights under the letter of their kind.
-fn write_rows(
-    writer: &mut RowWriter,
-    letter: &[u8],
-    heights: &StatedHeights,
-) -> Result<(), AllocError>
-    ensures text { OnOk result (writer.new.text ≡ writer.old.text
-        ++ csv_text (map (height_row letter.now) heights.now)) }
-    ensures names { OnOk result (All (λ row. name_of row.0 ≡ Some row.0) heights.now) }
-{
-    let mut k = 0;
-    while let Some(row) = heights.entry(k) {
-        let metres = metre_text(row.1);
-        writer.write(&[letter, row.0.as_bytes(), metres.as_bytes()])?;
-        k += 1;
+    for (k, name) in network.points().iter().enumerate() {
+        write_height(writer, letter, name, heights[k])?;
     }
     Ok(())
+}
+
+/// Writes the row of a point.
+fn write_height(
+    writer: &mut RowWriter,
+    letter: &[u8],
+    name: &Name,
+    height: i64,
+) -> Result<(), AllocError>
+    ensures text { OnOk result (writer.new.text ≡ writer.old.text
+        ++ csv_text (height_row letter.now (name.now, height) ∷ [])) }
+    ensures name { name_of name.now ≡ Some name.now }
+{
+    let metres = metre_text(height);
+    writer.write(&[letter, name.as_bytes(), metres.as_bytes()])
 }
 
 /// Writes the rows of flows, numbered from 1.

@@ -1,17 +1,17 @@
-use Rattle.std.proofs.Common.{◌≡◌, ◌++◌, ◌∷◌, [], ℕ, ℤ, All, List, OnOk, Result, Some, Ok, Err, codes, length, map, ap, subst, rules, ◌∙◌}
+use Rattle.std.proofs.Common.{◌≡◌, ◌++◌, ◌∷◌, [], ℕ, ℤ, All, List, OnOk, Result, Some, Ok, Err, codes, length, map, ap, rules, ◌∙◌}
 use Rattle.gsi_word.specs.Names.{name_of}
 use Rattle.th_book.specs.Observed.{IsBetweenPoints}
 use Rattle.th_tables.specs.Rows.{AreWeights}
 use Rattle.th_network.specs.Faults.{IsNetwork}
 use Rattle.std.specs.List.{enumerate_from}
-use Rattle.th_network.specs.Heights.{cost, heights_at}
+use Rattle.th_network.specs.Heights.{heights_at}
 use Rattle.th_network.specs.Networks.{Survey, points_of}
 use Rattle.th_csv.specs.Records.{Fields}
 use Rattle.th_csv.specs.Texts.{csv_text}
 use Rattle.th_certificate.specs.Certified.{HeightRows}
-use Rattle.th_certificate.specs.Texts.{IsCertifiable, cost_of, cost_row, flow_row, header_row, height_row, heights_at_points, version_row}
+use Rattle.th_certificate.specs.Texts.{IsCertifiable, cost_row, flow_row, header_row, height_row, heights_at_points, version_row}
 use Rattle.th_certificate.proofs.TextLemmas.{holds_same, written_joined}
-use Rattle.th_certificate.proofs.writing.write_certificate.Goals as goal
+use Rattle.th_certificate.proofs.writing.certificate_text.Goals as goal
 
 -- the rows of a certificate from what they say
 rows_from : ℕ → HeightRows → HeightRows → HeightRows → List ℤ → ℕ → List Fields
@@ -24,27 +24,19 @@ unfolding rows_from
 returns-clause-text c =
     let network = c.args.network.now in
     let names = points_of network in
-    let settled = c.args.settled.now in
-    let spans = c.args.spans.now in
-    let heights = heights_at names settled.heights in
-    let low = heights_at names spans.low in
-    let high = heights_at names spans.high in
+    let heights = heights_at names c.args.heights.now in
+    let low = heights_at names c.args.low.now in
+    let high = heights_at names c.args.high.now in
+    let flows = c.args.flows.now in
     let count : length c.observations.result.now ≡ length network.observations = ap length c.observations.ensures.observations in
-    let count_rows = λ (n : ℕ) (cost : ℕ). rows_from n (heights_at_points network heights) (heights_at_points network low) (heights_at_points network high) settled.flows cost in
-    let written = λ (letter : List ℕ) (before after : List ℕ). λ (listed : List ℤ). after ≡ before ++ csv_text (map (height_row letter) (heights_at_points network (heights_at names listed))) in
+    let count_rows = λ (n : ℕ) (cost : ℕ). rows_from n (heights_at_points network heights) (heights_at_points network low) (heights_at_points network high) flows cost in
     let whole : c.write_cost.new.writer.text ≡ csv_text (count_rows (length c.observations.result.now) c.in_ok-cost.cost) =
     written_joined c.new-writer.result.text c.write_front.new.writer.text c.write_heights.new.writer.text c.write_heights-2.new.writer.text c.write_heights-3.new.writer.text c.write_flows.new.writer.text c.write_cost.new.writer.text
     (header_row ∷ version_row (codes "2") (length c.observations.result.now) ∷ []) (map (height_row (codes "H")) (heights_at_points network heights)) (map (height_row (codes "L")) (heights_at_points network low))
-    (map (height_row (codes "U")) (heights_at_points network high)) (map flow_row (enumerate_from 1 settled.flows)) (cost_row c.in_ok-cost.cost ∷ [])
-    c.new-writer.ensures.text c.in_ok-write_front.ensures
-    (subst (written (codes "H") c.write_front.new.writer.text c.write_heights.new.writer.text) c.as_slice-2.ensures c.in_ok-write_heights.ensures.text)
-    (subst (written (codes "L") c.write_heights.new.writer.text c.write_heights-2.new.writer.text) c.as_slice-3.ensures c.in_ok-write_heights-2.ensures.text)
-    (subst (written (codes "U") c.write_heights-2.new.writer.text c.write_heights-3.new.writer.text) c.as_slice-4.ensures c.in_ok-write_heights-3.ensures.text)
-    (c.in_ok-write_flows.ensures ∙ ap (λ (flows : List ℤ). c.write_heights-3.new.writer.text ++ csv_text (map flow_row (enumerate_from 1 flows))) c.as_slice-5.ensures)
-    c.in_ok-write_cost.ensures in
-    let costs : c.in_ok-cost.cost ≡ cost_of network heights = c.in_ok-cost.ensures ∙ ap (λ (listed : List ℤ). cost_of network (heights_at names listed)) c.as_slice.ensures in
+    (map (height_row (codes "U")) (heights_at_points network high)) (map flow_row (enumerate_from 1 flows)) (cost_row c.in_ok-cost.cost ∷ [])
+    c.new-writer.ensures.text c.in_ok-write_front.ensures c.in_ok-write_heights.ensures.text c.in_ok-write_heights-2.ensures.text c.in_ok-write_heights-3.ensures.text c.in_ok-write_flows.ensures c.in_ok-write_cost.ensures in
     holds_same c.into_text.result c.write_cost.new.writer.text _ c.into_text.ensures.text
-    (whole ∙ ap (λ n. csv_text (count_rows n c.in_ok-cost.cost)) count ∙ ap (λ n. csv_text (count_rows (length network.observations) n)) costs)
+    (whole ∙ ap (λ n. csv_text (count_rows n c.in_ok-cost.cost)) count ∙ ap (λ n. csv_text (count_rows (length network.observations) n)) c.in_ok-cost.ensures)
 
 -- what is made is of a network whose names, observations and weights are in their ranges
 certifiable : {X E : Type 0} (result : Result X E) (survey : Survey) → IsNetwork survey.observations survey.benchmarks → All IsBetweenPoints survey.observations
