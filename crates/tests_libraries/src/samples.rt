@@ -1,5 +1,5 @@
 use crate::accepting::accepted;
-use crate::settling::best_heights;
+use crate::settling::least_heights;
 use std::alloc::Global;
 use std::io;
 use th_book::read_book;
@@ -61,10 +61,10 @@ pub fn print_heights<R: Print>(rt: &R, alloc: Global) -> io::Result<()> {
     let Ok(network) = Network::build(alloc, observations, &benchmarks, &weights) else {
         return println!(rt; "no network");
     };
-    let Ok(best) = best_heights(alloc, &network) else {
+    let Ok(best) = least_heights(alloc, &network) else {
         return println!(rt; "out of memory");
     };
-    let spans = best.low.as_slice().iter().zip(best.high.as_slice());
+    let spans = best.low().iter().zip(best.high());
     for (name, (low, high)) in network.points().iter().zip(spans) {
         println!(rt; "{name} {low} {high}")?;
     }

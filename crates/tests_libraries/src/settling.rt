@@ -5,12 +5,11 @@ ghost use Rattle.th_network.specs.Heights.{heights_at};
 ghost use Rattle.th_network.specs.Networks.{AreAtPoints, points_of};
 
 use std::alloc::{AllocError, Global};
-use th_circulation::{Spans, Steps, settle, spans};
+use th_circulation::{BestHeights, best_heights};
 use th_network::Network;
-use th_search::LabelSearch;
 
 /// The lowest and the highest of all heights that cost least, in point order.
-pub fn best_heights(alloc: Global, network: &Network) -> Result<Spans, AllocError>
+pub fn least_heights(alloc: Global, network: &Network) -> Result<BestHeights, AllocError>
     ensures low { IfOk result (λ best. Low network.now.observations network.now.benchmarks
         network.now.weights (heights_at (points_of network.now) best.low)) }
     ensures high { IfOk result (λ best. High network.now.observations network.now.benchmarks
@@ -18,7 +17,5 @@ pub fn best_heights(alloc: Global, network: &Network) -> Result<Spans, AllocErro
     ensures each { IfOk result (λ best. AreAtPoints network.now best.low
         × AreAtPoints network.now best.high) }
 {
-    let (mut search, mut steps) = (LabelSearch::new(), Steps::new());
-    let settled = settle(alloc, network, &mut search, &mut steps)?;
-    spans(alloc, network, &settled)
+    best_heights(alloc, network)
 }

@@ -1,19 +1,16 @@
 -- Heights that cost least exist, and among them the lowest and the highest: all heights within a range are tried.
-use Rattle.std.proofs.Common.{◌≡◌, ℕ, zero, suc, Bool, true, false, ◌&&◌, ◌||◌, ◌==◌, ◌+◌, ◌*◌, ◌<◌, ◌≤◌, ℤ, pos, ◌+ℤ◌, ◌-ℤ◌, ◌≤ℤ◌, List, [], ◌∷◌, Option, Some, None, bytes_eq, if◌then◌else◌, is_none, length, nat_le, nat_lt, sum_by, unsigned_abs, unwrap_or, refl, ap, sym, subst, ◌∙◌, mul-le-mul_left, mul-le-mul_right, arith}
-use Rattle.std.specs.Prelude.{◌<ℤ◌}
+use Rattle.std.proofs.Common.{◌≡◌, ℕ, zero, suc, Bool, true, false, ◌&&◌, ◌||◌, ◌==◌, ◌+◌, ◌*◌, ◌<◌, ◌≤◌, ℤ, pos, ◌+ℤ◌, ◌-ℤ◌, List, [], ◌∷◌, Option, Some, None, bytes_eq, if◌then◌else◌, is_none, length, nat_le, nat_lt, sum_by, unsigned_abs, unwrap_or, refl, ap, sym, subst, ◌∙◌, mul-le-mul_right, arith}
 use Rattle.std.specs.List.{AllByRecursion}
 use Rattle.std.proofs.lemmas.Bool.Decides.{nat_tests}
 use Rattle.std.proofs.lemmas.Int.{ints}
 use Rattle.std.proofs.lemmas.List.Sums.{sum_by-cons}
 use Rattle.std.proofs.lemmas.Slice.Eq.{bytes_eq-Decides}
-use lib.Signed.{lt_z}
 use Rattle.th_book.specs.Observed.{Observed}
 use Rattle.th_tables.specs.Rows.{BenchmarkRows, WeightRows, height_of, weight_of}
 use Rattle.th_points.specs.Points.{points}
 use Rattle.th_network.specs.Heights.{IsHeights, cost, residual}
 use Rattle.th_network.specs.Vertices.{is_free}
 use Rattle.th_points.proofs.PointLemmas.{EndsAmong, ends_are_points, is_among}
-use Rattle.th_circulation.proofs.MisreadLemmas.{lt_z-false, lt_z-true}
 
 abbrev pub Map : Type 0
 Map = List ℕ → ℤ

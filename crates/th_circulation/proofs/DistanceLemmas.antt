@@ -7,7 +7,8 @@ use Rattle.std.proofs.lemmas.List.Sums.{sum_by-set}
 use Rattle.th_search.specs.declared.arcs.Arc.{Arc}
 use Rattle.th_search.specs.Potentials.{value_at}
 use Rattle.th_search.specs.Walks.{IsArc, arc_at}
-use Rattle.th_circulation.specs.Inside.Distances.{AreDistances, AreLabels, AreTight, IsKept, KeepCosts, farthest, place_at, room}
+use Rattle.th_circulation.specs.Inside.Bounds.{farthest}
+use Rattle.th_circulation.specs.Inside.Distances.{AreDistances, AreLabels, AreTight, IsKept, KeepCosts, place_at, room}
 use Rattle.th_circulation.proofs.HeightLemmas.{all_within, set_any}
 
 -- what holds of the number at a place that is set, and of the others

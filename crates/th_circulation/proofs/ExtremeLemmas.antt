@@ -1,20 +1,18 @@
 -- What flows that show heights bound, and how near zero heights of little cost are.
-use Rattle.std.proofs.Common.{◌≡◌, ℕ, Bool, true, false, ◌||◌, ◌+◌, ◌*◌, ◌≤◌, ℤ, pos, ◌+ℤ◌, ◌-ℤ◌, ◌≤ℤ◌, inl, inr, List, [], ◌∷◌, Option, Some, None, IsSome, All, Contains, bytes_eq, if◌then◌else◌, is_none, unsigned_abs, refl, ap, sym, ◌∙◌, mul-le-mul_right, arith}
-use Rattle.std.specs.Prelude.{◌<ℤ◌, slice_index_or}
+use Rattle.std.proofs.Common.{◌≡◌, ℕ, Bool, true, false, ◌||◌, ◌+◌, ◌*◌, ◌≤◌, ℤ, pos, ◌+ℤ◌, ◌-ℤ◌, ◌≤ℤ◌, inl, inr, List, [], ◌∷◌, Option, Some, None, IsSome, All, Contains, bytes_eq, unsigned_abs, refl, ap, mul-le-mul_right, arith}
+use Rattle.std.specs.Prelude.{◌<ℤ◌}
 use Rattle.std.proofs.lemmas.Int.{ints, by_lt_z}
 use Rattle.std.proofs.lemmas.List.Sums.{sum_by-cons}
-use Rattle.std.proofs.lemmas.List.Elements.{All-contains, All-from_recursion, All-head, All-tail, recursion_from_All}
+use Rattle.std.proofs.lemmas.List.Elements.{All-contains, All-from_recursion, All-head, All-tail}
 use Rattle.std.proofs.lemmas.Slice.Eq.{bytes_eq-Decides}
 use Rattle.std.specs.List.{AllZip, AllByRecursion}
 use lib.Signed.{lt_z}
 use Rattle.th_book.specs.Observed.{Observed}
 use Rattle.th_tables.specs.Rows.{BenchmarkRows, WeightRows, height_of, weight_of}
-use Rattle.th_points.specs.Points.{points}
-use Rattle.th_network.specs.Walks.{Leads, IsTied, Anchored}
+use Rattle.th_network.specs.Walks.{Leads, IsTied}
 use Rattle.th_network.specs.Heights.{IsHeights, residual, cost}
-use Rattle.th_network.specs.Circulation.{Circulation, Shows}
 use Rattle.th_points.proofs.PointLemmas.{is_among, bytes_eq_same}
-use Rattle.th_circulation.proofs.SideLemmas.{IsFull, AreFull, full_of_shows, shows_of_full}
+use Rattle.th_circulation.proofs.SideLemmas.{IsFull, AreFull}
 use Rattle.th_circulation.proofs.MisreadLemmas.{lt_z-true, lt_z-false}
 use Rattle.th_circulation.proofs.Bounds.{Bound, KeepsAll}
 

@@ -1,5 +1,5 @@
 -- Among the heights that cost least there are lowest and highest ones.
-use Rattle.std.proofs.Common.{◌≡◌, ℕ, Bool, true, false, ◌+◌, ◌*◌, ◌≤◌, ℤ, pos, ◌+ℤ◌, ◌-ℤ◌, ◌≤ℤ◌, All, List, [], ◌∷◌, if◌then◌else◌, sum_by, unsigned_abs, refl, mul-le-mul_left, arith}
+use Rattle.std.proofs.Common.{◌≡◌, ℕ, Bool, true, false, ◌+◌, ◌*◌, ◌≤◌, ℤ, pos, ◌+ℤ◌, ◌-ℤ◌, ◌≤ℤ◌, All, List, [], ◌∷◌, if◌then◌else◌, unsigned_abs, refl, mul-le-mul_left, arith}
 use Rattle.std.specs.Prelude.{◌<ℤ◌, slice_index_or}
 use Rattle.std.specs.List.{AllByRecursion}
 use Rattle.std.proofs.lemmas.Int.{ints}
@@ -13,7 +13,7 @@ use Rattle.th_network.specs.Heights.{IsHeights, Least, cost, residual}
 use Rattle.th_network.specs.Walks.{Anchored, IsTied}
 use Rattle.th_points.proofs.PointLemmas.{is_among}
 use Rattle.th_circulation.specs.Extremes.{High, Low}
-use Rattle.th_circulation.proofs.BestExists.{IsNear, IsRanked, Map, alone_kept, benchmarks_alone, best_exists, each_inside, none_less, ranked}
+use Rattle.th_circulation.proofs.BestExists.{IsNear, IsRanked, Map, alone_kept, benchmarks_alone, best_exists, each_inside, none_less}
 use Rattle.th_circulation.proofs.ExtremeLemmas.{all_among, among_at, names_near, small_of_cost}
 use Rattle.th_circulation.proofs.MisreadLemmas.{lt_z-false, lt_z-true}
 use Rattle.th_circulation.proofs.WeightLemmas.{heavy}

@@ -7,7 +7,8 @@ use lib.Signed.{lt_z}
 use Rattle.th_search.specs.declared.arcs.Arc.{Arc}
 use Rattle.th_search.specs.Walks.{IsArc}
 use Rattle.th_circulation.specs.Inside.Residuals.{turned}
-use Rattle.th_circulation.specs.Inside.Distances.{AreTight, IsKept, KeepCosts, farthest, opposite}
+use Rattle.th_circulation.specs.Inside.Bounds.{farthest}
+use Rattle.th_circulation.specs.Inside.Distances.{AreTight, IsKept, KeepCosts, opposite}
 use Rattle.th_circulation.proofs.MisreadLemmas.{lt_z-false}
 
 -- no arc enters the set

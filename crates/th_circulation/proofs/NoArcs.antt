@@ -1,5 +1,5 @@
 -- Where there are no arcs, no cycle is named.
-use Rattle.std.proofs.Common.{◌≡◌, ℕ, List, [], ◌∷◌, Result, Ok, refl, arith}
+use Rattle.std.proofs.Common.{◌≡◌, ℕ, List, [], ◌∷◌, Ok, refl, arith}
 use Rattle.std.specs.declared.alloc.AllocError.{AllocError}
 use Rattle.th_search.specs.Answers.{IsAnswer, cycles_in}
 use Rattle.th_search.specs.Walks.{IsNegativeCycle}

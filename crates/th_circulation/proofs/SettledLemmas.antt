@@ -5,7 +5,7 @@ use Rattle.std.proofs.lemmas.List.{length-map}
 use Rattle.std.proofs.lemmas.List.Elements.{All-cons, All-nil, recursion_from_All}
 use Rattle.std.specs.Prelude.{◌≤◌, All, length}
 use Rattle.std.specs.Option.{IsSome}
-use Rattle.std.specs.List.{AllByRecursion, AllZip}
+use Rattle.std.specs.List.{AllByRecursion}
 use Rattle.th_book.specs.Observed.{Observed}
 use Rattle.th_tables.specs.Limits.{max_weight}
 use Rattle.th_tables.specs.Rows.{BenchmarkRows, WeightRows, weight_of}
@@ -14,12 +14,13 @@ use Rattle.th_points.specs.Places.{place_of}
 use Rattle.th_network.specs.Circulation.{Circulation, Shows}
 use Rattle.th_network.specs.Heights.{IsHeights, heights_at, residual}
 use Rattle.th_network.specs.Links.{link_difference, link_of}
-use Rattle.th_network.specs.Networks.{Survey, arcs_of, points_of, weights_of}
+use Rattle.th_network.specs.Networks.{AreAtPoints, Survey, arcs_of, points_of, weights_of}
 use Rattle.th_network.specs.Vertices.{vertex_of}
 use Rattle.th_network.specs.declared.links.Link.{Link}
 use Rattle.th_points.proofs.PointLemmas.{EndsAmong, ends_are_points, is_among}
 use Rattle.th_points.proofs.PlaceLemmas.{at_place_of, benchmark_is_point}
 use Rattle.th_circulation.specs.Best.{AreOfObservations}
+use Rattle.th_circulation.specs.Settled.{IsSettled}
 use Rattle.th_circulation.specs.Inside.Flows.{AreBounded, IsFlow, ShowsLinks, residuals}
 use Rattle.th_circulation.specs.Inside.Phases.{differences_in}
 use Rattle.th_circulation.specs.Inside.Placed.{ArePlaced, placed}
@@ -86,3 +87,17 @@ pub settled_flows : (survey : Survey) (flows : List ℤ) → All (λ weight. wei
 settled_flows survey flows light flow =
     let both = light_flows max_weight (weights_of survey) flows (recursion_from_All (λ weight. weight ≤ max_weight) (weights_of survey) light) flow.bounded in
     record { each = both.0 ∙ length-map survey.observations (λ o. weight_of survey.weights o.station o.target); in_range = both.1 }
+
+-- what settled heights and flows are
+pub is_settled : (survey : Survey) (links : List Link) (weights : List ℕ) (listed flows : List ℤ) (heights : ℕ → ℤ) → links ≡ arcs_of survey → weights ≡ weights_of survey
+    → All (λ weight. weight ≤ max_weight) (weights_of survey) → IsFlow links weights flows → ShowsLinks weights flows (residuals links (differences_in 0 links) heights)
+    → ArePlaced survey.observations survey.benchmarks heights listed → AreAtPoints survey listed → IsSettled survey listed flows
+is_settled survey links weights listed flows heights l w light flow shown placed at_points = record {
+  shown = record {
+    kept = settled_keeps survey listed heights placed;
+    circulation = settled_circulates survey links weights flows l w flow;
+    shows = settled_shows survey links weights flows listed heights l w flow shown placed;
+  };
+  at_points = at_points;
+  of_observations = settled_flows survey flows light (subst (λ (ls : List Link). IsFlow ls (weights_of survey) flows) l (subst (λ (ws : List ℕ). IsFlow links ws flows) w flow));
+}

@@ -4,7 +4,7 @@ use Rattle.std.proofs.lemmas.Int.{ints}
 use Rattle.std.proofs.lemmas.List.Elements.{All-from_recursion, recursion_from_All}
 use Rattle.std.proofs.lemmas.Option.{slice_get-map}
 use Rattle.th_tables.specs.Rows.{height_of}
-use Rattle.th_network.specs.Circulation.{Circulation, Shows}
+use Rattle.th_network.specs.Circulation.{Circulation}
 use Rattle.th_network.specs.Faults.{IsNetwork}
 use Rattle.th_network.specs.Heights.{IsHeights, Least, heights_at}
 use Rattle.th_network.specs.Networks.{Survey, points_of, vertices_of, weights_of}
@@ -17,6 +17,7 @@ use Rattle.th_search.specs.declared.arcs.Arc.{Arc}
 use Rattle.th_search.specs.Potentials.{value_at}
 use Rattle.th_search.specs.Walks.{IsArc}
 use Rattle.th_circulation.specs.Extremes.{High, Low}
+use Rattle.th_circulation.specs.Settled.{AreShown}
 use Rattle.th_circulation.specs.Inside.Distances.{AreTight, IsKept, KeepCosts, opposite}
 use Rattle.th_circulation.specs.Inside.Placed.{ArePlaced}
 use Rattle.th_circulation.specs.Inside.Residuals.{turned}
@@ -32,12 +33,6 @@ use Rattle.th_circulation.proofs.SideLemmas.{full_of_shows, shows_of_full}
 use Rattle.th_circulation.proofs.TiedLemmas.{all_observations_heavy, arcs_in, circulation_ties}
 use Rattle.th_circulation.proofs.VertexNumbers.{matched_numbers, numbers_of, numbers_start}
 
--- heights that the flows show
-pub record AreShown (survey : Survey) (flows : List ℤ) (heights : List ℕ → ℤ) : Type 0 where
-  pub kept : IsHeights survey.benchmarks heights
-  pub circulation : Circulation survey.observations survey.benchmarks survey.weights flows
-  pub shown : Shows survey.observations survey.weights flows heights
-
 abbrev numbers_in : Survey → (List ℕ → ℤ) → ℕ → ℤ
 numbers_in survey heights = numbers_of survey.observations survey.benchmarks heights
 
@@ -47,7 +42,7 @@ numbers_keep survey flows heights are = record {
   start = numbers_start survey.observations survey.benchmarks heights are.kept;
   along = All-from_recursion (IsKept (numbers_in survey heights)) (arcs_in survey flows) (
       arcs_kept survey.observations survey.benchmarks survey.weights heights (numbers_in survey heights) survey.observations flows (matched_numbers survey.observations survey.benchmarks heights are.kept) (ends_are_points survey.observations survey.benchmarks) (
-      kept_of_full survey.weights heights survey.observations flows (full_of_shows survey.weights heights survey.observations flows are.shown)));
+      kept_of_full survey.weights heights survey.observations flows (full_of_shows survey.weights heights survey.observations flows are.shows)));
 }
 
 -- heights that match numbers which keep the costs are best
@@ -61,7 +56,7 @@ others_keep : (survey : Survey) (flows : List ℤ) (heights others : List ℕ �
 others_keep survey flows heights others are best = numbers_keep survey flows others (record {
   kept = best.kept;
   circulation = are.circulation;
-  shown = best_is_shown survey.observations survey.benchmarks survey.weights heights others flows are.kept are.circulation are.shown best;
+  shows = best_is_shown survey.observations survey.benchmarks survey.weights heights others flows are.kept are.circulation are.shows best;
 })
 
 -- ---- the vertex of a point

@@ -1,5 +1,7 @@
 pub mod Limits
 pub mod Extremes
 pub mod Best
+pub mod Settled
+pub mod Counts
 pub mod Misreadings
 pub mod Inside

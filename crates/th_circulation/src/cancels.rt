@@ -1,5 +1,6 @@
 ghost use Rattle.std.specs.Prelude.{◌≡◌, ◌<◌, ◌≤◌, ℕ, All, length, map, eqb};
 ghost use Rattle.std.specs.List.{IsDistinct};
+ghost use Rattle.th_circulation.specs.Inside.Bounds.{most_room};
 ghost use Rattle.th_circulation.specs.Inside.Cycles.{HasRoom, HasRooms, leads_to, send, sent};
 ghost use Rattle.th_circulation.specs.Inside.Flows.{AreBounded};
 ghost use Rattle.th_circulation.specs.Inside.Listings.{slots_at};
@@ -10,7 +11,7 @@ use crate::slots::Slot;
 /// Sends as much along a cycle of slots as has room, and at most this.
 pub(crate) fn cancel(graph: &Graph, slots: &[Slot], cycle: &[u32], most: u32, flows: &mut [i64])
     requires some { 1 ≤ most }
-    requires small { most ≤ 2000 }
+    requires small { most ≤ most_room }
     requires numbers { All (λ number. number < length slots.now) cycle.now }
     requires within { All (λ slot. slot.place < length graph.now.links.now) slots.now }
     requires flows { AreBounded graph.now.weights.now flows.old }
@@ -30,13 +31,13 @@ pub(crate) fn cancel(graph: &Graph, slots: &[Slot], cycle: &[u32], most: u32, fl
 /// be room for.
 fn least_room(graph: &Graph, slots: &[Slot], cycle: &[u32], most: u32, flows: &[i64]) -> u32
     requires some { 1 ≤ most }
-    requires small { most ≤ 2000 }
+    requires small { most ≤ most_room }
     requires numbers { All (λ number. number < length slots.now) cycle.now }
     requires within { All (λ slot. slot.place < length graph.now.links.now) slots.now }
     requires flows { AreBounded graph.now.weights.now flows.now }
     requires room { All (HasRoom graph.now.weights.now 1 flows.now) slots.now }
     ensures some { 1 ≤ result }
-    ensures small { result ≤ 2000 }
+    ensures small { result ≤ most_room }
     ensures room { All (HasRoom graph.now.weights.now result flows.now) (slots_at slots.now cycle.now) }
 {
     let mut least = most;

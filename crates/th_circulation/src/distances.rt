@@ -4,12 +4,10 @@ ghost use Rattle.th_circulation.specs.Inside.Spreading.{AreTails};
 ghost use Rattle.th_search.specs.Potentials.{value_at};
 ghost use Rattle.th_search.specs.Walks.{arc_at};
 
+use crate::limits::FARTHEST;
 use crate::spreading::{Queue, Tails};
 use std::alloc::{AllocError, Global};
 use th_search::Arc;
-
-/// The size that no distance exceeds: 4,000 arcs of the largest cost.
-const FARTHEST: i64 = 40_000_000_000_000_000;
 
 /// How many entries of the queue are taken before the passes, for each vertex that there is.
 const LOOKS: usize = 64;

@@ -1,6 +1,7 @@
 ghost use Rattle.std.specs.Prelude.{◌≡◌, ◌↔◌, ◌<◌, ◌≤◌, ◌≤ℤ◌, ℕ, All, pos, length, slice_index_or, unsigned_abs};
-ghost use Rattle.th_circulation.specs.Inside.Bounds.{height_bound};
 ghost use Rattle.th_circulation.specs.Inside.Graphs.{AreWithin, IsGraph};
+ghost use Rattle.th_circulation.specs.Inside.Bounds.{height_bound, most_room};
+ghost use Rattle.th_network.specs.Links.{largest_link_difference};
 ghost use Rattle.th_search.specs.Limits.{max_cost};
 ghost use Rattle.th_tables.specs.Limits.{max_weight};
 
@@ -49,7 +50,7 @@ impl<'a> Graph<'a> {
         ensures room { (amount : ℕ)
             → HasRoom self.now.weights.now amount flows.now slot ↔ (pos amount ≤ℤ result) }
         ensures some { pos 0 ≤ℤ result }
-        ensures small { result ≤ℤ pos 2000 }
+        ensures small { result ≤ℤ pos most_room }
     {
         let weight = self.weights[slot.place as usize] as i64;
         let flow = flows[slot.place as usize];
@@ -63,7 +64,7 @@ impl<'a> Graph<'a> {
     /// The arc that a slot stands for, at a cost that the heights reduce.
     pub fn arc(&self, differences: &[i64], heights: &[i64], slot: Slot) -> Arc
         requires place { slot.place < length self.now.links.now }
-        requires differences { AreWithin (length self.now.links.now) 5000000000000 differences.now }
+        requires differences { AreWithin (length self.now.links.now) largest_link_difference differences.now }
         requires heights { AreWithin self.now.vertices height_bound heights.now }
         ensures arc { result ≡ arc_of self.now.links.now differences.now (value_at heights.now) slot }
         ensures in_range { IsArc self.now.vertices result }
@@ -88,7 +89,7 @@ impl<'a> Graph<'a> {
     /// The difference at a slot, less the height of its link's head above the tail.
     fn residual(&self, differences: &[i64], heights: &[i64], slot: Slot) -> i64
         requires place { slot.place < length self.now.links.now }
-        requires differences { AreWithin (length self.now.links.now) 5000000000000 differences.now }
+        requires differences { AreWithin (length self.now.links.now) largest_link_difference differences.now }
         requires heights { AreWithin self.now.vertices height_bound heights.now }
         ensures residual { result ≡ residual (value_at heights.now) (link_at self.now.links.now slot)
             (slice_index_or differences.now slot.place (pos 0)) }

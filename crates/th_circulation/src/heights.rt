@@ -1,14 +1,15 @@
 ghost use Rattle.std.specs.Prelude.{◌≡◌, ◌≤◌, ℕ, ◌-ℤ◌};
-ghost use Rattle.th_circulation.specs.Inside.Bounds.{height_bound, raised_bound};
+ghost use Rattle.th_circulation.specs.Inside.Bounds.{farthest, height_bound, raised_bound};
 ghost use Rattle.th_circulation.specs.Inside.Graphs.{AreWithin};
 ghost use Rattle.th_search.specs.Potentials.{value_at};
 
+use crate::limits::MOST_HEIGHT;
 use th_guide::Guide;
 
 /// Raises the height of each vertex by as much as its potential is below 0.
 pub(crate) fn raise(heights: &mut [i64], potentials: &[i64], vertices: u32)
     requires heights { AreWithin vertices height_bound heights.old }
-    requires potentials { AreWithin vertices 40000000000000000 potentials.now }
+    requires potentials { AreWithin vertices farthest potentials.now }
     ensures each { (v : ℕ) → value_at heights.new v ≡ value_at heights.old v -ℤ value_at potentials.now v }
     ensures within { AreWithin vertices raised_bound heights.new }
 {
@@ -25,7 +26,7 @@ pub(crate) fn double(heights: &mut [i64], vertices: u32)
 {
     let level = heights[0];
     for height in heights.iter_mut() {
-        *height = (2 * (*height - level)).clamp(-2_500_000_000_000, 2_500_000_000_000);
+        *height = (2 * (*height - level)).clamp(-MOST_HEIGHT, MOST_HEIGHT);
     }
 }
 
@@ -38,6 +39,6 @@ pub(crate) fn take(heights: &mut [i64], guide: &Guide, vertices: u32)
         *height = guide
             .height(vertex as u32)
             .unwrap_or(0)
-            .clamp(-2_500_000_000_000, 2_500_000_000_000);
+            .clamp(-MOST_HEIGHT, MOST_HEIGHT);
     }
 }

@@ -1,12 +1,9 @@
 ghost use Rattle.std.specs.Prelude.{◌≡◌, ◌+◌, ◌*◌, ◌<◌, ◌≤◌, ◌++◌, ◌∷◌, [], Contains, IfOk, length};
 ghost use Rattle.std.specs.Vec.{vec_capacity, vec_len};
-ghost use Rattle.th_circulation.specs.Inside.Bounds.{height_bound};
 ghost use Rattle.th_circulation.specs.Inside.Cycles.{HasRoom};
-ghost use Rattle.th_circulation.specs.Inside.Flows.{AreBounded};
+ghost use Rattle.th_circulation.specs.Inside.Listings.{AreListable, Fits, HasAllBefore, KeepsRoom, Lists};
 ghost use Rattle.th_circulation.specs.declared.slots.Slot.{Slot as ASlot};
-ghost use Rattle.th_circulation.specs.Inside.Graphs.{AreWithin};
-ghost use Rattle.th_circulation.specs.Inside.Listings.{AreResidual, HasAllBefore};
-ghost use Rattle.th_search.specs.Potentials.{value_at};
+ghost use Rattle.th_network.specs.Limits.{max_observations};
 
 use crate::graphs::Graph;
 use crate::slots::Slot;
@@ -24,7 +21,7 @@ pub(crate) struct Listing {
 impl Listing {
     /// An empty listing with room for two arcs for each of so many links.
     pub fn new(alloc: Global, links: usize) -> Result<Listing, AllocError>
-        requires few { links ≤ 40000 }
+        requires few { links ≤ max_observations }
         ensures room { IfOk result (λ listing. (2 * links ≤ vec_capacity listing.arcs)
             × (2 * links ≤ vec_capacity listing.slots)) }
     {
@@ -39,8 +36,7 @@ impl Listing {
         requires slots { vec_len self.old.slots < vec_capacity self.old.slots }
         ensures arcs { self.new.arcs.items ≡ self.old.arcs.items ++ arc ∷ [] }
         ensures slots { self.new.slots.items ≡ self.old.slots.items ++ slot ∷ [] }
-        ensures room_for_arcs { vec_capacity self.old.arcs ≤ vec_capacity self.new.arcs }
-        ensures room_for_slots { vec_capacity self.old.slots ≤ vec_capacity self.new.slots }
+        ensures room { KeepsRoom self.old self.new }
     {
         self.arcs.push(arc).unwrap();
         self.slots.push(slot).unwrap();
@@ -56,19 +52,14 @@ impl Listing {
         slot: Slot,
     )
         requires place { slot.place < length graph.now.links.now }
-        requires differences { AreWithin (length graph.now.links.now) 5000000000000 differences.now }
-        requires heights { AreWithin graph.now.vertices height_bound heights.now }
-        requires flows { AreBounded graph.now.weights.now flows.now }
+        requires from { AreListable graph.now differences.now heights.now flows.now }
         requires arcs { vec_len self.old.slots < vec_capacity self.old.arcs }
         requires slots { vec_len self.old.slots < vec_capacity self.old.slots }
-        requires residual { AreResidual graph.now.links.now graph.now.weights.now differences.now
-            (value_at heights.now) flows.now self.old.arcs.items self.old.slots.items }
+        requires listed { Lists graph.now differences.now heights.now flows.now self.old }
         ensures few { vec_len self.new.slots ≤ vec_len self.old.slots + 1 }
-        ensures room_for_arcs { vec_capacity self.old.arcs ≤ vec_capacity self.new.arcs }
-        ensures room_for_slots { vec_capacity self.old.slots ≤ vec_capacity self.new.slots }
-        ensures residual { AreResidual graph.now.links.now graph.now.weights.now differences.now
-            (value_at heights.now) flows.now self.new.arcs.items self.new.slots.items }
-        ensures listed { HasRoom graph.now.weights.now 1 flows.now slot → Contains self.new.slots.items slot }
+        ensures room { KeepsRoom self.old self.new }
+        ensures listed { Lists graph.now differences.now heights.now flows.now self.new }
+        ensures slot { HasRoom graph.now.weights.now 1 flows.now slot → Contains self.new.slots.items slot }
         ensures kept { (other : ASlot) → Contains self.old.slots.items other
             → Contains self.new.slots.items other }
     {
@@ -79,16 +70,11 @@ impl Listing {
 
     /// Lists all residual arcs, at costs that the heights reduce.
     pub fn list_all(&mut self, graph: &Graph, differences: &[i64], heights: &[i64], flows: &[i64])
-        requires differences { AreWithin (length graph.now.links.now) 5000000000000 differences.now }
-        requires heights { AreWithin graph.now.vertices height_bound heights.now }
-        requires flows { AreBounded graph.now.weights.now flows.now }
-        requires arcs { 2 * length graph.now.links.now ≤ vec_capacity self.old.arcs }
-        requires slots { 2 * length graph.now.links.now ≤ vec_capacity self.old.slots }
+        requires from { AreListable graph.now differences.now heights.now flows.now }
+        requires fits { Fits graph.now self.old }
         ensures few { length self.new.slots.items ≤ 2 * length graph.now.links.now }
-        ensures room_for_arcs { vec_capacity self.old.arcs ≤ vec_capacity self.new.arcs }
-        ensures room_for_slots { vec_capacity self.old.slots ≤ vec_capacity self.new.slots }
-        ensures residual { AreResidual graph.now.links.now graph.now.weights.now differences.now
-            (value_at heights.now) flows.now self.new.arcs.items self.new.slots.items }
+        ensures room { KeepsRoom self.old self.new }
+        ensures listed { Lists graph.now differences.now heights.now flows.now self.new }
         ensures all { HasAllBefore graph.now.weights.now flows.now self.new.slots.items
             (length graph.now.links.now) }
     {
@@ -119,16 +105,11 @@ impl Listing {
         flows: &[i64],
         proposed: &[ResidualArc],
     )
-        requires differences { AreWithin (length graph.now.links.now) 5000000000000 differences.now }
-        requires heights { AreWithin graph.now.vertices height_bound heights.now }
-        requires flows { AreBounded graph.now.weights.now flows.now }
-        requires arcs { 2 * length graph.now.links.now ≤ vec_capacity self.old.arcs }
-        requires slots { 2 * length graph.now.links.now ≤ vec_capacity self.old.slots }
+        requires from { AreListable graph.now differences.now heights.now flows.now }
+        requires fits { Fits graph.now self.old }
         ensures few { length self.new.slots.items ≤ 2 * length graph.now.links.now }
-        ensures room_for_arcs { vec_capacity self.old.arcs ≤ vec_capacity self.new.arcs }
-        ensures room_for_slots { vec_capacity self.old.slots ≤ vec_capacity self.new.slots }
-        ensures residual { AreResidual graph.now.links.now graph.now.weights.now differences.now
-            (value_at heights.now) flows.now self.new.arcs.items self.new.slots.items }
+        ensures room { KeepsRoom self.old self.new }
+        ensures listed { Lists graph.now differences.now heights.now flows.now self.new }
     {
         self.arcs.clear();
         self.slots.clear();

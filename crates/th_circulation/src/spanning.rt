@@ -1,12 +1,11 @@
 ghost use Rattle.std.specs.Prelude.{◌≡◌, ℕ, IfOk, length};
-ghost use Rattle.th_circulation.specs.Inside.Bounds.{raised_bound};
-ghost use Rattle.th_circulation.specs.Extremes.{High, Low};
-ghost use Rattle.th_circulation.specs.Inside.Distances.{AreTight, farthest, opposite};
+ghost use Rattle.th_circulation.specs.Inside.Bounds.{farthest, raised_bound};
+ghost use Rattle.th_circulation.specs.Inside.Distances.{AreTight, opposite};
 ghost use Rattle.th_circulation.specs.Inside.Graphs.{AreWithin};
 ghost use Rattle.th_circulation.specs.Inside.Spans.{AreAbove, AreBelow};
-ghost use Rattle.th_network.specs.Circulation.{Circulation, Shows};
-ghost use Rattle.th_network.specs.Heights.{IsHeights, heights_at};
-ghost use Rattle.th_network.specs.Networks.{AreAtPoints, points_of, vertices_of};
+ghost use Rattle.th_circulation.specs.Best.{at_points_of};
+ghost use Rattle.th_circulation.specs.Settled.{AreShown, AreSpans};
+ghost use Rattle.th_network.specs.Networks.{points_of, vertices_of};
 ghost use Rattle.th_search.specs.Potentials.{value_at};
 
 use crate::distances::TightArcs;
@@ -25,22 +24,9 @@ use th_search::Arc;
 /// shortest walk of residual arcs from them is long, and the highest as far above as the shortest walk
 /// back to them is.
 pub fn spans(alloc: Global, network: &Network, settled: &Settled) -> Result<Spans, AllocError>
-    requires benchmarks { IsHeights network.now.benchmarks
-        (heights_at (points_of network.now) settled.now.heights) }
-    requires circulation { Circulation network.now.observations network.now.benchmarks
-        network.now.weights settled.now.flows }
-    requires shows { Shows network.now.observations network.now.weights settled.now.flows
-        (heights_at (points_of network.now) settled.now.heights) }
-    ensures low { IfOk result (λ spans. Low network.now.observations network.now.benchmarks
-        network.now.weights (heights_at (points_of network.now) spans.low)) }
-    ensures high { IfOk result (λ spans. High network.now.observations network.now.benchmarks
-        network.now.weights (heights_at (points_of network.now) spans.high)) }
-    ensures low_shown { IfOk result (λ spans. Shows network.now.observations network.now.weights
-        settled.now.flows (heights_at (points_of network.now) spans.low)) }
-    ensures high_shown { IfOk result (λ spans. Shows network.now.observations network.now.weights
-        settled.now.flows (heights_at (points_of network.now) spans.high)) }
-    ensures low_at_points { IfOk result (λ spans. AreAtPoints network.now spans.low) }
-    ensures high_at_points { IfOk result (λ spans. AreAtPoints network.now spans.high) }
+    requires { AreShown network.now settled.now.flows
+        (at_points_of network.now settled.now.heights) }
+    ensures { IfOk result (λ spans. AreSpans network.now settled.now.flows spans.low spans.high) }
 {
     let points = network.points();
     let lowest_listed = vec![in alloc; 0i64; points.len()]?;

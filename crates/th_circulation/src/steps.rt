@@ -1,4 +1,5 @@
 ghost use Rattle.std.specs.Prelude.{◌≡◌, ◌+◌, ◌<◌};
+ghost use Rattle.th_search.specs.Limits.{max_calls};
 
 use std::marker::Model;
 
@@ -41,7 +42,7 @@ impl Steps {
 
     /// Counts one step more.
     pub(crate) fn tick(&mut self)
-        requires { self.old < 1000000000000000000000000000000000000 }
+        requires { self.old < max_calls }
         ensures { self.new ≡ self.old + 1 }
     {
         self.count += 1;

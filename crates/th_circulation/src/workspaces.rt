@@ -1,17 +1,13 @@
-ghost use Rattle.std.specs.Prelude.{◌≡◌, ◌+◌, ◌<◌, ◌≤◌, ◌≤ℤ◌, ◌+ℤ◌, ◌-◌, ◌*◌, ◌⊎◌, ◌^◌, pos, IfOk, MatchBool, OnErr, OnOk, length, replicate, sum};
+ghost use Rattle.std.specs.Prelude.{◌≡◌, ◌+◌, ◌<◌, ◌≤◌, ◌-◌, ◌*◌, ◌⊎◌, ◌^◌, false, pos, IfOk, MatchBool, OnOk, length, replicate, sum};
 ghost use Rattle.std.specs.Bool.{OnTrue};
-ghost use Rattle.std.specs.Vec.{vec_capacity};
-ghost use Rattle.th_circulation.specs.Inside.Bounds.{height_bound, raised_bound};
-ghost use Rattle.th_circulation.specs.Inside.Flows.{IsFlow, ShowsLinks, gain, residuals};
+ghost use Rattle.th_circulation.specs.Inside.Bounds.{height_bound};
 ghost use Rattle.th_circulation.specs.Inside.Graphs.{AreWithin};
-ghost use Rattle.th_circulation.specs.Inside.Listings.{AreResidual, HasAllBefore};
+ghost use Rattle.th_circulation.specs.Inside.Listings.{Fits, HasAllBefore, Lists};
 ghost use Rattle.th_circulation.specs.Inside.Phases.{differences_in};
 ghost use Rattle.th_circulation.specs.Inside.Proposals.{HasNoPotentials};
-ghost use Rattle.th_circulation.specs.Inside.Workspaces.{IsNear, IsReady};
-ghost use Rattle.th_circulation.specs.Limits.{max_counted};
-ghost use Rattle.th_search.specs.Limits.{max_vertices};
-ghost use Rattle.th_search.specs.Answers.{refusals_in};
-ghost use Rattle.th_search.specs.Potentials.{value_at};
+ghost use Rattle.th_circulation.specs.Inside.Workspaces.{AreShownFor, Counts, GoesOn, IsDone, IsNear, IsReady, IsRested, others_in};
+ghost use Rattle.th_circulation.specs.Limits.{max_counted, phases};
+ghost use Rattle.th_search.specs.Limits.{max_calls, max_vertices};
 
 use crate::cancels::cancel;
 use crate::differences::set_differences;
@@ -46,18 +42,7 @@ pub(crate) struct Workspace {
 impl Workspace {
     /// No flow yet, and all heights 0.
     pub fn new(alloc: Global, graph: &Graph) -> Result<Workspace, AllocError>
-        ensures differences { IfOk result (λ work.
-            length work.differences.items ≡ length graph.now.links.now) }
-        ensures heights { IfOk result (λ work.
-            AreWithin graph.now.vertices raised_bound work.heights.items) }
-        ensures flow { IfOk result (λ work.
-            IsFlow graph.now.links.now graph.now.weights.now work.flows.items) }
-        ensures none { IfOk result (λ work.
-            work.flows.items ≡ replicate (length graph.now.links.now) (pos 0)) }
-        ensures arcs { IfOk result (λ work.
-            2 * length graph.now.links.now ≤ vec_capacity work.listing.arcs) }
-        ensures slots { IfOk result (λ work.
-            2 * length graph.now.links.now ≤ vec_capacity work.listing.slots) }
+        ensures rested { IfOk result (IsRested graph.now) }
     {
         let differences = vec![in alloc; 0i64; graph.links.len()]?;
         let heights = vec![in alloc; 0i64; graph.vertices as usize]?;
@@ -83,32 +68,19 @@ impl Workspace {
         search: &mut S,
         steps: &mut Steps,
     ) -> Result<(), AllocError>
-        requires differences { length self.old.differences.items ≡ length graph.now.links.now }
-        requires heights { AreWithin graph.now.vertices raised_bound self.old.heights.items }
-        requires flow { IsFlow graph.now.links.now graph.now.weights.now self.old.flows.items }
-        requires arcs { 2 * length graph.now.links.now ≤ vec_capacity self.old.listing.arcs }
-        requires slots { 2 * length graph.now.links.now ≤ vec_capacity self.old.listing.slots }
+        requires rested { IsRested graph.now self.old }
         requires calls { S.calls search.old ≤ max_counted }
         requires steps { steps.old ≤ max_counted }
-        ensures flow { IsFlow graph.now.links.now graph.now.weights.now self.new.flows.items }
-        ensures heights { OnOk result (AreWithin graph.now.vertices raised_bound
-            self.new.heights.items) }
-        ensures shown { OnOk result (ShowsLinks graph.now.weights.now self.new.flows.items
-            (residuals graph.now.links.now (differences_in 0 graph.now.links.now)
-            (value_at self.new.heights.items))) }
-        ensures more { steps.old ≤ steps.new }
-        ensures few { steps.new ≤ steps.old + 88 * sum graph.now.weights.now }
-        ensures calls { OnOk result (S.calls search.new + steps.old ≡ S.calls search.old + steps.new + 44) }
-        ensures refused { OnErr result (S.calls search.new + steps.old ≤ S.calls search.old + steps.new + 44) }
-        ensures asked { S.calls search.old + steps.new ≤ S.calls search.new + steps.old }
-        ensures refusals { S.refusals search.new ≡ S.refusals search.old + refusals_in result }
-        ensures cycles { S.cycles search.new + steps.old ≡ S.cycles search.old + steps.new }
+        ensures done { OnOk result (IsDone graph.now self.new) }
+        ensures few { steps.new ≤ steps.old + 2 * phases * sum graph.now.weights.now }
+        ensures counts { Counts S.calls S.refusals S.cycles phases result
+            search.old search.new steps.old steps.new }
     {
         if self.settle_at_once(alloc, graph, search, steps)? {
-            skip_phases(alloc, graph.vertices, search)
-        } else {
             self.flows.fill(0);
             self.settle_by_halves(alloc, graph, search, steps)
+        } else {
+            skip_phases(alloc, graph.vertices, search)
         }
     }
 
@@ -121,39 +93,23 @@ impl Workspace {
         search: &mut S,
         steps: &mut Steps,
     ) -> Result<bool, AllocError>
-        requires differences { length self.old.differences.items ≡ length graph.now.links.now }
-        requires heights { AreWithin graph.now.vertices raised_bound self.old.heights.items }
-        requires flow { IsFlow graph.now.links.now graph.now.weights.now self.old.flows.items }
-        requires arcs { 2 * length graph.now.links.now ≤ vec_capacity self.old.listing.arcs }
-        requires slots { 2 * length graph.now.links.now ≤ vec_capacity self.old.listing.slots }
+        requires rested { IsRested graph.now self.old }
         requires calls { S.calls search.old ≤ max_counted }
         requires steps { steps.old ≤ max_counted }
-        ensures differences { self.new.differences.items ≡ differences_in 0 graph.now.links.now }
-        ensures heights { OnOk result (AreWithin graph.now.vertices raised_bound
-            self.new.heights.items) }
-        ensures flow { IsFlow graph.now.links.now graph.now.weights.now self.new.flows.items }
-        ensures arcs { vec_capacity self.old.listing.arcs ≤ vec_capacity self.new.listing.arcs }
-        ensures slots { vec_capacity self.old.listing.slots ≤ vec_capacity self.new.listing.slots }
-        ensures more { steps.old ≤ steps.new }
+        ensures rested { OnOk result (IsRested graph.now self.new) }
+        ensures done { IfOk result (λ left. left ≡ false → IsDone graph.now self.new) }
         ensures few { steps.new ≤ steps.old + sum graph.now.weights.now }
-        ensures answer { IfOk result (λ shown. MatchBool shown
-            ((S.calls search.new + steps.old ≡ S.calls search.old + steps.new + 1)
-            × ShowsLinks graph.now.weights.now self.new.flows.items (residuals graph.now.links.now
-            (differences_in 0 graph.now.links.now) (value_at self.new.heights.items)))
-            (S.calls search.new + steps.old ≡ S.calls search.old + steps.new)) }
-        ensures calls { S.calls search.new + steps.old ≤ S.calls search.old + steps.new + 1 }
-        ensures asked { S.calls search.old + steps.new ≤ S.calls search.new + steps.old }
-        ensures refusals { S.refusals search.new ≡ S.refusals search.old + refusals_in result }
-        ensures cycles { S.cycles search.new + steps.old ≡ S.cycles search.old + steps.new }
+        ensures counts { Counts S.calls S.refusals S.cycles (others_in result) result
+            search.old search.new steps.old steps.new }
     {
         self.start_phase(graph, 0);
         let most = total(graph.weights);
         'steps: for done in 0..most {
             if !self.advance(alloc, graph, search, steps)? {
-                return Ok(true);
+                return Ok(false);
             }
         }
-        Ok(false)
+        Ok(true)
     }
 
     /// Settles the phases one after another, each with its differences and on from the flows of the
@@ -165,26 +121,15 @@ impl Workspace {
         search: &mut S,
         steps: &mut Steps,
     ) -> Result<(), AllocError>
-        requires differences { length self.old.differences.items ≡ length graph.now.links.now }
-        requires heights { AreWithin graph.now.vertices raised_bound self.old.heights.items }
+        requires rested { IsRested graph.now self.old }
         requires none { self.old.flows.items ≡ replicate (length graph.now.links.now) (pos 0) }
-        requires arcs { 2 * length graph.now.links.now ≤ vec_capacity self.old.listing.arcs }
-        requires slots { 2 * length graph.now.links.now ≤ vec_capacity self.old.listing.slots }
         requires calls { S.calls search.old ≤ 2 * max_counted }
         requires steps { steps.old ≤ 2 * max_counted }
-        ensures flow { IsFlow graph.now.links.now graph.now.weights.now self.new.flows.items }
-        ensures heights { OnOk result (AreWithin graph.now.vertices raised_bound
-            self.new.heights.items) }
-        ensures shown { OnOk result (ShowsLinks graph.now.weights.now self.new.flows.items
-            (residuals graph.now.links.now (differences_in 0 graph.now.links.now)
-            (value_at self.new.heights.items))) }
-        ensures more { steps.old ≤ steps.new }
-        ensures few { steps.new + sum graph.now.weights.now ≤ steps.old + 88 * sum graph.now.weights.now }
-        ensures calls { OnOk result (S.calls search.new + steps.old ≡ S.calls search.old + steps.new + 44) }
-        ensures refused { OnErr result (S.calls search.new + steps.old ≤ S.calls search.old + steps.new + 44) }
-        ensures asked { S.calls search.old + steps.new ≤ S.calls search.new + steps.old }
-        ensures refusals { S.refusals search.new ≡ S.refusals search.old + refusals_in result }
-        ensures cycles { S.cycles search.new + steps.old ≡ S.cycles search.old + steps.new }
+        ensures done { OnOk result (IsDone graph.now self.new) }
+        ensures few { steps.new + sum graph.now.weights.now
+            ≤ steps.old + 2 * phases * sum graph.now.weights.now }
+        ensures counts { Counts S.calls S.refusals S.cycles phases result
+            search.old search.new steps.old steps.new }
     {
         'phases: for done in 0..PHASES {
             self.start_phase(graph, PHASES - 1 - done);
@@ -202,30 +147,17 @@ impl Workspace {
         search: &mut S,
         steps: &mut Steps,
     ) -> Result<bool, AllocError>
-        requires ready { IsReady graph.now.vertices graph.now.links.now graph.now.weights.now
-            self.old.differences.items self.old.heights.items self.old.flows.items
-            (vec_capacity self.old.listing.arcs) (vec_capacity self.old.listing.slots) }
-        requires calls { S.calls search.old < 1000000000000000000000000000000000000 }
-        requires steps { steps.old < 1000000000000000000000000000000000000 }
-        ensures differences { self.new.differences.items ≡ self.old.differences.items }
-        ensures flow { IsFlow graph.now.links.now graph.now.weights.now self.new.flows.items }
-        ensures arcs { vec_capacity self.old.listing.arcs ≤ vec_capacity self.new.listing.arcs }
-        ensures slots { vec_capacity self.old.listing.slots ≤ vec_capacity self.new.listing.slots }
-        ensures calls { S.calls search.new ≡ S.calls search.old + 1 }
-        ensures refusals { S.refusals search.new ≡ S.refusals search.old + refusals_in result }
-        ensures cycles { S.cycles search.new + steps.old ≡ S.cycles search.old + steps.new }
+        requires ready { IsReady graph.now self.old }
+        requires calls { S.calls search.old < max_calls }
+        requires steps { steps.old < max_calls }
+        ensures goes_on { GoesOn graph.now self.old self.new (steps.new - steps.old) }
         ensures answer { IfOk result (λ cancelled. MatchBool cancelled
             (AreWithin graph.now.vertices height_bound self.new.heights.items
-            × (steps.new ≡ steps.old + 1)
-            × ((gain self.old.flows.items self.old.differences.items +ℤ pos 1)
-            ≤ℤ gain self.new.flows.items self.old.differences.items))
-            (AreWithin graph.now.vertices raised_bound self.new.heights.items
-            × (steps.new ≡ steps.old)
-            × (self.new.flows.items ≡ self.old.flows.items)
-            × ShowsLinks graph.now.weights.now self.new.flows.items (residuals graph.now.links.now
-            self.old.differences.items (value_at self.new.heights.items)))) }
-        ensures refused { OnErr result ((steps.new ≡ steps.old)
-            × (self.new.flows.items ≡ self.old.flows.items)) }
+            × (steps.new ≡ steps.old + 1))
+            (AreShownFor graph.now self.old.differences.items self.new)) }
+        ensures few { steps.new ≤ steps.old + 1 }
+        ensures counts { Counts S.calls S.refusals S.cycles (others_in result) result
+            search.old search.new steps.old steps.new }
     {
         self.list_next(graph);
         match search.search(alloc, graph.vertices, &self.listing.arcs)? {
@@ -245,18 +177,13 @@ impl Workspace {
     /// Lists what is searched next: the arcs round a cycle that the guide proposes, where that is one
     /// which costs less than 0; else all residual arcs, at costs that the guide's heights reduce.
     fn list_next(&mut self, graph: &Graph)
-        requires ready { IsReady graph.now.vertices graph.now.links.now graph.now.weights.now
-            self.old.differences.items self.old.heights.items self.old.flows.items
-            (vec_capacity self.old.listing.arcs) (vec_capacity self.old.listing.slots) }
+        requires ready { IsReady graph.now self.old }
         ensures differences { self.new.differences.items ≡ self.old.differences.items }
-        ensures heights { AreWithin graph.now.vertices height_bound self.new.heights.items }
         ensures flows { self.new.flows.items ≡ self.old.flows.items }
-        ensures arcs { vec_capacity self.old.listing.arcs ≤ vec_capacity self.new.listing.arcs }
-        ensures slots { vec_capacity self.old.listing.slots ≤ vec_capacity self.new.listing.slots }
+        ensures ready { IsReady graph.now self.new }
         ensures few { length self.new.listing.slots.items ≤ 2 * length graph.now.links.now }
-        ensures residual { AreResidual graph.now.links.now graph.now.weights.now
-            self.old.differences.items (value_at self.new.heights.items) self.old.flows.items
-            self.new.listing.arcs.items self.new.listing.slots.items }
+        ensures listed { Lists graph.now self.old.differences.items self.new.heights.items
+            self.old.flows.items self.new.listing }
         ensures next { HasNoPotentials self.new.listing.arcs.items
             ⊎ HasAllBefore graph.now.weights.now self.old.flows.items self.new.listing.slots.items
             (length graph.now.links.now) }
@@ -275,19 +202,15 @@ impl Workspace {
 
     /// Lists the arcs round a cycle that the guide proposes; true where they cost less than 0.
     fn list_proposal(&mut self, graph: &Graph) -> bool
-        requires ready { IsReady graph.now.vertices graph.now.links.now graph.now.weights.now
-            self.old.differences.items self.old.heights.items self.old.flows.items
-            (vec_capacity self.old.listing.arcs) (vec_capacity self.old.listing.slots) }
+        requires ready { IsReady graph.now self.old }
         ensures differences { self.new.differences.items ≡ self.old.differences.items }
-        ensures heights { self.new.heights.items ≡ self.old.heights.items }
         ensures flows { self.new.flows.items ≡ self.old.flows.items }
-        ensures arcs { vec_capacity self.old.listing.arcs ≤ vec_capacity self.new.listing.arcs }
-        ensures slots { vec_capacity self.old.listing.slots ≤ vec_capacity self.new.listing.slots }
+        ensures heights { self.new.heights.items ≡ self.old.heights.items }
+        ensures fits { Fits graph.now self.new.listing }
         ensures few { OnTrue result (length self.new.listing.slots.items
             ≤ 2 * length graph.now.links.now) }
-        ensures residual { OnTrue result (AreResidual graph.now.links.now graph.now.weights.now
-            self.old.differences.items (value_at self.old.heights.items) self.old.flows.items
-            self.new.listing.arcs.items self.new.listing.slots.items) }
+        ensures listed { OnTrue result (Lists graph.now self.old.differences.items
+            self.old.heights.items self.old.flows.items self.new.listing) }
         ensures cycle { OnTrue result (HasNoPotentials self.new.listing.arcs.items) }
     {
         let Some(amount) = self.guide.propose() else {
@@ -306,14 +229,11 @@ impl Workspace {
 
     /// Takes the differences of a phase, and the heights doubled.
     fn start_phase(&mut self, graph: &Graph, phase: u32)
-        requires phase { phase ≤ 43 }
-        requires differences { length self.old.differences.items ≡ length graph.now.links.now }
-        requires heights { AreWithin graph.now.vertices raised_bound self.old.heights.items }
+        requires phase { phase < phases }
+        requires rested { IsRested graph.now self.old }
+        ensures ready { IsReady graph.now self.new }
         ensures differences { self.new.differences.items ≡ differences_in phase graph.now.links.now }
-        ensures heights { AreWithin graph.now.vertices height_bound self.new.heights.items }
         ensures flows { self.new.flows.items ≡ self.old.flows.items }
-        ensures arcs { vec_capacity self.new.listing.arcs ≡ vec_capacity self.old.listing.arcs }
-        ensures slots { vec_capacity self.new.listing.slots ≡ vec_capacity self.old.listing.slots }
     {
         set_differences(graph.links, phase, &mut self.differences);
         double(&mut self.heights, graph.vertices);
@@ -329,29 +249,16 @@ impl Workspace {
         search: &mut S,
         steps: &mut Steps,
     ) -> Result<(), AllocError>
-        requires ready { IsReady graph.now.vertices graph.now.links.now graph.now.weights.now
-            self.old.differences.items self.old.heights.items self.old.flows.items
-            (vec_capacity self.old.listing.arcs) (vec_capacity self.old.listing.slots) }
-        requires few { IsNear graph.now.links.now graph.now.weights.now self.old.differences.items
+        requires ready { IsReady graph.now self.old }
+        requires near { IsNear graph.now.links.now graph.now.weights.now self.old.differences.items
             self.old.flows.items }
-        requires calls { S.calls search.old + 2 * sum graph.now.weights.now
-            < 1000000000000000000000000000000000000 }
-        requires steps { steps.old + 2 * sum graph.now.weights.now
-            < 1000000000000000000000000000000000000 }
-        ensures differences { self.new.differences.items ≡ self.old.differences.items }
-        ensures flow { IsFlow graph.now.links.now graph.now.weights.now self.new.flows.items }
-        ensures arcs { vec_capacity self.old.listing.arcs ≤ vec_capacity self.new.listing.arcs }
-        ensures slots { vec_capacity self.old.listing.slots ≤ vec_capacity self.new.listing.slots }
-        ensures more { steps.old ≤ steps.new }
+        requires calls { S.calls search.old + 2 * sum graph.now.weights.now < max_calls }
+        requires steps { steps.old + 2 * sum graph.now.weights.now < max_calls }
+        ensures goes_on { GoesOn graph.now self.old self.new (steps.new - steps.old) }
+        ensures shown { OnOk result (AreShownFor graph.now self.old.differences.items self.new) }
         ensures few { steps.new ≤ steps.old + 2 * sum graph.now.weights.now }
-        ensures gained { (gain self.old.flows.items self.old.differences.items
-            +ℤ pos (steps.new - steps.old)) ≤ℤ gain self.new.flows.items self.old.differences.items }
-        ensures calls { S.calls search.new + steps.old ≡ S.calls search.old + steps.new + 1 }
-        ensures refusals { S.refusals search.new ≡ S.refusals search.old + refusals_in result }
-        ensures cycles { S.cycles search.new + steps.old ≡ S.cycles search.old + steps.new }
-        ensures shown { OnOk result (AreWithin graph.now.vertices raised_bound self.new.heights.items
-            × ShowsLinks graph.now.weights.now self.new.flows.items (residuals graph.now.links.now
-            self.old.differences.items (value_at self.new.heights.items))) }
+        ensures counts { Counts S.calls S.refusals S.cycles 1 result
+            search.old search.new steps.old steps.new }
     {
         'cycles: while self.advance(alloc, graph, search, steps)? {}
         Ok(())
@@ -363,12 +270,8 @@ impl Workspace {
 fn skip_phases<S: Search>(alloc: Global, vertices: u32, search: &mut S) -> Result<(), AllocError>
     requires some { 1 ≤ vertices }
     requires few { vertices ≤ max_vertices }
-    requires calls { S.calls search.old + 43 < 1000000000000000000000000000000000000 }
-    ensures calls { OnOk result (S.calls search.new ≡ S.calls search.old + 43) }
-    ensures few { S.calls search.new ≤ S.calls search.old + 43 }
-    ensures asked { S.calls search.old ≤ S.calls search.new }
-    ensures refusals { S.refusals search.new ≡ S.refusals search.old + refusals_in result }
-    ensures cycles { S.cycles search.new ≡ S.cycles search.old }
+    requires calls { S.calls search.old + phases ≤ max_calls }
+    ensures { Counts S.calls S.refusals S.cycles (phases - 1) result search.old search.new 0 0 }
 {
     let none: [Arc; 0] = [];
     'phases: for phase in 1..PHASES {

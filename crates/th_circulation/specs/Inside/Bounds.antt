@@ -1,10 +1,21 @@
--- How large heights may be while a network is settled.
-use Rattle.std.specs.Prelude.{ℕ}
+-- Bounds that follow from the limits of networks, tables and searches.
+use Rattle.std.specs.Prelude.{ℕ, ◌+◌, ◌*◌, ◌/◌}
+use Rattle.th_network.specs.Limits.{max_points}
+use Rattle.th_search.specs.Limits.{max_cost}
+use Rattle.th_tables.specs.Limits.{max_weight}
+
+-- the most that there can be room for on a residual arc: twice the greatest weight
+abbrev pub most_room : ℕ
+most_room = 2 * max_weight
+
+-- the size that no distance and no potential exceeds: an arc of the greatest cost for each vertex but one
+abbrev pub farthest : ℕ
+farthest = max_points * max_cost
 
 -- the size of heights within a phase and at its end: a quarter of the greatest cost of an arc
 abbrev pub height_bound : ℕ
-height_bound = 2500000000000
+height_bound = max_cost / 4
 
--- the size of heights that potentials of a search have raised: 4,000 arcs of the greatest cost, 10^13, more
+-- the size of heights that potentials of a search have raised
 abbrev pub raised_bound : ℕ
-raised_bound = 40002500000000000
+raised_bound = height_bound + farthest

@@ -2,11 +2,9 @@ use Rattle.std.specs.Prelude.{◌≡◌, ℕ, ◌-◌, ◌<◌, ◌≤◌, ℤ, 
 use Rattle.th_search.specs.declared.arcs.Arc.{Arc}
 use Rattle.th_search.specs.Potentials.{value_at}
 use Rattle.th_search.specs.Walks.{IsArc}
+use Rattle.th_search.specs.Limits.{max_vertices}
+use Rattle.th_circulation.specs.Inside.Bounds.{farthest}
 use Rattle.th_circulation.specs.Inside.Graphs.{AreWithin}
-
--- the size that no distance exceeds: 4,000 arcs of the largest cost
-abbrev pub farthest : ℕ
-farthest = 40000000000000000
 
 -- along the arc the numbers of vertices rise by no more than its cost
 abbrev pub IsKept : (ℕ → ℤ) → Arc → Type 0
@@ -24,7 +22,7 @@ opposite numbers vertex = pos 0 -ℤ numbers vertex
 -- arcs between so many vertices; some numbers keep their costs, and none that do are larger in size than the farthest
 pub record AreTight (vertices : ℕ) (arcs : List Arc) : Type 0 where
   pub some : 1 ≤ vertices
-  pub few : vertices ≤ 4001
+  pub few : vertices ≤ max_vertices
   pub ends : All (IsArc vertices) arcs
   pub known : ¬ ((numbers : ℕ → ℤ) → ¬ KeepCosts arcs numbers)
   pub near : (numbers : ℕ → ℤ) → KeepCosts arcs numbers → (vertex : ℕ) → vertex < vertices → unsigned_abs (numbers vertex) ≤ farthest

@@ -1,15 +1,18 @@
 use Rattle.std.specs.Prelude.{◌≡◌, ℕ, ◌<◌, ◌≤◌, ℤ, List, All, length, unsigned_abs}
 use Rattle.th_network.specs.declared.links.Link.{Link}
+use Rattle.th_network.specs.Limits.{max_observations}
+use Rattle.th_network.specs.Links.{largest_link_difference}
+use Rattle.th_search.specs.Limits.{max_vertices}
 use Rattle.th_tables.specs.Limits.{max_weight}
 
 -- so many vertices, at least one; links between them, and a weight for each; all within the limits of a network
 pub record IsGraph (vertices : ℕ) (links : List Link) (weights : List ℕ) : Type 0 where
   pub some : 1 ≤ vertices
-  pub few_vertices : vertices ≤ 4001
-  pub few_links : length links ≤ 40000
+  pub few_vertices : vertices ≤ max_vertices
+  pub few_links : length links ≤ max_observations
   pub sized : length weights ≡ length links
   pub ends : All (λ link. (link.tail < vertices) × (link.head < vertices)) links
-  pub near : All (λ link. unsigned_abs link.diff ≤ 5000000000000) links
+  pub near : All (λ link. unsigned_abs link.diff ≤ largest_link_difference) links
   pub light : All (λ weight. weight ≤ max_weight) weights
 
 -- so many numbers, none larger in size than this

@@ -1,8 +1,15 @@
-use Rattle.std.specs.Prelude.{◌≡◌, ℕ, ◌<◌, ℤ, pos, ◌-ℤ◌, List, All, Contains, if◌then◌else◌, length, map, slice_index_or, false}
+use Rattle.std.specs.Prelude.{◌≡◌, ℕ, ◌<◌, ◌≤◌, ℤ, pos, ◌-ℤ◌, ◌*◌, List, All, Contains, if◌then◌else◌, length, map, slice_index_or, false}
 use Rattle.th_network.specs.declared.links.Link.{Link}
 use Rattle.th_search.specs.declared.arcs.Arc.{Arc}
-use Rattle.th_circulation.specs.Inside.Flows.{residual}
+use Rattle.th_search.specs.Potentials.{value_at}
+use Rattle.std.specs.Vec.{vec_capacity}
+use Rattle.th_network.specs.Links.{largest_link_difference}
+use Rattle.th_circulation.specs.Inside.Bounds.{height_bound}
+use Rattle.th_circulation.specs.Inside.Flows.{AreBounded, residual}
+use Rattle.th_circulation.specs.Inside.Graphs.{AreWithin}
 use Rattle.th_circulation.specs.Inside.Cycles.{HasRoom, finish_of, link_at, start_of}
+use Rattle.th_circulation.specs.declared.graphs.Graph.{Graph}
+use Rattle.th_circulation.specs.declared.listings.Listing.{Listing}
 use Rattle.th_circulation.specs.declared.slots.Slot.{Slot}
 
 -- the arc that a slot stands for, at a cost that these heights reduce
@@ -29,3 +36,23 @@ slot_at slots number = slice_index_or slots number (record { place = 0; is_forwa
 -- the slots of these numbers
 abbrev pub slots_at : List Slot → List ℕ → List Slot
 slots_at slots numbers = map (slot_at slots) numbers
+
+-- differences, heights and flows of a graph from which residual arcs can be listed
+pub record AreListable (graph : Graph) (diffs heights flows : List ℤ) : Type 0 where
+  pub near_differences : AreWithin (length graph.links.now) largest_link_difference diffs
+  pub near_heights : AreWithin graph.vertices height_bound heights
+  pub bounded : AreBounded graph.weights.now flows
+
+-- the listing has residual arcs of the graph, at costs that the heights reduce
+abbrev pub Lists : Graph → List ℤ → List ℤ → List ℤ → Listing → Type 0
+Lists graph diffs heights flows listing = AreResidual graph.links.now graph.weights.now diffs (value_at heights) flows listing.arcs.items listing.slots.items
+
+-- the listing has room for all residual arcs of a graph
+pub record Fits (graph : Graph) (listing : Listing) : Type 0 where
+  pub arcs : 2 * length graph.links.now ≤ vec_capacity listing.arcs
+  pub slots : 2 * length graph.links.now ≤ vec_capacity listing.slots
+
+-- and no less room than before
+pub record KeepsRoom (old new : Listing) : Type 0 where
+  pub arcs : vec_capacity old.arcs ≤ vec_capacity new.arcs
+  pub slots : vec_capacity old.slots ≤ vec_capacity new.slots

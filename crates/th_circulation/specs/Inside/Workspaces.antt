@@ -1,17 +1,62 @@
-use Rattle.std.specs.Prelude.{ℕ, ◌*◌, ◌≤◌, ℤ, pos, ◌+ℤ◌, ◌≤ℤ◌, List, length, sum}
+use Rattle.std.specs.Prelude.{◌≡◌, ℕ, ◌+◌, ◌*◌, ◌≤◌, ℤ, pos, ◌+ℤ◌, ◌≤ℤ◌, Bool, List, Result, Ok, Err, OnOk, if◌then◌else◌, length, sum}
+use Rattle.th_network.specs.Links.{largest_link_difference}
 use Rattle.th_network.specs.declared.links.Link.{Link}
-use Rattle.th_circulation.specs.Inside.Bounds.{height_bound}
-use Rattle.th_circulation.specs.Inside.Flows.{IsFlow, gain}
+use Rattle.th_search.specs.Answers.{refusals_in}
+use Rattle.th_search.specs.Potentials.{value_at}
+use Rattle.th_circulation.specs.Inside.Bounds.{height_bound, raised_bound}
+use Rattle.th_circulation.specs.Inside.Flows.{IsFlow, ShowsLinks, gain, residuals}
 use Rattle.th_circulation.specs.Inside.Graphs.{AreWithin}
+use Rattle.th_circulation.specs.Inside.Listings.{Fits}
+use Rattle.th_circulation.specs.Inside.Phases.{differences_in}
+use Rattle.th_circulation.specs.declared.graphs.Graph.{Graph}
+use Rattle.th_circulation.specs.declared.workspaces.Workspace.{Workspace}
 
--- differences and heights from which costs can be reduced, a flow, and room for all residual arcs
-pub record IsReady (vertices : ℕ) (links : List Link) (weights : List ℕ) (diffs heights flows : List ℤ) (arcs slots : ℕ) : Type 0 where
-  pub near_differences : AreWithin (length links) 5000000000000 diffs
-  pub near_heights : AreWithin vertices height_bound heights
-  pub flow : IsFlow links weights flows
-  pub arcs_fit : 2 * length links ≤ arcs
-  pub slots_fit : 2 * length links ≤ slots
+-- what is kept between two phases: a flow, and heights as far as potentials raise them
+pub record IsRested (graph : Graph) (work : Workspace) : Type 0 where
+  pub differences : length work.differences.items ≡ length graph.links.now
+  pub heights : AreWithin graph.vertices raised_bound work.heights.items
+  pub flow : IsFlow graph.links.now graph.weights.now work.flows.items
+  pub fits : Fits graph work.listing
+
+-- what is kept within a phase: also differences and heights from which costs can be reduced
+pub record IsReady (graph : Graph) (work : Workspace) : Type 0 where
+  pub differences : AreWithin (length graph.links.now) largest_link_difference work.differences.items
+  pub heights : AreWithin graph.vertices height_bound work.heights.items
+  pub flow : IsFlow graph.links.now graph.weights.now work.flows.items
+  pub fits : Fits graph work.listing
+
+-- what a phase does in so many steps: each gains something for its differences
+pub record GoesOn (graph : Graph) (old new : Workspace) (steps : ℕ) : Type 0 where
+  pub differences : new.differences.items ≡ old.differences.items
+  pub flow : IsFlow graph.links.now graph.weights.now new.flows.items
+  pub fits : Fits graph new.listing
+  pub gained : (gain old.flows.items old.differences.items +ℤ pos steps) ≤ℤ gain new.flows.items old.differences.items
+
+-- the flows show the heights, as far as potentials raise them, for these differences
+pub record AreShownFor (graph : Graph) (diffs : List ℤ) (work : Workspace) : Type 0 where
+  pub heights : AreWithin graph.vertices raised_bound work.heights.items
+  pub shown : ShowsLinks graph.weights.now work.flows.items (residuals graph.links.now diffs (value_at work.heights.items))
+
+-- the last phase is done: a flow shows the heights for the links' own differences
+pub record IsDone (graph : Graph) (work : Workspace) : Type 0 where
+  pub flow : IsFlow graph.links.now graph.weights.now work.flows.items
+  pub shown : AreShownFor graph (differences_in 0 graph.links.now) work
 
 -- no flow gains more than these flows by over twice the sum of the weights
 abbrev pub IsNear : List Link → List ℕ → List ℤ → List ℤ → Type 0
 IsNear links weights diffs flows = (others : List ℤ) → IsFlow links weights others → gain others diffs ≤ℤ (gain flows diffs +ℤ pos (2 * sum weights))
+
+-- how many calls named no cycle, of those up to one that named one where the answer is true
+abbrev pub others_in : {E : Type 0} → Result Bool E → ℕ
+others_in (Ok named) = if named then 0 else 1
+others_in (Err refused) = 1
+
+-- From one state of a search and of the steps to a later one, where a part of a settling has this result. Each cycle that the search named is one step, and of its
+-- other calls there were so many, or at most so many after a refusal.
+pub record Counts {X A E : Type 0} (calls refusals cycles : X → ℕ) (others : ℕ) (result : Result A E) (search later : X) (steps more : ℕ) : Type 0 where
+  pub more_steps : steps ≤ more
+  pub one_step_each : cycles later + steps ≡ cycles search + more
+  pub all_calls : OnOk result (calls later + steps ≡ calls search + more + others)
+  pub few_calls : calls later + steps ≤ calls search + more + others
+  pub asked : calls search + more ≤ calls later + steps
+  pub refused : refusals later ≡ refusals search + refusals_in result

@@ -4,15 +4,15 @@ use Rattle.std.proofs.lemmas.Slice.Zip.{AllZip-long}
 use Rattle.std.specs.Prelude.{◌≤◌, unsigned_abs}
 use Rattle.th_book.specs.Observed.{Observed}
 use Rattle.th_tables.specs.Rows.{weight_of}
-use Rattle.th_network.specs.Heights.{heights_at}
 use Rattle.th_network.specs.Links.{link_of}
-use Rattle.th_network.specs.Networks.{points_of, vertices_of}
+use Rattle.th_network.specs.Networks.{vertices_of}
 use Rattle.th_search.specs.declared.arcs.Arc.{Arc}
 use Rattle.th_circulation.specs.Inside.Distances.{AreTight}
 use Rattle.th_circulation.specs.Inside.Residuals.{turned}
+use Rattle.th_circulation.specs.Best.{at_points_of}
 use Rattle.th_circulation.specs.Inside.Spans.{AreAbove, AreBelow}
 use Rattle.th_circulation.proofs.BestLemmas.{best_is_shown}
-use Rattle.th_circulation.proofs.SpanLemmas.{AreShown, high_found, low_found, shown_tight}
+use Rattle.th_circulation.proofs.SpanLemmas.{high_found, low_found, shown_tight}
 use Rattle.th_circulation.proofs.TiedLemmas.{arcs_in}
 use Rattle.th_circulation.proofs.spanning.spans.Goals as goal
 
@@ -27,48 +27,33 @@ residual_arcs-requires c =
 pub lowest-requires-clause-tight : goal.lowest-requires-clause-tight
 lowest-requires-clause-tight c =
     let survey = c.args.network.now in
-    let flows = c.args.settled.now.flows in
-    let shown : AreShown survey flows (heights_at (points_of survey) c.args.settled.now.heights) = record { kept = c.requires.benchmarks; circulation = c.requires.circulation; shown = c.requires.shows } in
     let is = c.in_ok-arcs.ensures.arcs ∙ ap (arcs_in survey) c.as_slice.ensures in
-    let both = shown_tight survey flows (heights_at (points_of survey) c.args.settled.now.heights) c.in_ok-arcs.arcs.items c.points-points.ensures.network c.in_ok-arcs.ensures.heavy shown is c.in_ok-arcs.ensures.ends in
+    let both = shown_tight survey c.args.settled.now.flows (at_points_of survey c.args.settled.now.heights) c.in_ok-arcs.arcs.items c.points-points.ensures.network c.in_ok-arcs.ensures.heavy c.requires is c.in_ok-arcs.ensures.ends in
     subst (AreTight (vertices_of survey)) (sym c.deref-2.ensures.value) both.0
 
 pub highest-requires-clause-tight : goal.highest-requires-clause-tight
 highest-requires-clause-tight c =
     let survey = c.args.network.now in
-    let flows = c.args.settled.now.flows in
-    let shown : AreShown survey flows (heights_at (points_of survey) c.args.settled.now.heights) = record { kept = c.requires.benchmarks; circulation = c.requires.circulation; shown = c.requires.shows } in
     let is = c.in_ok-arcs.ensures.arcs ∙ ap (arcs_in survey) c.as_slice.ensures in
-    let both = shown_tight survey flows (heights_at (points_of survey) c.args.settled.now.heights) c.in_ok-arcs.arcs.items c.points-points.ensures.network c.in_ok-arcs.ensures.heavy shown is c.in_ok-arcs.ensures.ends in
+    let both = shown_tight survey c.args.settled.now.flows (at_points_of survey c.args.settled.now.heights) c.in_ok-arcs.arcs.items c.points-points.ensures.network c.in_ok-arcs.ensures.heavy c.requires is c.in_ok-arcs.ensures.ends in
     let back = c.deref-5.ensures.value ∙ c.in_ok-back.ensures ∙ ap (map turned) c.deref.ensures.value in
     subst (AreTight (vertices_of survey)) (sym back) both.1
 
-pub returns-clause-low : goal.returns-clause-low
-returns-clause-low c =
+pub returns : goal.returns
+returns c =
     let survey = c.args.network.now in
+    let heights = c.args.settled.now.heights in
     let flows = c.args.settled.now.flows in
-    let known = heights_at (points_of survey) c.args.settled.now.heights in
-    let shown : AreShown survey flows known = record { kept = c.requires.benchmarks; circulation = c.requires.circulation; shown = c.requires.shows } in
-    let is = c.deref-2.ensures.value ∙ c.in_ok-arcs.ensures.arcs ∙ ap (arcs_in survey) c.as_slice.ensures in
-    low_found survey flows known c.in_ok-low.low shown (subst (λ (arcs : List Arc). AreBelow survey arcs c.in_ok-low.low) is c.in_ok-low.ensures)
-
-pub returns-clause-high : goal.returns-clause-high
-returns-clause-high c =
-    let survey = c.args.network.now in
-    let flows = c.args.settled.now.flows in
-    let known = heights_at (points_of survey) c.args.settled.now.heights in
-    let shown : AreShown survey flows known = record { kept = c.requires.benchmarks; circulation = c.requires.circulation; shown = c.requires.shows } in
-    let is = c.deref-5.ensures.value ∙ c.in_ok-back.ensures ∙ ap (map turned) (c.deref.ensures.value ∙ c.in_ok-arcs.ensures.arcs ∙ ap (arcs_in survey) c.as_slice.ensures) in
-    high_found survey flows known c.in_ok-high.high shown (subst (λ (arcs : List Arc). AreAbove survey arcs c.in_ok-high.high) is c.in_ok-high.ensures)
-
-pub returns-clause-low_shown : goal.returns-clause-low_shown
-returns-clause-low_shown c =
-    let survey = c.args.network.now in
-    let names = points_of survey in
-    best_is_shown survey.observations survey.benchmarks survey.weights (heights_at names c.args.settled.now.heights) (heights_at names c.in_ok-low.low) c.args.settled.now.flows c.requires.benchmarks c.requires.circulation c.requires.shows (returns-clause-low c).best
-
-pub returns-clause-high_shown : goal.returns-clause-high_shown
-returns-clause-high_shown c =
-    let survey = c.args.network.now in
-    let names = points_of survey in
-    best_is_shown survey.observations survey.benchmarks survey.weights (heights_at names c.args.settled.now.heights) (heights_at names c.in_ok-high.high) c.args.settled.now.flows c.requires.benchmarks c.requires.circulation c.requires.shows (returns-clause-high c).best
+    let arcs = c.in_ok-arcs.ensures.arcs ∙ ap (arcs_in survey) c.as_slice.ensures in
+    let forth = c.deref-2.ensures.value ∙ arcs in
+    let back = c.deref-5.ensures.value ∙ c.in_ok-back.ensures ∙ ap (map turned) (c.deref.ensures.value ∙ arcs) in
+    let low = low_found survey flows (at_points_of survey heights) c.in_ok-low.low c.requires (subst (λ (arcs : List Arc). AreBelow survey arcs c.in_ok-low.low) forth c.in_ok-low.ensures) in
+    let high = high_found survey flows (at_points_of survey heights) c.in_ok-high.high c.requires (subst (λ (arcs : List Arc). AreAbove survey arcs c.in_ok-high.high) back c.in_ok-high.ensures) in
+    record {
+      is_low = low;
+      is_high = high;
+      shows_low = best_is_shown survey.observations survey.benchmarks survey.weights (at_points_of survey heights) (at_points_of survey c.in_ok-low.low) flows c.requires.kept c.requires.circulation c.requires.shows low.best;
+      shows_high = best_is_shown survey.observations survey.benchmarks survey.weights (at_points_of survey heights) (at_points_of survey c.in_ok-high.high) flows c.requires.kept c.requires.circulation c.requires.shows high.best;
+      low_at_points = c.in_ok-low.ensures.points;
+      high_at_points = c.in_ok-high.ensures.points;
+    }

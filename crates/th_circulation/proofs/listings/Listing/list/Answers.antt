@@ -9,24 +9,24 @@ use Rattle.th_circulation.specs.Inside.Listings.{AreResidual}
 use Rattle.th_circulation.proofs.ListingLemmas.{residual_pushed}
 use Rattle.th_circulation.proofs.listings.Listing.list.Goals as goal
 
-pub returns-then-room-gt0-clause-residual : goal.returns-then-room-gt0-clause-residual
-returns-then-room-gt0-clause-residual c =
+pub returns-then-room-gt0-clause-listed : goal.returns-then-room-gt0-clause-listed
+returns-then-room-gt0-clause-listed c =
     let links = c.args.graph.now.links.now in
     let weights = c.args.graph.now.weights.now in
     let heights = value_at c.args.heights.now in
     let is_room = c.if-room-gt0.true in
     let room = (c.room.ensures.room 1).1 (omega (arith, ints)) in
-    let pushed = residual_pushed links weights c.args.differences.now heights c.args.flows.now c.args.self.now.arcs.items c.args.self.now.slots.items c.args.slot c.arc.result c.requires.residual c.requires.place room c.arc.ensures.arc in
+    let pushed = residual_pushed links weights c.args.differences.now heights c.args.flows.now c.args.self.now.arcs.items c.args.self.now.slots.items c.args.slot c.arc.result c.requires.listed c.requires.place room c.arc.ensures.arc in
     subst (λ (arcs : List Arc). AreResidual links weights c.args.differences.now heights c.args.flows.now arcs c.add.new.self.slots.items) (sym c.add.ensures.arcs) (subst (λ (slots : List Slot). AreResidual links weights c.args.differences.now heights c.args.flows.now (c.args.self.now.arcs.items ++ c.arc.result ∷ []) slots) (sym c.add.ensures.slots) pushed)
 
-pub returns-then-room-gt0-clause-listed : goal.returns-then-room-gt0-clause-listed
-returns-then-room-gt0-clause-listed c = λ room. subst (λ (slots : List Slot). Contains slots c.args.slot) (sym c.add.ensures.slots) (Contains-push c.args.self.now.slots.items c.args.slot)
+pub returns-then-room-gt0-clause-slot : goal.returns-then-room-gt0-clause-slot
+returns-then-room-gt0-clause-slot c = λ room. subst (λ (slots : List Slot). Contains slots c.args.slot) (sym c.add.ensures.slots) (Contains-push c.args.self.now.slots.items c.args.slot)
 
 pub returns-then-room-gt0-clause-kept : goal.returns-then-room-gt0-clause-kept
 returns-then-room-gt0-clause-kept c = λ other there. subst (λ (slots : List Slot). Contains slots other) (sym c.add.ensures.slots) (Contains-append_left c.args.self.now.slots.items (c.args.slot ∷ []) other there)
 
-pub returns-else-room-gt0-clause-listed : goal.returns-else-room-gt0-clause-listed
-returns-else-room-gt0-clause-listed c = λ room.
+pub returns-else-room-gt0-clause-slot : goal.returns-else-room-gt0-clause-slot
+returns-else-room-gt0-clause-slot c = λ room.
     let more = (c.room.ensures.room 1).0 room in
     let none = c.if-room-gt0.false in
     absurd (omega (arith, ints))

@@ -7,4 +7,9 @@ links-preserved c =
     let i = c.links.invariant in
     let first = c.list.ensures in
     let second = c.list-in-links.ensures in
-    (omega arith, omega arith, omega arith, second.residual, all_more c.args.graph.now.weights.now c.args.flows.now c.links.self.slots.items c.list-in-links.new.self.slots.items c.links.place i.4 (λ other there. second.kept other (first.kept other there)) (λ room. second.kept _ (first.listed room)) second.listed)
+    record {
+      few = omega arith;
+      room = record { arcs = omega arith; slots = omega arith };
+      listed = second.listed;
+      all = all_more c.args.graph.now.weights.now c.args.flows.now c.links.self.slots.items c.list-in-links.new.self.slots.items c.links.place i.all (λ other there. second.kept other (first.kept other there)) (λ room. second.kept _ (first.slot room)) second.slot;
+    }

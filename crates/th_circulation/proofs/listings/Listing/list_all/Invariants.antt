@@ -1,13 +1,12 @@
 use Rattle.std.proofs.Common.{◌*◌, ◌≤◌}
-use Rattle.std.specs.Vec.{vec_capacity, vec_len}
-use Rattle.th_circulation.specs.Inside.Listings.{AreResidual, HasAllBefore}
-use Rattle.th_search.specs.Potentials.{value_at}
+use Rattle.std.specs.Vec.{vec_len}
+use Rattle.th_circulation.specs.Inside.Listings.{HasAllBefore, KeepsRoom, Lists}
 use Rattle.th_circulation.proofs.listings.Listing.list_all.Given as goal
 
 abbrev pub invariant-links : goal.invariant-links
-invariant-links l =
-    (vec_len l.self.slots ≤ 2 * l.place)
-    × (vec_capacity l.fn.self.arcs ≤ vec_capacity l.self.arcs)
-    × (vec_capacity l.fn.self.slots ≤ vec_capacity l.self.slots)
-    × AreResidual l.graph.links.now l.graph.weights.now l.differences (value_at l.heights) l.flows l.self.arcs.items l.self.slots.items
-    × HasAllBefore l.graph.weights.now l.flows l.self.slots.items l.place
+invariant-links l = record {
+  few : vec_len l.self.slots ≤ 2 * l.place;
+  room : KeepsRoom l.fn.self l.self;
+  listed : Lists l.graph l.differences l.heights l.flows l.self;
+  all : HasAllBefore l.graph.weights.now l.flows l.self.slots.items l.place;
+}

@@ -1,10 +1,11 @@
-use Rattle.std.proofs.Common.{List, ℕ, ℤ, All, length, eqb, map, take, drop, ◌++◌, ◌<◌, ◌-ℤ◌, ap, sym, ◌∙◌, subst, arith, refl}
+use Rattle.std.proofs.lemmas.Int.{ints}
+use Rattle.std.proofs.Common.{List, ℕ, ℤ, All, length, eqb, map, take, drop, ◌++◌, ◌<◌, ◌-ℤ◌, ap, sym, ◌∙◌, subst, arith}
 use Rattle.std.specs.List.{IsDistinct}
 use Rattle.th_search.specs.Answers.{IsAnswer}
 use Rattle.th_search.specs.Potentials.{ArePotentials, value_at}
 use Rattle.th_search.specs.Walks.{IsArc, IsNegativeCycle}
 use Rattle.th_search.specs.declared.arcs.Arc.{Arc}
-use Rattle.th_circulation.specs.Inside.Bounds.{raised_bound}
+use Rattle.th_circulation.specs.Inside.Bounds.{farthest, raised_bound}
 use Rattle.th_circulation.specs.declared.slots.Slot.{Slot}
 use Rattle.th_circulation.specs.Inside.Cycles.{leads_to}
 use Rattle.th_circulation.specs.Inside.Flows.{ShowsLinks, residuals}
@@ -23,15 +24,15 @@ search-requires-clause-arcs g c =
     let work = c.args.self.now in
     let next = c.list_next.new.self in
     let ready = c.requires.ready in
-    let residual = c.list_next.ensures.residual in
-    subst (All (IsArc graph.vertices)) (sym c.deref.ensures.value) (arcs_are graph.vertices graph.links.now graph.weights.now work.differences.items next.heights.items work.flows.items next.listing.arcs.items next.listing.slots.items graph.graph ready.near_differences c.list_next.ensures.heights residual)
+    let residual = c.list_next.ensures.listed in
+    subst (All (IsArc graph.vertices)) (sym c.deref.ensures.value) (arcs_are graph.vertices graph.links.now graph.weights.now work.differences.items next.heights.items work.flows.items next.listing.arcs.items next.listing.slots.items graph.graph ready.differences c.list_next.ensures.ready.heights residual)
 
 pub cancel-requires-clause-numbers : goal.cancel-requires-clause-numbers
 cancel-requires-clause-numbers g c =
     let graph = c.args.graph.now in
     let work = c.args.self.now in
     let next = c.list_next.new.self in
-    let residual = c.list_next.ensures.residual in
+    let residual = c.list_next.ensures.listed in
     let negative = subst (λ (arcs : List Arc). IsNegativeCycle arcs c.in-Cycle.cycle.items) c.deref.ensures.value (subst (IsAnswer graph.vertices c.deref.result.now) c.in-Cycle.is c.in_ok-cycle.ensures.answer) in
     subst (λ (slots : List Slot). All (λ number. number < length slots) c.deref-in-Cycle-2.result.now) (sym c.deref-in-Cycle.ensures.value) (subst (All (λ number. number < length next.listing.slots.items)) (sym c.deref-in-Cycle-2.ensures.value) (numbers_of_cycle graph.links.now graph.weights.now work.differences.items (value_at next.heights.items) work.flows.items next.listing.arcs.items next.listing.slots.items c.in-Cycle.cycle.items residual negative))
 
@@ -40,7 +41,7 @@ cancel-requires-clause-once g c =
     let graph = c.args.graph.now in
     let work = c.args.self.now in
     let next = c.list_next.new.self in
-    let residual = c.list_next.ensures.residual in
+    let residual = c.list_next.ensures.listed in
     let negative = subst (λ (arcs : List Arc). IsNegativeCycle arcs c.in-Cycle.cycle.items) c.deref.ensures.value (subst (IsAnswer graph.vertices c.deref.result.now) c.in-Cycle.is c.in_ok-cycle.ensures.answer) in
     subst (λ (slots : List Slot). IsDistinct eqb (map (leads_to graph.links.now) (slots_at slots c.deref-in-Cycle-2.result.now))) (sym c.deref-in-Cycle.ensures.value) (subst (λ (cycle : List ℕ). IsDistinct eqb (map (leads_to graph.links.now) (slots_at next.listing.slots.items cycle))) (sym c.deref-in-Cycle-2.ensures.value) (cycle_enters_once graph.links.now graph.weights.now work.differences.items (value_at next.heights.items) work.flows.items next.listing.arcs.items next.listing.slots.items c.in-Cycle.cycle.items residual negative))
 
@@ -51,44 +52,37 @@ raise-requires-clause-potentials g c =
     let next = c.list_next.new.self in
     let ready = c.requires.ready in
     let few = graph.graph.few_vertices in
-    let residual = c.list_next.ensures.residual in
+    let residual = c.list_next.ensures.listed in
     let found = subst (λ (arcs : List Arc). ArePotentials graph.vertices arcs c.in-Potentials.potentials.items) c.deref.ensures.value (subst (IsAnswer graph.vertices c.deref.result.now) c.in-Potentials.is c.in_ok-cycle.ensures.answer) in
-    subst (AreWithin graph.vertices 40000000000000000) (sym c.deref-in-Potentials.ensures.value) (potentials_within graph.vertices next.listing.arcs.items c.in-Potentials.potentials.items few (arcs_are graph.vertices graph.links.now graph.weights.now work.differences.items next.heights.items work.flows.items next.listing.arcs.items next.listing.slots.items graph.graph ready.near_differences c.list_next.ensures.heights residual) found)
+    subst (AreWithin graph.vertices farthest) (sym c.deref-in-Potentials.ensures.value) (potentials_within graph.vertices next.listing.arcs.items c.in-Potentials.potentials.items few (arcs_are graph.vertices graph.links.now graph.weights.now work.differences.items next.heights.items work.flows.items next.listing.arcs.items next.listing.slots.items graph.graph ready.differences c.list_next.ensures.ready.heights residual) found)
 
-pub returns-in-Cycle-clause-flow : goal.returns-in-Cycle-clause-flow
-returns-in-Cycle-clause-flow g c =
+pub returns-in-Cycle-clause-goes_on : goal.returns-in-Cycle-clause-goes_on
+returns-in-Cycle-clause-goes_on g c =
     let graph = c.args.graph.now in
     let work = c.args.self.now in
     let next = c.list_next.new.self in
-    let residual = c.list_next.ensures.residual in
+    let residual = c.list_next.ensures.listed in
     let negative = subst (λ (arcs : List Arc). IsNegativeCycle arcs c.in-Cycle.cycle.items) c.deref.ensures.value (subst (IsAnswer graph.vertices c.deref.result.now) c.in-Cycle.is c.in_ok-cycle.ensures.answer) in
     let lent = ap (λ (fs : List ℤ). length fs) c.deref_mut.ensures.value in
     let kept = c.cancel.auto.flows in
     let long = c.deref_mut.ensures.len in
     let back = written next.flows.len c.cancel.new.flows next.flows.items (omega arith) (omega arith) in
     let sent = sent_retold graph.weights.now next.listing.slots.items _ c.in-Cycle.cycle.items _ work.flows.items _ _ _ c.deref-in-Cycle.ensures.value c.deref-in-Cycle-2.ensures.value (c.deref_mut.ensures.value ∙ c.list_next.ensures.flows) (sym back) c.cancel.ensures in
-    sent_flow graph.links.now graph.weights.now work.differences.items (value_at next.heights.items) work.flows.items _ next.listing.arcs.items next.listing.slots.items c.in-Cycle.cycle.items c.requires.ready.flow residual negative sent
-
-pub returns-in-Cycle-clause-answer : goal.returns-in-Cycle-clause-answer
-returns-in-Cycle-clause-answer g c =
-    let graph = c.args.graph.now in
-    let work = c.args.self.now in
-    let next = c.list_next.new.self in
-    let residual = c.list_next.ensures.residual in
-    let negative = subst (λ (arcs : List Arc). IsNegativeCycle arcs c.in-Cycle.cycle.items) c.deref.ensures.value (subst (IsAnswer graph.vertices c.deref.result.now) c.in-Cycle.is c.in_ok-cycle.ensures.answer) in
-    let lent = ap (λ (fs : List ℤ). length fs) c.deref_mut.ensures.value in
-    let kept = c.cancel.auto.flows in
-    let long = c.deref_mut.ensures.len in
-    let back = written next.flows.len c.cancel.new.flows next.flows.items (omega arith) (omega arith) in
-    let sent = sent_retold graph.weights.now next.listing.slots.items _ c.in-Cycle.cycle.items _ work.flows.items _ _ _ c.deref-in-Cycle.ensures.value c.deref-in-Cycle-2.ensures.value (c.deref_mut.ensures.value ∙ c.list_next.ensures.flows) (sym back) c.cancel.ensures in
-    (c.list_next.ensures.heights, omega arith, sent_gain_more graph.links.now graph.weights.now work.differences.items (value_at next.heights.items) work.flows.items _ next.listing.arcs.items next.listing.slots.items c.in-Cycle.cycle.items c.requires.ready.near_differences.each c.requires.ready.flow residual negative sent)
+    let gained = sent_gain_more graph.links.now graph.weights.now work.differences.items (value_at next.heights.items) work.flows.items _ next.listing.arcs.items next.listing.slots.items c.in-Cycle.cycle.items c.requires.ready.differences.each c.requires.ready.flow residual negative sent in
+    let ticked = c.tick.ensures in
+    record {
+      differences = c.list_next.ensures.differences;
+      flow = sent_flow graph.links.now graph.weights.now work.differences.items (value_at next.heights.items) work.flows.items _ next.listing.arcs.items next.listing.slots.items c.in-Cycle.cycle.items c.requires.ready.flow residual negative sent;
+      fits = c.list_next.ensures.ready.fits;
+      gained = omega (arith, ints);
+    }
 
 pub returns-in-Potentials-clause-answer : goal.returns-in-Potentials-clause-answer
 returns-in-Potentials-clause-answer g c =
     let graph = c.args.graph.now in
     let work = c.args.self.now in
     let next = c.list_next.new.self in
-    let residual = c.list_next.ensures.residual in
+    let residual = c.list_next.ensures.listed in
     let found = subst (λ (arcs : List Arc). ArePotentials graph.vertices arcs c.in-Potentials.potentials.items) c.deref.ensures.value (subst (IsAnswer graph.vertices c.deref.result.now) c.in-Potentials.is c.in_ok-cycle.ensures.answer) in
     let lent = ap (λ (hs : List ℤ). length hs) c.deref_mut-in-Potentials.ensures.value in
     let kept = c.raise.auto.heights in
@@ -98,4 +92,7 @@ returns-in-Potentials-clause-answer g c =
     let all = all_listed next.listing.arcs.items c.in-Potentials.potentials.items (HasAllBefore graph.weights.now work.flows.items next.listing.slots.items (length graph.links.now)) c.list_next.ensures.next found.feasible in
     let raised_heights = take next.heights.len (c.raise.new.heights ++ drop (length c.raise.new.heights) next.heights.items) in
     let raised = λ (v : ℕ). ap (λ (hs : List ℤ). value_at hs v) back ∙ c.raise.ensures.each v ∙ ap (λ (z : ℤ). z -ℤ value_at c.deref-in-Potentials.result.now v) (old v) ∙ ap (λ (ps : List ℤ). value_at next.heights.items v -ℤ value_at ps v) c.deref-in-Potentials.ensures.value in
-    (subst (AreWithin graph.vertices raised_bound) (sym back) c.raise.ensures.within, refl, c.list_next.ensures.flows, subst (λ (fs : List ℤ). ShowsLinks graph.weights.now fs (residuals graph.links.now work.differences.items (value_at raised_heights))) (sym c.list_next.ensures.flows) (potentials_show graph.links.now graph.weights.now work.differences.items (value_at next.heights.items) work.flows.items next.listing.arcs.items next.listing.slots.items c.in-Potentials.potentials.items raised_heights c.requires.ready.flow c.requires.ready.near_differences.each residual all found.feasible raised))
+    record {
+      heights = subst (AreWithin graph.vertices raised_bound) (sym back) c.raise.ensures.within;
+      shown = subst (λ (fs : List ℤ). ShowsLinks graph.weights.now fs (residuals graph.links.now work.differences.items (value_at raised_heights))) (sym c.list_next.ensures.flows) (potentials_show graph.links.now graph.weights.now work.differences.items (value_at next.heights.items) work.flows.items next.listing.arcs.items next.listing.slots.items c.in-Potentials.potentials.items raised_heights c.requires.ready.flow c.requires.ready.differences.each residual all found.feasible raised);
+    }

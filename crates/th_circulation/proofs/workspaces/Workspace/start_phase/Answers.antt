@@ -2,6 +2,8 @@ use Rattle.std.proofs.Common.{ℤ, List, length, ap, sym, ◌∙◌, subst, arit
 use Rattle.th_circulation.specs.Inside.Bounds.{height_bound}
 use Rattle.th_circulation.specs.Inside.Graphs.{AreWithin}
 use Rattle.th_circulation.proofs.HeightLemmas.{written}
+use Rattle.th_circulation.proofs.PhaseStarts.{differences_within}
+use Rattle.th_network.specs.Links.{largest_link_difference}
 use Rattle.th_circulation.proofs.workspaces.Workspace.start_phase.Goals as goal
 
 pub returns-clause-differences : goal.returns-clause-differences
@@ -11,9 +13,15 @@ returns-clause-differences c =
     let long = c.deref_mut.ensures.len in
     written c.args.self.now.differences.len c.set_differences.new.differences c.args.self.now.differences.items (omega arith) (omega arith) ∙ c.set_differences.ensures
 
-pub returns-clause-heights : goal.returns-clause-heights
-returns-clause-heights c =
+pub returns-clause-ready : goal.returns-clause-ready
+returns-clause-ready c =
+    let graph = c.args.graph.now in
     let lent = ap (λ (hs : List ℤ). length hs) c.deref_mut-2.ensures.value in
     let kept = c.double.auto.heights in
     let long = c.deref_mut-2.ensures.len in
-    subst (AreWithin c.args.graph.now.vertices height_bound) (sym (written c.args.self.now.heights.len c.double.new.heights c.args.self.now.heights.items (omega arith) (omega arith))) c.double.ensures.within
+    record {
+      differences = subst (AreWithin (length graph.links.now) largest_link_difference) (sym (returns-clause-differences c)) (differences_within graph.links.now c.args.phase graph.graph.near);
+      heights = subst (AreWithin graph.vertices height_bound) (sym (written c.args.self.now.heights.len c.double.new.heights c.args.self.now.heights.items (omega arith) (omega arith))) c.double.ensures.within;
+      flow = c.requires.rested.flow;
+      fits = c.requires.rested.fits;
+    }
