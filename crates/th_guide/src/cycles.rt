@@ -1,9 +1,5 @@
-use crate::goals::Goals;
-use crate::links::Link;
-use crate::residual_arcs::ResidualArc;
-use crate::rows::add;
-use crate::sides::{Side, Sides};
 use std::alloc::{AllocError, Global};
+use th_tree::{Goals, Link, ResidualArc, Side, Sides, push_if_room};
 
 /// Among how many ways out of a vertex the next one is chosen.
 const NEAR: u32 = 8;
@@ -139,7 +135,7 @@ impl Cycles {
                 chosen = way;
             }
         }
-        add(&mut self.walk, chosen)?;
+        push_if_room(&mut self.walk, chosen)?;
         let length = u32::try_from(self.walk.len()).ok()?;
         *self.places.get_mut(self.here as usize)? = length;
         self.here = sides.at(chosen)?.other;
@@ -154,7 +150,7 @@ impl Cycles {
         for way in self.walk.iter().skip(from) {
             let side = sides.at(*way)?;
             least = least.min(side.rise);
-            add(&mut self.cycle, side.arc)?;
+            push_if_room(&mut self.cycle, side.arc)?;
         }
         self.take(sides, from, least)?;
         u32::try_from(least).ok()

@@ -6,23 +6,12 @@
 //! Whoever takes a proposal checks it: a wrong one costs time, and nothing else.
 //!
 //! No arithmetic wraps. Where a number leaves its range, or a row has no such place, the guide gives up,
-//! and proposes nothing from then on. All its rows are made by `Guide::new`.
+//! and proposes nothing from then on. All its rows are made by `Guide::new`. The spanning tree and the
+//! rest of what the simplex works on are in `th_tree`.
 #![tactic(auto)]
-
-// Links, their residual arcs, and the arcs out of each vertex.
-mod links;
-mod residual_arcs;
-mod sides;
-
-// The spanning tree, and the part of it that a pivot moves.
-mod families;
-mod heights;
-mod parts;
-mod trees;
 
 // One pivot: what leaves, how far the line search goes, what enters.
 mod breakpoints;
-mod goals;
 mod line_search;
 mod pricing;
 
@@ -30,10 +19,7 @@ mod pricing;
 mod cycles;
 mod guide;
 mod planting;
-mod rows;
-mod scales;
 mod simplex;
 
 pub use guide::Guide;
-pub use links::Link;
-pub use residual_arcs::ResidualArc;
+pub use th_tree::{Link, ResidualArc};

@@ -1,8 +1,6 @@
-use crate::heights::Stage;
-use crate::rows::add;
 use crate::simplex::Simplex;
-use crate::trees::Up;
 use std::alloc::{AllocError, Global};
+use th_tree::{Stage, Up, push_if_room};
 
 /// A tree to start from: breadth first from vertex 0, each vertex at the weighted median of the heights
 /// that its sides say which lead to vertices in the tree.
@@ -57,7 +55,7 @@ impl Planting {
     fn begin(&mut self, simplex: &mut Simplex) -> Option<()> {
         self.order.clear();
         simplex.heights.at_mut(0)?.stage = Stage::Queued;
-        add(&mut self.order, 0)
+        push_if_room(&mut self.order, 0)
     }
 
     /// Plants the vertex at a place of the order.
@@ -100,7 +98,7 @@ impl Planting {
                 Stage::Queued => {}
                 Stage::Unseen => {
                     simplex.heights.at_mut(side.other)?.stage = Stage::Queued;
-                    add(&mut self.order, side.other)?;
+                    push_if_room(&mut self.order, side.other)?;
                 }
             }
         }

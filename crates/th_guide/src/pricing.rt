@@ -1,4 +1,4 @@
-use crate::trees::{Tree, Up};
+use th_tree::{Tree, Up};
 
 /// How many vertices, one after another, are priced together.
 const BLOCK: usize = 128;

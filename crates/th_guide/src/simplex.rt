@@ -1,15 +1,8 @@
 use crate::breakpoints::{Breakpoint, Turn};
-use crate::goals::Goals;
-use crate::heights::{Heights, Stage};
 use crate::line_search::{Line, LineSearch};
-use crate::links::Link;
-use crate::parts::Part;
 use crate::pricing::Pricing;
-use crate::residual_arcs::ResidualArc;
-use crate::scales::Scale;
-use crate::sides::Sides;
-use crate::trees::{Tree, Up};
 use std::alloc::{AllocError, Global};
+use th_tree::{Goals, Heights, Link, Part, ResidualArc, Scale, Sides, Stage, Tree, Up};
 
 /// A dual network simplex with long steps.
 ///

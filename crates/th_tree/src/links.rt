@@ -14,7 +14,7 @@ pub struct Link {
 
 impl Link {
     /// A link from vertex 0 to itself, on which nothing can flow.
-    pub(crate) const NONE: Link = Link {
+    pub const NONE: Link = Link {
         tail: 0,
         head: 0,
         difference: 0,

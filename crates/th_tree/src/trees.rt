@@ -4,7 +4,7 @@ use std::alloc::{AllocError, Global};
 
 /// The arc of the tree from a vertex up to its parent.
 #[derive(Clone, Copy)]
-pub(crate) struct Up {
+pub struct Up {
     pub parent: u32,
     /// The residual arc that leads up.
     pub arc: ResidualArc,
@@ -29,7 +29,7 @@ impl Up {
 
 /// A spanning tree whose root is vertex 0, with the flows on it.
 #[derive(Drop)]
-pub(crate) struct Tree {
+pub struct Tree {
     ups: Vec<Up>,
     pub families: Families,
 }
@@ -49,6 +49,7 @@ impl Tree {
     }
 
     /// The way up from each vertex, that of vertex 0 first.
+    #[inline]
     pub fn ups(&self) -> &[Up] {
         &self.ups
     }
@@ -65,6 +66,7 @@ impl Tree {
     }
 
     /// Hangs a vertex below the parent that the way up leads to.
+    #[inline]
     pub fn attach(&mut self, vertex: u32, up: Up) -> Option<()> {
         *self.up_mut(vertex)? = up;
         self.families.attach(vertex, up.parent);
@@ -89,6 +91,7 @@ impl Tree {
     }
 
     /// Adds the flow and the size of a vertex's branch to those of its parent.
+    #[inline]
     pub fn add_to_parent(&mut self, vertex: u32) -> Option<()> {
         let up = self.up(vertex)?;
         let parent = self.up_mut(up.parent)?;

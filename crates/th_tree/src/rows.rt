@@ -1,6 +1,6 @@
 /// Adds to a row that was made with all the room that it needs; `None` where it has no more room.
 #[inline]
-pub(crate) fn add<T: Copy>(row: &mut Vec<T>, item: T) -> Option<()> {
+pub fn push_if_room<T: Copy>(row: &mut Vec<T>, item: T) -> Option<()> {
     if row.len() >= row.capacity() {
         return None;
     }

@@ -18,7 +18,7 @@ const COARSE_UNIT: i64 = 1_000;
 /// most pivots would move nothing. The noise makes nearly all of these sums differ from 0. That of a
 /// whole cycle is less than half a unit, so flows that are optimal with it are so without it.
 #[derive(Clone, Copy)]
-pub(crate) struct Scale {
+pub struct Scale {
     times: i64,
     noise: i64,
 }

@@ -4,7 +4,7 @@ use std::alloc::{AllocError, Global};
 
 /// The flow that is aimed at on a link; 0 for a link of the tree, whose flow the tree has.
 #[derive(Clone, Copy)]
-pub(crate) struct Goal {
+pub struct Goal {
     pub flow: i32,
     /// The most that can flow, either way.
     pub weight: i32,
@@ -26,7 +26,7 @@ impl Goal {
 
 /// The flows that are aimed at.
 #[derive(Drop)]
-pub(crate) struct Goals {
+pub struct Goals {
     rows: Vec<Goal>,
 }
 

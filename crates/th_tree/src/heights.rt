@@ -3,7 +3,7 @@ use std::alloc::{AllocError, Global};
 
 /// How far a vertex is known.
 #[derive(Clone, Copy, PartialEq, Eq)]
-pub(crate) enum Stage {
+pub enum Stage {
     /// No side was found that leads to it.
     Unseen,
     /// It waits for its height.
@@ -14,7 +14,7 @@ pub(crate) enum Stage {
 
 /// What the line search reads of a vertex.
 #[derive(Clone, Copy)]
-pub(crate) struct Vertex {
+pub struct Vertex {
     /// Its height, by the scale that is used.
     pub height: i64,
     /// The number of the last part that it was in.
@@ -32,7 +32,7 @@ impl Vertex {
 
 /// The heights of vertices: their potentials.
 #[derive(Drop)]
-pub(crate) struct Heights {
+pub struct Heights {
     rows: Vec<Vertex>,
 }
 

@@ -9,10 +9,11 @@ pub struct ResidualArc {
 
 impl ResidualArc {
     /// The arc of no link.
-    pub(crate) const NONE: ResidualArc = ResidualArc { number: u32::MAX };
+    pub const NONE: ResidualArc = ResidualArc { number: u32::MAX };
 
     /// The arc along the link at a place.
-    pub(crate) fn along(place: u32) -> Option<ResidualArc> {
+    #[inline]
+    pub fn along(place: u32) -> Option<ResidualArc> {
         let number = place.checked_mul(2)?;
         Some(ResidualArc { number })
     }
@@ -31,7 +32,7 @@ impl ResidualArc {
 
     /// The arc of the same link that leads back.
     #[inline]
-    pub(crate) fn reversed(self) -> ResidualArc {
+    pub fn reversed(self) -> ResidualArc {
         ResidualArc {
             number: self.number ^ 1,
         }
@@ -39,7 +40,7 @@ impl ResidualArc {
 
     /// Its row in a row of links, of flows and the like.
     #[inline]
-    pub(crate) fn row(self) -> usize {
+    pub fn row(self) -> usize {
         self.place() as usize
     }
 }

@@ -1,11 +1,11 @@
 use crate::families::Families;
 use crate::heights::Heights;
-use crate::rows::add;
+use crate::rows::push_if_room;
 use std::alloc::{AllocError, Global};
 
 /// The part of a tree that a pivot moves against the rest.
 #[derive(Drop)]
-pub(crate) struct Part {
+pub struct Part {
     /// Its vertices, each behind its parent.
     pub vertices: Vec<u32>,
     /// Its number, which its vertices have as that of their last part.
@@ -91,7 +91,7 @@ impl Part {
     #[inline]
     fn take(&mut self, heights: &mut Heights, vertex: u32) -> Option<()> {
         heights.at_mut(vertex)?.part = self.number;
-        add(&mut self.vertices, vertex)
+        push_if_room(&mut self.vertices, vertex)
     }
 
     /// Raises all its vertices by a rise.

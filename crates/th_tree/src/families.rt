@@ -19,7 +19,7 @@ impl Family {
 
 /// The children of each vertex of a tree, as lists of which any can be taken out.
 #[derive(Drop)]
-pub(crate) struct Families {
+pub struct Families {
     rows: Vec<Family>,
 }
 
