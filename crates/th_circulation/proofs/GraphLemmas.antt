@@ -15,6 +15,8 @@ use Rattle.th_circulation.specs.Inside.Cycles.{HasRoom, link_at}
 use Rattle.th_circulation.specs.Inside.Listings.{slot_at, slots_at}
 use Rattle.th_circulation.specs.Inside.Graphs.{AreWithin, IsGraph}
 use Rattle.th_circulation.proofs.CycleLemmas.{bounded_at}
+use Rattle.th_network.specs.Links.{largest_link_difference}
+use Rattle.th_tables.specs.Limits.{max_weight}
 
 -- the ends of a slot's link are vertices
 pub ends_at : (vertices : ℕ) (links : List Link) (weights : List ℕ) (slot : Slot) → IsGraph vertices links weights → slot.place < length links → ((link_at links slot).tail < vertices) × ((link_at links slot).head < vertices)
@@ -23,9 +25,9 @@ ends_at vertices links weights slot graph within = graph.ends slot.place (record
 pub record IsNear (high low diff : ℤ) : Type 0 where
   pub high_near : unsigned_abs high ≤ height_bound
   pub low_near : unsigned_abs low ≤ height_bound
-  pub diff_near : unsigned_abs diff ≤ 5000000000000
+  pub diff_near : unsigned_abs diff ≤ largest_link_difference
 
-pub near_at : (vertices : ℕ) (links : List Link) (weights : List ℕ) (heights diffs : List ℤ) (slot : Slot) → IsGraph vertices links weights → AreWithin vertices height_bound heights → AreWithin (length links) 5000000000000 diffs → slot.place < length links → IsNear (value_at heights (link_at links slot).head) (value_at heights (link_at links slot).tail) (slice_index_or diffs slot.place (pos 0))
+pub near_at : (vertices : ℕ) (links : List Link) (weights : List ℕ) (heights diffs : List ℤ) (slot : Slot) → IsGraph vertices links weights → AreWithin vertices height_bound heights → AreWithin (length links) largest_link_difference diffs → slot.place < length links → IsNear (value_at heights (link_at links slot).head) (value_at heights (link_at links slot).tail) (slice_index_or diffs slot.place (pos 0))
 near_at vertices links weights heights diffs slot graph near_heights near_diffs within =
     let ends = ends_at vertices links weights slot graph within in
     let each = near_heights.each in
@@ -38,7 +40,7 @@ near_at vertices links weights heights diffs slot graph near_heights near_diffs 
 
 pub record IsLight (weight : ℕ) (flow : ℤ) : Type 0 where
   pub bounded : unsigned_abs flow ≤ weight
-  pub light : weight ≤ 1000
+  pub light : weight ≤ max_weight
 
 pub flows_long : (weights : List ℕ) (flows : List ℤ) → AreBounded weights flows → length flows ≡ length weights
 flows_long weights flows bounded = AllZip-long (λ weight flow. unsigned_abs flow ≤ weight) weights flows bounded

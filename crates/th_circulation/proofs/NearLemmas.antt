@@ -10,6 +10,8 @@ use Rattle.th_circulation.specs.Inside.Residuals.{turned}
 use Rattle.th_circulation.specs.Inside.Bounds.{farthest}
 use Rattle.th_circulation.specs.Inside.Distances.{AreTight, IsKept, KeepCosts, opposite}
 use Rattle.th_circulation.proofs.MisreadLemmas.{lt_z-false}
+use Rattle.th_network.specs.Limits.{max_points}
+use Rattle.th_search.specs.Limits.{max_cost, max_vertices}
 
 -- no arc enters the set
 abbrev pub EntersNot : (ℕ → Bool) → Arc → Type 0
@@ -101,7 +103,7 @@ find_entry {P} inside (arc ∷ arcs) all = by (inside arc.head) (inside arc.tail
 
 -- ---- bands: how many vertices are more than so many of the largest costs above 0
 abbrev cost_limit : ℕ
-cost_limit = 10000000000000
+cost_limit = max_cost
 
 abbrev beyond : (ℕ → ℤ) → ℕ → ℕ → Bool
 beyond numbers bands v = lt_z (pos (bands * cost_limit)) (numbers v)
@@ -150,10 +152,10 @@ with_ends : (n : ℕ) (numbers : ℕ → ℤ) (arcs : List Arc) → AllByRecursi
 with_ends n numbers [] ends kept = tt
 with_ends n numbers (arc ∷ arcs) ends kept = (record { ends = ends.0; kept = kept.0 }, with_ends n numbers arcs ends.1 kept.1)
 
-high : (n : ℕ) (arcs : List Arc) (numbers : ℕ → ℤ) → 1 ≤ n → n ≤ 4001 → AllByRecursion (IsArc n) arcs → AllEntered n arcs → KeepCosts arcs numbers → (v : ℕ) → v < n → numbers v ≤ℤ pos farthest
-high n arcs numbers some few ends entered keep v within = within_band 4000 (numbers v) (none_counted (beyond numbers 4000) n v (by (band n arcs numbers some entered keep.start (with_ends n numbers arcs ends (recursion_from_All (IsKept numbers) arcs keep.along)) 4000)) within)
+high : (n : ℕ) (arcs : List Arc) (numbers : ℕ → ℤ) → 1 ≤ n → n ≤ max_vertices → AllByRecursion (IsArc n) arcs → AllEntered n arcs → KeepCosts arcs numbers → (v : ℕ) → v < n → numbers v ≤ℤ pos farthest
+high n arcs numbers some few ends entered keep v within = within_band max_points (numbers v) (none_counted (beyond numbers max_points) n v (by (band n arcs numbers some entered keep.start (with_ends n numbers arcs ends (recursion_from_All (IsKept numbers) arcs keep.along)) max_points)) within)
   where
-    by : (count_to (beyond numbers 4000) n ≡ 0) ⊎ ((count_to (beyond numbers 4000) n + 4000 + 1) ≤ n) → count_to (beyond numbers 4000) n ≡ 0
+    by : (count_to (beyond numbers max_points) n ≡ 0) ⊎ ((count_to (beyond numbers max_points) n + max_points + 1) ≤ n) → count_to (beyond numbers max_points) n ≡ 0
     by (inl none) = none
     by (inr most) = omega arith
 
@@ -187,7 +189,7 @@ ends_turned n (arc ∷ arcs) ends = (record { tail = ends.0.head; head = ends.0.
 -- ---- all that distances need
 pub record AreTied (n : ℕ) (arcs : List Arc) : Type 0 where
   pub some : 1 ≤ n
-  pub few : n ≤ 4001
+  pub few : n ≤ max_vertices
   pub ends : AllByRecursion (IsArc n) arcs
   pub out : AllEntered n arcs
   pub back : AllEntered n (map turned arcs)

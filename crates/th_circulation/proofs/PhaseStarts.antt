@@ -16,6 +16,9 @@ use Rattle.th_circulation.specs.Inside.Workspaces.{IsNear}
 use Rattle.th_network.proofs.Balance.{total_by-cons}
 use Rattle.th_circulation.proofs.FlowSums.{arrives, leaves}
 use Rattle.th_circulation.proofs.PhaseLemmas.{gain-cons, phase}
+use Rattle.th_network.specs.Links.{largest_link_difference}
+use Rattle.th_network.specs.Limits.{max_observations}
+use Rattle.th_tables.specs.Limits.{max_weight}
 
 -- a half, rounded down
 half_next : (d : ℤ) (k : ℕ) → ((pos 2 *ℤ difference_in (suc k) d) ≤ℤ difference_in k d) × (difference_in k d ≤ℤ (pos 2 *ℤ difference_in (suc k) d +ℤ pos 1))
@@ -35,7 +38,7 @@ next_differences [] k = tt
 next_differences (link ∷ links) k = (half_next link.diff k, next_differences links k)
 
 -- no difference of a phase is larger than the link's own
-difference_small : (d : ℤ) (k : ℕ) → unsigned_abs d ≤ 5000000000000 → unsigned_abs (difference_in k d) ≤ 5000000000000
+difference_small : (d : ℤ) (k : ℕ) → unsigned_abs d ≤ largest_link_difference → unsigned_abs (difference_in k d) ≤ largest_link_difference
 difference_small (pos a) k h = let less = shr_le a k in omega (arith, ints)
 difference_small (negsuc a) k h = let less = shr_le a k in omega (arith, ints)
 
@@ -43,10 +46,10 @@ pub differences_long : (links : List Link) (k : ℕ) → length (differences_in 
 differences_long [] k = refl
 differences_long (link ∷ links) k = ap suc (differences_long links k)
 
-pub differences_within : (links : List Link) (k : ℕ) → All (λ link. unsigned_abs link.diff ≤ 5000000000000) links → AreWithin (length links) 5000000000000 (differences_in k links)
+pub differences_within : (links : List Link) (k : ℕ) → All (λ link. unsigned_abs link.diff ≤ largest_link_difference) links → AreWithin (length links) largest_link_difference (differences_in k links)
 differences_within links k near = record {
   each = differences_long links k;
-  small = All-map (λ d. unsigned_abs d ≤ 5000000000000) (λ (link : Link). difference_in k link.diff) links (λ i d within. difference_small (slice_index_or links i d).diff k (near i d within));
+  small = All-map (λ d. unsigned_abs d ≤ largest_link_difference) (λ (link : Link). difference_in k link.diff) links (λ i d within. difference_small (slice_index_or links i d).diff k (near i d within));
 }
 
 -- without halving, the difference itself
@@ -59,7 +62,7 @@ first_differences (link ∷ links) = ap (λ (d : ℤ). d ∷ differences_in 0 li
     whole (negsuc a) = omega (arith, ints)
 
 -- in the first phase each difference is 0 or -1
-first_is : (d : ℤ) → unsigned_abs d ≤ 5000000000000 → (difference_in 43 d ≤ℤ pos 0) × (pos 0 ≤ℤ (difference_in 43 d +ℤ pos 1))
+first_is : (d : ℤ) → unsigned_abs d ≤ largest_link_difference → (difference_in 43 d ≤ℤ pos 0) × (pos 0 ≤ℤ (difference_in 43 d +ℤ pos 1))
 first_is (pos a) h = let none : a / 2 ^ 43 ≡ 0 = omega arith in (omega (arith, ints), omega (arith, ints))
 first_is (negsuc a) h = let none : a / 2 ^ 43 ≡ 0 = omega arith in (omega (arith, ints), omega (arith, ints))
 
@@ -70,7 +73,7 @@ times_first g (pos (suc n)) w bound high low = absurd (omega (arith, ints))
 times_first g (negsuc zero) w bound high low = omega (arith, ints)
 times_first g (negsuc (suc n)) w bound high low = absurd (omega (arith, ints))
 
-first_gain : (links : List Link) (weights : List ℕ) (flows : List ℤ) → AllByRecursion (λ link. unsigned_abs link.diff ≤ 5000000000000) links → AreBounded weights flows → gain flows (differences_in 43 links) ≤ℤ pos (sum weights)
+first_gain : (links : List Link) (weights : List ℕ) (flows : List ℤ) → AllByRecursion (λ link. unsigned_abs link.diff ≤ largest_link_difference) links → AreBounded weights flows → gain flows (differences_in 43 links) ≤ℤ pos (sum weights)
 first_gain links [] [] near bounded = omega (arith, ints)
 first_gain links [] (flow ∷ flows) near bounded = absurd bounded
 first_gain links (weight ∷ weights) [] near bounded = absurd bounded
@@ -100,7 +103,7 @@ gain_none (flow ∷ flows) (diff ∷ diffs) none =
 
 none_near : (vertices : ℕ) (links : List Link) (weights : List ℕ) (flows : List ℤ) → IsGraph vertices links weights → AllByRecursion (λ flow. flow ≡ pos 0) flows → IsNear links weights (differences_in 43 links) flows
 none_near vertices links weights flows graph none others flow =
-    let most = first_gain links weights others (recursion_from_All (λ link. unsigned_abs link.diff ≤ 5000000000000) links graph.near) flow.bounded in
+    let most = first_gain links weights others (recursion_from_All (λ link. unsigned_abs link.diff ≤ largest_link_difference) links graph.near) flow.bounded in
     let nothing = gain_none flows (differences_in 43 links) none in
     omega (arith, ints)
 
@@ -125,7 +128,7 @@ all_none (suc n) = (refl, all_none n)
 -- the first phase starts from no flow, and raises the gain by at most the sum of the weights
 pub first_rise : (vertices : ℕ) (links : List Link) (weights : List ℕ) (flows new diffs : List ℤ) (rise : ℕ) → IsGraph vertices links weights → diffs ≡ differences_in 43 links → flows ≡ replicate (length links) (pos 0) → IsFlow links weights new → (gain flows diffs +ℤ pos rise) ≤ℤ gain new diffs → rise ≤ sum weights
 first_rise vertices links weights flows new diffs rise graph is none flow gained =
-    let most = first_gain links weights new (recursion_from_All (λ link. unsigned_abs link.diff ≤ 5000000000000) links graph.near) flow.bounded in
+    let most = first_gain links weights new (recursion_from_All (λ link. unsigned_abs link.diff ≤ largest_link_difference) links graph.near) flow.bounded in
     let nothing = gain_none (replicate (length links) (pos 0)) (differences_in 43 links) (all_none (length links)) in
     let more = subst (λ (ds : List ℤ). (gain (replicate (length links) (pos 0)) ds +ℤ pos rise) ≤ℤ gain new ds) is (subst (λ (fs : List ℤ). (gain fs diffs +ℤ pos rise) ≤ℤ gain new diffs) none gained) in
     omega (arith, ints)
@@ -142,7 +145,7 @@ few_more w (suc done) start now next few more rise first before =
     omega arith
 
 -- the weights of a network come to at most 40 million
-sum_small : (weights : List ℕ) → AllByRecursion (λ weight. weight ≤ 1000) weights → sum weights ≤ 1000 * length weights
+sum_small : (weights : List ℕ) → AllByRecursion (λ weight. weight ≤ max_weight) weights → sum weights ≤ max_weight * length weights
 sum_small [] h = omega arith
 sum_small (weight ∷ weights) h =
     let rest = sum_small weights h.1 in
@@ -150,9 +153,9 @@ sum_small (weight ∷ weights) h =
     let s = sum_by-cons (λ (x : ℕ). x) weight weights in
     omega arith
 
-pub weights_small : (vertices : ℕ) (links : List Link) (weights : List ℕ) → IsGraph vertices links weights → sum weights ≤ 40000000
+pub weights_small : (vertices : ℕ) (links : List Link) (weights : List ℕ) → IsGraph vertices links weights → sum weights ≤ max_weight * max_observations
 weights_small vertices links weights graph =
-    let most = sum_small weights (recursion_from_All (λ weight. weight ≤ 1000) weights graph.light) in
+    let most = sum_small weights (recursion_from_All (λ weight. weight ≤ max_weight) weights graph.light) in
     let sized = graph.sized in
     let few = graph.few_links in
     omega arith

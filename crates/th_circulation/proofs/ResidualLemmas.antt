@@ -20,6 +20,7 @@ use Rattle.th_circulation.proofs.ExtremeLemmas.{bounds_of}
 use Rattle.th_circulation.proofs.Bounds.{KeepsAll}
 use Rattle.th_circulation.proofs.MisreadLemmas.{lt_z-false}
 use Rattle.th_circulation.proofs.NearLemmas.{EntersNot}
+use Rattle.th_network.specs.Links.{largest_link_difference}
 
 -- ---- what holds of a link's arcs, and of those after them
 both : (P : Arc → Type 0) (b c : Bool) (first second : Arc) (rest : List Arc) → (b ≡ true → P first) → (c ≡ true → P second) → AllByRecursion P rest → AllByRecursion P (((if b then first ∷ [] else []) ++ (if c then second ∷ [] else [])) ++ rest)
@@ -136,7 +137,7 @@ entered_full all benchmarks weights inside (o ∷ observations) (flow ∷ flows)
 pub record IsLink (vertices : ℕ) (link : Link) : Type 0 where
   pub tail : link.tail < vertices
   pub head : link.head < vertices
-  pub near : unsigned_abs link.diff ≤ 5000000000000
+  pub near : unsigned_abs link.diff ≤ largest_link_difference
 
 pub arcs_within : (vertices : ℕ) (links : List Link) (weights : List ℕ) (flows : List ℤ) → AllByRecursion (IsLink vertices) links → AllByRecursion (IsArc vertices) (residual_arcs links weights flows)
 arcs_within vertices [] weights flows ends = tt
@@ -168,5 +169,5 @@ arcs_more links weights flows i link weight flow arcs more a b c before is = is 
 pub arcs_added : (old mid new : List Arc) (link : Link) (weight : ℕ) (flow f w n d cost : ℤ) → f ≡ flow → w ≡ pos weight → n ≡ pos 0 -ℤ pos weight → cost ≡ pos 0 -ℤ link.diff → d ≡ link.diff → mid ≡ old ++ (if lt_z f w then record { tail = link.tail; head = link.head; cost = cost } ∷ [] else []) → new ≡ mid ++ (if lt_z n f then record { tail = link.head; head = link.tail; cost = d } ∷ [] else []) → new ≡ old ++ residual_arcs_of link weight flow
 arcs_added old mid new link weight flow f w n d cost is_flow is_weight is_low is_cost is_diff first second = cc (append_assoc old (if lt_z flow (pos weight) then along link ∷ [] else []) (if lt_z (pos 0 -ℤ pos weight) flow then against link ∷ [] else []))
 
-pub links_within : (vertices : ℕ) (links : List Link) → All (λ link. (link.tail < vertices) × (link.head < vertices)) links → All (λ link. unsigned_abs link.diff ≤ 5000000000000) links → All (IsLink vertices) links
+pub links_within : (vertices : ℕ) (links : List Link) → All (λ link. (link.tail < vertices) × (link.head < vertices)) links → All (λ link. unsigned_abs link.diff ≤ largest_link_difference) links → All (IsLink vertices) links
 links_within vertices links ends near = λ k d within. record { tail = (ends k d within).0; head = (ends k d within).1; near = near k d within }
