@@ -25,8 +25,40 @@ fn seventeen_books_are_too_many(rt: HostRuntime) {
     }
 }
 
+/// Prefixes that name no files.
+const NO_FILES: [&str; 10] = [
+    "", "/", ".", "..", "a/", "a/.", "a/..", "./", "../..", "a//",
+];
+
+#[test]
+fn a_prefix_must_name_files(rt: HostRuntime) {
+    for prefix in NO_FILES {
+        for command in ["adjust", "review"] {
+            let apart = format!(in rt.alloc();
+                "height_office {command} a --benchmarks m --out {prefix}"
+            );
+            names_no_files(&rt, apart.expect(&rt, "memory").as_str());
+            let joined = format!(in rt.alloc();
+                "height_office {command} --out={prefix} --benchmarks m a"
+            );
+            names_no_files(&rt, joined.expect(&rt, "memory").as_str());
+        }
+    }
+    let many =
+        "height_office adjust 1 2 3 4 5 6 7 8 9 10 11 12 13 14 15 16 17 --benchmarks m --out=";
+    assert!(rt; matches!(fault_of(&rt, many), PlanFault::TooManyBooks));
+}
+
+/// The prefix in the words names no files.
+fn names_no_files(rt: &(impl AllocGlobal + Abort), words: &str) {
+    assert!(rt;
+        matches!(fault_of(rt, words), PlanFault::NamesNoFiles),
+        "{words}"
+    );
+}
+
 /// Words that are no plan, and the kind of the error that `clap` answers.
-const WRONG_WORDS: [(&str, ErrorKind); 57] = [
+const WRONG_WORDS: [(&str, ErrorKind); 58] = [
     ("height_office list", ErrorKind::MissingRequiredArgument),
     ("height_office list a b", ErrorKind::UnknownArgument),
     ("height_office lisst a", ErrorKind::InvalidSubcommand),
@@ -193,6 +225,10 @@ const WRONG_WORDS: [(&str, ErrorKind); 57] = [
     (
         "height_office adjust a --benchmarks m --out p --blunder=-1",
         ErrorKind::ValueValidation,
+    ),
+    (
+        "height_office adjust a --benchmarks m --out p --blunder -1",
+        ErrorKind::UnknownArgument,
     ),
     (
         "height_office adjust a --benchmarks m --out p --blunder 1.5",

@@ -3,7 +3,7 @@ use std::test::Fail;
 use th_plans::{Inputs, Limit, Plan, plan};
 
 /// Command lines, and the plans that they name.
-const PLANS: [(&str, &str); 28] = [
+const PLANS: [(&str, &str); 30] = [
     ("height_office", "standard"),
     ("height_office list k.gsi", "list k.gsi"),
     ("height_office list -", "list -"),
@@ -37,14 +37,10 @@ const PLANS: [(&str, &str); 28] = [
         "height_office adjust --out p --benchmarks m --blunder +500 --weights w -- a b",
         "adjust a b by m w limit 50000 out p",
     ),
-    // What is left out has its default, and a prefix may be empty.
+    // What is left out has its default.
     (
         "height_office adjust --benchmarks b --out p k",
         "adjust k by b limit 2000000 out p",
-    ),
-    (
-        "height_office adjust k --out  --benchmarks m",
-        "adjust k by m limit 2000000 out ",
     ),
     (
         "height_office adjust k --out p --benchmarks m --blunder 0",
@@ -67,9 +63,22 @@ const PLANS: [(&str, &str); 28] = [
         "height_office review --out=p a --weights=w --benchmarks=m --blunder=500 -- b",
         "review a b by m w limit 50000 out p",
     ),
+    // A prefix names files: dots and slashes that its last part has beside other bytes are no harm.
     (
-        "height_office review k --out  --benchmarks m",
-        "review k by m limit 2000000 out ",
+        "height_office adjust k --out ../.a --benchmarks m",
+        "adjust k by m limit 2000000 out ../.a",
+    ),
+    (
+        "height_office adjust k --out=... --benchmarks m",
+        "adjust k by m limit 2000000 out ...",
+    ),
+    (
+        "height_office review k --out /a/b. --benchmarks m",
+        "review k by m limit 2000000 out /a/b.",
+    ),
+    (
+        "height_office review k --out .//.a/..b --benchmarks m",
+        "review k by m limit 2000000 out .//.a/..b",
     ),
     (
         "height_office review review --out adjust --benchmarks check --blunder 1000000000",

@@ -17,8 +17,17 @@ const OPTION_DOUBLED: &str =
 const NO_COMMAND: &str =
     "error: unrecognized subcommand 'k.gsi'\n\nUsage: height_office list <BOOK>\n       height_office adjust [OPTIONS] --benchmarks <FILE> --out <PREFIX> <BOOK>...\n       height_office review [OPTIONS] --benchmarks <FILE> --out <PREFIX> <BOOK>...\n       height_office check [OPTIONS] --benchmarks <FILE> --certificate <FILE> <BOOK>...\n       height_office < BOOK        (lists the book on standard input)\n\nFor more information, try '--help'.\n\n  tip: to list the book in a file, write 'height_office list FILE'\n";
 
+const LIMIT_BELOW_ZERO: &str =
+    "error: unexpected argument '-5' found\n\n  tip: write '--' before a book whose name begins with '-'\n\nUsage: height_office adjust [OPTIONS] --benchmarks <FILE> --out <PREFIX> <BOOK>...\n\nFor more information, try '--help'.\n";
+
+const OPTION_MISTYPED: &str =
+    "error: unexpected argument '--weight' found\n\n  tip: a similar argument exists: '--weights'\n\nUsage: height_office check --benchmarks <FILE> --certificate <FILE> --weights <FILE> <BOOK>...\n\nFor more information, try '--help'.\n";
+
+const NAMES_NO_FILES: &str =
+    "error: the value of '--out' must end in the beginning of a file name, as in 'dam' or 'site/dam'\n\nFor more information, try '--help'.\n";
+
 /// Command lines that are no plan, and the text that answers them.
-const SAID: [(&str, &str); 6] = [
+const SAID: [(&str, &str); 9] = [
     ("height_office --version", "height_office 0.9.0\n"),
     ("height_office k.gsi", NO_COMMAND),
     ("height_office adjust a --out p", OPTION_MISSING),
@@ -33,6 +42,18 @@ const SAID: [(&str, &str); 6] = [
     (
         "height_office adjust a --benchmarks m --out p --blunder 1000000001",
         LIMIT_TOO_LARGE,
+    ),
+    (
+        "height_office adjust a --benchmarks m --out p --blunder -5",
+        LIMIT_BELOW_ZERO,
+    ),
+    (
+        "height_office check a --benchmarks m --certificate c --weight w",
+        OPTION_MISTYPED,
+    ),
+    (
+        "height_office review a --benchmarks m --out site/",
+        NAMES_NO_FILES,
     ),
 ];
 

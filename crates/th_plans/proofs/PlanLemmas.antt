@@ -9,8 +9,9 @@ use Rattle.clap.specs.declared.error.kind.ErrorKind.{ErrorKind}
 use Rattle.clap.specs.declared.error.kind.ErrorKind.TheVariants.{MissingRequiredArgument, OutOfMemory}
 use Rattle.clap.specs.declared.parser.matches.ArgMatches.{ArgMatches}
 use Rattle.clap.proofs.OnLiterals.{clap_on_literals}
-use Rattle.th_plans.specs.Plans.{AreTaken, IsFaultOf, IsPlanOf, asked, books_named, command_line, said_by}
-use Rattle.th_plans.specs.Asked.{Asked, asked_by, book_count}
+use Rattle.th_plans.specs.Limits.{max_books}
+use Rattle.th_plans.specs.Plans.{AreTaken, IsFaultOf, IsPlanOf, asked, books_named, command_line, name_no_files, said_by}
+use Rattle.th_plans.specs.Asked.{Asked, asked_by, book_count, has_bad_prefix}
 use Rattle.th_plans.specs.declared.plans.Plan.{Plan}
 use Rattle.th_plans.specs.declared.plans.Plan.TheVariants as plan
 use Rattle.th_plans.specs.declared.faults.PlanFault.{PlanFault}
@@ -92,11 +93,21 @@ pub books_are : (words : List Text) (found : Option (Text × List Row)) → foun
     → option_map_or (λ (p : Text × List Row). book_count p.1) found 0 ≡ books_named words
 books_are words found met = ap (λ (f : Option (Text × List Row)). option_map_or (λ (p : Text × List Row). book_count p.1) f 0) met
 
-pub not_more : (most n : ℕ) → (most < n → ⊥) → n ≤ most
+not_more : (most n : ℕ) → (most < n → ⊥) → n ≤ most
 not_more most n h = elim (cases_lt most n) [
   | inl less ↦ absurd (h less)
   | inr least ↦ least
 ]
+
+-- so words whose books that were found are not too many name no more
+pub few_books : (words : List Text) (found : Option (Text × List Row)) → found ≡ subcommand_of command_line words
+    → (max_books < option_map_or (λ (p : Text × List Row). book_count p.1) found 0 → ⊥) → books_named words ≤ max_books
+few_books words found met few = subst (λ (n : ℕ). n ≤ max_books) (books_are words found met) (not_more max_books _ few)
+
+-- and the prefix that was found is the one that the words name
+pub prefix_is : (words : List Text) (found : Option (Text × List Row)) → found ≡ subcommand_of command_line words
+    → option_map_or (λ (p : Text × List Row). has_bad_prefix p.1) found false ≡ name_no_files words
+prefix_is words found met = ap (λ (f : Option (Text × List Row)). option_map_or (λ (p : Text × List Row). has_bad_prefix p.1) f false) met
 
 -- a missing argument is no allocation failure
 pub other_kind : (kind : ErrorKind) → kind ≡ MissingRequiredArgument → kind ≡ OutOfMemory → ⊥

@@ -1,9 +1,11 @@
-use Rattle.std.specs.Prelude.{◌*◌, ◌&&◌, ℕ, ℤ, List, Option, Some, None, pos, [], codes, if◌then◌else◌, length, nat_le, option_and_then, option_map, unwrap_or}
+use Rattle.std.specs.Prelude.{◌*◌, ◌&&◌, ℕ, ℤ, Bool, false, List, Option, Some, None, pos, [], codes, if◌then◌else◌, length, nat_le, not, option_and_then, option_map, unwrap_or}
+use Rattle.std.specs.Option.{option_map_or}
 use Rattle.std.specs.Str.{bytes_eq}
 use Rattle.std.specs.Str.Parse.{digits_value, without_leading_plus}
 use Rattle.clap.specs.ValueTests.{is_numeral}
 use Rattle.clap.specs.Words.{Row, Text, all_of, first_of, one_of}
 use Rattle.th_plans.specs.Limits.{max_blunder, max_books, units_in_micrometre}
+use Rattle.th_plans.specs.Prefixes.{names_files}
 
 -- the names of the files that `adjust`, `review` and `check` read: the books in order, the benchmarks, and the weights where a file of them is named
 pub record Files : Type 0 where
@@ -46,10 +48,18 @@ files_in rows =
 abbrev pub limit_in : List Row → Option ℤ
 limit_in rows = option_and_then limit_of (option_and_then number_in (one_of (codes "blunder") rows))
 
--- the options of `adjust` and `review`: the files, the limit of blunders, and the prefix of the outputs,
+-- the prefix of the outputs, which must name files,
+abbrev pub prefix_in : List Row → Option Text
+prefix_in rows = option_and_then (λ prefix. if names_files prefix then Some prefix else None) (first_of (codes "out") rows)
+
+-- the options of `adjust` and `review`: the files, the limit of blunders, and the prefix,
 abbrev pub options_in : List Row → Option (Files × ℤ × Text)
 options_in rows =
-    option_and_then (λ files. option_and_then (λ limit. option_map (λ prefix. (files, limit, prefix)) (first_of (codes "out") rows)) (limit_in rows)) (files_in rows)
+    option_and_then (λ files. option_and_then (λ limit. option_map (λ prefix. (files, limit, prefix)) (prefix_in rows)) (limit_in rows)) (files_in rows)
+
+-- whether there is a prefix that names no files,
+abbrev pub has_bad_prefix : List Row → Bool
+has_bad_prefix rows = option_map_or (λ prefix. not (names_files prefix)) (first_of (codes "out") rows) false
 
 -- and how many books there are
 abbrev pub book_count : List Row → ℕ

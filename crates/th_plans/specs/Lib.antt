@@ -1,4 +1,5 @@
 pub mod Limits
+pub mod Prefixes
 pub mod Asked
 pub mod Books
 pub mod Plans

@@ -1,18 +1,18 @@
-use Rattle.std.specs.Prelude.{◌≡◌, ◌≢◌, ◌<◌, ◌≤◌, ◌⊎◌, ◌∷◌, ℕ, true, pos, List, Option, Some, None, codes, option_map, length, []}
+use Rattle.std.specs.Prelude.{◌≡◌, ◌≢◌, ◌<◌, ◌≤◌, ◌⊎◌, ◌∷◌, ℕ, Bool, false, true, pos, List, Option, Some, None, codes, option_map, length, []}
 use Rattle.std.specs.Option.{option_map_or}
 use Rattle.clap.specs.Lexer.{usize_max}
 use Rattle.clap.specs.Words.{App, IsAmong, Rule, Text, fault_of, kind_of, new_app, new_rule, subcommand_of, with_rule, with_subcommand}
 use Rattle.clap.specs.declared.builder.action.ArgAction.TheVariants.{Append}
 use Rattle.clap.specs.declared.builder.value_parser.ValueParser.TheVariants.{Signed}
 use Rattle.clap.specs.declared.error.kind.ErrorKind.TheVariants.{OutOfMemory}
-use Rattle.th_plans.specs.Asked.{Asked, Files, adjust, asked_by, book_count, check, list, review}
+use Rattle.th_plans.specs.Asked.{Asked, Files, adjust, asked_by, book_count, check, has_bad_prefix, list, review}
 use Rattle.th_plans.specs.Books.{names_in}
 use Rattle.th_plans.specs.Limits.{max_blunder, max_books}
 use Rattle.th_plans.specs.declared.plans.Inputs.{Inputs}
 use Rattle.th_plans.specs.declared.plans.Plan.{Plan}
 use Rattle.th_plans.specs.declared.plans.Plan.TheVariants as plan
 use Rattle.th_plans.specs.declared.faults.PlanFault.{PlanFault}
-use Rattle.th_plans.specs.declared.faults.PlanFault.TheVariants.{Line, NoMemory, TooManyBooks}
+use Rattle.th_plans.specs.declared.faults.PlanFault.TheVariants.{Line, NamesNoFiles, NoMemory, TooManyBooks}
 
 -- the argument `BOOK`, and the argument `BOOK...`
 abbrev pub book_rule : Rule
@@ -90,6 +90,10 @@ asked words = asked_by (subcommand_of command_line words)
 abbrev pub books_named : List Text → ℕ
 books_named words = option_map_or (λ found. book_count found.1) (subcommand_of command_line words) 0
 
+-- whether the words have a prefix that names no files
+abbrev pub name_no_files : List Text → Bool
+name_no_files words = option_map_or (λ found. has_bad_prefix found.1) (subcommand_of command_line words) false
+
 -- the files that inputs name
 abbrev pub files : Inputs → Files
 files inputs = record {
@@ -113,11 +117,12 @@ IsPlanOf words plan.Standard = length words ≤ 1
 IsPlanOf words other = (1 < length words) × AreTaken words × (asked words ≡ said_by other)
 
 -- a fault of the words, of which there are more than the program's name: one that `clap` states for them, or `clap` takes them and they ask for nothing, with too
--- many books or without. Any such words may be out of memory instead
+-- many books, else with a prefix that names no files, or without either. Any such words may be out of memory instead
 abbrev pub IsFaultOf : List Text → PlanFault → Type 0
 IsFaultOf words (Line error) = (1 < length words) × (kind_of error ≢ OutOfMemory) × (IsAmong (kind_of error) (fault_of command_line words)
-    ⊎ (AreTaken words × (asked words ≡ None) × (books_named words ≤ max_books)))
+    ⊎ (AreTaken words × (asked words ≡ None) × (books_named words ≤ max_books) × (name_no_files words ≡ false)))
 IsFaultOf words TooManyBooks = (1 < length words) × AreTaken words × (asked words ≡ None) × (max_books < books_named words)
+IsFaultOf words NamesNoFiles = (1 < length words) × AreTaken words × (asked words ≡ None) × (books_named words ≤ max_books) × (name_no_files words ≡ true)
 IsFaultOf words NoMemory = 1 < length words
 
 -- the words are wrong, or ask for help: there are more than the program's name, and `clap` does not take them, or they ask for nothing that the program does

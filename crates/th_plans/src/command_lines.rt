@@ -1,8 +1,8 @@
 //! Reading a command line with `clap`.
-ghost use Rattle.std.specs.Prelude.{◌≡◌, ◌<◌, ◌≤◌, ◌↔◌, IfErr, IfOk, IsTrue, Ok, Some, length, map, option_map};
+ghost use Rattle.std.specs.Prelude.{◌≡◌, ◌<◌, ◌≤◌, ◌↔◌, IfErr, IfOk, IsTrue, Ok, Some, false, length, map, option_map};
 ghost use Rattle.std.specs.Option.{option_map_or};
 ghost use Rattle.clap.specs.Words.{all_of, first_of, found_of, rows_of, subcommand_rows_of};
-ghost use Rattle.th_plans.specs.Asked.{adjust_asked, asked_by, book_count, check_asked, files_in, limit_in, list_asked, options_in, review_asked};
+ghost use Rattle.th_plans.specs.Asked.{adjust_asked, asked_by, book_count, check_asked, files_in, has_bad_prefix, limit_in, list_asked, options_in, prefix_in, review_asked};
 ghost use Rattle.th_plans.specs.Limits.{max_books};
 ghost use Rattle.th_plans.specs.Plans.{IsFaultOf, IsPlanOf, files, said_by};
 
@@ -12,6 +12,7 @@ use crate::commands::command_line;
 use crate::faults::PlanFault;
 use crate::limits::MAX_BOOKS;
 use crate::plans::{Inputs, Plan};
+use crate::prefixes::names_files;
 use clap::ArgMatches;
 use clap::error::ErrorKind;
 use std::alloc::Global;
@@ -31,6 +32,7 @@ pub fn plan<'a, S: AsStr>(alloc: Global, words: &'a [S]) -> Result<Plan<'a>, Pla
     match plan_of(&matches) {
         Some(plan) => Ok(plan),
         None if has_too_many_books(&matches) => Err(PlanFault::TooManyBooks),
+        None if has_bad_prefix(&matches) => Err(PlanFault::NamesNoFiles),
         // Never where `clap` keeps its contract: a parse that succeeds has all required arguments.
         None => Err(PlanFault::Line(command.error(
             ErrorKind::MissingRequiredArgument,
@@ -68,6 +70,20 @@ fn has_too_many_books(matches: &ArgMatches<'_>) -> bool
     };
     match values_of(found, "book") {
         Some(names) => names.len() > MAX_BOOKS,
+        None => false,
+    }
+}
+
+/// Whether the command that was found has a prefix that names no files.
+fn has_bad_prefix(matches: &ArgMatches<'_>) -> bool
+    ensures { result ≡ option_map_or (λ found. has_bad_prefix found.1)
+        (subcommand_rows_of matches.now) false }
+{
+    let Some((_, found)) = matches.subcommand() else {
+        return false;
+    };
+    match value_of(found, "out") {
+        Some(prefix) => !names_files(prefix),
         None => false,
     }
 }
@@ -125,7 +141,7 @@ fn options_of<'a>(found: &ArgMatches<'a>) -> Option<(Inputs<'a>, Limit, &'a str)
     ensures { option_map (λ own. (files own.0, own.1, own.2.now)) result
         ≡ options_in (rows_of (found_of found.now)) }
 {
-    Some((inputs_of(found)?, limit_of(found)?, value_of(found, "out")?))
+    Some((inputs_of(found)?, limit_of(found)?, prefix_of(found)?))
 }
 
 /// The files that `adjust`, `review` and `check` read.
@@ -144,6 +160,18 @@ fn limit_of(found: &ArgMatches<'_>) -> Option<Limit>
     ensures { result ≡ limit_in (rows_of (found_of found.now)) }
 {
     Limit::of_micrometres(found.get_one::<u32>("blunder")?)
+}
+
+/// The prefix of the outputs, which must name files.
+fn prefix_of<'a>(found: &ArgMatches<'a>) -> Option<&'a str>
+    ensures { option_map (λ prefix. prefix.now) result ≡ prefix_in (rows_of (found_of found.now)) }
+{
+    let prefix = value_of(found, "out")?;
+    if names_files(prefix) {
+        Some(prefix)
+    } else {
+        None
+    }
 }
 
 /// The first value of an argument.

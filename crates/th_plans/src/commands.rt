@@ -31,7 +31,7 @@ Exit status:
   0  done; for 'check', the checker says yes
   1  the checker says no: standard output has the first reason
   2  an input was refused: standard error has its first fault, with the line or record
-  3  a bad command line, or a request for help or the version
+  3  a bad command line, an output that would overwrite an input, or a request for help or the version
   4  out of memory
   5  'read failed': an input is missing, is a directory or could not be read;
      'write failed': an output could not be written whole";
@@ -52,6 +52,9 @@ const AFTER_ADJUST: &str = "It prints nothing and writes four files:
 
 It makes all four before it opens the first file.
 
+A mistake shows as a large residual where the other observations that check it weigh more together,
+and cannot show where they weigh less: 'review' says which.
+
 Example:
   height_office adjust --benchmarks marks.csv --weights weights.csv --out dam monday.gsi tuesday.gsi
 
@@ -68,6 +71,9 @@ nothing and writes four files:
   PREFIX.review.txt        all of this in columns, the largest residuals, and notes on the data
 
 It makes all four before it opens the first file.
+
+A mistake shows as a large residual where the other observations that check it weigh more together
+than the observation, and hides where they weigh less: others are marked then, and heights move.
 
 Example:
   height_office review --benchmarks marks.csv --weights weights.csv --out dam monday.gsi tuesday.gsi

@@ -1,6 +1,6 @@
 use clap::error::ErrorKind;
 use std::alloc::AllocError;
-use std::fmt;
+use std::fmt::{self, Write};
 
 /// Why a command line gives no plan. It displays as the text for standard error.
 #[derive(Debug, Drop)]
@@ -9,6 +9,8 @@ pub enum PlanFault {
     Line(clap::Error),
     /// There are more books than a command takes.
     TooManyBooks,
+    /// The prefix of the outputs names no files: its last part is empty, `.` or `..`.
+    NamesNoFiles,
     /// Memory ran out while the command line was read.
     NoMemory,
 }
@@ -16,20 +18,30 @@ pub enum PlanFault {
 /// The tip that follows the text of `clap` where the first argument is no command.
 const TIP: &str = "\n  tip: to list the book in a file, write 'height_office list FILE'\n";
 
+/// How the tip of `clap` begins that says to write `--` before a value. It is right of books alone, and
+/// wrong of the value of an option.
+const VALUE_TIP: &str = "  tip: to pass ";
+
+/// The tip in its place.
+const BOOK_TIP: &str = "  tip: write '--' before a book whose name begins with '-'";
+
 /// The text where there are more books than a command takes.
 const TOO_MANY_BOOKS: &str = "error: more than 16 books\n\nFor more information, try '--help'.\n";
+
+/// The text where the prefix names no files.
+const NAMES_NO_FILES: &str =
+    "error: the value of '--out' must end in the beginning of a file name, as in 'dam' or 'site/dam'\n\nFor more information, try '--help'.\n";
 
 impl fmt::Display for PlanFault {
     fn fmt<W: fmt::Write>(&self, f: &mut fmt::Formatter<W>) -> fmt::Result {
         match self {
-            PlanFault::Line(error) => {
-                write!(f, "{error}")?;
-                match error.kind() {
-                    ErrorKind::InvalidSubcommand => f.write_str(TIP),
-                    _ => Ok(()),
-                }
-            }
+            PlanFault::Line(error) => match error.kind() {
+                ErrorKind::UnknownArgument => write!(BookTips { out: f }, "{error}"),
+                ErrorKind::InvalidSubcommand => write!(f, "{error}{TIP}"),
+                _ => write!(f, "{error}"),
+            },
             PlanFault::TooManyBooks => f.write_str(TOO_MANY_BOOKS),
+            PlanFault::NamesNoFiles => f.write_str(NAMES_NO_FILES),
             PlanFault::NoMemory => f.write_str("out of memory\n"),
         }
     }
@@ -61,5 +73,26 @@ impl From<clap::Error> for PlanFault {
             ErrorKind::OutOfMemory => PlanFault::NoMemory,
             _ => PlanFault::Line(error),
         }
+    }
+}
+
+/// Passes whole lines on, with the tip for books in place of that for values.
+#[derive(Drop)]
+struct BookTips<'f, W> {
+    out: &'f mut fmt::Formatter<W>,
+}
+
+impl<W: fmt::Write> fmt::Write for BookTips<'_, W> {
+    fn write_str(&mut self, text: &str) -> fmt::Result {
+        for line in text.lines() {
+            let line = if line.starts_with(VALUE_TIP) {
+                BOOK_TIP
+            } else {
+                line
+            };
+            self.out.write_str(line)?;
+            self.out.write_str("\n")?;
+        }
+        Ok(())
     }
 }

@@ -1,5 +1,5 @@
 -- What the promise of the program comes to where its inputs are accepted.
-use Rattle.std.proofs.Common.{◌≡◌, ◌≤◌, ◌+◌, ◌⊎◌, ◌∷◌, ℕ, ℤ, Bool, List, [], Some, None, Ok, Err, refl, ap, ap₂, sym, subst, ◌∙◌, inl, inr, arith}
+use Rattle.std.proofs.Common.{◌≡◌, ◌≤◌, ◌+◌, ◌⊎◌, ◌∷◌, ℕ, ℤ, Bool, false, List, [], Some, None, Ok, Err, refl, ap, ap₂, sym, subst, ◌∙◌, inl, inr, arith}
 use Rattle.std.specs.Prelude.{Option, option_map}
 use Rattle.clap.specs.Words.{IsAmong, fault_of, kind_of}
 use Rattle.th_certificate.specs.Certified.{Certified}
@@ -9,7 +9,7 @@ use Rattle.th_devices.specs.Spots.{Spot, file}
 use Rattle.th_network.specs.Networks.{Survey}
 use Rattle.th_plans.specs.Asked.{Asked, Files, adjust, check}
 use Rattle.th_plans.specs.Limits.{max_books}
-use Rattle.th_plans.specs.Plans.{AreTaken, IsFaultOf, IsPlanOf, asked, books_named, command_line, said_by}
+use Rattle.th_plans.specs.Plans.{AreTaken, IsFaultOf, IsPlanOf, asked, books_named, command_line, name_no_files, said_by}
 use Rattle.th_plans.specs.declared.faults.PlanFault.{PlanFault}
 use Rattle.th_plans.specs.declared.faults.PlanFault.TheVariants as fault
 use Rattle.th_plans.specs.declared.plans.Plan.{Plan}
@@ -41,12 +41,15 @@ only_memory : {F : Type 0} (held : F → Told) (old new : F) (words : List (List
     → IsFaultOf words own → AskFor words wanted → IsUsage held old new own status → status ≡ 4
 only_memory held old new words (fault.Line error) status wanted is asks usage = absurd (by is.2)
   where
-    by : IsAmong (kind_of error) (fault_of command_line words) ⊎ (AreTaken words × (asked words ≡ None) × (books_named words ≤ max_books)) → ⊥
+    by : IsAmong (kind_of error) (fault_of command_line words) ⊎ (AreTaken words × (asked words ≡ None) × (books_named words ≤ max_books) × (name_no_files words ≡ false)) → ⊥
     by (inl among) = subst (IsAmong (kind_of error)) asks.1 among
     by (inr none) =
         let bad : None ≡ Some wanted = sym none.1 ∙ asks.2 in
         cc
 only_memory held old new words fault.TooManyBooks status wanted is asks usage =
+    let bad : None ≡ Some wanted = sym is.2 ∙ asks.2 in
+    cc
+only_memory held old new words fault.NamesNoFiles status wanted is asks usage =
     let bad : None ≡ Some wanted = sym is.2 ∙ asks.2 in
     cc
 only_memory held old new words fault.NoMemory status wanted is asks usage = usage.status_is

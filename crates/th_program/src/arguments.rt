@@ -70,7 +70,7 @@ fn is_help(fault: &PlanFault) -> bool
 {
     match fault {
         PlanFault::Line(error) => !error.use_stderr(),
-        PlanFault::TooManyBooks | PlanFault::NoMemory => false,
+        PlanFault::TooManyBooks | PlanFault::NamesNoFiles | PlanFault::NoMemory => false,
     }
 }
 

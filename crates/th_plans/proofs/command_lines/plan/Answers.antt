@@ -1,8 +1,8 @@
-use Rattle.std.proofs.Common.{◌<◌, ◌≤◌, ℕ, length, map, arith, rules, subst, sym, inr, refl}
+use Rattle.std.proofs.Common.{◌≡◌, ◌<◌, ◌∙◌, ℕ, true, false, length, map, arith, rules, subst, sym, inr, refl}
 use Rattle.std.proofs.lemmas.List.{length-map}
 use Rattle.th_plans.specs.Limits.{max_books}
-use Rattle.th_plans.specs.Plans.{IsFaultOf, books_named}
-use Rattle.th_plans.proofs.PlanLemmas.{are_taken, at_err, books_are, found_is, is_plan, not_more, not_true, nothing_asked, other_kind, refused}
+use Rattle.th_plans.specs.Plans.{IsFaultOf, name_no_files}
+use Rattle.th_plans.proofs.PlanLemmas.{are_taken, at_err, books_are, few_books, found_is, is_plan, not_true, nothing_asked, other_kind, prefix_is, refused}
 use Rattle.th_plans.proofs.command_lines.plan.Goals as goal
 
 pub returns-in_err-matches-clause-err : goal.returns-in_err-matches-clause-err
@@ -30,11 +30,22 @@ returns-in-None-clause-err g c =
     let none = nothing_asked words _ found (search rules) in
     (more, taken, none, subst (λ (n : ℕ). max_books < n) (books_are words _ found) many)
 
-pub returns-in_err-error-in-None-2-clause-err : goal.returns-in_err-error-in-None-2-clause-err
-returns-in_err-error-in-None-2-clause-err g c =
+pub returns-in-None-2-clause-err : goal.returns-in-None-2-clause-err
+returns-in-None-2-clause-err g c =
     let words = map g.S.AsStr.text c.args.words.now in
     let more : 1 < length words = omega (arith, length-map c.args.words.now g.S.AsStr.text) in
-    at_err _ _ (IsFaultOf words) c.from_residual-in_err-error-in-None-2.ensures.1
+    let taken = are_taken words _ c.in_ok-command.ensures c.in_ok-matches.ensures.kinds in
+    let found = found_is words _ _ c.in_ok-command.ensures c.in_ok-matches.ensures.ok.2 in
+    let none = nothing_asked words _ found (search rules) in
+    let few = few_books words _ found (λ many. not_true (c.if-has_too_many_books.ensures.1 many)) in
+    let bad : name_no_files words ≡ true = sym (prefix_is words _ found) ∙ sym c.if-has_bad_prefix.ensures in
+    (more, taken, none, few, bad)
+
+pub returns-in_err-error-in-None-3-clause-err : goal.returns-in_err-error-in-None-3-clause-err
+returns-in_err-error-in-None-3-clause-err g c =
+    let words = map g.S.AsStr.text c.args.words.now in
+    let more : 1 < length words = omega (arith, length-map c.args.words.now g.S.AsStr.text) in
+    at_err _ _ (IsFaultOf words) c.from_residual-in_err-error-in-None-3.ensures.1
     (λ fault gives. subst (IsFaultOf words) (sym gives) more)
 
 pub returns-clause-err : goal.returns-clause-err
@@ -44,6 +55,6 @@ returns-clause-err g c =
     let taken = are_taken words _ c.in_ok-command.ensures c.in_ok-matches.ensures.kinds in
     let found = found_is words _ _ c.in_ok-command.ensures c.in_ok-matches.ensures.ok.2 in
     let none = nothing_asked words _ found (search rules) in
-    let few : books_named words ≤ max_books =
-    subst (λ (n : ℕ). n ≤ max_books) (books_are words _ found) (not_more _ _ (λ many. not_true (c.if-has_too_many_books.ensures.1 many))) in
-    (more, (λ memory. other_kind _ c.in_ok-error-in-None-2.ensures.kind memory), inr (taken, none, few))
+    let few = few_books words _ found (λ many. not_true (c.if-has_too_many_books.ensures.1 many)) in
+    let good : name_no_files words ≡ false = sym (prefix_is words _ found) ∙ sym c.if-has_bad_prefix.ensures in
+    (more, (λ memory. other_kind _ c.in_ok-error-in-None-3.ensures.kind memory), inr (taken, none, few, good))
