@@ -11,6 +11,8 @@ mod folders;
 #[cfg(test)]
 mod commands;
 #[cfg(test)]
+mod overwrites;
+#[cfg(test)]
 mod refusals;
 #[cfg(test)]
 mod reviews;

@@ -1,11 +1,11 @@
 -- What the promise of the program comes to where its inputs are accepted.
-use Rattle.std.proofs.Common.{◌≡◌, ◌≤◌, ◌+◌, ◌⊎◌, ◌∷◌, ℕ, ℤ, Bool, false, List, [], Some, None, Ok, Err, refl, ap, ap₂, sym, subst, ◌∙◌, inl, inr, arith}
+use Rattle.std.proofs.Common.{◌≡◌, ◌≤◌, ◌+◌, ◌⊎◌, ◌∷◌, ℕ, ℤ, Bool, true, false, List, [], Some, None, Ok, Err, refl, ap, ap₂, sym, subst, ◌∙◌, inl, inr, arith}
 use Rattle.std.specs.Prelude.{Option, option_map}
 use Rattle.clap.specs.Words.{IsAmong, fault_of, kind_of}
 use Rattle.th_certificate.specs.Certified.{Certified}
 use Rattle.th_checker.specs.declared.verdicts.Verdict.{Verdict}
 use Rattle.th_checker.specs.declared.verdicts.Verdict.TheVariants.{Yes}
-use Rattle.th_devices.specs.Spots.{Spot, file}
+use Rattle.th_devices.specs.Spots.{Spot, file, output}
 use Rattle.th_network.specs.Networks.{Survey}
 use Rattle.th_plans.specs.Asked.{Asked, Files, adjust, check}
 use Rattle.th_plans.specs.Limits.{max_books}
@@ -15,12 +15,12 @@ use Rattle.th_plans.specs.declared.faults.PlanFault.TheVariants as fault
 use Rattle.th_plans.specs.declared.plans.Plan.{Plan}
 use Rattle.th_plans.specs.declared.plans.Plan.TheVariants as plan
 use Rattle.th_program.proofs.OpenedLemmas.{owed-same}
-use Rattle.th_program.specs.Done.{AreDone, IsAdjusted, IsChecked, IsRefusedAdjust, IsRefusedCheck, IsRun, IsUsage}
-use Rattle.th_program.specs.Headline.{AskFor, IsAccepted, IsUnlucky}
+use Rattle.th_program.specs.Done.{AreDone, IsAdjustOutput, IsAdjusted, IsCarriedOut, IsChecked, IsRefusedAdjust, IsRefusedCheck, IsRun, IsUsage, WouldOverwrite}
+use Rattle.th_program.specs.Headline.{AskFor, IsAccepted, IsUnlucky, SparesInputs}
 use Rattle.th_program.specs.Owed.{Told, claim_owed, given_by, given_by_books, survey_owed}
 use Rattle.th_runs.specs.Adjusted.{AreOutputs, OutTexts}
 use Rattle.th_runs.specs.Checked.{IsRight, IsVerdictOn, verdict_on}
-use Rattle.th_runs.specs.Inputs.{Claim, Given, IsOwed, MakesNetwork, Meets, Owed, Text, and_then, given_at, owed_for_certificate, owed_for_claim, owed_for_survey}
+use Rattle.th_runs.specs.Inputs.{Claim, Given, IsOwed, MakesNetwork, Meets, Owed, Text, Untold, and_then, given_at, owed_for_certificate, owed_for_claim, owed_for_survey}
 use Rattle.th_runs.specs.Reads.{failed_reads_of}
 use Rattle.th_runs.specs.Refusals.{status_of, status_of_verdict}
 use Rattle.th_runs.specs.declared.refusals.Input.{Input}
@@ -135,7 +135,7 @@ abbrev RanAs : Bool → Told → Told → ℕ → Option Asked → Type 0
 RanAs tells old new status wanted = DoneAs tells old new status wanted ⊎ ((own : Refusal) × (status ≡ status_of own) × RefusedAs tells old new own wanted)
 
 ran_plan : {F : Type 0} (tells : Bool) (held : F → Told) (has_failed : F → Spot → Bool) (old new : F) (own : Plan) (status : ℕ)
-    → IsRun tells held has_failed old new own status → RanAs tells (held old) (held new) status (said_by own)
+    → IsCarriedOut tells held has_failed old new own status → RanAs tells (held old) (held new) status (said_by own)
 ran_plan tells held has_failed old new plan.Standard status (inl done) = inl tt
 ran_plan tells held has_failed old new plan.Standard status (inr (own, run)) = inr (own, run.status_is, tt)
 ran_plan tells held has_failed old new (plan.List book) status (inl done) = inl tt
@@ -147,24 +147,73 @@ ran_plan tells held has_failed old new (plan.Review inputs limit prefix) status 
 ran_plan tells held has_failed old new (plan.Check inputs certificate) status (inl done) = inl done.0
 ran_plan tells held has_failed old new (plan.Check inputs certificate) status (inr (own, run)) = inr (own, run.status_is, run.refused)
 
+-- what keeps a run from its beginning, beside memory: an adjustment would overwrite an input, and a check writes no file
+abbrev StoppedAs : Bool → Option Asked → Type 0
+StoppedAs tells (Some (adjust from limit prefix)) = tells ≡ true → SparesInputs from prefix → ⊥
+StoppedAs tells (Some (check from certificate)) = ⊥
+StoppedAs tells other = Unit {0}
+
+no_file : (name : List ℕ) → file name ≡ output → ⊥
+no_file name e = cc
+
+stopped_plan : (tells : Bool) (own : Plan) (written : List ℕ) (which : Input) (name : List ℕ) → WouldOverwrite tells own written which name
+    → StoppedAs tells (said_by own)
+stopped_plan tells plan.Standard written which name would = tt
+stopped_plan tells (plan.List book) written which name would = tt
+stopped_plan tells (plan.Adjust inputs limit prefix) written which name would =
+    λ telling spares. spares which name would.is_read (subst (λ (own : List ℕ). IsAdjustOutput prefix.now (file own)) (would.same telling) would.is_written)
+stopped_plan tells (plan.Review inputs limit prefix) written which name would = tt
+stopped_plan tells (plan.Check inputs certificate) written which name would = no_file written would.is_written
+
+-- what became of a run, of what was asked for
+abbrev BecameAs : Bool → Told → Told → ℕ → Option Asked → Type 0
+BecameAs tells old new status wanted = RanAs tells old new status wanted ⊎ StoppedAs tells wanted ⊎ (status ≡ 4)
+
+became_plan : {F : Type 0} (tells : Bool) (held : F → Told) (has_failed : F → Spot → Bool) (old new : F) (own : Plan) (status : ℕ)
+    → IsRun tells held has_failed old new own status → BecameAs tells (held old) (held new) status (said_by own)
+became_plan tells held has_failed old new own status (inl (keeps, run)) = inl (ran_plan tells held has_failed old new own status run)
+became_plan tells held has_failed old new own status (inr (inl (is, (written, which, name, would, begun)))) = inr (inl (stopped_plan tells own written which name would))
+became_plan tells held has_failed old new own status (inr (inr (is, begun))) = inr (inr is)
+
 ran : {F : Type 0} (tells : Bool) (held : F → Told) (has_failed : F → Spot → Bool) (old new : F) (words : List (List ℕ)) (status : ℕ) (wanted : Asked)
-    → AreDone tells held has_failed old new words status → AskFor words wanted → RanAs tells (held old) (held new) status (Some wanted) ⊎ (status ≡ 4)
+    → AreDone tells held has_failed old new words status → AskFor words wanted → BecameAs tells (held old) (held new) status (Some wanted)
 ran tells held has_failed old new words status wanted (inl (own, is, run)) asks =
-    inl (subst (RanAs tells (held old) (held new) status) (said_is words own wanted is asks) (ran_plan tells held has_failed old new own status run))
-ran tells held has_failed old new words status wanted (inr (own, is, usage)) asks = inr (only_memory held old new words own status wanted is asks usage)
+    subst (BecameAs tells (held old) (held new) status) (said_is words own wanted is asks) (became_plan tells held has_failed old new own status run)
+ran tells held has_failed old new words status wanted (inr (own, is, usage)) asks = inr (inr (only_memory held old new words own status wanted is asks usage))
+
+-- a folder that tells nothing has no inputs that are known to be accepted
+untold_tables : (benchmarks : Given) (weights : Option Given) (survey : Survey) → benchmarks ≡ Untold → owed_for_survey [] benchmarks weights ≡ Some (Ok survey) → ⊥
+untold_tables benchmarks weights survey is e =
+    let none : None ≡ Some (Ok survey) = rw is at e in
+    cc
+
+untold : (told : Told) (from : Files) (survey : Survey) → ((spot : Spot) → told spot ≡ None) → survey_owed told None from ≡ Some (Ok survey) → ⊥
+untold told from survey none e = go from.books e
+  where
+    go : (books : List (List ℕ))
+        → owed_for_survey (given_by_books told None 1 books) (given_by told None input.Benchmarks from.benchmarks) (option_map (given_by told None input.Weights) from.weights) ≡ Some (Ok survey) → ⊥
+    go [] owed = untold_tables (given_by told None input.Benchmarks from.benchmarks) (option_map (given_by told None input.Weights) from.weights) survey (ap (given_at 0 0) (none (file from.benchmarks))) owed
+    go (name ∷ names) owed =
+        let nothing : None ≡ Some (Ok survey) = rw (none (file name)) at owed in
+        cc
 
 -- an adjustment of inputs that are accepted
-pub adjusted : {F : Type 0} (tells : Bool) (held : F → Told) (has_failed : F → Spot → Bool) → RefusesForMemory → (old new : F) (words : List (List ℕ)) (status : ℕ)
-    (from : Files) (limit : ℤ) (prefix : List ℕ) (survey : Survey)
-    → AreDone tells held has_failed old new words status → AskFor words (adjust from limit prefix) → IsAccepted (held old) from survey
+pub adjusted : {F : Type 0} (tells : Bool) (held : F → Told) (has_failed : F → Spot → Bool) → ((folder : F) (spot : Spot) → tells ≡ false → held folder spot ≡ None)
+    → RefusesForMemory → (old new : F) (words : List (List ℕ)) (status : ℕ) (from : Files) (limit : ℤ) (prefix : List ℕ) (survey : Survey)
+    → AreDone tells held has_failed old new words status → AskFor words (adjust from limit prefix) → IsAccepted (held old) from survey → SparesInputs from prefix
     → ((status ≡ 0) × IsAdjusted tells (held old) (held new) from limit prefix None) ⊎ IsUnlucky status
-adjusted tells held has_failed law old new words status from limit prefix survey done asks accepted = by (ran tells held has_failed old new words status _ done asks)
+adjusted tells held has_failed tells_or_not law old new words status from limit prefix survey done asks accepted spares = by (ran tells held has_failed old new words status _ done asks)
   where
-    by : RanAs tells (held old) (held new) status (Some (adjust from limit prefix)) ⊎ (status ≡ 4)
+    never : (telling : Bool) → tells ≡ telling → (tells ≡ true → SparesInputs from prefix → ⊥) → ⊥
+    never true is stopped = stopped is spares
+    never false is stopped = untold (held old) from survey (λ spot. tells_or_not old spot is) accepted.given
+
+    by : BecameAs tells (held old) (held new) status (Some (adjust from limit prefix))
         → ((status ≡ 0) × IsAdjusted tells (held old) (held new) from limit prefix None) ⊎ IsUnlucky status
     by (inl (inl well)) = inl well
     by (inl (inr (own, is, refused))) = inr (unlucky law tells (held old) (held new) from limit prefix survey own status accepted is refused)
-    by (inr memory) = inr (inl memory)
+    by (inr (inl stopped)) = absurd (never tells refl stopped)
+    by (inr (inr memory)) = inr (inl memory)
 
 -- a check that says yes
 pub believed : {F : Type 0} (tells : Bool) (held : F → Told) (has_failed : F → Spot → Bool) (old new : F) (words : List (List ℕ)) (from : Files) (certificate : List ℕ)
@@ -182,11 +231,12 @@ believed tells held has_failed old new words from certificate done asks = by (ra
     never (refusal.Write which) e = omega (arith, e)
     never refusal.NoMemory e = omega (arith, e)
 
-    by : RanAs tells (held old) (held new) 0 (Some (check from certificate)) ⊎ (◌≡◌ {A = ℕ} 0 4)
+    by : BecameAs tells (held old) (held new) 0 (Some (check from certificate))
         → (claim : Claim) × Meets (claim_owed (held old) None from certificate) (Ok claim) × IsRight claim
     by (inl (inl (verdict, is, checked))) = (checked.claim, checked.given, checked.right (sym is))
     by (inl (inr (own, is, refused))) = absurd (never own is)
-    by (inr memory) = absurd (omega (arith, memory))
+    by (inr (inl stopped)) = absurd stopped
+    by (inr (inr memory)) = absurd (omega (arith, memory))
 
 -- the survey of a claim is the one that is owed
 claim_on : (survey : Survey) (claim : Claim) (stated : Owed Certified)
@@ -255,8 +305,9 @@ confirmed tells held has_failed law owed answered old new words status from cert
     refused (refusal.Certificate fault) is owes = confirmed_refused law owed (held old) from certificate survey limit texts (refusal.Certificate fault) status accepted outputs there is (λ which. refl) owes.owes
     refused (refusal.Network fault) is owes = confirmed_refused law owed (held old) from certificate survey limit texts (refusal.Network fault) status accepted outputs there is (λ which. refl) owes.owes
 
-    by : RanAs tells (held old) (held new) status (Some (check from certificate)) ⊎ (status ≡ 4) → (status ≡ 0) ⊎ IsUnlucky status
+    by : BecameAs tells (held old) (held new) status (Some (check from certificate)) → (status ≡ 0) ⊎ IsUnlucky status
     by (inl (inl (verdict, is, checked))) =
         inl (confirmed_well answered tells (held old) (held new) from certificate survey limit texts verdict status accepted outputs there is checked)
     by (inl (inr (own, is, owes))) = inr (refused own is owes)
-    by (inr memory) = inr (inl memory)
+    by (inr (inl stopped)) = absurd stopped
+    by (inr (inr memory)) = inr (inl memory)

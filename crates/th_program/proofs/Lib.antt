@@ -6,4 +6,6 @@ pub mod AdjustLemmas
 pub mod ReviewLemmas
 pub mod CheckLemmas
 pub mod RunLemmas
+pub mod InputLemmas
+pub mod OverwriteLemmas
 pub mod HeadlineLemmas

@@ -20,13 +20,15 @@ use Rattle.th_runs.specs.Adjusted.{AreOutputs, OutTexts}
 use Rattle.th_runs.specs.Checked.{IsRight, verdict_line, verdict_on}
 use Rattle.th_runs.specs.Inputs.{Claim, IsOwed, MakesNetwork, Meets, MeetsRefusal, Owed}
 use Rattle.th_runs.specs.Reads.{Adjusting, Checking, IsNamed, IsOfList, Reviewing, Run}
-use Rattle.th_runs.specs.Refusals.{refusal_text, status_of, status_of_verdict}
+use Rattle.th_runs.specs.Refusals.{input_text, refusal_text, status_of, status_of_verdict}
 use Rattle.th_runs.specs.Reviewed.{AreReviewed, AreReviewsOf}
 use Rattle.th_runs.specs.Writes.{Stage, UnlessWrite, Whole, Broken, Untouched, stage_of}
+use Rattle.th_runs.specs.declared.refusals.Input.{Input}
+use Rattle.th_runs.specs.declared.refusals.Input.TheVariants as source
 use Rattle.th_runs.specs.declared.refusals.Output.TheVariants as out
 use Rattle.th_runs.specs.declared.refusals.Refusal.{Refusal}
 use Rattle.th_runs.specs.declared.refusals.Refusal.TheVariants as refusal
-use Rattle.th_program.specs.Owed.{Told, book_owed, claim_owed, survey_owed}
+use Rattle.th_program.specs.Owed.{HasName, Told, book_owed, claim_owed, survey_owed}
 
 -- a folder that tells has this text at the spot
 abbrev pub Holds : Bool → Told → Spot → List ℕ → Type 0
@@ -154,17 +156,51 @@ IsRefused tells old new (plan.Adjust inputs limit prefix) own = IsRefusedAdjust 
 IsRefused tells old new (plan.Review inputs limit prefix) own = IsRefusedReview tells old new (files inputs) limit prefix.now own
 IsRefused tells old new (plan.Check inputs certificate) own = IsRefusedCheck old (files inputs) certificate.now own
 
+-- an adjustment, and a review, with this prefix writes there
+abbrev pub IsAdjustOutput : List ℕ → Spot → Type 0
+IsAdjustOutput prefix spot =
+    (spot ≡ heights_spot prefix) ⊎ (spot ≡ certificate_spot prefix) ⊎ (spot ≡ report_spot prefix) ⊎ (spot ≡ gsi_spot prefix)
+
+abbrev pub IsReviewOutput : List ℕ → Spot → Type 0
+IsReviewOutput prefix spot =
+    (spot ≡ points_spot prefix) ⊎ (spot ≡ observations_spot prefix) ⊎ (spot ≡ entries_spot prefix) ⊎ (spot ≡ review_spot prefix)
+
 -- a plan writes there
 abbrev pub IsOutputOf : Plan → Spot → Type 0
-IsOutputOf (plan.Adjust inputs limit prefix) spot =
-    (spot ≡ heights_spot prefix.now) ⊎ (spot ≡ certificate_spot prefix.now) ⊎ (spot ≡ report_spot prefix.now) ⊎ (spot ≡ gsi_spot prefix.now)
-IsOutputOf (plan.Review inputs limit prefix) spot =
-    (spot ≡ points_spot prefix.now) ⊎ (spot ≡ observations_spot prefix.now) ⊎ (spot ≡ entries_spot prefix.now) ⊎ (spot ≡ review_spot prefix.now)
+IsOutputOf (plan.Adjust inputs limit prefix) spot = IsAdjustOutput prefix.now spot
+IsOutputOf (plan.Review inputs limit prefix) spot = IsReviewOutput prefix.now spot
 IsOutputOf other spot = spot ≡ output
+
+-- a plan reads this input from the file of this name
+abbrev pub IsInputOf : Plan → Input → List ℕ → Type 0
+IsInputOf plan.Standard which name = ⊥
+IsInputOf (plan.List book) which name = (which ≡ source.Book 1) × (name ≡ book.now)
+IsInputOf (plan.Adjust inputs limit prefix) which name = HasName (files inputs) which name
+IsInputOf (plan.Review inputs limit prefix) which name = HasName (files inputs) which name
+IsInputOf (plan.Check inputs certificate) which name = HasName (files inputs) which name ⊎ ((which ≡ source.Certificate) × (name ≡ certificate.now))
+
+-- no file that a plan writes is one that it reads
+abbrev pub KeepsInputs : Plan → Type 0
+KeepsInputs asked = (which : Input) (name : List ℕ) → IsInputOf asked which name → IsOutputOf asked (file name) → ⊥
+
+-- A file that a plan would write, and an input of the plan that this would change. Where the folder tells, the input has the name of that file. The system's
+-- folder finds other names of the input's file too.
+pub record WouldOverwrite (tells : Bool) (asked : Plan) (written : List ℕ) (which : Input) (name : List ℕ) : Type 0 where
+  pub is_written : IsOutputOf asked (file written)
+  pub is_read : IsInputOf asked which name
+  pub same : tells ≡ true → written ≡ name
+
+-- the line that says so, without its line feed
+abbrev pub overwrite_text : List ℕ → Input → List ℕ → List ℕ
+overwrite_text written which name = codes "error: output " ++ written ++ codes " would overwrite " ++ input_text which ++ codes " " ++ name
+
+-- standard error has this line, or says that the program is out of memory
+abbrev pub IsSaid : Bool → Told → List ℕ → Type 0
+IsSaid tells told line = Holds tells told errors (line ++ 10 ∷ []) ⊎ Holds tells told errors (codes "out of memory" ++ 10 ∷ [])
 
 -- standard error has the line of a refusal, or says that the program is out of memory
 abbrev pub IsReported : Bool → Told → Refusal → Type 0
-IsReported tells told own = Holds tells told errors (refusal_text own ++ 10 ∷ []) ⊎ Holds tells told errors (codes "out of memory" ++ 10 ∷ [])
+IsReported tells told own = IsSaid tells told (refusal_text own)
 
 -- A plan was refused: with its status and, unless standard error failed, with its line there. A refusal before outputs were begun changes nothing else.
 pub record IsRefusedRun {F : Type 0} (tells : Bool) (held : F → Told) (has_failed : F → Spot → Bool) (old new : F) (asked : Plan) (status : ℕ) (own : Refusal) : Type 0 where
@@ -175,10 +211,23 @@ pub record IsRefusedRun {F : Type 0} (tells : Bool) (held : F → Told) (has_fai
   pub others : (spot : Spot) → spot ≢ errors → (IsOutputOf asked spot → ⊥) → held new spot ≡ held old spot
 
 -- a plan was done, and no spot changed but those of its outputs, or it was refused
-abbrev pub IsRun : {F : Type 0} → Bool → (F → Told) → (F → Spot → Bool) → F → F → Plan → ℕ → Type 0
-IsRun tells held has_failed old new asked status =
+abbrev pub IsCarriedOut : {F : Type 0} → Bool → (F → Told) → (F → Spot → Bool) → F → F → Plan → ℕ → Type 0
+IsCarriedOut tells held has_failed old new asked status =
     (IsDone tells (held old) (held new) asked status × ((spot : Spot) → (IsOutputOf asked spot → ⊥) → held new spot ≡ held old spot))
     ⊎ ((own : Refusal) × IsRefusedRun tells held has_failed old new asked status own)
+
+-- a plan was not begun: the status is this one and, unless standard error failed, this line is there. Nothing else changed
+pub record IsNotBegun {F : Type 0} (tells : Bool) (held : F → Told) (has_failed : F → Spot → Bool) (old new : F) (line : List ℕ) : Type 0 where
+  pub reported : has_failed new errors ≡ false → IsSaid tells (held new) line
+  pub untouched : (spot : Spot) → spot ≢ errors → held new spot ≡ held old spot
+
+-- A plan was run: carried out, where it keeps its inputs. With status 3 it was not begun, since it would overwrite an input, and with 4, since memory ran out.
+abbrev pub IsRun : {F : Type 0} → Bool → (F → Told) → (F → Spot → Bool) → F → F → Plan → ℕ → Type 0
+IsRun tells held has_failed old new asked status =
+    ((tells ≡ true → KeepsInputs asked) × IsCarriedOut tells held has_failed old new asked status)
+    ⊎ ((status ≡ 3) × ((written : List ℕ) × (which : Input) × (name : List ℕ) × WouldOverwrite tells asked written which name
+    × IsNotBegun tells held has_failed old new (overwrite_text written which name)))
+    ⊎ ((status ≡ 4) × IsNotBegun tells held has_failed old new (codes "out of memory"))
 
 -- the status after words that are no plan: 4 out of memory, else 3
 abbrev pub status_of_fault : PlanFault → ℕ

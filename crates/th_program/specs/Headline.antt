@@ -4,7 +4,10 @@ use Rattle.th_network.specs.Networks.{Survey}
 use Rattle.th_plans.specs.Asked.{Asked, Files}
 use Rattle.th_plans.specs.Plans.{AreTaken, asked}
 use Rattle.th_runs.specs.Inputs.{MakesNetwork}
-use Rattle.th_program.specs.Owed.{Told, survey_owed}
+use Rattle.th_devices.specs.Spots.{file}
+use Rattle.th_program.specs.Done.{IsAdjustOutput}
+use Rattle.th_program.specs.Owed.{HasName, Told, survey_owed}
+use Rattle.th_runs.specs.declared.refusals.Input.{Input}
 
 -- the words of a command line, the program's name first, ask for this
 abbrev pub AskFor : List (List ℕ) → Asked → Type 0
@@ -14,6 +17,10 @@ AskFor words wanted = (1 < length words) × AreTaken words × (asked words ≡ S
 pub record IsAccepted (told : Told) (from : Files) (survey : Survey) : Type 0 where
   pub given : survey_owed told None from ≡ Some (Ok survey)
   pub network : MakesNetwork survey
+
+-- no file that an adjustment with this prefix writes is one that it reads
+abbrev pub SparesInputs : Files → List ℕ → Type 0
+SparesInputs from prefix = (which : Input) (name : List ℕ) → HasName from which name → IsAdjustOutput prefix (file name) → ⊥
 
 -- the status of a run that was out of memory, or whose device failed
 abbrev pub IsUnlucky : ℕ → Type 0

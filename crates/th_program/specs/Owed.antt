@@ -1,5 +1,5 @@
 -- What a run over a folder is owed by what is there.
-use Rattle.std.specs.Prelude.{◌+◌, ℕ, List, [], ◌∷◌, Option, option_map}
+use Rattle.std.specs.Prelude.{◌≡◌, ◌+◌, ℕ, List, [], ◌∷◌, Option, Some, option_map, slice_get}
 use Rattle.th_book.specs.Observed.{Observed}
 use Rattle.th_devices.specs.Spots.{Spot, file}
 use Rattle.th_network.specs.Networks.{Survey}
@@ -21,6 +21,17 @@ given_from told answer which spot = given_at 0 (failed_reads_of which answer) (t
 -- what a file gave
 abbrev pub given_by : Told → Option Refusal → Input → List ℕ → Given
 given_by told answer which name = given_from told answer which (file name)
+
+-- the book with this number has this name: books count from 1
+abbrev pub IsBook : List (List ℕ) → ℕ → List ℕ → Type 0
+IsBook names number name = (place : ℕ) × (number ≡ place + 1) × (slice_get names place ≡ Some name)
+
+-- the files have this name for an input of a run
+abbrev pub HasName : Files → Input → List ℕ → Type 0
+HasName from (input.Book number) name = IsBook from.books number name
+HasName from input.Benchmarks name = name ≡ from.benchmarks
+HasName from input.Weights name = from.weights ≡ Some name
+HasName from input.Certificate name = ⊥
 
 -- what the files of books gave, with their numbers from this one on
 abbrev pub given_by_books : Told → Option Refusal → ℕ → List (List ℕ) → List Given

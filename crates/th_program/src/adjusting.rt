@@ -14,7 +14,7 @@ use th_plans::{Inputs, Limit};
 use th_runs::{Outs, Refusal, run_adjust};
 
 /// How the names of the files end that an adjustment writes.
-const ENDINGS: Four<&str> = Four {
+pub(crate) const ENDINGS: Four<&str> = Four {
     first: ".heights.csv",
     second: ".certificate.csv",
     third: ".report.txt",
@@ -22,11 +22,11 @@ const ENDINGS: Four<&str> = Four {
 };
 
 /// Adjusts the network of the files of these names. The names of the four files that are written
-/// begin with the prefix.
+/// begin with the prefix. That they are none of the inputs, the caller has made sure.
 ///
 /// After a write that failed, the files before that one in the order heights, certificate, report,
 /// GSI-16 are whole, and its own and those behind it are as they were.
-pub fn adjust<F: Folder>(
+pub(crate) fn adjust<F: Folder>(
     alloc: Global,
     folder: &mut F,
     inputs: &Inputs<'_>,

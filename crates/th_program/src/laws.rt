@@ -4,12 +4,14 @@ ghost use Rattle.std.specs.Prelude.{◌≡◌, ◌⊎◌, ℕ, ℤ, List, None, 
 ghost use Rattle.th_devices.specs.Spots.{file};
 ghost use Rattle.th_network.specs.Networks.{Survey};
 ghost use Rattle.th_plans.specs.Asked.{Files, adjust, check};
-ghost use Rattle.th_program.specs.Done.{AreDone, IsAdjusted};
-ghost use Rattle.th_program.specs.Headline.{AskFor, IsAccepted, IsUnlucky};
+ghost use Rattle.th_plans.specs.declared.plans.Plan.{Plan};
+ghost use Rattle.th_program.specs.Done.{AreDone, IsAdjusted, IsInputOf, IsRun};
+ghost use Rattle.th_program.specs.Headline.{AskFor, IsAccepted, IsUnlucky, SparesInputs};
 ghost use Rattle.th_program.specs.Owed.{claim_owed};
 ghost use Rattle.th_runs.specs.Adjusted.{AreOutputs, OutTexts};
 ghost use Rattle.th_runs.specs.Checked.{IsRight};
 ghost use Rattle.th_runs.specs.Inputs.{Claim, Meets};
+ghost use Rattle.th_runs.specs.declared.refusals.Input.{Input};
 
 use th_devices::Folder;
 use th_runs::laws::{
@@ -18,7 +20,8 @@ use th_runs::laws::{
 
 /// The headline, over a folder.
 ///
-/// If the arguments ask for an adjustment of inputs that are accepted, the program ends, and with status
+/// If the arguments ask for an adjustment of inputs that are accepted, and none of them is an output, the
+/// program ends, and with status
 /// 0 the four files hold the heights, the certificate, the report and the GSI blocks of the survey that
 /// the inputs give: the lowest heights of all that keep the benchmarks and cost least, shown by the
 /// printed circulation. It ends otherwise only with status 4, out of memory, or 5, where a device failed.
@@ -30,6 +33,7 @@ pub fn headline<F: Folder>()
         → AreDone F.tells F.held F.has_failed old new words status
         → AskFor words (adjust from limit prefix)
         → IsAccepted (F.held old) from survey
+        → SparesInputs from prefix
         → ((status ≡ 0) × IsAdjusted F.tells (F.held old) (F.held new) from limit prefix None)
         ⊎ IsUnlucky status }
     ensures confirmed { (old new : _) (words : List (List ℕ)) (status : ℕ)
@@ -50,3 +54,12 @@ pub fn headline<F: Folder>()
     accepted_inputs_are_refused_for_memory_alone();
     printed_certificate_is_accepted();
 }
+
+/// No run changes an input: each file that a plan reads holds what it held before.
+pub fn inputs_are_kept<F: Folder>()
+    ensures { (old new : _) (asked : Plan) (status : ℕ)
+        → IsRun F.tells F.held F.has_failed old new asked status
+        → (which : Input) (name : List ℕ)
+        → IsInputOf asked which name
+        → F.held new (file name) ≡ F.held old (file name) }
+{}

@@ -2,7 +2,8 @@
 //!
 //! A contract speaks of the folder before and after a run. On success the outputs hold what the
 //! inputs ask for. A refusal names the first fault of the inputs, has its status and its line on
-//! standard error, and a refusal before outputs were begun changes nothing else.
+//! standard error, and a refusal before outputs were begun changes nothing else. A command whose
+//! outputs would overwrite one of its inputs is not begun.
 #![tactic(auto)]
 
 // The sources and sinks of a run.
@@ -14,17 +15,16 @@ mod checking;
 mod listing;
 mod reviewing;
 
-// The program: a refusal is reported, a plan is run, arguments become a plan.
+// The program: a refusal is reported, a plan that overwrites no input is run, arguments become a plan.
 mod arguments;
+mod overwrites;
 mod plans;
 mod refusals;
 
 // What the promise comes to.
 pub mod laws;
 
-pub use adjusting::adjust;
 pub use arguments::{run_arguments, run_words};
 pub use checking::check;
 pub use listing::list;
 pub use plans::run_plan;
-pub use reviewing::review;

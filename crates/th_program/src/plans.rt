@@ -1,21 +1,34 @@
 //! Running a plan.
 ghost use Rattle.std.specs.Prelude.{◌≡◌, IfErr, IfOk};
-ghost use Rattle.th_program.specs.Done.{IsDone, IsOutputOf, IsRefused, IsRun};
+ghost use Rattle.th_program.specs.Done.{IsCarriedOut, IsDone, IsOutputOf, IsRefused, IsRun};
 ghost use Rattle.th_runs.specs.Writes.{UnlessWrite};
 
 use crate::adjusting::adjust;
 use crate::checking::check;
 use crate::listing::list;
-use crate::refusals::refuse;
+use crate::overwrites::{Stop, keep_inputs};
+use crate::refusals::{refuse, refuse_overwrite};
 use crate::reviewing::review;
 use std::alloc::Global;
 use th_devices::{Folder, Origin};
 use th_plans::Plan;
 use th_runs::{DONE, Refusal, status_of_verdict};
 
-/// Runs a plan, and answers the status to end with. A refusal has its line on standard error.
+/// Runs a plan, and answers the status to end with. A refusal has its line on standard error. A plan
+/// whose outputs would overwrite an input is refused before anything is read or written.
 pub fn run_plan<F: Folder>(alloc: Global, folder: &mut F, plan: &Plan<'_>) -> u8
     ensures { IsRun F.tells F.held F.has_failed folder.old folder.new plan.now result }
+{
+    match keep_inputs(alloc, folder, plan) {
+        Ok(()) => run_apart(alloc, folder, plan),
+        Err(Stop::Overwrite(overwrite)) => refuse_overwrite(alloc, folder, &overwrite),
+        Err(Stop::NoMemory) => refuse(alloc, folder, &Refusal::NoMemory),
+    }
+}
+
+/// Runs a plan that overwrites no input, and answers the status to end with.
+fn run_apart<F: Folder>(alloc: Global, folder: &mut F, plan: &Plan<'_>) -> u8
+    ensures { IsCarriedOut F.tells F.held F.has_failed folder.old folder.new plan.now result }
 {
     match carry_out(alloc, folder, plan) {
         Ok(status) => status,

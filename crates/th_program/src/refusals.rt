@@ -1,12 +1,13 @@
 //! What is reported on standard error.
-ghost use Rattle.std.specs.Prelude.{◌≡◌, ◌≢◌, false};
+ghost use Rattle.std.specs.Prelude.{◌≡◌, ◌≢◌, false, string_bytes};
 ghost use Rattle.th_devices.specs.Spots.{errors};
-ghost use Rattle.th_program.specs.Done.{Holds, IsReported};
+ghost use Rattle.th_program.specs.Done.{Holds, IsReported, IsSaid, overwrite_text};
 ghost use Rattle.th_runs.specs.Refusals.{status_of};
 
+use crate::overwrites::Overwrite;
 use std::alloc::Global;
 use th_devices::{Folder, write_all};
-use th_runs::{Refusal, status_of};
+use th_runs::{Refusal, USAGE, status_of};
 
 /// Reports a refusal in one line on standard error, and answers the status to end with.
 ///
@@ -22,6 +23,26 @@ pub(crate) fn refuse<F: Folder>(alloc: Global, folder: &mut F, refusal: &Refusal
         Err(_) => report(folder, b"out of memory\n"),
     }
     status_of(refusal)
+}
+
+/// Reports on standard error that an output would overwrite an input, and answers the status to end
+/// with. Where there is no memory for the line, it is that of `NoMemory`.
+pub(crate) fn refuse_overwrite<F: Folder>(
+    alloc: Global,
+    folder: &mut F,
+    overwrite: &Overwrite<'_>,
+) -> u8
+    ensures status { result ≡ 3 }
+    ensures reported { F.has_failed folder.new errors ≡ false → IsSaid F.tells (F.held folder.new)
+        (overwrite_text (string_bytes overwrite.now.output) overwrite.now.input
+        overwrite.now.name.now) }
+    ensures others { (spot : _) → spot ≢ errors → F.held folder.new spot ≡ F.held folder.old spot }
+{
+    match format!(in alloc; "{overwrite}\n") {
+        Ok(line) => report(folder, line.as_bytes()),
+        Err(_) => report(folder, b"out of memory\n"),
+    }
+    USAGE
 }
 
 /// Writes a text to standard error.

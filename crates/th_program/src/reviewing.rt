@@ -14,7 +14,7 @@ use th_plans::{Inputs, Limit};
 use th_runs::{Refusal, ReviewOuts, run_review};
 
 /// How the names of the files end that a review writes.
-const ENDINGS: Four<&str> = Four {
+pub(crate) const ENDINGS: Four<&str> = Four {
     first: ".points.csv",
     second: ".observations.csv",
     third: ".entries.csv",
@@ -22,11 +22,12 @@ const ENDINGS: Four<&str> = Four {
 };
 
 /// Reviews the network of the files of these names: what a mistake in them would do. The names of the
-/// four files that are written begin with the prefix.
+/// four files that are written begin with the prefix. That they are none of the inputs, the caller has
+/// made sure.
 ///
 /// After a write that failed, the files before that one in the order points, observations, entries,
 /// review are whole, and its own and those behind it are as they were.
-pub fn review<F: Folder>(
+pub(crate) fn review<F: Folder>(
     alloc: Global,
     folder: &mut F,
     inputs: &Inputs<'_>,

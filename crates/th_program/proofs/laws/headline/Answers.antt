@@ -2,7 +2,7 @@ use Rattle.th_program.proofs.HeadlineLemmas.{adjusted, believed, confirmed}
 use Rattle.th_program.proofs.laws.headline.Goals as goal
 
 pub returns-clause-adjusted : goal.returns-clause-adjusted
-returns-clause-adjusted g c = adjusted g.F.Folder.tells g.F.Folder.held g.F.Folder.has_failed c.accepted_inputs_are_refused_for_memory_alone.ensures.adjusted
+returns-clause-adjusted g c = adjusted g.F.Folder.tells g.F.Folder.held g.F.Folder.has_failed g.met.F.Folder.tells_or_not c.accepted_inputs_are_refused_for_memory_alone.ensures.adjusted
 
 pub returns-clause-confirmed : goal.returns-clause-confirmed
 returns-clause-confirmed g c =

@@ -1,7 +1,7 @@
 use Rattle.std.proofs.Common.{◌∙◌, ap, inr}
 use Rattle.th_program.proofs.RefusalLemmas.{unless-map}
 use Rattle.th_program.proofs.RunLemmas.{refused-after}
-use Rattle.th_program.proofs.plans.run_plan.Goals as goal
+use Rattle.th_program.proofs.plans.run_apart.Goals as goal
 
 pub returns-in-Err : goal.returns-in-Err
 returns-in-Err g c =

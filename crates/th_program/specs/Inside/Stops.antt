@@ -1,0 +1,28 @@
+-- Outputs that are no inputs, and what stops a plan.
+use Rattle.std.specs.Prelude.{◌≡◌, ◌≢◌, ℕ, Bool, true, List, Some, slice_get, string_bytes}
+use Rattle.th_plans.specs.Asked.{Files}
+use Rattle.th_plans.specs.declared.plans.Plan.{Plan}
+use Rattle.th_program.specs.Done.{WouldOverwrite}
+use Rattle.th_program.specs.Owed.{HasName}
+use Rattle.th_program.specs.declared.overwrites.Stop.{Stop}
+use Rattle.th_program.specs.declared.overwrites.Stop.TheVariants as stop
+use Rattle.th_runs.specs.declared.refusals.Input.{Input}
+
+-- the file of this name is none of these books, as far as the folder tells
+abbrev pub IsNoBook : Bool → List (List ℕ) → List ℕ → Type 0
+IsNoBook tells names output = tells ≡ true → (place : ℕ) (name : List ℕ) → slice_get names place ≡ Some name → output ≢ name
+
+-- the file of this name is no input, as far as the folder tells
+abbrev pub IsApart : Bool → Files → List ℕ → Type 0
+IsApart tells from output = tells ≡ true → (which : Input) (name : List ℕ) → HasName from which name → output ≢ name
+
+-- one of these outputs would change an input, or memory ran out
+abbrev pub IsStop : Bool → Files → (List ℕ → Type 0) → Stop → Type 0
+IsStop tells from IsOutput (stop.Overwrite own) =
+    IsOutput (string_bytes own.output) × HasName from own.input own.name.now × (tells ≡ true → string_bytes own.output ≡ own.name.now)
+IsStop tells from IsOutput stop.NoMemory = Unit {0}
+
+-- an output of the plan would change an input of it, or memory ran out
+abbrev pub IsStopOf : Bool → Plan → Stop → Type 0
+IsStopOf tells asked (stop.Overwrite own) = WouldOverwrite tells asked (string_bytes own.output) own.input own.name.now
+IsStopOf tells asked stop.NoMemory = Unit {0}
