@@ -2,17 +2,18 @@
 use Rattle.std.proofs.Common.{◌≡◌, ◌≢◌, ℕ, ℤ, Bool, List, get_or, Ok, codes, ap, subst, arith}
 use Rattle.std.specs.Prelude.{Option, Result}
 use Rattle.th_devices.specs.Spots.{Spot, errors}
+use Rattle.th_devices.specs.declared.devices.Sink.{Ghosts as SinkKind}
 use Rattle.th_network.specs.Networks.{Survey}
 use Rattle.th_plans.specs.Asked.{Files}
 use Rattle.th_program.proofs.OutputLemmas.{IsUsed, ends-apart, file-apart, left, left-after}
 use Rattle.th_program.specs.Done.{IsAdjusted, certificate_spot, gsi_spot, heights_spot, report_spot}
 use Rattle.th_program.specs.Inside.Opened.{AreApart}
 use Rattle.th_program.specs.Owed.{Told, survey_owed}
-use Rattle.th_runs.specs.Adjusted.{AreOutputs, OutTexts}
-use Rattle.th_runs.specs.Inputs.{MakesNetwork, Meets, Owed}
+use Rattle.th_runs.specs.Adjusted.{AreWritten, AreOutputs, OutTexts}
+use Rattle.th_runs.specs.Inputs.{Meets, Owed}
+use Rattle.th_runs.specs.Outcomes.{Accepted}
 use Rattle.th_runs.specs.Reads.{refused}
-use Rattle.th_runs.specs.Writes.{IsWrittenFor}
-use Rattle.th_runs.specs.declared.refusals.Output.TheVariants as output
+use Rattle.th_runs.specs.declared.outputs.Outs.{Outs}
 use Rattle.th_runs.specs.declared.refusals.Refusal.{Refusal}
 
 -- the four outputs stand apart
@@ -28,33 +29,30 @@ outputs-apart prefix = record {
 
 -- an adjustment whose outputs were begun
 pub adjusted : {X K : Type 0} (tells : Bool) (before after : Told) (from : Files) (limit : ℤ) (prefix : List ℕ)
-    (spot_of : K → Spot) (held : K → Option (List ℕ)) (is_finished : K → Bool) (calls failures : K → ℕ)
-    (heights heights' certificate certificate' report report' gsi gsi' : K) (owed : Owed Survey) (result : Result X Refusal)
+    (kind : SinkKind K)
+    (old new : Outs K K K K) (owed : Owed Survey) (result : Result X Refusal)
     → owed ≡ survey_owed before (refused result) from
-    → IsUsed tells before after spot_of held is_finished calls failures (heights_spot prefix) heights heights'
-    → IsUsed tells before after spot_of held is_finished calls failures (certificate_spot prefix) certificate certificate'
-    → IsUsed tells before after spot_of held is_finished calls failures (report_spot prefix) report report'
-    → IsUsed tells before after spot_of held is_finished calls failures (gsi_spot prefix) gsi gsi'
-    → ((survey : Survey) × (texts : OutTexts) × Meets owed (Ok survey) × MakesNetwork survey × AreOutputs survey limit texts
-    × IsWrittenFor held is_finished calls failures output.Heights (refused result) texts.heights heights heights'
-    × IsWrittenFor held is_finished calls failures output.Certificate (refused result) texts.certificate certificate certificate'
-    × IsWrittenFor held is_finished calls failures output.Report (refused result) texts.report report report'
-    × IsWrittenFor held is_finished calls failures output.Gsi (refused result) texts.gsi gsi gsi')
+    → IsUsed tells before after kind (heights_spot prefix) old.heights new.heights
+    → IsUsed tells before after kind (certificate_spot prefix) old.certificate new.certificate
+    → IsUsed tells before after kind (report_spot prefix) old.report new.report
+    → IsUsed tells before after kind (gsi_spot prefix) old.gsi new.gsi
+    → ((survey : Survey) × Accepted (λ (own : Survey). own) owed survey × ((texts : OutTexts) × AreOutputs survey limit texts
+    × AreWritten kind kind kind kind (refused result) texts old new))
     → IsAdjusted tells before after from limit prefix (refused result)
-adjusted tells before after from limit prefix spot_of held is_finished calls failures heights heights' certificate certificate' report report' gsi gsi' owed result
+adjusted tells before after from limit prefix kind old new owed result
     is_owed used_heights used_certificate used_report used_gsi written =
-    let (survey, texts, meets, network, outputs, of_heights, of_certificate, of_report, of_gsi) = written in
-    let left_at = left tells before after spot_of held is_finished calls failures in
+    let (survey, accepted, (texts, outputs, of_texts)) = written in
+    let left_at = left tells before after kind in
     record {
       survey = survey;
       texts = texts;
-      given = subst (λ (own : Owed Survey). Meets own (Ok survey)) is_owed meets;
-      network = network;
+      given = subst (λ (own : Owed Survey). Meets own (Ok survey)) is_owed accepted.given;
+      network = accepted.network;
       outputs = outputs;
-      heights = left_at _ texts.heights _ heights heights' used_heights of_heights.stands;
-      certificate = left_at _ texts.certificate _ certificate certificate' used_certificate of_certificate.stands;
-      report = left_at _ texts.report _ report report' used_report of_report.stands;
-      gsi = left_at _ texts.gsi _ gsi gsi' used_gsi of_gsi.stands;
+      heights = left_at _ texts.heights _ old.heights new.heights used_heights of_texts.heights.stands;
+      certificate = left_at _ texts.certificate _ old.certificate new.certificate used_certificate of_texts.certificate.stands;
+      report = left_at _ texts.report _ old.report new.report used_report of_texts.report.stands;
+      gsi = left_at _ texts.gsi _ old.gsi new.gsi used_gsi of_texts.gsi.stands;
     }
 
 -- what is said on standard error changes no file

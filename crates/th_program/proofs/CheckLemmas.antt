@@ -1,16 +1,17 @@
 -- What a check over a folder comes to.
 use Rattle.std.proofs.Common.{◌≡◌, ℕ, Bool, true, List, Some, Ok, Err, IfErr, IfOk, sym, subst}
-use Rattle.std.specs.Prelude.{IsSomeAnd, Option, Result}
+use Rattle.std.specs.Prelude.{IsSomeAnd, Result}
 use Rattle.th_checker.specs.declared.verdicts.Verdict.{Verdict}
 use Rattle.th_checker.specs.declared.verdicts.Verdict.TheVariants as verdict
-use Rattle.th_devices.specs.Spots.{Spot, output}
+use Rattle.th_devices.specs.Spots.{output}
+use Rattle.th_devices.specs.declared.devices.Sink.{Ghosts as SinkKind}
 use Rattle.th_plans.specs.Asked.{Files}
 use Rattle.th_program.specs.Done.{Holds, IsChecked}
 use Rattle.th_program.specs.Owed.{Told, claim_owed}
 use Rattle.th_program.proofs.OutputLemmas.{holds-whole}
-use Rattle.th_program.proofs.RefusalLemmas.{unless}
 use Rattle.th_runs.specs.Checked.{IsRight, IsVerdictOn, verdict_line, verdict_on}
-use Rattle.th_runs.specs.Inputs.{Claim, IsOwed, MakesNetwork, Meets, Owed}
+use Rattle.th_runs.specs.Inputs.{Claim, IsOwed, Meets, Owed}
+use Rattle.th_runs.specs.Outcomes.{Accepted}
 use Rattle.th_runs.specs.Reads.{refused}
 use Rattle.th_runs.specs.Refusals.{status_of_verdict}
 use Rattle.th_runs.specs.Writes.{IsWritten, IsWrittenFor, UnlessWrite}
@@ -24,30 +25,30 @@ right claim (verdict.No reason) is zero = absurd (cc zero)
 
 -- a check that was done
 pub checked : {K : Type 0} (tells : Bool) (before after : Told) (files : Files) (certificate : List ℕ)
-    (spot_of : K → Spot) (held : K → Option (List ℕ)) (is_finished : K → Bool) (calls failures : K → ℕ) (old new : K) (given_owed : Owed Claim)
+    (kind : SinkKind K) (old new : K) (given_owed : Owed Claim)
     (result : Result Verdict Refusal) → given_owed ≡ claim_owed before (refused result) files certificate
-    → (tells ≡ true → IsSomeAnd (held old) (λ _. Unit {0})) → spot_of new ≡ output → (is_finished new ≡ true → after (spot_of new) ≡ held new)
-    → (IsWritten result → ((claim : Claim) × Meets given_owed (Ok claim) × MakesNetwork claim.survey × IfOk result (IsVerdictOn claim)
-    × IsWrittenFor held is_finished calls failures out.Verdict (refused result) (verdict_line (verdict_on claim)) old new))
+    → (tells ≡ true → IsSomeAnd (kind.held old) (λ _. Unit {0})) → kind.spot new ≡ output → (kind.is_finished new ≡ true → after (kind.spot new) ≡ kind.held new)
+    → (IsWritten result → ((claim : Claim) × Accepted (λ (own : Claim). own.survey) given_owed claim × (IfOk result (IsVerdictOn claim)
+    × IsWrittenFor kind out.Verdict (refused result) (verdict_line (verdict_on claim)) old new)))
     → IfOk result (IsChecked tells before after files certificate)
-checked tells before after files certificate spot_of held is_finished calls failures old new given_owed (Err own) owed told there closed written = tt
-checked tells before after files certificate spot_of held is_finished calls failures old new given_owed (Ok own) owed told there closed written =
-    let (claim, meets, network, answers, of_line) = written tt in
+checked tells before after files certificate kind old new given_owed (Err own) owed told there closed written = tt
+checked tells before after files certificate kind old new given_owed (Ok own) owed told there closed written =
+    let (claim, accepted, (answers, of_line)) = written tt in
     record {
       claim = claim;
-      given = subst (λ (known : Owed Claim). Meets known (Ok claim)) owed meets;
-      network = network;
+      given = subst (λ (known : Owed Claim). Meets known (Ok claim)) owed accepted.given;
+      network = accepted.network;
       answered = answers.answered;
       line = subst (λ (known : Verdict). Holds tells after output (verdict_line known)) (sym answers.answered)
-          (holds-whole tells after spot_of held is_finished calls (verdict_line (verdict_on claim)) _ old new told there closed of_line.stands);
+          (holds-whole tells after kind (verdict_line (verdict_on claim)) _ old new told there closed of_line.stands);
       right = right claim own answers;
     }
 
 -- a refusal before the output was begun is owed
 pub refused-claim : {X : Type 0} (before : Told) (files : Files) (certificate : List ℕ) (given_owed : Owed Claim) (result : Result X Refusal)
     → given_owed ≡ claim_owed before (refused result) files certificate
-    → IfErr result (λ own. (IsWritten result → ⊥) → IsOwed (λ claim. claim.survey) given_owed own)
+    → IfErr result (λ own. UnlessWrite own (IsOwed (λ claim. claim.survey) given_owed own))
     → IfErr result (λ own. UnlessWrite own (IsOwed (λ claim. claim.survey) (claim_owed before (Some own) files certificate) own))
 refused-claim before files certificate given_owed (Ok x) owed is = tt
-refused-claim {X = X} before files certificate given_owed (Err own) owed is =
-    unless X own _ (λ unwritten. subst (λ (known : Owed Claim). IsOwed (λ claim. claim.survey) known own) owed (is unwritten))
+refused-claim before files certificate given_owed (Err own) owed is =
+    subst (λ (known : Owed Claim). UnlessWrite own (IsOwed (λ claim. claim.survey) known own)) owed is

@@ -1,5 +1,5 @@
 -- Inputs stay as they were.
-use Rattle.std.proofs.Common.{◌≡◌, ◌⊎◌, ◌∙◌, ℕ, Bool, true, false, List, None, inl, inr, refl, sym}
+use Rattle.std.proofs.Common.{◌≡◌, ◌∙◌, ℕ, Bool, true, false, List, None, inl, inr, refl, sym}
 use Rattle.th_devices.specs.Spots.{Spot, file}
 use Rattle.th_plans.specs.declared.plans.Plan.{Plan}
 use Rattle.th_program.proofs.OutputLemmas.{file-apart}

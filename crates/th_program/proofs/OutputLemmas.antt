@@ -2,6 +2,7 @@
 use Rattle.std.proofs.Common.{◌≡◌, ◌≢◌, ◌++◌, ℕ, Bool, true, List, [], None, Some, IfSome, ap, sym, ◌∙◌}
 use Rattle.std.specs.Prelude.{IsSomeAnd, Option}
 use Rattle.std.proofs.lemmas.List.{append_cancel_left}
+use Rattle.th_devices.specs.declared.devices.Sink.{Ghosts as SinkKind}
 use Rattle.th_devices.specs.Spots.{IsMade, Spot, errors, file, is_file}
 use Rattle.th_program.specs.Done.{Holds, IsLeft}
 use Rattle.th_program.specs.Inside.Opened.{AreApart, AreFiles, IsTaken}
@@ -34,10 +35,10 @@ sinks-are-files first second third fourth first' second' third' fourth' is_first
 }
 
 -- a sink that was made for a spot, used there, and given back
-pub record IsUsed {K : Type 0} (tells : Bool) (before after : Told) (spot_of : K → Spot) (held : K → Option (List ℕ)) (is_finished : K → Bool) (calls failures : K → ℕ) (spot : Spot) (old new : K) : Type 0 where
-  pub made : IsMade tells spot_of held is_finished calls failures spot old
-  pub there : spot_of new ≡ spot_of old
-  pub taken : IsTaken spot_of held is_finished calls before after new
+pub record IsUsed {K : Type 0} (tells : Bool) (before after : Told) (kind : SinkKind K) (spot : Spot) (old new : K) : Type 0 where
+  pub made : IsMade tells kind.spot kind.held kind.is_finished kind.calls kind.failures spot old
+  pub there : kind.spot new ≡ kind.spot old
+  pub taken : IsTaken kind.spot kind.held kind.is_finished kind.calls before after new
 
 -- what is known where something is told
 where_told : {A : Type 0} (told : Option A) (P : Type 0) → IsSomeAnd told (λ _. Unit {0}) → IfSome told (λ _. P) → P
@@ -45,25 +46,25 @@ where_told None P is known = absurd is
 where_told (Some x) P is known = known
 
 -- a sink that was written whole and given back
-pub holds-whole : {K : Type 0} (tells : Bool) (told : Told) (spot_of : K → Spot) (held : K → Option (List ℕ)) (is_finished : K → Bool) (calls : K → ℕ)
+pub holds-whole : {K : Type 0} (tells : Bool) (told : Told) (kind : SinkKind K)
     (text : List ℕ) (spot : Spot) (old new : K)
-    → (tells ≡ true → IsSomeAnd (held old) (λ _. Unit {0})) → spot_of new ≡ spot → (is_finished new ≡ true → told (spot_of new) ≡ held new)
-    → StandsAt held is_finished calls Whole text old new → Holds tells told spot text
-holds-whole tells told spot_of held is_finished calls text spot old new telling there closed stands =
-    λ tell. sym (ap told there) ∙ closed stands.1 ∙ where_told (held old) (held new ≡ Some text) (telling tell) stands.0
+    → (tells ≡ true → IsSomeAnd (kind.held old) (λ _. Unit {0})) → kind.spot new ≡ spot → (kind.is_finished new ≡ true → told (kind.spot new) ≡ kind.held new)
+    → StandsAt kind Whole text old new → Holds tells told spot text
+holds-whole tells told kind text spot old new telling there closed stands =
+    λ tell. sym (ap told there) ∙ closed stands.1 ∙ where_told (kind.held old) (kind.held new ≡ Some text) (telling tell) stands.0
 
 -- a sink that was made for an output, written as far as an answer says, and given back
-pub left : {K : Type 0} (tells : Bool) (before after : Told) (spot_of : K → Spot) (held : K → Option (List ℕ)) (is_finished : K → Bool) (calls failures : K → ℕ)
-    (stage : Stage) (text : List ℕ) (spot : Spot) (old new : K) → IsUsed tells before after spot_of held is_finished calls failures spot old new
-    → StandsAt held is_finished calls stage text old new → IsLeft tells before after stage spot text
-left tells before after spot_of held is_finished calls failures Whole text spot old new used stands =
-    holds-whole tells after spot_of held is_finished calls text spot old new used.made.told (used.there ∙ used.made.there) used.taken.finished stands
-left tells before after spot_of held is_finished calls failures Broken text spot old new used stands =
-    let there : spot_of new ≡ spot = used.there ∙ used.made.there in
+pub left : {K : Type 0} (tells : Bool) (before after : Told) (kind : SinkKind K)
+    (stage : Stage) (text : List ℕ) (spot : Spot) (old new : K) → IsUsed tells before after kind spot old new
+    → StandsAt kind stage text old new → IsLeft tells before after stage spot text
+left tells before after kind Whole text spot old new used stands =
+    holds-whole tells after kind text spot old new used.made.told (used.there ∙ used.made.there) used.taken.finished stands
+left tells before after kind Broken text spot old new used stands =
+    let there : kind.spot new ≡ spot = used.there ∙ used.made.there in
     sym (ap after there) ∙ used.taken.unfinished stands.0 ∙ ap before there
-left tells before after spot_of held is_finished calls failures Untouched text spot old new used stands =
-    let there : spot_of new ≡ spot = used.there ∙ used.made.there in
-    sym (ap after there) ∙ used.taken.unfinished (ap is_finished stands ∙ used.made.unfinished) ∙ ap before there
+left tells before after kind Untouched text spot old new used stands =
+    let there : kind.spot new ≡ spot = used.there ∙ used.made.there in
+    sym (ap after there) ∙ used.taken.unfinished (ap kind.is_finished stands ∙ used.made.unfinished) ∙ ap before there
 
 -- a file that is as it was after the run
 pub left-after : (tells : Bool) (before after later : Told) (stage : Stage) (name text : List ℕ) → later (file name) ≡ after (file name)

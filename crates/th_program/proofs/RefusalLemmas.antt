@@ -7,29 +7,17 @@ use Rattle.th_program.specs.Done.{IsRefusedFor}
 use Rattle.th_program.specs.Owed.{Told, survey_owed}
 use Rattle.th_runs.specs.Inputs.{IsOwed, Owed}
 use Rattle.th_runs.specs.Reads.{Run, refused}
-use Rattle.th_runs.specs.Writes.{IsWritten, UnlessWrite}
+use Rattle.th_runs.specs.Writes.{UnlessWrite}
 use Rattle.th_runs.specs.declared.refusals.Refusal.{Refusal}
 use Rattle.th_runs.specs.declared.refusals.Refusal.TheVariants as refusal
-
--- what holds of a refusal that is no write
-pub unless : (X : Type 0) (own : Refusal) (Own : Type 0) → ((IsWritten {X = X} (Err own) → ⊥) → Own) → UnlessWrite own Own
-unless X (refusal.Write which) Own known = tt
-unless X (refusal.Book number fault) Own known = known (λ w. w)
-unless X (refusal.Benchmarks fault) Own known = known (λ w. w)
-unless X (refusal.Weights fault) Own known = known (λ w. w)
-unless X (refusal.Certificate fault) Own known = known (λ w. w)
-unless X (refusal.Network fault) Own known = known (λ w. w)
-unless X (refusal.Read which) Own known = known (λ w. w)
-unless X refusal.NoMemory Own known = known (λ w. w)
 
 -- a refusal before outputs were begun is owed
 pub refused-owed : {X : Type 0} (before : Told) (files : Files) (given_owed : Owed Survey) (result : Result X Refusal)
     → given_owed ≡ survey_owed before (refused result) files
-    → IfErr result (λ own. (IsWritten result → ⊥) → IsOwed (λ survey. survey) given_owed own)
+    → IfErr result (λ own. UnlessWrite own (IsOwed (λ survey. survey) given_owed own))
     → IfErr result (λ own. UnlessWrite own (IsOwed (λ survey. survey) (survey_owed before (Some own) files) own))
 refused-owed before files given_owed (Ok x) owed is = tt
-refused-owed {X = X} before files given_owed (Err own) owed is =
-    unless X own _ (λ unwritten. subst (λ (known : Owed Survey). IsOwed (λ survey. survey) known own) owed (is unwritten))
+refused-owed before files given_owed (Err own) owed is = subst (λ (known : Owed Survey). UnlessWrite own (IsOwed (λ survey. survey) known own)) owed is
 
 -- what follows where no output was begun
 pub unless-map : (own : Refusal) (A B : Type 0) → (A → B) → UnlessWrite own A → UnlessWrite own B

@@ -2,6 +2,7 @@
 use Rattle.std.proofs.Common.{◌≡◌, ◌≢◌, ℕ, ℤ, Bool, List, get_or, map, Ok, codes, ap, subst, arith}
 use Rattle.std.specs.Prelude.{Option, Result}
 use Rattle.th_devices.specs.Spots.{Spot, errors, file}
+use Rattle.th_devices.specs.declared.devices.Sink.{Ghosts as SinkKind}
 use Rattle.th_entries.specs.declared.reviews.BookReview.{BookReview}
 use Rattle.th_entries.specs.declared.spellings.Spelling.{Spelling}
 use Rattle.th_network.specs.Networks.{Survey}
@@ -11,11 +12,11 @@ use Rattle.th_program.specs.Done.{IsReviewed, entries_spot, observations_spot, p
 use Rattle.th_program.specs.Inside.Opened.{AreApart}
 use Rattle.th_program.specs.Owed.{Told, survey_owed}
 use Rattle.th_review.specs.Texts.{ReviewOutTexts}
-use Rattle.th_runs.specs.Inputs.{MakesNetwork, Meets, Owed}
+use Rattle.th_runs.specs.Inputs.{Meets, Owed}
+use Rattle.th_runs.specs.Outcomes.{Accepted}
 use Rattle.th_runs.specs.Reads.{refused}
-use Rattle.th_runs.specs.Reviewed.{AreReviewed, AreReviewsOf}
-use Rattle.th_runs.specs.Writes.{IsWrittenFor}
-use Rattle.th_runs.specs.declared.refusals.Output.TheVariants as output
+use Rattle.th_runs.specs.Reviewed.{AreWritten, AreReviewed, AreReviewsOf}
+use Rattle.th_runs.specs.declared.outputs.ReviewOuts.{ReviewOuts}
 use Rattle.th_runs.specs.declared.refusals.Refusal.{Refusal}
 
 -- the four outputs stand apart
@@ -31,37 +32,34 @@ outputs-apart prefix = record {
 
 -- a review whose outputs were begun
 pub reviewed : {X K : Type 0} (tells : Bool) (before after : Told) (from : Files) (limit : ℤ) (prefix : List ℕ)
-    (spot_of : K → Spot) (held : K → Option (List ℕ)) (is_finished : K → Bool) (calls failures : K → ℕ)
-    (points points' observations observations' entries entries' review review' : K) (books : List (Option (List ℕ))) (owed : Owed Survey) (result : Result X Refusal)
+    (kind : SinkKind K)
+    (old new : ReviewOuts K K K K) (books : List (Option (List ℕ))) (owed : Owed Survey) (result : Result X Refusal)
     → books ≡ map (λ name. before (file name)) from.books → owed ≡ survey_owed before (refused result) from
-    → IsUsed tells before after spot_of held is_finished calls failures (points_spot prefix) points points'
-    → IsUsed tells before after spot_of held is_finished calls failures (observations_spot prefix) observations observations'
-    → IsUsed tells before after spot_of held is_finished calls failures (entries_spot prefix) entries entries'
-    → IsUsed tells before after spot_of held is_finished calls failures (review_spot prefix) review review'
-    → ((survey : Survey) × (reviews : List BookReview) × (spellings : List Spelling) × (texts : ReviewOutTexts) × Meets owed (Ok survey) × MakesNetwork survey
+    → IsUsed tells before after kind (points_spot prefix) old.points new.points
+    → IsUsed tells before after kind (observations_spot prefix) old.observations new.observations
+    → IsUsed tells before after kind (entries_spot prefix) old.entries new.entries
+    → IsUsed tells before after kind (review_spot prefix) old.review new.review
+    → ((survey : Survey) × Accepted (λ (own : Survey). own) owed survey × ((reviews : List BookReview) × (spellings : List Spelling) × (texts : ReviewOutTexts)
     × AreReviewsOf 1 books reviews spellings × AreReviewed survey reviews spellings limit texts
-    × IsWrittenFor held is_finished calls failures output.Points (refused result) texts.points points points'
-    × IsWrittenFor held is_finished calls failures output.Observations (refused result) texts.observations observations observations'
-    × IsWrittenFor held is_finished calls failures output.Entries (refused result) texts.entries entries entries'
-    × IsWrittenFor held is_finished calls failures output.Review (refused result) texts.review review review')
+    × AreWritten kind kind kind kind (refused result) texts old new))
     → IsReviewed tells before after from limit prefix (refused result)
-reviewed tells before after from limit prefix spot_of held is_finished calls failures points points' observations observations' entries entries' review review' books owed result
+reviewed tells before after from limit prefix kind old new books owed result
     are_books is_owed used_points used_observations used_entries used_review written =
-    let (survey, reviews, spellings, texts, meets, network, of_books, are_reviewed, of_points, of_observations, of_entries, of_review) = written in
-    let left_at = left tells before after spot_of held is_finished calls failures in
+    let (survey, accepted, (reviews, spellings, texts, of_books, are_reviewed, of_texts)) = written in
+    let left_at = left tells before after kind in
     record {
       survey = survey;
       reviews = reviews;
       spellings = spellings;
       texts = texts;
-      given = subst (λ (own : Owed Survey). Meets own (Ok survey)) is_owed meets;
-      network = network;
+      given = subst (λ (own : Owed Survey). Meets own (Ok survey)) is_owed accepted.given;
+      network = accepted.network;
       of_books = subst (λ (own : List (Option (List ℕ))). AreReviewsOf 1 own reviews spellings) are_books of_books;
       reviewed = are_reviewed;
-      points = left_at _ texts.points _ points points' used_points of_points.stands;
-      observations = left_at _ texts.observations _ observations observations' used_observations of_observations.stands;
-      entries = left_at _ texts.entries _ entries entries' used_entries of_entries.stands;
-      review = left_at _ texts.review _ review review' used_review of_review.stands;
+      points = left_at _ texts.points _ old.points new.points used_points of_texts.points.stands;
+      observations = left_at _ texts.observations _ old.observations new.observations used_observations of_texts.observations.stands;
+      entries = left_at _ texts.entries _ old.entries new.entries used_entries of_texts.entries.stands;
+      review = left_at _ texts.review _ old.review new.review used_review of_texts.review.stands;
     }
 
 -- what is said on standard error changes no file

@@ -1,11 +1,13 @@
 //! A run that checks a certificate.
-ghost use Rattle.std.specs.Prelude.{◌≡◌, ◌≤◌, ◌+◌, ◌<◌, All, IfErr, IfOk, IfSome, Ok, OnOk, true, false, is_some, length};
+ghost use Rattle.std.specs.Prelude.{◌≡◌, ◌≤◌, All, IfErr, IfOk, IfSome, is_some, length};
 ghost use Rattle.th_devices.specs.Limits.{calls_before};
-ghost use Rattle.th_runs.specs.Checked.{IsVerdictOn, verdict_line, verdict_on};
-ghost use Rattle.th_runs.specs.Inputs.{Claim, IsOwed, MakesNetwork, Meets, MeetsRefusal, given, given_if_any, givens, owed_for_claim, surveyed};
-ghost use Rattle.th_runs.specs.Inside.Refused.{IsNetRefusal};
-ghost use Rattle.th_runs.specs.Reads.{Checking, EachBook, IfPresent, IsNamed, IsReadFor, IsWithin, network_place, outputs_place, place, refused};
-ghost use Rattle.th_runs.specs.Writes.{IsWritten, IsWrittenFor};
+ghost use Rattle.th_runs.specs.Checked.{IsVerdictOn, claim_owed_by_sources, verdict_line, verdict_on};
+ghost use Rattle.th_runs.specs.Inputs.{AnswersOwed, MakesNetwork, surveyed};
+ghost use Rattle.th_runs.specs.Inside.Judged.{IsJudged};
+ghost use Rattle.th_runs.specs.Inside.Refused.{IsOfNetwork};
+ghost use Rattle.th_runs.specs.Reads.{AreRead, Checking, IsNamed, IsReadFor, IsWithin, network_place, refused};
+ghost use Rattle.th_runs.specs.Outcomes.{SurveyOutcome};
+ghost use Rattle.th_runs.specs.Writes.{IsWrittenFor};
 
 use crate::inputs::certificate_from;
 use crate::outputs::write_out;
@@ -13,6 +15,7 @@ use crate::readers::ObservationReader;
 use crate::refusals::{Input, Output, Refusal};
 use crate::surveys::{Inputs, Tables, network_of, read_inputs};
 use std::alloc::{AllocError, Global};
+use std::marker::Model;
 use th_book::Observation;
 use th_certificate::Certificate;
 use th_checker::laws::yes_implies_least;
@@ -43,33 +46,19 @@ pub fn run_check<B: Source, T: Source, W: Source, C: Source, K: Sink>(
     requires out_calls { K.calls out.old ≤ calls_before }
 
     // What the answer means.
-    ensures written { IsWritten result → ((claim : Claim)
-        × Meets (owed_for_claim (givens B.failures B.left books.old books.new)
-        (given T.failures T.left benchmarks.old benchmarks.new)
-        (given_if_any W.failures W.left weights.old weights.new)
-        (given C.failures C.left certificate.old certificate.new)) (Ok claim)
-        × MakesNetwork claim.survey
-        × IfOk result (IsVerdictOn claim)
-        × IsWrittenFor K.held K.is_finished K.calls K.failures Output.Verdict (refused result)
-        (verdict_line (verdict_on claim)) out.old out.new) }
-    ensures refused { IfErr result (λ own. (IsWritten result → ⊥) → IsOwed (λ claim. claim.survey)
-        (owed_for_claim (givens B.failures B.left books.old books.new)
-        (given T.failures T.left benchmarks.old benchmarks.new)
-        (given_if_any W.failures W.left weights.old weights.new)
-        (given C.failures C.left certificate.old certificate.new)) own) }
+    ensures outcome { SurveyOutcome (λ claim. claim.survey)
+        (claim_owed_by_sources B.Source T.Source W.Source C.Source books.old books.new
+        benchmarks.old benchmarks.new weights.old weights.new certificate.old certificate.new)
+        (λ claim. IfOk result (IsVerdictOn claim) × IsWrittenFor K.Sink Output.Verdict
+        (refused result) (verdict_line (verdict_on claim)) out.old out.new)
+        result out.old out.new }
     ensures named { IfErr result (IsNamed (length books.old) (is_some weights.old) Checking) }
-    ensures untouched { (IsWritten result → ⊥) → out.new ≡ out.old }
     ensures spot { K.spot out.new ≡ K.spot out.old }
 
     // How the sources are read.
-    ensures books { EachBook
-        (λ own. IsReadFor B.calls B.failures B.left (Input.Book own) (refused result))
-        1 books.old books.new }
-    ensures benchmarks { IsReadFor T.calls T.failures T.left Input.Benchmarks (refused result)
-        benchmarks.old benchmarks.new }
-    ensures weights { IfPresent (IsReadFor W.calls W.failures W.left Input.Weights (refused result))
-        weights.old weights.new }
-    ensures certificate { IsReadFor C.calls C.failures C.left Input.Certificate (refused result)
+    ensures sources { AreRead B.Source T.Source W.Source (refused result) books.old books.new
+        benchmarks.old benchmarks.new weights.old weights.new }
+    ensures certificate { IsReadFor C.Source Input.Certificate (refused result)
         certificate.old certificate.new }
 {
     let stated = read_stated(alloc, books, benchmarks, weights, certificate)?;
@@ -85,6 +74,14 @@ struct Stated {
     certificate: Certificate,
 }
 
+impl Model for Stated {
+    ghost use Rattle.th_runs.specs.Inputs.{Claim};
+
+    ghost Value = { Claim };
+
+    ghost view = { λ stated. record { survey = stated.inputs; certificate = stated.certificate } };
+}
+
 /// Reads the inputs of a check, up to the first that is refused.
 fn read_stated<B: Source, T: Source, W: Source, C: Source>(
     alloc: Global,
@@ -98,33 +95,14 @@ fn read_stated<B: Source, T: Source, W: Source, C: Source>(
     requires benchmarks_calls { T.calls benchmarks.old ≤ calls_before }
     requires weights_calls { IfSome weights.old (λ own. W.calls own ≤ calls_before) }
     requires certificate_calls { C.calls certificate.old ≤ calls_before }
-    ensures ok { IfOk result (λ stated. Meets (owed_for_claim
-        (givens B.failures B.left books.old books.new)
-        (given T.failures T.left benchmarks.old benchmarks.new)
-        (given_if_any W.failures W.left weights.old weights.new)
-        (given C.failures C.left certificate.old certificate.new))
-        (Ok (record {
-          survey = surveyed stated.inputs.observations.items (record {
-            benchmarks = stated.inputs.tables.benchmarks;
-            weights = stated.inputs.tables.weights;
-          });
-          certificate = stated.certificate;
-        }))) }
-    ensures refused { IfErr result (MeetsRefusal (owed_for_claim
-        (givens B.failures B.left books.old books.new)
-        (given T.failures T.left benchmarks.old benchmarks.new)
-        (given_if_any W.failures W.left weights.old weights.new)
-        (given C.failures C.left certificate.old certificate.new))) }
+    ensures answer { AnswersOwed (claim_owed_by_sources B.Source T.Source W.Source C.Source
+        books.old books.new benchmarks.old benchmarks.new weights.old weights.new
+        certificate.old certificate.new) result }
     ensures at { IfErr result (IsWithin 1 network_place) }
     ensures named { IfErr result (IsNamed (length books.old) (is_some weights.old) Checking) }
-    ensures books { EachBook
-        (λ own. IsReadFor B.calls B.failures B.left (Input.Book own) (refused result))
-        1 books.old books.new }
-    ensures benchmarks { IsReadFor T.calls T.failures T.left Input.Benchmarks (refused result)
-        benchmarks.old benchmarks.new }
-    ensures weights { IfPresent (IsReadFor W.calls W.failures W.left Input.Weights (refused result))
-        weights.old weights.new }
-    ensures certificate { IsReadFor C.calls C.failures C.left Input.Certificate (refused result)
+    ensures sources { AreRead B.Source T.Source W.Source (refused result) books.old books.new
+        benchmarks.old benchmarks.new weights.old weights.new }
+    ensures certificate { IsReadFor C.Source Input.Certificate (refused result)
         certificate.old certificate.new }
 {
     let inputs = read_inputs(alloc, &mut ObservationReader, books, benchmarks, weights)?;
@@ -144,22 +122,7 @@ struct Judged {
 
 /// The verdict on what is checked, or the first fault of its network.
 fn judge(alloc: Global, stated: Stated) -> Result<Judged, Refusal>
-    ensures verdict { IfOk result (λ judged. IsVerdictOn (record {
-      survey = surveyed stated.inputs.observations.items (record {
-        benchmarks = stated.inputs.tables.benchmarks;
-        weights = stated.inputs.tables.weights;
-      });
-      certificate = stated.certificate;
-    }) judged.verdict) }
-    ensures line { IfOk result (λ judged. judged.line.items ≡ verdict_line judged.verdict) }
-    ensures network { OnOk result (MakesNetwork (surveyed stated.inputs.observations.items (record {
-      benchmarks = stated.inputs.tables.benchmarks;
-      weights = stated.inputs.tables.weights;
-    }))) }
-    ensures refused { IfErr result (IsNetRefusal (surveyed stated.inputs.observations.items (record {
-      benchmarks = stated.inputs.tables.benchmarks;
-      weights = stated.inputs.tables.weights;
-    }))) }
+    ensures { IsOfNetwork stated.survey (IsJudged stated) result }
 {
     let Stated {
         inputs: Inputs {
@@ -178,22 +141,11 @@ fn judge_survey(
     tables: &Tables,
     certificate: &Certificate,
 ) -> Result<Judged, Refusal>
-    ensures verdict { IfOk result (λ judged. IsVerdictOn (record {
-      survey = surveyed observations.items (record {
-        benchmarks = tables.now.benchmarks;
-        weights = tables.now.weights;
-      });
-      certificate = certificate.now;
-    }) judged.verdict) }
-    ensures line { IfOk result (λ judged. judged.line.items ≡ verdict_line judged.verdict) }
-    ensures network { OnOk result (MakesNetwork (surveyed observations.items (record {
-      benchmarks = tables.now.benchmarks;
-      weights = tables.now.weights;
-    }))) }
-    ensures refused { IfErr result (IsNetRefusal (surveyed observations.items (record {
-      benchmarks = tables.now.benchmarks;
-      weights = tables.now.weights;
-    }))) }
+    ensures { IsOfNetwork (surveyed observations.items tables.now.benchmarks tables.now.weights)
+        (IsJudged (record {
+          survey = surveyed observations.items tables.now.benchmarks tables.now.weights;
+          certificate = certificate.now;
+        })) result }
 {
     let network = network_of(alloc, observations, &tables.benchmarks, &tables.weights)?;
     match judge_network(alloc, &network, tables, certificate) {
@@ -210,14 +162,10 @@ fn judge_network(
     certificate: &Certificate,
 ) -> Result<Judged, AllocError>
     requires { MakesNetwork network.now }
-    ensures verdict { IfOk result (λ judged. IsVerdictOn (record {
-      survey = surveyed network.now.observations (record {
-        benchmarks = tables.now.benchmarks;
-        weights = tables.now.weights;
-      });
+    ensures { IfOk result (IsJudged (record {
+      survey = surveyed network.now.observations tables.now.benchmarks tables.now.weights;
       certificate = certificate.now;
-    }) judged.verdict) }
-    ensures line { IfOk result (λ judged. judged.line.items ≡ verdict_line judged.verdict) }
+    })) }
 {
     yes_implies_least();
     let verdict = check(

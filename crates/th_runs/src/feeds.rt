@@ -80,10 +80,9 @@ pub(crate) fn feed_from<S: Source, F: Feed>(
     ensures fed { OnOk result ((front : List ℕ) × AreTaken F.has_taken front feed.old feed.new
         × IfSome (S.left book.old) (λ text. front ≡ take (max_book + 1) text)) }
     ensures refused { IfErr result (MeetsRefusal
-        (owed_for_book number (given S.failures S.left book.old book.new))) }
+        (owed_for_book number (given S.Source book.old book.new))) }
     ensures named { IfErr result (IsOfBook number) }
-    ensures book { IsReadFor S.calls S.failures S.left (Input.Book number) (refused result)
-        book.old book.new }
+    ensures book { IsReadFor S.Source (Input.Book number) (refused result) book.old book.new }
 {
     let input = Input::Book(number);
     let most = limit_of(input) as usize + 1;

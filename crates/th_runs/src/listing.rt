@@ -1,14 +1,14 @@
 //! A run that lists the observations of one book.
-ghost use Rattle.std.specs.Prelude.{◌≡◌, ◌≤◌, IfErr, List, Ok};
-ghost use Rattle.th_book.specs.Observed.{Observed};
+ghost use Rattle.std.specs.Prelude.{◌≡◌, ◌≤◌, IfErr, Ok};
 ghost use Rattle.th_devices.specs.Limits.{calls_before};
 ghost use Rattle.th_report.specs.Lists.{list_text};
 ghost use Rattle.th_runs.specs.Inputs.{Meets, MeetsRefusal, given, owed_for_book};
 ghost use Rattle.th_runs.specs.Reads.{IsOfList, IsReadFor, refused};
-ghost use Rattle.th_runs.specs.Writes.{IsWritten, IsWrittenFor, UnlessWrite};
+ghost use Rattle.th_runs.specs.Outcomes.{Outcome};
+ghost use Rattle.th_runs.specs.Writes.{IsWrittenFor};
 
 use crate::outputs::write_out;
-use crate::readers::observations_of;
+use crate::readers::{BookReader, ObservationReader};
 use crate::refusals::{Input, Output, Refusal};
 use std::alloc::Global;
 use th_devices::{Sink, Source};
@@ -23,21 +23,18 @@ pub fn run_list<S: Source, K: Sink>(alloc: Global, book: &mut S, out: &mut K) ->
     requires out_calls { K.calls out.old ≤ calls_before }
 
     // What the answer means.
-    ensures written { IsWritten result → ((observations : List Observed)
-        × Meets (owed_for_book 1 (given S.failures S.left book.old book.new)) (Ok observations)
-        × IsWrittenFor K.held K.is_finished K.calls K.failures Output.List (refused result)
-        (list_text observations) out.old out.new) }
-    ensures refused { IfErr result (λ own. UnlessWrite own (MeetsRefusal
-        (owed_for_book 1 (given S.failures S.left book.old book.new)) own)) }
+    ensures outcome { Outcome
+        (MeetsRefusal (owed_for_book 1 (given S.Source book.old book.new)))
+        (λ own. Meets (owed_for_book 1 (given S.Source book.old book.new)) (Ok own))
+        (λ own. IsWrittenFor K.Sink Output.List (refused result) (list_text own) out.old out.new)
+        result out.old out.new }
     ensures named { IfErr result IsOfList }
-    ensures untouched { IfErr result (λ own. UnlessWrite own (out.new ≡ out.old)) }
     ensures spot { K.spot out.new ≡ K.spot out.old }
 
     // How the book is read.
-    ensures book { IsReadFor S.calls S.failures S.left (Input.Book 1) (refused result)
-        book.old book.new }
+    ensures book { IsReadFor S.Source (Input.Book 1) (refused result) book.old book.new }
 {
-    let observations = observations_of(alloc, 1, book)?;
+    let observations = ObservationReader.read(alloc, 1, book)?;
     let text = list_text(alloc, observations.as_slice())?;
     write_out(Output::List, out, text.as_slice())
 }

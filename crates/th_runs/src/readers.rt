@@ -30,15 +30,14 @@ pub(crate) trait BookReader {
         book: &mut S,
     ) -> Result<Vec<Observation>, Refusal>
         requires { S.calls book.old ≤ calls_before }
-        ensures ok { IfOk result (λ observations. Meets
-            (owed_for_book number (given S.failures S.left book.old book.new)) (Ok observations.items)) }
+        ensures ok { IfOk result (λ observations.
+            Meets (owed_for_book number (given S.Source book.old book.new)) (Ok observations.items)) }
         ensures read { IfOk result (λ observations.
             has_read number (S.left book.old) observations.items self.old self.new) }
         ensures refused { IfErr result (MeetsRefusal
-            (owed_for_book number (given S.failures S.left book.old book.new))) }
+            (owed_for_book number (given S.Source book.old book.new))) }
         ensures named { IfErr result (IsOfBook number) }
-        ensures book { IsReadFor S.calls S.failures S.left (Input.Book number) (refused result)
-            book.old book.new };
+        ensures book { IsReadFor S.Source (Input.Book number) (refused result) book.old book.new };
 }
 
 /// Reads the observations of books alone.
@@ -56,7 +55,12 @@ impl BookReader for ObservationReader {
         number: u32,
         book: &mut S,
     ) -> Result<Vec<Observation>, Refusal> {
-        observations_of(alloc, number, book)
+        let mut feed = BookFeed::new(alloc, number);
+        feed_from(number, book, &mut feed)?;
+        match feed.finish() {
+            Ok(observations) => Ok(observations),
+            Err(fault) => Err(refusal_of(number, fault)),
+        }
     }
 }
 
@@ -121,31 +125,6 @@ impl BookReader for ReviewReader {
             }
             Err(fault) => Err(refusal_of(number, fault)),
         }
-    }
-}
-
-/// The observations of the book with this number, which is read in pieces.
-///
-/// It keeps one line and the observations, and nothing else of the book.
-pub(crate) fn observations_of<S: Source>(
-    alloc: Global,
-    number: u32,
-    book: &mut S,
-) -> Result<Vec<Observation>, Refusal>
-    requires { S.calls book.old ≤ calls_before }
-    ensures ok { IfOk result (λ observations. Meets
-        (owed_for_book number (given S.failures S.left book.old book.new)) (Ok observations.items)) }
-    ensures refused { IfErr result (MeetsRefusal
-        (owed_for_book number (given S.failures S.left book.old book.new))) }
-    ensures named { IfErr result (IsOfBook number) }
-    ensures book { IsReadFor S.calls S.failures S.left (Input.Book number) (refused result)
-        book.old book.new }
-{
-    let mut feed = BookFeed::new(alloc, number);
-    feed_from(number, book, &mut feed)?;
-    match feed.finish() {
-        Ok(observations) => Ok(observations),
-        Err(fault) => Err(refusal_of(number, fault)),
     }
 }
 

@@ -1,27 +1,26 @@
 //! A run that reviews the height network of books: what would a mistake do in it?
-ghost use Rattle.std.specs.Prelude.{◌≡◌, ◌≤◌, ◌<◌, All, IfErr, IfOk, IfSome, List, Ok, OnOk, [], is_some, length, map};
+ghost use Rattle.std.specs.Prelude.{◌≡◌, ◌≤◌, All, IfErr, IfOk, IfSome, List, [], is_some, length, map};
+ghost use Rattle.std.specs.List.{AllZip};
 ghost use Rattle.th_devices.specs.Limits.{calls_before};
 ghost use Rattle.th_entries.specs.Stations.{HasOneStation};
 ghost use Rattle.th_entries.specs.declared.reviews.BookReview.{BookReview};
 ghost use Rattle.th_entries.specs.declared.spellings.Spelling.{Spelling};
-ghost use Rattle.std.specs.List.{AllZip};
 ghost use Rattle.th_reliability.specs.Numbers.{AreControls, AreStrengths};
 ghost use Rattle.th_reliability.specs.SharedMistakes.{IsSharedMistake};
 ghost use Rattle.th_reliability.specs.Sights.{in_sights};
 ghost use Rattle.th_review.specs.Entries.{entries_of, sights_of};
 ghost use Rattle.th_review.specs.Texts.{ReviewOutTexts, bytes_of, found_in};
-ghost use Rattle.th_runs.specs.Inputs.{IsOwed, MakesNetwork, Meets, given, given_if_any, givens, owed_for_survey, surveyed};
-ghost use Rattle.th_runs.specs.Inside.Refused.{IsNetRefusal};
-ghost use Rattle.th_runs.specs.Reads.{EachBook, IfPresent, IsNamed, IsReadFor, Reviewing, refused};
-ghost use Rattle.th_runs.specs.Reviewed.{AreFound, AreReviewed, AreReviewsOf};
-ghost use Rattle.th_runs.specs.Writes.{IsWritten, IsWrittenFor};
-ghost use Rattle.th_network.specs.Networks.{Survey};
-ghost use Rattle.th_tables.specs.Rows.{AreBenchmarks, AreWeights};
+ghost use Rattle.th_runs.specs.Inputs.{MakesNetwork, owed_by_sources, surveyed};
+ghost use Rattle.th_runs.specs.Inside.Refused.{IsOfNetwork};
+ghost use Rattle.th_runs.specs.Reads.{AreRead, IsNamed, Reviewing, refused};
+ghost use Rattle.th_runs.specs.Reviewed.{AreFound, AreInPlace, AreReviewed, AreReviewsOf, AreWritten};
+ghost use Rattle.th_runs.specs.Outcomes.{SurveyOutcome};
+ghost use Rattle.th_tables.specs.Rows.{AreWeights};
 
 use crate::adjusting::adjust;
 use crate::outputs::{ReviewOuts, write_review_outs};
 use crate::readers::ReviewReader;
-use crate::refusals::{Input, Output, Refusal};
+use crate::refusals::Refusal;
 use crate::surveys::{Inputs, Tables, network_of, read_inputs};
 use std::alloc::{AllocError, Global};
 use th_devices::{Sink, Source};
@@ -58,43 +57,19 @@ pub fn run_review<B: Source, T: Source, W: Source, P: Sink, O: Sink, E: Sink, R:
     requires review_calls { R.calls outs.old.review ≤ calls_before }
 
     // What the answer means.
-    ensures written { IsWritten result → ((survey : Survey) × (reviews : List BookReview)
-        × (spellings : List Spelling) × (texts : ReviewOutTexts)
-        × Meets (owed_for_survey (givens B.failures B.left books.old books.new)
-        (given T.failures T.left benchmarks.old benchmarks.new)
-        (given_if_any W.failures W.left weights.old weights.new)) (Ok survey)
-        × MakesNetwork survey
-        × AreReviewsOf 1 (map B.left books.old) reviews spellings
+    ensures outcome { SurveyOutcome (λ survey. survey) (owed_by_sources B.Source T.Source W.Source
+        books.old books.new benchmarks.old benchmarks.new weights.old weights.new)
+        (λ survey. (reviews : List BookReview) × (spellings : List Spelling)
+        × (texts : ReviewOutTexts) × AreReviewsOf 1 (map B.left books.old) reviews spellings
         × AreReviewed survey reviews spellings limit texts
-        × IsWrittenFor P.held P.is_finished P.calls P.failures Output.Points (refused result)
-        texts.points outs.old.points outs.new.points
-        × IsWrittenFor O.held O.is_finished O.calls O.failures Output.Observations (refused result)
-        texts.observations outs.old.observations outs.new.observations
-        × IsWrittenFor E.held E.is_finished E.calls E.failures Output.Entries (refused result)
-        texts.entries outs.old.entries outs.new.entries
-        × IsWrittenFor R.held R.is_finished R.calls R.failures Output.Review (refused result)
-        texts.review outs.old.review outs.new.review) }
-    ensures refused { IfErr result (λ own. (IsWritten result → ⊥) → IsOwed (λ survey. survey)
-        (owed_for_survey (givens B.failures B.left books.old books.new)
-        (given T.failures T.left benchmarks.old benchmarks.new)
-        (given_if_any W.failures W.left weights.old weights.new)) own) }
+        × AreWritten P.Sink O.Sink E.Sink R.Sink (refused result) texts outs.old outs.new)
+        result outs.old outs.new }
     ensures named { IfErr result (IsNamed (length books.old) (is_some weights.old) Reviewing) }
-    ensures untouched { (IsWritten result → ⊥) → outs.new ≡ outs.old }
-
-    // Each sink stands where it stood.
-    ensures points_spot { P.spot outs.new.points ≡ P.spot outs.old.points }
-    ensures observations_spot { O.spot outs.new.observations ≡ O.spot outs.old.observations }
-    ensures entries_spot { E.spot outs.new.entries ≡ E.spot outs.old.entries }
-    ensures review_spot { R.spot outs.new.review ≡ R.spot outs.old.review }
+    ensures places { AreInPlace P.Sink O.Sink E.Sink R.Sink outs.old outs.new }
 
     // How the sources are read.
-    ensures books { EachBook
-        (λ own. IsReadFor B.calls B.failures B.left (Input.Book own) (refused result))
-        1 books.old books.new }
-    ensures benchmarks { IsReadFor T.calls T.failures T.left Input.Benchmarks (refused result)
-        benchmarks.old benchmarks.new }
-    ensures weights { IfPresent (IsReadFor W.calls W.failures W.left Input.Weights (refused result))
-        weights.old weights.new }
+    ensures sources { AreRead B.Source T.Source W.Source (refused result) books.old books.new
+        benchmarks.old benchmarks.new weights.old weights.new }
 {
     entry_of_several_books_has_one_station();
     let mut reader = ReviewReader::new(alloc);
@@ -112,22 +87,10 @@ fn texts_of(
     spellings: &[Spelling],
     limit: i64,
 ) -> Result<ReviewTexts, Refusal>
-    requires benchmarks { AreBenchmarks inputs.tables.benchmarks }
-    requires weights { AreWeights inputs.tables.weights }
     requires few { length reviews.now ≤ 16 }
-    requires stations { All (HasOneStation inputs.observations.items) (entries_of reviews.now) }
-    ensures texts { IfOk result (λ texts. AreReviewed (surveyed inputs.observations.items (record {
-      benchmarks = inputs.tables.benchmarks;
-      weights = inputs.tables.weights;
-    })) reviews.now spellings.now limit (bytes_of texts)) }
-    ensures network { OnOk result (MakesNetwork (surveyed inputs.observations.items (record {
-      benchmarks = inputs.tables.benchmarks;
-      weights = inputs.tables.weights;
-    }))) }
-    ensures refused { IfErr result (IsNetRefusal (surveyed inputs.observations.items (record {
-      benchmarks = inputs.tables.benchmarks;
-      weights = inputs.tables.weights;
-    }))) }
+    requires stations { All (HasOneStation inputs.observations) (entries_of reviews.now) }
+    ensures { IsOfNetwork inputs (λ texts.
+        AreReviewed inputs reviews.now spellings.now limit (bytes_of texts)) result }
 {
     let Inputs {
         observations,

@@ -6,7 +6,7 @@ use Rattle.th_program.specs.Inside.Opened.{AreOpened}
 use Rattle.th_program.proofs.AdjustLemmas.{outputs-apart, adjusted}
 use Rattle.th_program.proofs.OpenedLemmas.{named-opened, opened-fresh, survey-opened}
 use Rattle.th_program.proofs.OutputLemmas.{sinks-apart, sinks-are-files}
-use Rattle.th_program.proofs.RefusalLemmas.{refused-owed}
+use Rattle.th_program.proofs.RefusalLemmas.{refused-owed, unless-all}
 use Rattle.th_runs.specs.Reads.{Adjusting, refused}
 use Rattle.th_runs.specs.declared.refusals.Refusal.{Refusal}
 use Rattle.th_program.proofs.adjusting.adjust.Goals as goal
@@ -14,24 +14,24 @@ use Rattle.th_program.proofs.adjusting.adjust.Goals as goal
 pub run_adjust-answer-requires-clause-books_calls : goal.run_adjust-answer-requires-clause-books_calls
 run_adjust-answer-requires-clause-books_calls g c =
     rw c.as_mut_slice.ensures.value
-    (opened-fresh g.F.Folder.held g.F.In.Source.left g.F.In.Source.calls g.F.In.Source.failures _ _ _ calls_before c.in_ok-sources.ensures.opened.of_books)
+    (opened-fresh g.F.Folder.held g.F.In.Source _ _ _ calls_before c.in_ok-sources.ensures.opened.of_books)
 
 pub close_sinks-requires-clause-apart : goal.close_sinks-requires-clause-apart
 close_sinks-requires-clause-apart g c =
     sinks-apart _ _ _ _ _ _ _ _
-    (c.run_adjust-answer.ensures.heights_spot ∙ c.in_ok-sinks.ensures.first.there)
-    (c.run_adjust-answer.ensures.certificate_spot ∙ c.in_ok-sinks.ensures.second.there)
-    (c.run_adjust-answer.ensures.report_spot ∙ c.in_ok-sinks.ensures.third.there)
-    (c.run_adjust-answer.ensures.gsi_spot ∙ c.in_ok-sinks.ensures.fourth.there)
+    (c.run_adjust-answer.ensures.places.heights ∙ c.in_ok-sinks.ensures.first.there)
+    (c.run_adjust-answer.ensures.places.certificate ∙ c.in_ok-sinks.ensures.second.there)
+    (c.run_adjust-answer.ensures.places.report ∙ c.in_ok-sinks.ensures.third.there)
+    (c.run_adjust-answer.ensures.places.gsi ∙ c.in_ok-sinks.ensures.fourth.there)
     (outputs-apart c.args.prefix.now)
 
 pub close_sinks-requires-clause-files : goal.close_sinks-requires-clause-files
 close_sinks-requires-clause-files g c =
     sinks-are-files _ _ _ _ _ _ _ _
-    (c.run_adjust-answer.ensures.heights_spot ∙ c.in_ok-sinks.ensures.first.there)
-    (c.run_adjust-answer.ensures.certificate_spot ∙ c.in_ok-sinks.ensures.second.there)
-    (c.run_adjust-answer.ensures.report_spot ∙ c.in_ok-sinks.ensures.third.there)
-    (c.run_adjust-answer.ensures.gsi_spot ∙ c.in_ok-sinks.ensures.fourth.there)
+    (c.run_adjust-answer.ensures.places.heights ∙ c.in_ok-sinks.ensures.first.there)
+    (c.run_adjust-answer.ensures.places.certificate ∙ c.in_ok-sinks.ensures.second.there)
+    (c.run_adjust-answer.ensures.places.report ∙ c.in_ok-sinks.ensures.third.there)
+    (c.run_adjust-answer.ensures.places.gsi ∙ c.in_ok-sinks.ensures.fourth.there)
 
 pub returns-clause-adjusted : goal.returns-clause-adjusted
 returns-clause-adjusted g c =
@@ -40,17 +40,17 @@ returns-clause-adjusted g c =
     let folder = c.args.folder.now in
     let opened : AreOpened g.F.Folder.held g.F.In.Source.left g.F.In.Source.calls g.F.In.Source.failures folder (files c.args.inputs.now) c.as_mut_slice.result.now c.in_ok-sources.sources.benchmarks c.in_ok-sources.sources.weights =
     rw c.as_mut_slice.ensures.value c.in_ok-sources.ensures.opened in
-    let owed = survey-opened g.F.Folder.held g.F.In.Source.left g.F.In.Source.calls g.F.In.Source.failures folder (files c.args.inputs.now) answer _ _ _ _ _ _
-    opened run.ensures.books run.ensures.benchmarks run.ensures.weights in
+    let owed = survey-opened g.F.Folder.held g.F.In.Source folder (files c.args.inputs.now) answer _ _ _ _ _ _
+    opened run.ensures.sources in
     let same : c.sinks_of.new.folder ≡ c.args.folder.now = c.sinks_of.ensures.same ∙ c.sources_of.ensures.same in
     let limit : to_z w64 (of_z w64 c.get.result) ≡ c.args.limit = search rules in
     λ began. adjusted g.F.Folder.tells (g.F.Folder.held folder) (g.F.Folder.held c.close_sinks.new.folder) (files c.args.inputs.now) c.args.limit c.args.prefix.now
-    g.F.Out.Sink.spot g.F.Out.Sink.held g.F.Out.Sink.is_finished g.F.Out.Sink.calls g.F.Out.Sink.failures _ _ _ _ _ _ _ _ _ run.result owed
-    (record { made = c.in_ok-sinks.ensures.first; there = run.ensures.heights_spot; taken = rw same at c.close_sinks.ensures.first })
-    (record { made = c.in_ok-sinks.ensures.second; there = run.ensures.certificate_spot; taken = rw same at c.close_sinks.ensures.second })
-    (record { made = c.in_ok-sinks.ensures.third; there = run.ensures.report_spot; taken = rw same at c.close_sinks.ensures.third })
-    (record { made = c.in_ok-sinks.ensures.fourth; there = run.ensures.gsi_spot; taken = rw same at c.close_sinks.ensures.fourth })
-    (rw limit at run.ensures.written began)
+    g.F.Out.Sink _ _ _ run.result owed
+    (record { made = c.in_ok-sinks.ensures.first; there = run.ensures.places.heights; taken = rw same at c.close_sinks.ensures.first })
+    (record { made = c.in_ok-sinks.ensures.second; there = run.ensures.places.certificate; taken = rw same at c.close_sinks.ensures.second })
+    (record { made = c.in_ok-sinks.ensures.third; there = run.ensures.places.report; taken = rw same at c.close_sinks.ensures.third })
+    (record { made = c.in_ok-sinks.ensures.fourth; there = run.ensures.places.gsi; taken = rw same at c.close_sinks.ensures.fourth })
+    (rw limit at run.ensures.outcome.written began)
 
 pub returns-clause-refused : goal.returns-clause-refused
 returns-clause-refused g c =
@@ -59,19 +59,19 @@ returns-clause-refused g c =
     let folder = c.args.folder.now in
     let opened : AreOpened g.F.Folder.held g.F.In.Source.left g.F.In.Source.calls g.F.In.Source.failures folder (files c.args.inputs.now) c.as_mut_slice.result.now c.in_ok-sources.sources.benchmarks c.in_ok-sources.sources.weights =
     rw c.as_mut_slice.ensures.value c.in_ok-sources.ensures.opened in
-    let owed = survey-opened g.F.Folder.held g.F.In.Source.left g.F.In.Source.calls g.F.In.Source.failures folder (files c.args.inputs.now) answer _ _ _ _ _ _
-    opened run.ensures.books run.ensures.benchmarks run.ensures.weights in
-    refused-owed (g.F.Folder.held folder) (files c.args.inputs.now) _ run.result owed run.ensures.refused
+    let owed = survey-opened g.F.Folder.held g.F.In.Source folder (files c.args.inputs.now) answer _ _ _ _ _ _
+    opened run.ensures.sources in
+    refused-owed (g.F.Folder.held folder) (files c.args.inputs.now) _ run.result owed run.ensures.outcome.refused
 
 pub returns-clause-others : goal.returns-clause-others
 returns-clause-others g c =
     let run = c.run_adjust-answer.ensures in
     let same : c.sinks_of.new.folder ≡ c.args.folder.now = c.sinks_of.ensures.same ∙ c.sources_of.ensures.same in
     λ spot no_heights no_certificate no_report no_gsi. c.close_sinks.ensures.others spot
-    (λ e. no_heights (e ∙ run.heights_spot ∙ c.in_ok-sinks.ensures.first.there))
-    (λ e. no_certificate (e ∙ run.certificate_spot ∙ c.in_ok-sinks.ensures.second.there))
-    (λ e. no_report (e ∙ run.report_spot ∙ c.in_ok-sinks.ensures.third.there))
-    (λ e. no_gsi (e ∙ run.gsi_spot ∙ c.in_ok-sinks.ensures.fourth.there))
+    (λ e. no_heights (e ∙ run.places.heights ∙ c.in_ok-sinks.ensures.first.there))
+    (λ e. no_certificate (e ∙ run.places.certificate ∙ c.in_ok-sinks.ensures.second.there))
+    (λ e. no_report (e ∙ run.places.report ∙ c.in_ok-sinks.ensures.third.there))
+    (λ e. no_gsi (e ∙ run.places.gsi ∙ c.in_ok-sinks.ensures.fourth.there))
     ∙ ap (λ own. g.F.Folder.held own spot) same
 
 pub returns-clause-named : goal.returns-clause-named
@@ -79,4 +79,7 @@ returns-clause-named g c =
     let folder = c.args.folder.now in
     let opened : AreOpened g.F.Folder.held g.F.In.Source.left g.F.In.Source.calls g.F.In.Source.failures folder (files c.args.inputs.now) c.as_mut_slice.result.now c.in_ok-sources.sources.benchmarks c.in_ok-sources.sources.weights =
     rw c.as_mut_slice.ensures.value c.in_ok-sources.ensures.opened in
-    named-opened g.F.Folder.held g.F.In.Source.left g.F.In.Source.calls g.F.In.Source.failures folder (files c.args.inputs.now) Adjusting _ _ _ _ opened c.run_adjust-answer.ensures.named
+    named-opened g.F.Folder.held g.F.In.Source folder (files c.args.inputs.now) Adjusting _ _ _ _ opened c.run_adjust-answer.ensures.named
+
+pub returns-clause-untouched : goal.returns-clause-untouched
+returns-clause-untouched g c = unless-all _ _ c.run_adjust-answer.result (λ same. search rules) c.run_adjust-answer.ensures.outcome.untouched

@@ -10,18 +10,18 @@ use Rattle.th_program.proofs.listing.list.Goals as goal
 pub returns-clause-listed : goal.returns-clause-listed
 returns-clause-listed g c =
     let run = c.run_list-answer in
-    let owed = ap (owed_for_book 1) (given-there g.F.Folder.held g.F.In.Source.left g.F.In.Source.calls g.F.In.Source.failures c.args.folder.now (input.Book 1) (refused run.result) _ _ _
+    let owed = ap (owed_for_book 1) (given-there g.F.Folder.held g.F.In.Source c.args.folder.now (input.Book 1) (refused run.result) _ _ _
     c.in_ok-book.ensures.opened run.ensures.book.failed) in
     listed g.F.Folder.tells (g.F.Folder.held c.args.folder.now) (g.F.Folder.held c.close.new.self) _
-    g.F.Out.Sink.spot g.F.Out.Sink.held g.F.Out.Sink.is_finished g.F.Out.Sink.calls g.F.Out.Sink.failures _ _ _ run.result owed
-    c.in_ok-out.ensures.made.told (run.ensures.spot ∙ c.in_ok-out.ensures.made.there) c.close.ensures.finished run.ensures.written
+    g.F.Out.Sink _ _ _ run.result owed
+    c.in_ok-out.ensures.made.told (run.ensures.spot ∙ c.in_ok-out.ensures.made.there) c.close.ensures.finished run.ensures.outcome.written
 
 pub returns-clause-refused : goal.returns-clause-refused
 returns-clause-refused g c =
     let run = c.run_list-answer in
-    let owed = ap (owed_for_book 1) (given-there g.F.Folder.held g.F.In.Source.left g.F.In.Source.calls g.F.In.Source.failures c.args.folder.now (input.Book 1) (refused run.result) _ _ _
+    let owed = ap (owed_for_book 1) (given-there g.F.Folder.held g.F.In.Source c.args.folder.now (input.Book 1) (refused run.result) _ _ _
     c.in_ok-book.ensures.opened run.ensures.book.failed) in
-    refused-list (g.F.Folder.held c.args.folder.now) _ _ run.result owed run.ensures.named run.ensures.refused
+    refused-list (g.F.Folder.held c.args.folder.now) _ _ run.result owed run.ensures.named run.ensures.outcome.refused
 
 pub returns-clause-untouched : goal.returns-clause-untouched
-returns-clause-untouched g c = unless-all _ _ c.run_list-answer.result (λ same. search rules) c.run_list-answer.ensures.untouched
+returns-clause-untouched g c = unless-all _ _ c.run_list-answer.result (λ same. search rules) c.run_list-answer.ensures.outcome.untouched

@@ -16,5 +16,5 @@ loop-name-preserved g c =
     ∙ map-append (λ (name : Bor (List ℕ)). name.now) (take i names) (get_or names i none ∷ []) in
     let opened = subst (λ (name : List ℕ). IsOpened g.F.Folder.held g.F.In.Source.left g.F.In.Source.calls g.F.In.Source.failures (file name) c.loop-name.folder c.in_ok-source.field-0) one
     c.in_ok-source.ensures.opened in
-    let more = opened-more _ _ _ _ _ _ _ _ _ c.loop-name.invariant.1 (rw c.loop-name.invariant.0 at opened) in
+    let more = opened-more _ g.F.In.Source _ _ _ _ _ c.loop-name.invariant.1 (rw c.loop-name.invariant.0 at opened) in
     (search rules, rw shown (rw c.in_ok-push.ensures.items more))

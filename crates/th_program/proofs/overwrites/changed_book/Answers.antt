@@ -1,7 +1,7 @@
-use Rattle.std.proofs.Common.{◌≡◌, ◌∙◌, ℕ, List, [], ap, get_or, sym, arith}
+use Rattle.std.proofs.Common.{◌∙◌, ℕ, List, [], ap, sym, arith}
 use Rattle.std.specs.Borrow.{Bor}
 use Rattle.std.proofs.lemmas.List.{get_or_default}
-use Rattle.th_program.proofs.OverwriteLemmas.{at_place, no_more, place_within}
+use Rattle.th_program.proofs.OverwriteLemmas.{no_more}
 use Rattle.th_program.proofs.overwrites.changed_book.Goals as goal
 
 pub loop-name-preserved : goal.loop-name-preserved

@@ -7,82 +7,68 @@ use Rattle.th_entries.specs.declared.reviews.BookReview.{BookReview}
 use Rattle.th_network.specs.Networks.{Survey}
 use Rattle.th_review.specs.Entries.{entries_of}
 use Rattle.th_review.specs.Texts.{bytes_of}
-use Rattle.th_runs.specs.Inputs.{surveyed}
-use Rattle.th_runs.specs.Reads.{network_place, outputs_place, refused}
+use Rattle.th_runs.specs.Reads.{network_place, outputs_place, place, refused}
 use Rattle.th_runs.specs.Reviewed.{AreReviewed, AreReviewsOf}
 use Rattle.th_runs.specs.declared.readers.ReviewReader.{ReviewReader}
 use Rattle.th_runs.specs.declared.refusals.Input.TheVariants as input
 use Rattle.th_runs.proofs.ReaderLemmas.{AreAllRead, all_read, all_stationed, as_many, reviews_of_all}
-use Rattle.th_runs.proofs.RunLemmas.{network_within, owed_for_network, written_within}
-use Rattle.th_runs.proofs.SourceLemmas.{books_before, present_before, read_before}
+use Rattle.th_runs.proofs.RunLemmas.{network_refused, network_within, survey_begun, survey_refused, written_within}
+use Rattle.th_runs.proofs.SourceLemmas.{all_before}
 use Rattle.th_runs.proofs.reviewing.run_review.Goals as goal
 
-pub returns-in_err-inputs-clause-books : goal.returns-in_err-inputs-clause-books
-returns-in_err-inputs-clause-books g c =
-    let is : c.from_residual.result ≡ Err c.in_err-inputs.field-0.0 = search rules in rw is c.in_err-inputs.ensures.books
+pub returns-in_err-inputs-clause-outcome : goal.returns-in_err-inputs-clause-outcome
+returns-in_err-inputs-clause-outcome g c =
+    let is : c.from_residual.result ≡ Err c.in_err-inputs.field-0.0 = search rules in
+    rw is (survey_refused (λ (survey : Survey). survey) _ _ c.in_err-inputs.field-0.0 1 (place input.Certificate) _ _ c.in_err-inputs.ensures.at (omega arith) c.in_err-inputs.ensures.answer (search rules))
 
-pub returns-in_err-texts-clause-refused : goal.returns-in_err-texts-clause-refused
-returns-in_err-texts-clause-refused g c =
+pub returns-in_err-inputs-clause-sources : goal.returns-in_err-inputs-clause-sources
+returns-in_err-inputs-clause-sources g c =
+    let is : c.from_residual.result ≡ Err c.in_err-inputs.field-0.0 = search rules in rw is c.in_err-inputs.ensures.sources
+
+pub returns-in_err-texts-clause-outcome : goal.returns-in_err-texts-clause-outcome
+returns-in_err-texts-clause-outcome g c =
     let is : c.from_residual-in_err-texts.result ≡ Err c.in_err-texts.field-0.0 = search rules in
-    rw is (λ unwritten. owed_for_network (λ (survey : Survey). survey) _
-    (surveyed c.in_ok-inputs.inputs.observations.items (record { benchmarks = c.in_ok-inputs.inputs.tables.benchmarks; weights = c.in_ok-inputs.inputs.tables.weights })) _
-    c.in_ok-inputs.ensures.ok c.in_err-texts.ensures.refused)
+    rw is (network_refused (λ (survey : Survey). survey) _ _ c.in_ok-inputs.inputs c.in_err-texts.field-0.0 _ _ c.in_ok-inputs.ensures.answer c.in_err-texts.ensures (search rules))
 
-pub returns-in_err-texts-clause-books : goal.returns-in_err-texts-clause-books
-returns-in_err-texts-clause-books g c =
+pub returns-in_err-texts-clause-sources : goal.returns-in_err-texts-clause-sources
+returns-in_err-texts-clause-sources g c =
     let is : c.from_residual-in_err-texts.result ≡ Err c.in_err-texts.field-0.0 = search rules in
-    rw is (books_before _ _ _ _ _ network_place (network_place + 1) _ _
-    (network_within (surveyed c.in_ok-inputs.inputs.observations.items (record { benchmarks = c.in_ok-inputs.inputs.tables.benchmarks; weights = c.in_ok-inputs.inputs.tables.weights })) _
-    c.in_err-texts.ensures.refused) (omega arith) c.in_ok-inputs.ensures.books)
+    rw is (all_before _ _ _ _ network_place (network_place + 1) _ _ _ _ _ _ (network_within c.in_ok-inputs.inputs c.in_err-texts.field-0.0 c.in_err-texts.ensures) (omega arith)
+    c.requires.few_books c.in_ok-inputs.ensures.sources)
 
-pub returns-clause-books : goal.returns-clause-books
-returns-clause-books g c =
-    books_before _ _ _ _ (refused c.write_review_outs.result) outputs_place (outputs_place + 1) _ _ (written_within c.write_review_outs.result c.write_review_outs.ensures.written) (omega arith)
-    c.in_ok-inputs.ensures.books
-
-pub returns-clause-benchmarks : goal.returns-clause-benchmarks
-returns-clause-benchmarks g c =
-    read_before _ _ _ input.Benchmarks (refused c.write_review_outs.result) outputs_place (outputs_place + 1) _ _ (written_within c.write_review_outs.result c.write_review_outs.ensures.written)
-    (omega arith) c.in_ok-inputs.ensures.benchmarks
-
-pub returns-clause-weights : goal.returns-clause-weights
-returns-clause-weights g c =
-    present_before _ _ _ input.Weights (refused c.write_review_outs.result) outputs_place (outputs_place + 1) _ _ (written_within c.write_review_outs.result c.write_review_outs.ensures.written)
-    (omega arith) c.in_ok-inputs.ensures.weights
+pub returns-clause-sources : goal.returns-clause-sources
+returns-clause-sources g c =
+    all_before _ _ _ (refused c.write_review_outs.result) outputs_place (outputs_place + 1) _ _ _ _ _ _ (written_within c.write_review_outs.result c.write_review_outs.ensures.begun) (omega arith)
+    c.requires.few_books c.in_ok-inputs.ensures.sources
 
 pub texts_of-requires-clause-few : goal.texts_of-requires-clause-few
 texts_of-requires-clause-few g c =
-    let same = as_many 1 (map g.B.Source.left c.args.books.now) c.in_ok-inputs.inputs.observations.items c.read_inputs.new.reader.reviews.items c.new-reader.result.names c.read_inputs.new.reader.names
-    (subst (λ (old : List BookReview). AreAllRead 1 (map g.B.Source.left c.args.books.now) [] c.in_ok-inputs.inputs.observations.items old c.read_inputs.new.reader.reviews.items c.new-reader.result.names c.read_inputs.new.reader.names)
+    let same = as_many 1 (map g.B.Source.left c.args.books.now) c.in_ok-inputs.inputs.observations c.read_inputs.new.reader.reviews.items c.new-reader.result.names c.read_inputs.new.reader.names
+    (subst (λ (old : List BookReview). AreAllRead 1 (map g.B.Source.left c.args.books.now) [] c.in_ok-inputs.inputs.observations old c.read_inputs.new.reader.reviews.items c.new-reader.result.names c.read_inputs.new.reader.names)
     c.new-reader.ensures.reviews (all_read (λ (own : ReviewReader). own.reviews.items) (λ (own : ReviewReader). own.names) 1 _ _ _ c.new-reader.result c.read_inputs.new.reader c.in_ok-inputs.ensures.read)) in
     let number = ap length c.as_slice-reviews.ensures.value ∙ same ∙ length-map c.args.books.now g.B.Source.left in
     omega (arith, number, c.requires.few_books)
 
 pub texts_of-requires-clause-stations : goal.texts_of-requires-clause-stations
 texts_of-requires-clause-stations g c =
-    subst (λ (own : List BookReview). All (HasOneStation c.in_ok-inputs.inputs.observations.items) (entries_of own)) (sym c.as_slice-reviews.ensures.value)
-    (all_stationed 1 (map g.B.Source.left c.args.books.now) c.in_ok-inputs.inputs.observations.items c.read_inputs.new.reader.reviews.items c.new-reader.result.names c.read_inputs.new.reader.names
-    (subst (λ (old : List BookReview). AreAllRead 1 (map g.B.Source.left c.args.books.now) [] c.in_ok-inputs.inputs.observations.items old c.read_inputs.new.reader.reviews.items c.new-reader.result.names c.read_inputs.new.reader.names)
+    subst (λ (own : List BookReview). All (HasOneStation c.in_ok-inputs.inputs.observations) (entries_of own)) (sym c.as_slice-reviews.ensures.value)
+    (all_stationed 1 (map g.B.Source.left c.args.books.now) c.in_ok-inputs.inputs.observations c.read_inputs.new.reader.reviews.items c.new-reader.result.names c.read_inputs.new.reader.names
+    (subst (λ (old : List BookReview). AreAllRead 1 (map g.B.Source.left c.args.books.now) [] c.in_ok-inputs.inputs.observations old c.read_inputs.new.reader.reviews.items c.new-reader.result.names c.read_inputs.new.reader.names)
     c.new-reader.ensures.reviews (all_read (λ (own : ReviewReader). own.reviews.items) (λ (own : ReviewReader). own.names) 1 _ _ _ c.new-reader.result c.read_inputs.new.reader c.in_ok-inputs.ensures.read))
     c.entry_of_several_books_has_one_station.ensures)
 
-pub returns-clause-written : goal.returns-clause-written
-returns-clause-written g c = λ written. (
-  surveyed c.in_ok-inputs.inputs.observations.items (record { benchmarks = c.in_ok-inputs.inputs.tables.benchmarks; weights = c.in_ok-inputs.inputs.tables.weights }),
-  c.as_slice-reviews.result.now,
-  c.found.result.now,
-  bytes_of c.in_ok-texts.texts,
-  c.in_ok-inputs.ensures.ok,
-  c.in_ok-texts.ensures.network,
-  subst (λ (own : List BookReview). AreReviewsOf 1 (map g.B.Source.left c.args.books.now) own c.found.result.now) (sym c.as_slice-reviews.ensures.value)
-      (reviews_of_all 1 (map g.B.Source.left c.args.books.now) c.in_ok-inputs.inputs.observations.items c.read_inputs.new.reader.reviews.items c.new-reader.result.names c.read_inputs.new.reader.names c.found.result.now
-      (subst (λ (old : List BookReview). AreAllRead 1 (map g.B.Source.left c.args.books.now) [] c.in_ok-inputs.inputs.observations.items old c.read_inputs.new.reader.reviews.items c.new-reader.result.names c.read_inputs.new.reader.names)
-      c.new-reader.ensures.reviews (all_read (λ (own : ReviewReader). own.reviews.items) (λ (own : ReviewReader). own.names) 1 _ _ _ c.new-reader.result c.read_inputs.new.reader c.in_ok-inputs.ensures.read))
-      c.new-reader.ensures.names c.found.ensures),
-  subst (λ (limit : ℤ). AreReviewed (surveyed c.in_ok-inputs.inputs.observations.items (record { benchmarks = c.in_ok-inputs.inputs.tables.benchmarks; weights = c.in_ok-inputs.inputs.tables.weights }))
-      c.as_slice-reviews.result.now c.found.result.now limit (bytes_of c.in_ok-texts.texts)) (to_z-of_z w64 c.args.limit c.ranges.limit) c.in_ok-texts.ensures.texts,
-  c.write_review_outs.ensures.points,
-  c.write_review_outs.ensures.observations,
-  c.write_review_outs.ensures.entries,
-  c.write_review_outs.ensures.review,
-)
+pub returns-clause-outcome : goal.returns-clause-outcome
+returns-clause-outcome g c =
+    survey_begun (λ (survey : Survey). survey) _ _ c.in_ok-inputs.inputs c.write_review_outs.result _ _ c.write_review_outs.ensures.begun c.in_ok-inputs.ensures.answer c.in_ok-texts.ensures.0 (
+      c.as_slice-reviews.result.now,
+      c.found.result.now,
+      bytes_of c.in_ok-texts.texts,
+      subst (λ (own : List BookReview). AreReviewsOf 1 (map g.B.Source.left c.args.books.now) own c.found.result.now) (sym c.as_slice-reviews.ensures.value)
+          (reviews_of_all 1 (map g.B.Source.left c.args.books.now) c.in_ok-inputs.inputs.observations c.read_inputs.new.reader.reviews.items c.new-reader.result.names c.read_inputs.new.reader.names c.found.result.now
+          (subst (λ (old : List BookReview). AreAllRead 1 (map g.B.Source.left c.args.books.now) [] c.in_ok-inputs.inputs.observations old c.read_inputs.new.reader.reviews.items c.new-reader.result.names c.read_inputs.new.reader.names)
+          c.new-reader.ensures.reviews (all_read (λ (own : ReviewReader). own.reviews.items) (λ (own : ReviewReader). own.names) 1 _ _ _ c.new-reader.result c.read_inputs.new.reader c.in_ok-inputs.ensures.read))
+          c.new-reader.ensures.names c.found.ensures),
+      subst (λ (limit : ℤ). AreReviewed c.in_ok-inputs.inputs c.as_slice-reviews.result.now c.found.result.now limit (bytes_of c.in_ok-texts.texts)) (to_z-of_z w64 c.args.limit c.ranges.limit)
+          c.in_ok-texts.ensures.1,
+      c.write_review_outs.ensures.written,
+    )

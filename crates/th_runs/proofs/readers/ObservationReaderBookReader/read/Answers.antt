@@ -5,7 +5,7 @@ use Rattle.th_runs.proofs.Fronts.{book_answer-take}
 use Rattle.th_runs.proofs.Givens.{book_fault, meets_fault, meets_front}
 use Rattle.th_runs.specs.declared.refusals.Input.TheVariants as input
 use Rattle.th_runs.specs.declared.refusals.Refusal.TheVariants as refusal
-use Rattle.th_runs.proofs.readers.observations_of.Goals as goal
+use Rattle.th_runs.proofs.readers.ObservationReaderBookReader.read.Goals as goal
 
 pub returns-in-Ok-clause-ok : goal.returns-in-Ok-clause-ok
 returns-in-Ok-clause-ok g c =
