@@ -5,6 +5,7 @@ use Rattle.std.proofs.lemmas.List.{get_or-map}
 use Rattle.std.proofs.lemmas.List.Sums.{sum_by_more}
 use Rattle.std.proofs.lemmas.Option.{get_or_from_slice_get}
 use Rattle.th_book.specs.Observed.{Observed}
+use Rattle.th_tables.specs.Limits.{max_weight}
 use Rattle.th_tables.specs.Rows.{WeightRows, weight_of}
 use Rattle.th_network.specs.Heights.{cost, residual}
 use Rattle.th_blunders.specs.Residuals.{residuals}
@@ -33,5 +34,5 @@ cost-more weights observations heights listed i total weight size are within fou
     ∙ sym (sum_by_more (weighted weights heights) observations i nothing within)
 
 -- and in its bound
-pub bounded-more : (total i weight size most : ℕ) → total ≤ i * (1000 * most) → weight ≤ 1000 → size ≤ most → total + weight * size ≤ (i + 1) * (1000 * most)
+pub bounded-more : (total i weight size most : ℕ) → total ≤ i * (max_weight * most) → weight ≤ max_weight → size ≤ most → total + weight * size ≤ (i + 1) * (max_weight * most)
 bounded-more total i weight size most small light short = omega (arith, mul-le-mul light short)

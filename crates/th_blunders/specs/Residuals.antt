@@ -1,6 +1,11 @@
-use Rattle.std.specs.Prelude.{ℕ, ℤ, List, map}
+use Rattle.std.specs.Prelude.{ℕ, ℤ, ◌*◌, List, map}
 use Rattle.th_book.specs.Observed.{Observed}
 use Rattle.th_network.specs.Heights.{residual}
+use Rattle.th_network.specs.Limits.{height_limit}
+
+-- the size that each residual stays below, with room to spare: an observed difference and two heights are less
+abbrev pub residual_limit : ℕ
+residual_limit = 10 * height_limit
 
 -- the residuals of observations at a map of heights, in the order of the observations
 abbrev pub residuals : List Observed → (List ℕ → ℤ) → List ℤ

@@ -1,6 +1,6 @@
-ghost use Rattle.std.specs.Prelude.{◌≡◌, ◌<◌, ◌^◌, ◌*◌, ℕ, ℤ, List, All, length, sum_by, unsigned_abs};
+ghost use Rattle.std.specs.Prelude.{◌≡◌, ◌<◌, ◌*◌, ℕ, ℤ, List, All, length, sum_by, unsigned_abs};
 ghost use Rattle.std.specs.List.{zip};
-ghost use Rattle.th_blunders.specs.Residuals.{residuals as residuals_of};
+ghost use Rattle.th_blunders.specs.Residuals.{residual_limit, residuals as residuals_of};
 ghost use Rattle.th_network.specs.Heights.{cost};
 ghost use Rattle.th_network.specs.Networks.{weights_of};
 
@@ -10,7 +10,7 @@ use th_network::Network;
 /// their order and in units of 10 nm: what heights cost that leave these residuals.
 pub fn cost(network: &Network, residuals: &[i64]) -> u128
     requires each { length residuals.now ≡ length network.now.observations }
-    requires small { All (λ residual. unsigned_abs residual < 10 ^ 18) residuals.now }
+    requires small { All (λ residual. unsigned_abs residual < residual_limit) residuals.now }
     ensures sum { result ≡ sum_by (λ pair. pair.0 * unsigned_abs pair.1)
         (zip (weights_of network.now) residuals.now) }
     ensures cost { (heights : List ℕ → ℤ) → residuals.now ≡ residuals_of network.now.observations heights

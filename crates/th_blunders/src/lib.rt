@@ -15,7 +15,7 @@ mod blunder;
 // what was observed there and back
 mod pairs;
 
-pub use blunder::blunders;
+pub use blunder::{blunders, is_blunder};
 pub use costs::cost;
 pub use pairs::{Opposite, opposites};
 pub use residual::residuals;

@@ -1,7 +1,8 @@
-ghost use Rattle.std.specs.Prelude.{◌≡◌, ◌<◌, ◌≤◌, ◌^◌, ◌-ℤ◌, All, IfOk, length, unsigned_abs};
+ghost use Rattle.std.specs.Prelude.{◌≡◌, ◌<◌, ◌≤◌, ◌-ℤ◌, All, IfOk, length, unsigned_abs};
 ghost use Rattle.th_network.specs.Heights.{heights_at};
+ghost use Rattle.th_network.specs.Limits.{height_limit};
 ghost use Rattle.th_network.specs.Networks.{points_of};
-ghost use Rattle.th_blunders.specs.Residuals.{residuals as residuals_of};
+ghost use Rattle.th_blunders.specs.Residuals.{residual_limit, residuals as residuals_of};
 
 use std::alloc::{AllocError, Global};
 use th_book::Observation;
@@ -13,11 +14,11 @@ use th_network::Network;
 /// Heights and residuals are in units of 10 nm.
 pub fn residuals(alloc: Global, network: &Network, heights: &[i64]) -> Result<Vec<i64>, AllocError>
     requires one_for_each { length heights.now ≡ length (points_of network.now) }
-    requires in_range { All (λ height. unsigned_abs height < 10 ^ 17) heights.now }
+    requires in_range { All (λ height. unsigned_abs height < height_limit) heights.now }
     ensures residuals { IfOk result (λ residuals. residuals.items
         ≡ residuals_of network.now.observations (heights_at (points_of network.now) heights.now)) }
     ensures small { IfOk result (λ residuals.
-        All (λ residual. unsigned_abs residual < 10 ^ 18) residuals.items) }
+        All (λ residual. unsigned_abs residual < residual_limit) residuals.items) }
 {
     let observations = network.observations();
     let ends = network.ends();
@@ -31,10 +32,10 @@ pub fn residuals(alloc: Global, network: &Network, heights: &[i64]) -> Result<Ve
 
 /// The residual of an observation between two heights.
 fn residual(o: &Observation, from: i64, to: i64) -> i64
-    requires from { unsigned_abs from < 10 ^ 17 }
-    requires to { unsigned_abs to < 10 ^ 17 }
+    requires from { unsigned_abs from < height_limit }
+    requires to { unsigned_abs to < height_limit }
     ensures value { result ≡ o.now.difference -ℤ (to -ℤ from) }
-    ensures small { unsigned_abs result < 10 ^ 18 }
+    ensures small { unsigned_abs result < residual_limit }
 {
     o.difference() - (to - from)
 }

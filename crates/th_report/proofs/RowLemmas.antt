@@ -1,5 +1,5 @@
 -- Lines that are written one after another, and the rows of which they are the lines.
-use Rattle.std.proofs.Common.{◌≡◌, ◌<◌, ◌+◌, ◌^◌, ℕ, ℤ, pos, All, List, [], ◌∷◌, ◌++◌, Some, bytes_eq, length, get_or, drop, map, slice_get, refl, sym, ap, ◌∙◌, arith, append_assoc, to_z, of_z, unsigned_abs, w64}
+use Rattle.std.proofs.Common.{◌≡◌, ◌<◌, ◌+◌, ℕ, ℤ, pos, All, List, [], ◌∷◌, ◌++◌, Some, bytes_eq, length, get_or, drop, map, slice_get, refl, sym, ap, ◌∙◌, arith, append_assoc, to_z, of_z, unsigned_abs, w64}
 use Rattle.std.specs.Cmp.Lexicographic.{nat_list_eq_equiv}
 use Rattle.std.specs.List.{IsDistinct, enumerate_from, flat_map, zip}
 use Rattle.std.proofs.lemmas.Int.{fits_signed_from_abs, to_z-of_z}
@@ -11,6 +11,7 @@ use Rattle.std.proofs.lemmas.Slice.Eq.{bytes_eq-Decides}
 use Rattle.th_network.specs.Heights.{heights_at}
 use Rattle.th_network.specs.Limits.{height_limit}
 use Rattle.th_points.specs.Places.{place_of}
+use Rattle.th_blunders.specs.Residuals.{residual_limit}
 
 module _ {X : Type 0} (line : X → List ℕ) where
   -- one line more, where the rows that are left begin with its row
@@ -50,7 +51,7 @@ heights_at-listed names heights k name distinct within is = ap (λ k. get_or hei
         (λ _. (bytes_eq-Decides (get_or names k name) (get_or names k name)).1 refl)
 
 -- a height in range is the number that its 64 bits write
-pub same_units : (height : ℤ) → unsigned_abs height < 10 ^ 18 → to_z w64 (of_z w64 height) ≡ height
+pub same_units : (height : ℤ) → unsigned_abs height < residual_limit → to_z w64 (of_z w64 height) ≡ height
 same_units height small = to_z-of_z w64 height (fits_signed_from_abs w64 height (omega arith))
 
 -- the height that is looked up at the place of a name

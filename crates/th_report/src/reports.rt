@@ -1,7 +1,8 @@
 //! The report on an adjustment.
-ghost use Rattle.std.specs.Prelude.{◌≡◌, ◌<◌, ◌^◌, ◌++◌, All, IfOk, OnOk, length, unsigned_abs};
+ghost use Rattle.std.specs.Prelude.{◌≡◌, ◌<◌, ◌++◌, All, IfOk, OnOk, length, unsigned_abs};
 ghost use Rattle.th_network.specs.Heights.{heights_at};
 ghost use Rattle.th_network.specs.Networks.{AreAtPoints, points_of};
+ghost use Rattle.th_blunders.specs.Residuals.{residual_limit};
 ghost use Rattle.th_report.specs.Reports.{adjusted_part, observed_part, report_text};
 
 use crate::columns::{LINE, Page};
@@ -73,7 +74,7 @@ fn write_observed(
     limit: i64,
 ) -> Result<(), AllocError>
     requires each { length residuals.now ≡ length network.now.observations }
-    requires small { All (λ residual. unsigned_abs residual < 10 ^ 18) residuals.now }
+    requires small { All (λ residual. unsigned_abs residual < residual_limit) residuals.now }
     ensures { OnOk result (page.new ≡ page.old ++ observed_part network.now residuals.now limit) }
 {
     // its points say that a network has few observations

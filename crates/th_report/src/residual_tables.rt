@@ -1,15 +1,16 @@
 //! The table of residuals, and the blunders among them.
-ghost use Rattle.std.specs.Prelude.{◌≡◌, ◌<◌, ◌≤◌, ◌^◌, ◌++◌, All, IfOk, OnOk, codes, decimal, length, unsigned_abs};
+ghost use Rattle.std.specs.Prelude.{◌≡◌, ◌<◌, ◌≤◌, ◌++◌, All, IfOk, OnOk, codes, decimal, length, unsigned_abs};
 ghost use Rattle.std.specs.List.{flat_map};
 ghost use Rattle.th_network.specs.Limits.{max_observations};
 ghost use Rattle.th_report.specs.Reports.{blunder_mark, blunder_rows, end_columns, ends_of, label_line, line_in, place_columns, place_of, residual_columns, residual_header, residual_line, residual_lines, residual_of, residual_rows};
 ghost use Rattle.th_blunders.specs.Blunders.{blunders, is_blunder};
+ghost use Rattle.th_blunders.specs.Residuals.{residual_limit};
 
 use crate::columns::{LINE, Page};
 use crate::heads::write_count;
 use itoa::Buffer;
 use std::alloc::{AllocError, Global};
-use th_blunders::blunders;
+use th_blunders::{blunders, is_blunder};
 use th_book::Observation;
 use th_network::Network;
 use th_units::metre_text;
@@ -26,7 +27,7 @@ pub(crate) fn write_residuals(
 ) -> Result<Page, AllocError>
     requires few { length residuals.now ≤ max_observations }
     requires each { length residuals.now ≡ length network.now.observations }
-    requires small { All (λ residual. unsigned_abs residual < 10 ^ 18) residuals.now }
+    requires small { All (λ residual. unsigned_abs residual < residual_limit) residuals.now }
     ensures table { OnOk result (page.new ≡ page.old ++ residual_lines network.now residuals.now limit) }
     ensures blunders { IfOk result (λ lines. lines ≡ flat_map (line_in network.now limit)
         (blunder_rows network.now residuals.now limit)) }
@@ -47,7 +48,7 @@ fn write_rows(
     limit: i64,
 ) -> Result<(), AllocError>
     requires each { length residuals.now ≡ length network.now.observations }
-    requires small { All (λ residual. unsigned_abs residual < 10 ^ 18) residuals.now }
+    requires small { All (λ residual. unsigned_abs residual < residual_limit) residuals.now }
     ensures table { OnOk result (page.new ≡ page.old ++ flat_map (line_in network.now limit)
         (residual_rows network.now residuals.now)) }
     ensures blunders { OnOk result (blunders.new ≡ blunders.old ++ flat_map (line_in network.now limit)
@@ -65,7 +66,7 @@ fn write_rows(
             limit,
         )?;
         page.add(line.as_bytes())?;
-        if residuals[i].abs() > limit {
+        if is_blunder(residuals[i], limit) {
             blunders.add(line.as_bytes())?;
         }
     }
@@ -81,7 +82,7 @@ pub(crate) fn write_blunders(
     lines: Page,
 ) -> Result<(), AllocError>
     requires few { length residuals.now ≤ max_observations }
-    requires small { All (λ residual. unsigned_abs residual < 10 ^ 18) residuals.now }
+    requires small { All (λ residual. unsigned_abs residual < residual_limit) residuals.now }
     ensures { OnOk result (page.new ≡ page.old
         ++ label_line (codes "blunders") (decimal (length (blunders limit residuals.now))) ++ lines) }
 {
@@ -110,7 +111,7 @@ fn write_residual(
     residual: i64,
     limit: i64,
 ) -> Result<(), AllocError>
-    requires { unsigned_abs residual < 10 ^ 18 }
+    requires { unsigned_abs residual < residual_limit }
     ensures { OnOk result (page.new ≡ page.old ++ residual_line limit number o.now weight residual) }
 {
     write_place(page, number, o)?;
@@ -145,7 +146,7 @@ pub fn write_ends(page: &mut Page, o: &Observation) -> Result<(), AllocError>
 /// Writes a weight and a residual, with a mark where that is a blunder.
 #[tactic(auto, unfolding(crate::specs::Reports::residual_of))]
 fn write_left(page: &mut Page, weight: u32, residual: i64, limit: i64) -> Result<(), AllocError>
-    requires { unsigned_abs residual < 10 ^ 18 }
+    requires { unsigned_abs residual < residual_limit }
     ensures { OnOk result (page.new ≡ page.old ++ residual_of limit weight residual) }
 {
     let mut digits = Buffer::new();
@@ -160,10 +161,14 @@ fn write_left(page: &mut Page, weight: u32, residual: i64, limit: i64) -> Result
 
 /// The mark of a residual.
 fn mark_of(residual: i64, limit: i64) -> &'static [u8]
-    requires { unsigned_abs residual < 10 ^ 18 }
+    requires { unsigned_abs residual < residual_limit }
     ensures { result.now ≡ blunder_mark (is_blunder limit residual) }
 {
-    if residual.abs() > limit { b"  *" } else { b"" }
+    if is_blunder(residual, limit) {
+        b"  *"
+    } else {
+        b""
+    }
 }
 
 /// Writes the columns that say which observation it is.

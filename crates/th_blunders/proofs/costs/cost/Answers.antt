@@ -1,15 +1,16 @@
-use Rattle.std.proofs.Common.{◌≡◌, ◌<◌, ◌≤◌, ◌+◌, ◌*◌, ◌^◌, pos, length, get_or, unsigned_abs, ap, ◌∙◌, arith}
-use Rattle.std.proofs.Common.{ℕ, ℤ, List, sum_by, map, take, sym, Some, slice_get}
+use Rattle.std.proofs.Common.{◌≡◌, ◌<◌, ◌≤◌, ◌+◌, ◌*◌, pos, length, get_or, unsigned_abs, ap, ◌∙◌, arith}
+use Rattle.std.proofs.Common.{ℕ, ℤ, sum_by, take, sym}
 use Rattle.std.specs.List.{zip}
 use Rattle.std.proofs.lemmas.List.{take_all}
 use Rattle.std.proofs.lemmas.List.Sums.{sum_by_more}
 use Rattle.std.proofs.lemmas.Slice.Zip.{get_or-zip, length-zip}
 use Rattle.std.proofs.lemmas.Option.{get_or_from_slice_get}
 use Rattle.std.proofs.lemmas.List.{length-map}
-use Rattle.th_book.specs.Observed.{Observed}
+use Rattle.th_tables.specs.Limits.{max_weight}
 use Rattle.th_tables.specs.Rows.{weight_of}
 use Rattle.th_network.specs.Networks.{weights_of}
 use Rattle.std.proofs.lemmas.Int.{ints}
+use Rattle.th_blunders.specs.Residuals.{residual_limit}
 use Rattle.th_blunders.proofs.CostLemmas.{bounded-more, cost-more}
 use Rattle.th_blunders.proofs.costs.cost.Goals as goal
 
@@ -18,12 +19,12 @@ abbrev weighted : ℕ × ℤ → ℕ
 weighted pair = pair.0 * unsigned_abs pair.1
 
 -- the size that was added is that of the residual
-size_there : (c : goal.After-from-in-loop-i) → (c.from-in-loop-i.result ≡ unsigned_abs (get_or c.args.residuals.now c.loop-i.i (pos 0))) × (c.from-in-loop-i.result ≤ 10 ^ 18)
+size_there : (c : goal.After-from-in-loop-i) → (c.from-in-loop-i.result ≡ unsigned_abs (get_or c.args.residuals.now c.loop-i.i (pos 0))) × (c.from-in-loop-i.result ≤ residual_limit)
 size_there c =
     let bound = c.requires.small c.loop-i.i (pos 0) c.loop-i-test.true in
     (omega (arith, ints, bound), omega (arith, ints, bound))
 
-light : (c : goal.After-from-in-loop-i) → c.from.result ≤ 1000
+light : (c : goal.After-from-in-loop-i) → c.from.result ≤ max_weight
 light c = omega (arith, c.weight.ensures.in_range)
 
 pub loop-i-preserved : goal.loop-i-preserved
@@ -47,12 +48,12 @@ loop-i-preserved c =
       total = λ heights are.
           ap (λ weight. c.loop-i.total + weight * c.from-in-loop-i.result) c.from.ensures
           ∙ cost-more network.weights network.observations heights c.args.residuals.now c.loop-i.i c.loop-i.total c.weight.result c.from-in-loop-i.result are within c.weight.ensures.weight (size_there c).0 (c.loop-i.invariant.total heights are);
-      small = bounded-more c.loop-i.total c.loop-i.i c.from.result c.from-in-loop-i.result (10 ^ 18) c.loop-i.invariant.small (light c) (size_there c).1;
+      small = bounded-more c.loop-i.total c.loop-i.i c.from.result c.from-in-loop-i.result residual_limit c.loop-i.invariant.small (light c) (size_there c).1;
     }
 
 pub overflow_add-total : goal.overflow_add-total
 overflow_add-total c =
-    let more = bounded-more c.loop-i.total c.loop-i.i c.from.result c.from-in-loop-i.result (10 ^ 18) c.loop-i.invariant.small (light c) (size_there c).1 in
+    let more = bounded-more c.loop-i.total c.loop-i.i c.from.result c.from-in-loop-i.result residual_limit c.loop-i.invariant.small (light c) (size_there c).1 in
     let few = c.points.ensures.network.few_observations in
     omega (arith, more, few)
 
