@@ -7,7 +7,8 @@ use th_checker::Verdict;
 use th_devices::{TextSink, TextSource};
 use th_runs::{Input, Output, Outs, Refusal, run_adjust, run_check};
 
-/// The devices of the runs; `Stated` is the certificate that a check reads.
+/// The devices of the runs; `Stated` is the certificate that a check reads, and the last four are what a
+/// review writes.
 #[derive(Clone, Copy, Debug, PartialEq, Eq)]
 pub enum Device {
     FirstBook,
@@ -20,10 +21,14 @@ pub enum Device {
     Report,
     Gsi,
     Verdict,
+    Points,
+    Observations,
+    Entries,
+    Review,
 }
 
 /// What a run answers where a device fails.
-fn refusal_of(device: Device) -> Refusal {
+pub fn refusal_of(device: Device) -> Refusal {
     match device {
         Device::FirstBook => Refusal::Read(Input::Book(1)),
         Device::SecondBook => Refusal::Read(Input::Book(2)),
@@ -35,6 +40,10 @@ fn refusal_of(device: Device) -> Refusal {
         Device::Report => Refusal::Write(Output::Report),
         Device::Gsi => Refusal::Write(Output::Gsi),
         Device::Verdict => Refusal::Write(Output::Verdict),
+        Device::Points => Refusal::Write(Output::Points),
+        Device::Observations => Refusal::Write(Output::Observations),
+        Device::Entries => Refusal::Write(Output::Entries),
+        Device::Review => Refusal::Write(Output::Review),
     }
 }
 
@@ -61,7 +70,7 @@ const OF_CHECK: [(Device, u8); 5] = [
 ];
 
 /// A weight of a pair that is not observed.
-const WEIGHTS: &[u8] = b"from,to,weight\nB,A,7\n";
+pub const WEIGHTS: &[u8] = b"from,to,weight\nB,A,7\n";
 
 /// The heights of the book of one sight.
 pub const HEIGHTS: &[u8] =
@@ -72,7 +81,7 @@ pub const CERTIFICATE: &[u8] =
     b"kind,key,value\nV,2,1\nH,A,100.00000000\nH,B,102.54500000\nL,A,100.00000000\nL,B,102.54500000\nU,A,100.00000000\nU,B,102.54500000\nF,1,0\nZ,cost,0\n";
 
 /// A source of a text, whose read of this number fails where it is the device that is to fail.
-fn failing_source(
+pub fn failing_source(
     text: &'static [u8],
     own: Device,
     failing: Device,
@@ -89,7 +98,12 @@ fn failing_source(
 }
 
 /// A sink that holds a text, whose call of this number fails where it is the device that is to fail.
-fn failing_sink<R: AllocGlobal + Abort>(rt: &R, own: Device, failing: Device, call: u8) -> TextSink
+pub fn failing_sink<R: AllocGlobal + Abort>(
+    rt: &R,
+    own: Device,
+    failing: Device,
+    call: u8,
+) -> TextSink
     ensures { result.counts.calls ≤ 15 }
 {
     let fail_at = if own == failing { Some(call) } else { None };
@@ -140,7 +154,7 @@ fn adjust_failing<R: AllocGlobal + Abort>(
 }
 
 /// What a sink holds of its text where this call of it fails.
-fn held_before(text: &[u8], call: u8) -> &[u8] {
+pub fn held_before(text: &[u8], call: u8) -> &[u8] {
     let written = usize::from(call).saturating_sub(2).saturating_mul(20);
     if call == 1 {
         HELD_BEFORE

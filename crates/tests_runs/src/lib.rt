@@ -22,3 +22,5 @@ mod projects;
 mod refusals;
 #[cfg(test)]
 mod reports;
+#[cfg(test)]
+mod reviews;

@@ -1,0 +1,421 @@
+//! Reviews over devices in memory: what they write of small networks, and each read and each write
+//! refused in turn.
+ghost use Rattle.std.specs.Prelude.{◌≡◌, ◌≤◌};
+
+use crate::devices::{Device, WEIGHTS, failing_sink, failing_source, held_before, refusal_of};
+use crate::projects::{A_AT_100, HELD_BEFORE, LIMIT, ONE_SIGHT, TWO_SIGHTS, Texts, source};
+use std::process::Abort;
+use th_devices::{TextSink, TextSource};
+use th_runs::{Refusal, ReviewOuts, run_review};
+
+/// The four sinks of a review, in memory.
+type Sinks = ReviewOuts<TextSink, TextSink, TextSink, TextSink>;
+
+/// The texts of a review: its points, its observations, its entries, and the review for people.
+type Written = [&'static [u8]; 4];
+
+/// A network and its review. The texts are those of a program that shares no code with this one.
+#[derive(Clone, Copy)]
+struct Row {
+    texts: Texts<'static>,
+    written: Written,
+}
+
+/// The header of the table of entries.
+const NO_ENTRIES: &[u8] = b"book,line,word,station,length,sights,weight,mistake\n";
+
+/// The header of the table of observations.
+const NO_OBSERVATIONS: &[u8] =
+    b"number,book,line,from,to,difference,weight,residual,control,mistake\n";
+
+/// Neither an observation nor a benchmark.
+const NOTHING: Row = Row {
+    texts: (b"", b"point,height\n", b""),
+    written: [
+        b"point,height,low,high,strength\n",
+        NO_OBSERVATIONS,
+        NO_ENTRIES,
+        b"HEIGHT NETWORK REVIEW
+points                                 0
+benchmarks                             0
+observations                           0
+loops                                  0
+unchecked                              0
+hidden                                 0
+ties                                   0
+entries                                0
+weak entries                           0
+weakest point                          -
+
+BK     LINES    BLOCKS    SETUPS    SIGHTS
+ 1         0         0         0         0
+
+largest                                0
+blunder limit                 0.02000000
+   NO  BK      LINE  FROM              TO                  WT              RESIDUAL   CONTROL
+
+POINT                           HEIGHT              HIGH-LOW  STRENGTH  WITHSTANDS
+
+   NO  BK      LINE  FROM              TO                  WT              RESIDUAL   CONTROL
+
+BK      LINE  WORD  STATION                         LENGTH  SIGHTS    WEIGHT
+
+notes                                  1
+book 1: no sight in 0 blocks
+",
+    ],
+};
+
+/// A benchmark, and no observation.
+const ALONE: Row = Row {
+    texts: (b"", A_AT_100, b""),
+    written: [
+        b"point,height,low,high,strength\nA,100.00000000,100.00000000,100.00000000,\n",
+        NO_OBSERVATIONS,
+        NO_ENTRIES,
+        b"HEIGHT NETWORK REVIEW
+points                                 1
+benchmarks                             1
+observations                           0
+loops                                  0
+unchecked                              0
+hidden                                 0
+ties                                   0
+entries                                0
+weak entries                           0
+weakest point                          -
+
+BK     LINES    BLOCKS    SETUPS    SIGHTS
+ 1         0         0         0         0
+
+largest                                0
+blunder limit                 0.02000000
+   NO  BK      LINE  FROM              TO                  WT              RESIDUAL   CONTROL
+
+POINT                           HEIGHT              HIGH-LOW  STRENGTH  WITHSTANDS
+A                         100.00000000            0.00000000         -           -
+
+   NO  BK      LINE  FROM              TO                  WT              RESIDUAL   CONTROL
+
+BK      LINE  WORD  STATION                         LENGTH  SIGHTS    WEIGHT
+
+notes                                  2
+book 1: no sight in 0 blocks
+benchmarks record 2: A was never observed
+",
+    ],
+};
+
+/// All points are benchmarks, so that each observation runs between two of them.
+const BENCHMARKS_ALONE: Row = Row {
+    texts: (TWO_SIGHTS, b"point,height\nA,100\nB,102\nX,5\n", b""),
+    written: [
+        b"point,height,low,high,strength
+A,100.00000000,100.00000000,100.00000000,
+B,102.00000000,102.00000000,102.00000000,
+X,5.00000000,5.00000000,5.00000000,
+",
+        b"number,book,line,from,to,difference,weight,residual,control,mistake
+1,1,2,A,B,2.54500000,1,0.54500000,,shows
+2,1,3,A,B,2.54700000,1,0.54700000,,shows
+",
+        b"book,line,word,station,length,sights,weight,mistake
+1,1,88,A,1.50000000,2,2,shows
+1,2,87,A,1.30000000,2,2,shows
+",
+        b"HEIGHT NETWORK REVIEW
+points                                 3
+benchmarks                             3
+observations                           2
+loops                                  2
+unchecked                              0
+hidden                                 0
+ties                                   0
+entries                                2
+weak entries                           0
+weakest point                          -
+
+BK     LINES    BLOCKS    SETUPS    SIGHTS
+ 1         3         3         1         2
+
+largest                                2
+blunder limit                 0.02000000
+   NO  BK      LINE  FROM              TO                  WT              RESIDUAL   CONTROL
+    2   1         3  A                 B                    1            0.54700000         -  *
+    1   1         2  A                 B                    1            0.54500000         -  *
+
+POINT                           HEIGHT              HIGH-LOW  STRENGTH  WITHSTANDS
+A                         100.00000000            0.00000000         -           -
+B                         102.00000000            0.00000000         -           -
+X                           5.00000000            0.00000000         -           -
+
+   NO  BK      LINE  FROM              TO                  WT              RESIDUAL   CONTROL
+    1   1         2  A                 B                    1            0.54500000         -
+    2   1         3  A                 B                    1            0.54700000         -
+
+BK      LINE  WORD  STATION                         LENGTH  SIGHTS    WEIGHT
+ 1         1    88  A                           1.50000000       2         2
+ 1         2    87  A                           1.30000000       2         2
+
+notes                                  1
+benchmarks record 4: X was never observed
+",
+    ],
+};
+
+/// A book of one sight and an empty one, over the weight of a pair that was observed the other way round.
+const ONE_SIGHT_WRITTEN: Written = [
+    b"point,height,low,high,strength
+A,100.00000000,100.00000000,100.00000000,
+B,102.54500000,102.54500000,102.54500000,1
+",
+    b"number,book,line,from,to,difference,weight,residual,control,mistake
+1,1,2,A,B,2.54500000,1,0.00000000,0,unchecked
+",
+    b"book,line,word,station,length,sights,weight,mistake
+1,1,88,A,1.50000000,1,1,drags
+1,2,87,A,1.30000000,1,1,drags
+",
+    b"HEIGHT NETWORK REVIEW
+points                                 2
+benchmarks                             1
+observations                           1
+loops                                  0
+unchecked                              1
+hidden                                 0
+ties                                   0
+entries                                2
+weak entries                           2
+weakest point                          1
+
+BK     LINES    BLOCKS    SETUPS    SIGHTS
+ 1         2         2         1         1
+ 2         0         0         0         0
+
+largest                                1
+blunder limit                 0.02000000
+   NO  BK      LINE  FROM              TO                  WT              RESIDUAL   CONTROL
+    1   1         2  A                 B                    1            0.00000000         0
+
+POINT                           HEIGHT              HIGH-LOW  STRENGTH  WITHSTANDS
+A                         100.00000000            0.00000000         -           -
+B                         102.54500000            0.00000000         1           0  1
+
+   NO  BK      LINE  FROM              TO                  WT              RESIDUAL   CONTROL
+    1   1         2  A                 B                    1            0.00000000         0  0
+
+BK      LINE  WORD  STATION                         LENGTH  SIGHTS    WEIGHT
+ 1         1    88  A                           1.50000000       1         1  <
+ 1         2    87  A                           1.30000000       1         1  <
+
+notes                                  2
+book 2: no sight in 0 blocks
+weights record 2: B to A was never observed, but A to B was
+",
+];
+
+/// The devices of that review, and how often each is called: a source gives 50 bytes a read, and the
+/// last read finds its end; a sink takes 20 bytes a write, beside `begin` and `finish`.
+const CALLS: [(Device, u8); 8] = [
+    (Device::FirstBook, 4),
+    (Device::SecondBook, 1),
+    (Device::Benchmarks, 2),
+    (Device::Weights, 2),
+    (Device::Points, 8),
+    (Device::Observations, 8),
+    (Device::Entries, 8),
+    (Device::Review, 85),
+];
+
+/// The outputs, in the order in which they are written.
+const OUTPUTS: [Device; 4] = [
+    Device::Points,
+    Device::Observations,
+    Device::Entries,
+    Device::Review,
+];
+
+/// Four sinks, one of whose calls may fail.
+fn failing_sinks<R: AllocGlobal + Abort>(rt: &R, failing: Device, call: u8) -> Sinks
+    ensures points { result.points.counts.calls ≤ 15 }
+    ensures observations { result.observations.counts.calls ≤ 15 }
+    ensures entries { result.entries.counts.calls ≤ 15 }
+    ensures review { result.review.counts.calls ≤ 15 }
+{
+    ReviewOuts {
+        points: failing_sink(rt, Device::Points, failing, call),
+        observations: failing_sink(rt, Device::Observations, failing, call),
+        entries: failing_sink(rt, Device::Entries, failing, call),
+        review: failing_sink(rt, Device::Review, failing, call),
+    }
+}
+
+/// What an output holds.
+fn held_by(outs: &Sinks, output: Device) -> &[u8] {
+    match output {
+        Device::Points => outs.points.bytes(),
+        Device::Observations => outs.observations.bytes(),
+        Device::Entries => outs.entries.bytes(),
+        _ => outs.review.bytes(),
+    }
+}
+
+/// Looks at what a review leaves, which has to be these texts.
+fn are_written<R: Abort>(rt: &R, outs: &Sinks, written: &Written) {
+    for (output, text) in OUTPUTS.into_iter().zip(written.iter()) {
+        assert!(rt; held_by(outs, output) == *text, "{output:?}");
+    }
+}
+
+/// Reviews one book, whose review has to be this.
+fn try_row<R: AllocGlobal + Abort>(rt: &R, row: &Row) {
+    let (book, benchmarks, weights) = row.texts;
+    let mut books = [failing_source(book, Device::FirstBook, Device::Verdict, 1)];
+    let mut table = failing_source(benchmarks, Device::Benchmarks, Device::Verdict, 1);
+    let mut factors = Some(failing_source(weights, Device::Weights, Device::Verdict, 1));
+    let mut outs = failing_sinks(rt, Device::Verdict, 1);
+    let answer = run_review(
+        rt.alloc(),
+        &mut books,
+        &mut table,
+        &mut factors,
+        LIMIT,
+        &mut outs,
+    );
+    assert_eq!(rt; answer, Ok(()));
+    are_written(rt, &outs, &row.written);
+}
+
+#[test]
+fn networks_with_little_in_them_are_reviewed(rt: HostRuntime) {
+    try_row(&rt, &NOTHING);
+    try_row(&rt, &ALONE);
+    try_row(&rt, &BENCHMARKS_ALONE);
+}
+
+/// Reviews two books, the second of them empty, where one call fails; what is answered, and the sinks.
+fn review_where<R: AllocGlobal + Abort>(
+    rt: &R,
+    failing: Device,
+    call: u8,
+) -> (Result<(), Refusal>, Sinks) {
+    let mut books = [
+        failing_source(ONE_SIGHT, Device::FirstBook, failing, call),
+        failing_source(b"", Device::SecondBook, failing, call),
+    ];
+    let mut benchmarks = failing_source(A_AT_100, Device::Benchmarks, failing, call);
+    let mut weights = Some(failing_source(WEIGHTS, Device::Weights, failing, call));
+    let mut outs = failing_sinks(rt, failing, call);
+    let answer = run_review(
+        rt.alloc(),
+        &mut books,
+        &mut benchmarks,
+        &mut weights,
+        LIMIT,
+        &mut outs,
+    );
+    (answer, outs)
+}
+
+/// Reviews where a call fails, which has to be answered as such. Outputs before the one that failed are
+/// whole, that one has a beginning, and those behind it, or all where a read failed, are untouched.
+fn refuse<R: AllocGlobal + Abort>(rt: &R, failing: Device, call: u8) {
+    let (answer, outs) = review_where(rt, failing, call);
+    assert_eq!(rt; answer, Err(refusal_of(failing)), "call {call}");
+    let mut is_whole = matches!(refusal_of(failing), Refusal::Write(_));
+    for (output, text) in OUTPUTS.into_iter().zip(ONE_SIGHT_WRITTEN) {
+        let held = held_by(&outs, output);
+        if failing == output {
+            assert!(rt; held == held_before(text, call), "{failing:?} call {call}");
+            is_whole = false;
+        } else {
+            let wanted = if is_whole { text } else { HELD_BEFORE };
+            assert!(rt; held == wanted, "{failing:?} call {call}: {output:?}");
+        }
+    }
+}
+
+#[test]
+fn each_call_of_a_review_is_refused_in_turn(rt: HostRuntime) {
+    for (device, calls) in CALLS {
+        for call in 1..=calls {
+            refuse(&rt, device, call);
+        }
+        let (answer, outs) = review_where(&rt, device, calls.wrapping_add(1));
+        assert_eq!(rt; answer, Ok(()), "{device:?}");
+        are_written(&rt, &outs, &ONE_SIGHT_WRITTEN);
+    }
+}
+
+/// How many sights a network takes.
+const SIGHTS: u32 = 40_000;
+
+/// A sink with room for what a review writes of so many sights.
+fn wide_sink<R: AllocGlobal + Abort>(rt: &R) -> TextSink
+    ensures { result.counts.calls ≤ 15 }
+{
+    TextSink::new(rt.alloc(), 8_388_608, 65_536, None).expect(rt, "memory")
+}
+
+/// As many sights as a network takes, all from A to B.
+fn one_pair<R: AllocGlobal + Abort>(rt: &R) -> Vec<u8> {
+    let setup = b"110001+0000000A 84..10+00000000 88..10+00001500 87..10+00001300 \n";
+    let mut book = setup.to_vec(rt.alloc()).expect(rt, "memory");
+    for _sight in 0..SIGHTS {
+        book.extend_from_slice(b"110002+0000000B 33..00+00002345 \n")
+            .expect(rt, "memory");
+    }
+    book
+}
+
+/// Their table of observations, each of weight 1,000.
+fn observations_of_one_pair<R: AllocGlobal + Abort>(rt: &R) -> Vec<u8> {
+    let mut table = NO_OBSERVATIONS.to_vec(rt.alloc()).expect(rt, "memory");
+    for number in 1..=SIGHTS {
+        let line = number + 1;
+        let row = format!(in rt.alloc();
+            "{number},1,{line},A,B,2.54500000,1000,0.00000000,39999000,shows\n"
+        ).expect(rt, "memory");
+        table.extend_from_slice(row.as_bytes()).expect(rt, "memory");
+    }
+    table
+}
+
+/// The table of points of so many sights of the greatest weight, and that of entries.
+const HEAVY_POINTS: &[u8] = b"point,height,low,high,strength
+A,100.00000000,100.00000000,100.00000000,
+B,102.54500000,102.54500000,102.54500000,40000000
+";
+
+const HEAVY_ENTRIES: &[u8] = b"book,line,word,station,length,sights,weight,mistake
+1,1,87,A,1.30000000,40000,40000000,drags
+1,1,88,A,1.50000000,40000,40000000,drags
+";
+
+#[test]
+fn one_pair_is_reviewed(rt: HostRuntime) {
+    let book = one_pair(&rt);
+    let mut books = [TextSource::new(&book, 65_536, None)];
+    let mut benchmarks = source(A_AT_100);
+    let mut weights = Some(source(b"from,to,weight\nA,B,1000\n"));
+    let mut outs = ReviewOuts {
+        points: wide_sink(&rt),
+        observations: wide_sink(&rt),
+        entries: wide_sink(&rt),
+        review: wide_sink(&rt),
+    };
+    let answer = run_review(
+        rt.alloc(),
+        &mut books,
+        &mut benchmarks,
+        &mut weights,
+        LIMIT,
+        &mut outs,
+    );
+    assert_eq!(rt; answer, Ok(()));
+    assert!(rt; outs.points.bytes() == HEAVY_POINTS);
+    let observations = observations_of_one_pair(&rt);
+    assert!(rt; outs.observations.bytes() == observations.as_slice());
+    assert!(rt; outs.entries.bytes() == HEAVY_ENTRIES);
+    assert!(rt; outs.review.bytes().starts_with(b"HEIGHT NETWORK REVIEW\n"));
+}
