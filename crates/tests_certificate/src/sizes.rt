@@ -211,32 +211,42 @@ fn many_rows(rt: &impl Abort, alloc: Global, letter: &str, last: &[u8]) -> Vec<u
     text
 }
 
-/// Maps of many names hash with a seed of the certificate. Each height is still found, at its place.
-#[test]
-fn many_heights_are_read(rt: HostRuntime) {
-    let text = many_rows(&rt, rt.alloc(), "H", b"Z,cost,0\n");
-    let certificate = certificate_of(&rt, rt.alloc(), &text);
+/// Looks at the heights of a certificate, which have to be those of all numbers, each at its place.
+fn has_many_heights(rt: &impl Abort, alloc: Global, text: &[u8]) {
+    let certificate = certificate_of(rt, alloc, text);
     let heights = certificate.heights();
     assert_eq!(rt; heights.len(), 10_000);
     for number in 1..=MANY {
-        let digits = format!(in rt.alloc(); "{number}").expect(&rt, "memory");
-        let name = name_of(digits.as_bytes()).expect(&rt, "a name");
+        let digits = format!(in alloc; "{number}").expect(rt, "memory");
+        let name = name_of(digits.as_bytes()).expect(rt, "a name");
         let wanted = i64::from(number) * 100_000_000;
         assert_eq!(rt; heights.height_of(&name), Some(wanted));
         assert_eq!(rt; heights.entry(number as usize - 1), Some((name, wanted)));
     }
-    let other = name_of(b"10001").expect(&rt, "a name");
+    let other = name_of(b"10001").expect(rt, "a name");
     assert_eq!(rt; heights.height_of(&other), None);
 }
 
-/// A name of the first row or the last is found among many, under each letter.
+/// Maps of many names hash with a seed of the whole certificate. Line feeds at its end say nothing, but
+/// give another seed: each height is still found, at its place.
+#[test]
+fn many_heights_are_the_same_under_each_seed(rt: HostRuntime) {
+    for last in [&b"Z,cost,0\n"[..], b"Z,cost,0\n\n", b"Z,cost,0\n\n\n\n"] {
+        let text = many_rows(&rt, rt.alloc(), "H", last);
+        has_many_heights(&rt, rt.alloc(), &text);
+    }
+}
+
+/// A name of the first row or the last is found among many, under each letter and under another seed.
 #[test]
 fn repeated_names_among_many_are_named(rt: HostRuntime) {
     for letter in ["H", "L", "U"] {
         for name in ["1", "4096", "4097", "10000"] {
-            let last = format!(in rt.alloc(); "{letter},{name},0\n").expect(&rt, "memory");
-            let text = many_rows(&rt, rt.alloc(), letter, last.as_bytes());
-            has_fault(&rt, rt.alloc(), &text, "record 10003: C4 bad name");
+            for end in ["", "\n\n"] {
+                let last = format!(in rt.alloc(); "{letter},{name},0\n{end}").expect(&rt, "memory");
+                let text = many_rows(&rt, rt.alloc(), letter, last.as_bytes());
+                has_fault(&rt, rt.alloc(), &text, "record 10003: C4 bad name");
+            }
         }
     }
 }
