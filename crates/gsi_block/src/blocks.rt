@@ -8,7 +8,7 @@ use arrayvec::ArrayVec;
 use gsi_word::laws::spelling_of_is_the_spelling;
 use gsi_word::{Width, Word};
 
-/// The words of a line, all of one width, with their data lent from the line.
+/// The words of a line, all of one width. They borrow their data from the line.
 #[derive(Debug, Drop)]
 pub struct Block<'a> {
     pub(crate) width: Width,
@@ -21,8 +21,8 @@ pub struct Block<'a> {
 impl<'a> Block<'a> {
     ghost use Rattle.gsi_block.specs.Blocks.{BlockParts, IsBlockOf, block_parts};
 
-    /// The block of these words, or None where no line has it: for no words, for more than
-    /// `MAX_WORDS`, and for words of two widths.
+    /// The block of these words, or `None` if no line has it: no words, more than `MAX_WORDS`, or
+    /// words of two widths.
     pub fn of(words: &[Word<'a>]) -> Option<Block<'a>>
         ensures some { IfSome result (λ block. IsBlockOf (map parts_of words.now) (block_parts block)) }
         ensures none { IsNone result → (block : BlockParts) → ¬ IsBlockOf (map parts_of words.now) block }

@@ -4,7 +4,7 @@ ghost use Rattle.gsi_block.specs.Lines.{lines_of, due, GivesNext};
 use crate::ends::{end_len, line_len};
 use std::marker::Model;
 
-/// The lines of a text, lent one by one without their ends.
+/// The lines of a text, one by one, without their ends.
 ///
 /// A line ends with CR LF, CR or LF. Bytes after the last end are a line.
 #[derive(Drop)]
@@ -29,7 +29,7 @@ impl<'a> LineCursor<'a> {
         LineCursor { rest: text }
     }
 
-    /// The next line, whole however long it is, or None after the last.
+    /// The next line, whole however long it is, or `None` after the last.
     pub fn next(&mut self) -> Option<&'a [u8]>
         ensures gives { GivesNext result (due self.old) (due self.new) }
         ensures fewer { IfSome result (λ _. length self.new < length self.old) }

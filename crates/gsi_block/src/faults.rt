@@ -5,13 +5,13 @@ use std::fmt;
 /// Why a line is neither blank nor a block. Words are numbered from 1.
 #[derive(Clone, Copy, Debug, PartialEq, Eq)]
 pub enum BlockFault {
-    /// At the place of this word no word is spelled.
+    /// The bytes at the place of this word spell no word.
     BadWord(u32, WordFault),
-    /// After `MAX_WORDS` words and a space a byte other than a space is left.
+    /// Something other than spaces follows `MAX_WORDS` words and a space.
     TooManyWords,
     /// The line has more than `MAX_LINE` bytes.
     LineTooLong,
-    /// The byte after this word is no space.
+    /// The byte after this word is not a space.
     BadSeparator(u32),
 }
 

@@ -1,25 +1,25 @@
-//! The lines of a book, and the blocks of GSI words that stand in them.
+//! The lines of a book, and their blocks of GSI words.
 //!
-//! A `LineCursor` lends the lines of a text one by one, and `Lines` those of a text that comes in
-//! pieces. `read_block` reads a line as a block, whose words lend their data from it, or says which
-//! is the first thing from the left that no block has. `write_block` writes one as a line.
+//! `LineCursor` gives the lines of a text one by one, and `Lines` those of a text that comes in
+//! pieces. `read_block` reads a line as a block, whose words borrow from the line, or returns the
+//! first fault from the left. `write_block` writes a block as a line.
 #![tactic(auto)]
 
-// limits, and what is said of a line that is no block
+// Limits and faults.
 mod faults;
 mod limits;
 
-// bytes to lines
+// From bytes to lines.
 mod cursor;
 mod ends;
 mod lines;
 
-// lines to blocks
+// From lines to blocks.
 mod blocks;
 mod parsing;
 mod writing;
 
-// what holds of the definitions alone
+// Laws of the definitions.
 pub mod laws;
 
 pub use blocks::Block;

@@ -10,7 +10,7 @@ use std::marker::Model;
 
 /// The lines of a text that comes in pieces, however it is cut.
 ///
-/// It keeps one line, in an array, and takes no memory. Of a longer line it keeps the first
+/// It keeps one line, in an array, and allocates nothing. Of a longer line it keeps the first
 /// `MAX_KEPT` bytes, which `read_block` refuses as it refuses the line.
 #[derive(Drop)]
 pub struct Lines {
@@ -33,7 +33,7 @@ impl Model for Lines {
 }
 
 impl Lines {
-    /// Before the first byte of a text.
+    /// The state before the first byte of a text.
     pub fn new() -> Lines
         ensures owes { (text : List ℕ) → lines_due result text ≡ cut_lines (lines_of text) }
     {
@@ -44,9 +44,9 @@ impl Lines {
         }
     }
 
-    /// Takes bytes of the next piece up to and including the first line end: how many it took, and
-    /// whether a line is complete now, which `line` then lends. Where none is, it took the whole
-    /// piece. The bytes that are left are for the next call.
+    /// Takes bytes of the next piece, up to and including the first line end. Returns how many it
+    /// took, and whether a line is complete now, which `line` then gives. If none is, it took the
+    /// whole piece. Pass the bytes that are left to the next call.
     ///
     /// An LF right behind a CR that ended a line belongs to that end, also in a later piece.
     // Inlined with what it calls: two readers call it for every line, and a call would double its cost.
@@ -75,7 +75,7 @@ impl Lines {
         (skipped + front.len() + end_len(end), true)
     }
 
-    /// The line that is complete, without its end: of a longer one its first `MAX_KEPT` bytes.
+    /// The complete line, without its end; of a longer line the first `MAX_KEPT` bytes.
     #[inline(always)]
     pub fn line(&self) -> &[u8]
         requires { IsTrue self.now.complete }
@@ -84,8 +84,8 @@ impl Lines {
         self.line.as_slice()
     }
 
-    /// The last line of the text, where no more bytes come, or None where it ended with its last
-    /// line end.
+    /// The last line of the text if no more bytes come, or `None` if the text ended with a line
+    /// end.
     pub fn finish(&self) -> Option<&[u8]>
         ensures { GivesNext result (lines_due self.now []) [] }
     {

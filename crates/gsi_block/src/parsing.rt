@@ -9,10 +9,10 @@ use arrayvec::ArrayVec;
 use gsi_word::laws::{spelling_of_is_the_spelling, word_at_reads_spellings};
 use gsi_word::{Width, Word, WordFault, read_word};
 
-/// The block of a line without its end, or None for a blank line.
+/// The block of a line without its end, or `None` for a blank line.
 ///
 /// `LineTooLong` comes before all other faults, then the first fault from the left. Nothing is
-/// copied: the words lend their data from the line (Leica GSI Online manual, word format).
+/// copied: the words borrow their data from the line (Leica GSI Online manual, word format).
 pub fn read_block(line: &[u8]) -> Result<Option<Block<'_>>, BlockFault>
     ensures { result_map (option_map block_parts) result ≡ block_at line.now }
 {
@@ -27,10 +27,10 @@ pub fn read_block(line: &[u8]) -> Result<Option<Block<'_>>, BlockFault>
 }
 
 /// Reads the words of a line's block into an array, in place of what it held: the width of the
-/// words, or None for a blank line. `read_block` says when which fault comes.
+/// words, or `None` for a blank line. Faults are those of `read_block`.
 ///
-/// The array is lent and nothing is moved, so this is the faster way. After None or a fault nothing
-/// is said of what the array holds.
+/// The array is borrowed and nothing is moved, so this is faster than `read_block`. After `None` or
+/// a fault the array may hold anything.
 pub fn read_words<'a>(
     line: &'a [u8],
     words: &mut ArrayVec<Word<'a>, MAX_WORDS>,

@@ -12,10 +12,10 @@ use arrayvec::ArrayVec;
 use gsi_word::{Width, Word, write_word};
 use std::alloc::AllocError;
 
-/// Appends a block as a line: `*` where its words are GSI-16, each word with the space that closes
-/// it, CR and LF.
+/// Appends a block as a line: `*` if its words are GSI-16, each word with the space that closes it,
+/// CR and LF.
 ///
-/// An allocation failure leaves the vector's bytes as they are. None occurs where there is room.
+/// After an allocation failure the vector's bytes are as before. None occurs if there is room.
 pub fn write_block(block: &Block, out: &mut Vec<u8>) -> Result<(), AllocError>
     ensures ok { OnOk result (out.new.items ≡ out.old.items ++ block_text (block_parts block.now)) }
     ensures err { OnErr result (out.new.items ≡ out.old.items) }

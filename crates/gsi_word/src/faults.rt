@@ -1,14 +1,14 @@
 use std::error::Error;
 use std::fmt;
 
-/// Why the front of some bytes spells no word: the first part that holds a byte not allowed there.
+/// Why some bytes do not begin with a word: the first part that is wrong.
 #[derive(Clone, Copy, Debug, PartialEq, Eq)]
 pub enum WordFault {
     /// There are fewer bytes than a spelling has.
     Short,
     /// Positions 1 and 2 are not two digits.
     BadIndex,
-    /// Positions 3 to 6 hold another byte than a digit or a dot.
+    /// Positions 3 to 6 hold a byte that is neither a digit nor a dot.
     BadInfo,
     /// Position 7 is neither `+` nor `-`.
     BadSign,
@@ -40,7 +40,7 @@ impl Error for WordFault {}
 pub enum LengthFault {
     /// The data are not all digits.
     BadNumber,
-    /// Position 6 holds no unit that a book's lengths have.
+    /// Position 6 is not the code of a unit.
     BadUnit,
     /// The length is more than 10 km in size.
     TooLarge,

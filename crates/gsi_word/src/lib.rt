@@ -1,26 +1,26 @@
 //! The words of a GSI block: how they are spelled, and the names and the lengths that they hold.
 //!
-//! A word is read from the front of its line's bytes and lends its data from them, so nothing is
-//! copied. A `Name` is a point's name in reduced form, with a value of its own.
+//! A word borrows its data from the line, so nothing is copied. A `Name` is a point's name in
+//! reduced form, and owns its bytes.
 #![tactic(auto)]
 
-// how long a name and a word are at most, and why there is none
+// Limits and faults.
 mod faults;
 mod limits;
 
-// words, of bytes that are allowed in their places
+// Words, and the bytes that each place allows.
 mod bytes;
 mod words;
 
-// how they are read and written
+// Reading and writing words.
 mod parsing;
 mod writing;
 
-// what they hold
+// Names and lengths.
 mod names;
 mod values;
 
-// what holds of the definitions alone
+// Laws of the definitions.
 pub mod laws;
 
 pub use faults::{LengthFault, WordFault};

@@ -48,7 +48,7 @@ impl Name {
         }
     }
 
-    /// The name's bytes, which are the name that they have themselves.
+    /// The bytes of the name. Reduced again, they stay the same.
     pub fn as_bytes(&self) -> &[u8]
         ensures bytes { result.now ≡ self.now }
         ensures reduced { name_of self.now ≡ Some self.now }
@@ -137,11 +137,11 @@ impl fmt::Debug for Name {
     }
 }
 
-/// The name that some data give: their reduced form, in which the leading zeros and spaces and the
-/// trailing spaces are left out, or `0` where that leaves nothing and a zero was there.
+/// The name that data give: the data without leading zeros and spaces and without trailing spaces,
+/// or `0` if nothing is left and the data hold a zero.
 ///
-/// There is none where the data are empty or only spaces, hold a byte that is not printable ASCII,
-/// or leave more than `MAX_NAME` bytes.
+/// `None` if the data are empty or only spaces, hold a byte that is not printable ASCII, or leave
+/// more than `MAX_NAME` bytes.
 pub fn name_of(bytes: &[u8]) -> Option<Name>
     ensures { result ≡ name_of bytes.now }
 {

@@ -6,7 +6,7 @@ use crate::faults::WordFault;
 use crate::words::{Width, Word};
 use th_units::is_digit;
 
-/// The word that the front of some bytes spells; bytes after the spelling are not looked at.
+/// Reads a word from the front of the bytes. Bytes after the word do not matter.
 ///
 /// The parts are tested in the order index, information, sign, data, after the number of bytes
 /// (Leica GSI Online manual, word format).

@@ -6,7 +6,8 @@ use crate::faults::LengthFault;
 use crate::words::Word;
 use th_units::{Len, LenFault, are_digits, to_len, unit_of};
 
-/// The index of a word whose position 3 is a dot; other words have an index of three digits.
+/// The index of a word with a dot at position 3; `None` for other words, whose index has three
+/// digits.
 pub fn two_digit(word: &Word) -> Option<u8>
     ensures { result ≡ two_digit (parts_of word.now) }
 {
@@ -18,9 +19,10 @@ pub fn two_digit(word: &Word) -> Option<u8>
     }
 }
 
-/// The length that a word writes, in units of 10 nm: its sign and data, in the unit of position 6.
+/// The length of a word, in units of 10 nm: its sign and data, in the unit of position 6.
 ///
-/// The data are asked before the unit, and the unit before the size (Leica GSI Online manual, units).
+/// The data are tested before the unit, and the unit before the size (Leica GSI Online manual,
+/// units).
 pub fn length_of(word: &Word) -> Result<Len, LengthFault>
     ensures { result ≡ length_of (parts_of word.now) }
 {

@@ -26,7 +26,7 @@ impl Width {
     }
 }
 
-/// A word of a block, with its data lent from the line that it was read from.
+/// A word of a block. It borrows its data from the line.
 #[derive(Clone, Copy, Debug)]
 pub struct Word<'a> {
     pub(crate) index: u8,
@@ -44,7 +44,8 @@ impl<'a> Word<'a> {
     ghost use Rattle.std.specs.Option.{SomeIff};
     ghost use Rattle.gsi_word.specs.Words.{HasSpelling, Spells, parts, parts_of, data_len, spelling_of};
 
-    /// The word with this index, information, sign and data; none where no spelling has these parts.
+    /// The word with this index, information, sign and data, or `None` if no spelling has these
+    /// parts.
     ///
     /// The index is below 100, the information digits and dots, and the data 8 or 16 printable bytes.
     pub fn new(index: u8, info: [u8; 4], negative: bool, body: &'a [u8]) -> Option<Word<'a>>
@@ -89,7 +90,7 @@ impl<'a> Word<'a> {
         self.body
     }
 
-    /// The width whose data these are.
+    /// The width of the word, by the number of its data.
     pub fn width(&self) -> Width
         ensures data { data_len result ≡ length (parts_of self.now).body }
         ensures spelled { Spells (parts_of self.now) (spelling_of (parts_of self.now)) result }

@@ -7,9 +7,9 @@ use crate::limits::MAX_WORD;
 use crate::words::Word;
 use arrayvec::ArrayVec;
 
-/// Appends a word's one spelling and the space that closes it, as they stand in a block.
+/// Appends a word's spelling, and the space that closes it in a block.
 ///
-/// The answer is false, and nothing is appended, only where there is no room for them.
+/// Returns false, and appends nothing, only if there is no room for both.
 pub fn write_word(word: &Word, out: &mut ArrayVec<u8, MAX_WORD>) -> bool
     ensures room { IsTrue result ↔ (array_vec_len out.old + length (closed (parts_of word.now)) ≤ 24) }
     ensures written { OnTrue result (out.new.items ≡ out.old.items ++ closed (parts_of word.now)) }

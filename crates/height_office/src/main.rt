@@ -11,7 +11,7 @@ use std::{env, io};
 use th_devices::HostFolder;
 use th_program::run_arguments;
 
-/// What is reported where the book that is listed is typed.
+/// What is reported if the book to list is typed at a terminal.
 const TYPED: &str =
     "reading a book from the terminal, up to Ctrl-D; for help, write 'height_office --help'\n";
 

@@ -1,4 +1,4 @@
-//! Files that are opened and made whenever asked, and of each of which the first call fails.
+//! Files that can always be opened and made; the first call of each fails.
 use std::alloc::Allocator;
 use std::fs::{Metadata, OpenFile, OpenOptions};
 use std::io;
@@ -39,7 +39,7 @@ impl Write for FailsAtFirst {
     }
 }
 
-/// What is answered for all that no device asks.
+/// What all other calls, which no device makes, return.
 fn unsupported<T>() -> io::Result<T> {
     Err(io::Error::from(io::ErrorKind::Unsupported))
 }

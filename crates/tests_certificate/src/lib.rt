@@ -11,7 +11,7 @@ mod certificates;
 #[cfg(test)]
 mod surveys;
 
-// What is read, what is answered and what is written.
+// Reading, verdicts and writing.
 #[cfg(test)]
 mod reading;
 #[cfg(test)]

@@ -147,7 +147,7 @@ fn certificates_are_read(rt: HostRuntime) {
     }
 }
 
-/// What is said of the text of a certificate that has a fault.
+/// The text of a faulty certificate, and the line for its fault.
 type Row = (&'static [u8], &'static str);
 
 /// Texts whose first record is faulty or alone.

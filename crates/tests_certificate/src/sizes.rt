@@ -145,7 +145,7 @@ const HEIGHT_REASONS: [(usize, &[u8], &str); 3] = [
     (2, b"U,3999,102.54500001\n", "no: high not slack at 40000"),
 ];
 
-/// Compares what is answered for the largest certificate with other last rows.
+/// Checks the largest certificate with other last rows.
 fn compare_last(rt: &impl Abort, alloc: Global, rows: &[(usize, &'static [u8], &'static str)]) {
     let book = largest_book(rt, alloc);
     let observations = observations_of(rt, alloc, 1, &book);

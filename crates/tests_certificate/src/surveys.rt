@@ -77,14 +77,14 @@ pub fn tables_of(rt: &impl Abort, alloc: Global, tables: &Survey) -> (Benchmarks
     (benchmarks, weights)
 }
 
-/// What is answered for the text of a certificate of a survey.
+/// The line for the text of a certificate of a survey.
 pub fn answer(rt: &impl Abort, alloc: Global, survey: &Survey, text: &[u8]) -> String {
     let observations = observations_of(rt, alloc, 1, survey.book);
     verdict_on(rt, alloc, &observations, survey, text)
 }
 
-/// What is answered for the text of a certificate of some observations and a survey's tables: how its
-/// fault is said, or else how the verdict is.
+/// The line for the text of a certificate of some observations and a survey's tables: that of its
+/// fault, or else that of the verdict.
 pub fn verdict_on(
     rt: &impl Abort,
     alloc: Global,
@@ -98,7 +98,7 @@ pub fn verdict_on(
     }
 }
 
-/// How the verdict on a certificate is said.
+/// The line of the verdict on a certificate.
 fn verdict_of(
     rt: &impl Abort,
     alloc: Global,

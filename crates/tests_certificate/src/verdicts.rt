@@ -3,7 +3,7 @@ use crate::surveys::{
     A_AT_100, FIXED, NOTHING, PAIR, ROUND, ROUND_BOOK, Survey, answer, observations_of, verdict_on,
 };
 
-/// What is changed in a certificate, and what is answered then.
+/// What is changed in a certificate, and the verdict on it.
 type Row = (Changes, &'static str);
 
 /// Of the certificate of the round.
@@ -73,7 +73,7 @@ const ROUND_ROWS: [Row; 37] = [
 /// Of the certificate of the pair of sights, which has lowest and highest heights.
 const PAIR_ROWS: [Row; 16] = [
     (&[], "yes"),
-    // That the lowest and the highest heights are extreme is not asked.
+    // The checker does not test whether the lowest and highest heights are extreme.
     (&[(6, b"L,B,102.547\n"), (8, b"U,B,102.545\n")], "yes"),
     (&[(6, b"L,B,102.54499999\n")], "no: low not slack at 1"),
     (&[(6, b"L,B,102.54700001\n")], "no: low not slack at 2"),

@@ -289,7 +289,7 @@ fn names_the_first_untied_point(rt: HostRuntime) {
     }
 }
 
-/// A fault, and how it is said.
+/// A fault, and its line.
 type Said = (NetFault, &'static str);
 
 #[test]

@@ -334,7 +334,7 @@ fn last_weights_are_judged(rt: HostRuntime) {
     }
 }
 
-/// A fault, and how it is said.
+/// A fault, and its line.
 const SAID: [(u32, TableKind, &str); 8] = [
     (1, TableKind::BadHeader, "record 1: E1 bad header"),
     (2, TableKind::FieldCount, "record 2: E2 field count"),

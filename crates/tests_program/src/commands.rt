@@ -1,4 +1,4 @@
-//! Runs that do what they are asked for.
+//! Runs that succeed.
 use crate::folders::{LIST, ROOM, file, project, put, run, same, shown};
 
 /// The heights file of one sight, and of two with the weights.

@@ -187,7 +187,7 @@ fn are_left<R: Abort>(rt: &R, outs: &Sinks, whole: &Sinks, failing: Device, call
     }
 }
 
-/// Adjusts where a call fails, or never comes; what is answered, and the sinks.
+/// Adjusts with a call that fails or never comes. Returns the answer and the sinks.
 fn adjust_where<R: AllocGlobal + Abort>(
     rt: &R,
     failing: Device,

@@ -34,7 +34,7 @@ enum Failing {
     Write(u8),
 }
 
-/// Lists a book that comes in pieces, where a call may fail; what is answered, and the sink.
+/// Lists a book that comes in pieces, with a call that may fail. Returns the answer and the sink.
 fn list<R: AllocGlobal + Abort>(
     rt: &R,
     book: &[u8],
@@ -288,8 +288,8 @@ fn a_read_that_fails_leaves_the_output(rt: HostRuntime) {
     }
 }
 
-/// The call that fails, what is answered, and what is held then: `begin`, three writes and `finish`,
-/// and no further call.
+/// The call that fails, the answer, and what is held then: `begin`, three writes and `finish`, and
+/// no further call.
 const BROKEN: [(u8, Result<(), Refusal>, &[u8]); 6] = [
     (1, Err(Refusal::Write(Output::List)), HELD_BEFORE),
     (2, Err(Refusal::Write(Output::List)), b""),

@@ -148,7 +148,7 @@ pub fn adjust_into<R: AllocGlobal + Abort>(
     )
 }
 
-/// Adjusts one book; what is answered, and the sinks.
+/// Adjusts one book. Returns the answer and the sinks.
 pub fn adjust<R: AllocGlobal + Abort>(rt: &R, texts: Texts<'_>) -> (Result<(), Refusal>, Sinks) {
     let mut outs = sinks(rt);
     let answer = adjust_into(rt, texts, LIMIT, &mut outs);

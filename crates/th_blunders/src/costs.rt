@@ -6,8 +6,8 @@ ghost use Rattle.th_network.specs.Networks.{weights_of};
 
 use th_network::Network;
 
-/// The sum of weight times size of the residual, over the observations of a network and residuals in
-/// their order and in units of 10 nm: what heights cost that leave these residuals.
+/// What heights cost that leave these residuals: the sum of weight times size over the observations
+/// of a network. Residuals are in their order and in units of 10 nm.
 pub fn cost(network: &Network, residuals: &[i64]) -> u128
     requires each { length residuals.now ≡ length network.now.observations }
     requires small { All (λ residual. unsigned_abs residual < residual_limit) residuals.now }

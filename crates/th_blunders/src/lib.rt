@@ -5,14 +5,14 @@
 //! the points. Observations are numbered from 1. The time of each call is near the size of its input.
 #![tactic(auto)]
 
-// what heights leave of the observations, and what that costs
+// Residuals and their cost.
 mod costs;
 mod residual;
 
-// which of that is above a limit
+// Blunders.
 mod blunder;
 
-// what was observed there and back
+// Opposites.
 mod pairs;
 
 pub use blunder::{blunders, is_blunder};

@@ -49,7 +49,7 @@ impl Model for Book {
 }
 
 impl Book {
-    /// A book with its number, from 1, of which no line was taken yet.
+    /// A book with its number, from 1, before its first line.
     pub fn new(alloc: Global, book: u32) -> Book
         ensures holds { result ≡ empty book }
         ensures owes { (lines : List (List ℕ)) → due result lines ≡ lines_answer book lines }
@@ -65,9 +65,9 @@ impl Book {
 
     /// Takes the next line, without its end. There may be as many as a book has bytes.
     ///
-    /// A fault is kept: it is answered by this call, by each later one and by `finish`. `NoMemory` is
-    /// answered where the room for one more observation was refused, and is not kept: the book is as
-    /// before the line, which may be given again.
+    /// A fault is kept: this call, each later one and `finish` return it. `NoMemory` means that one
+    /// more observation could not be allocated. It is not kept: the book is as before the line,
+    /// which may be passed again.
     pub fn line(&mut self, line: &[u8]) -> Result<(), BookFault>
         requires { self.old.lines < max_book }
         ensures taken { OnOk result (IsTaken self.old self.new line.now) }
@@ -116,7 +116,7 @@ impl Book {
         }
     }
 
-    /// How many lines were taken, one with a fault included.
+    /// How many lines were taken, a faulty one included.
     pub fn lines(&self) -> u32
         ensures { result ≡ self.now.lines }
     {
@@ -183,8 +183,8 @@ impl Book {
 
 /// The observations of a whole book, in the order of their sights, or its fault.
 ///
-/// A book of more than `MAX_BOOK` bytes has that fault, at line 0, before all others. `NoMemory` is
-/// answered at the line for whose observation room was refused.
+/// A book of more than `MAX_BOOK` bytes has that fault, at line 0, before all others. `NoMemory`
+/// has the line whose observation could not be allocated.
 pub fn read_book(alloc: Global, book: u32, bytes: &[u8]) -> Result<Vec<Observation>, BookFault>
     ensures ok { IfOk result
         (λ observations. book_answer book bytes.now ≡ Ok observations.items) }

@@ -9,9 +9,9 @@ use crate::indexes::{
 use gsi_word::{LengthFault, Word, length_of, two_digit};
 use th_units::Len;
 
-/// What the counting words of a block say: of each index that has a length, whether the block holds
-/// it, and the first length where it can be read; of the others whether the block holds them; whether
-/// an index is repeated; and which defects the lengths have.
+/// The counting words of a block. For each index with a length: whether the block has it, and the
+/// first length if it can be read. For the others: whether the block has them. Also whether an
+/// index is repeated, and which defects the lengths have.
 #[derive(Clone, Copy, Debug)]
 pub struct Counted {
     pub sighted: Option<Option<Len>>,
@@ -31,7 +31,7 @@ impl Counted {
     ghost use Rattle.gsi_word.specs.Values.{length_of};
     ghost use Rattle.th_book.specs.Inside.Countings.{counted_fault, counted_in, counted_with, counts_setup, counts_sight, with_defect};
 
-    /// What some words say.
+    /// The counting words among these.
     pub fn of(words: &[Word<'_>]) -> Counted
         ensures { result ≡ counted_in (map parts_of words.now) }
     {
@@ -53,14 +53,15 @@ impl Counted {
         counted
     }
 
-    /// Whether a height difference counts, as it does in a sight.
+    /// Whether the block is a sight: a height difference counts.
     pub fn is_sight(&self) -> bool
         ensures { result ≡ counts_sight self.now }
     {
         self.sighted.is_some()
     }
 
-    /// Whether a coordinate of the station counts and no height difference, as in a setup.
+    /// Whether the block is a setup: a coordinate of the station counts, and no height difference
+    /// does.
     pub fn is_setup(&self) -> bool
         ensures { result ≡ counts_setup self.now }
     {

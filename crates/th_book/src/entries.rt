@@ -24,7 +24,7 @@ pub struct Entered {
 impl Entered {
     ghost use Rattle.th_book.specs.Entered.{entered_by, nothing};
 
-    /// What a line enters that says nothing.
+    /// What a blank line enters: nothing.
     pub fn empty() -> Entered
         ensures { result ≡ nothing }
     {

@@ -2,8 +2,8 @@ use gsi_block::BlockFault;
 use std::error::Error;
 use std::fmt;
 
-/// What is wrong with a book. A line has the first kind that applies, in this order; a book that is
-/// too long is that before all else.
+/// What is wrong with a book. A line has the first kind that applies, in this order. `BookTooLong`
+/// comes before all others.
 #[derive(Clone, Copy, Debug, PartialEq, Eq)]
 pub enum BookKind {
     /// B1: the line is neither blank nor a block.
@@ -16,21 +16,21 @@ pub enum BookKind {
     BadName,
     /// B5: the data of a counting word 33, 87 or 88 are not all digits.
     BadNumber,
-    /// B6: the unit of a counting word 33, 87 or 88 is none of a book's.
+    /// B6: position 6 of a counting word 33, 87 or 88 is not the code of a unit.
     BadUnit,
     /// B7: a counting word 33, 87 or 88 is more than `MAX_LEN` in size.
     TooLarge,
-    /// B8: no setup stands before the sight.
+    /// B8: there is no setup before the sight.
     SightBeforeSetup,
-    /// B9: no instrument height stands from the setup to the sight.
+    /// B9: there is no instrument height from the setup's line to the sight's.
     NoInstrumentHeight,
-    /// B10: no reflector height stands from the setup to the sight.
+    /// B10: there is no reflector height from the setup's line to the sight's.
     NoReflectorHeight,
-    /// B11: the sight's station and target have one name.
+    /// B11: the sight's station and target have the same name.
     SightToItself,
     /// B12: the book has more than `MAX_BOOK` bytes.
     BookTooLong,
-    /// Memory for an observation was refused, which is no fault of the book.
+    /// An observation could not be allocated. The book is not at fault.
     NoMemory,
 }
 

@@ -17,9 +17,9 @@ use gsi_word::Word;
 use std::alloc::{AllocError, Global};
 use std::marker::Model;
 
-/// A book that comes in pieces, however it is cut: it keeps one line, and what a `Book` keeps.
+/// A book that comes in pieces of any size. It keeps one line, and what a `Book` keeps.
 ///
-/// Its answer is that of `read_book` for the pieces joined.
+/// It returns what `read_book` returns for the joined pieces.
 #[derive(Drop)]
 pub struct BookFeed {
     book: Book,
@@ -39,7 +39,7 @@ impl Model for BookFeed {
 }
 
 impl BookFeed {
-    /// A book with its number, from 1, of which no byte came yet.
+    /// A book with its number, from 1, before its first byte.
     pub fn new(alloc: Global, book: u32) -> BookFeed
         ensures owes { (bytes : List ℕ) → feed_due result bytes ≡ book_answer book bytes }
         ensures wanting { result.wanting ≡ None }
@@ -55,8 +55,9 @@ impl BookFeed {
 
     /// Takes the next piece of the book.
     ///
-    /// A fault of the book is kept for `finish`, since a book that is too long has that fault before all
-    /// others. The call fails where an observation could not be allocated; from then on each call fails.
+    /// A fault of the book is kept for `finish`, since a book that is too long has that fault
+    /// before all others. The call fails if an observation cannot be allocated, and so does each
+    /// later call.
     pub fn feed(&mut self, piece: &[u8]) -> Result<(), AllocError>
         ensures fed { OnOk result (IsFed self.old self.new piece.now) }
         ensures wanting { OnErr result (StopsAt self.old self.new piece.now) }
@@ -80,8 +81,8 @@ impl BookFeed {
 
     /// The observations in the order of their sights, or the fault of the book.
     ///
-    /// `NoMemory` is answered where it was met, or where the room for the observation of the last line
-    /// was refused, if that has no end.
+    /// `NoMemory` if an earlier call failed, or if the observation of a last line without an end
+    /// cannot be allocated.
     pub fn finish(self) -> Result<Vec<Observation>, BookFault>
         ensures ok { IfOk result (λ observations. feed_due self [] ≡ Ok observations.items) }
         ensures fault { IfErr result (λ fault. fault.kind ≢ BookKind.NoMemory → feed_due self [] ≡ Err fault) }

@@ -1,4 +1,4 @@
-//! Laws of the definitions: what they say of one another, with no call of the code.
+//! Laws that relate the definitions to one another. They call nothing of the code.
 
 ghost use Rattle.std.specs.Prelude.{◌≡◌, ◌<◌, ◌≤◌, Contains, ℕ, List, None, Ok, length, map, true};
 ghost use Rattle.gsi_block.specs.Blocks.{block_at};
@@ -12,17 +12,17 @@ ghost use Rattle.th_book.specs.Lines.{ParsedLine, is_sight};
 ghost use Rattle.th_book.specs.Observed.{Observed};
 ghost use Rattle.th_book.specs.Places.{line_at, words_at};
 
-/// What is due from a new book, if some lines follow, is what these lines give as a whole.
+/// What a new book must return for the lines that follow is what these lines give as a whole.
 ///
-/// The answer speaks of places in the book, as the last setup before a sight. What a book holds is
-/// less: the running setup and its last heights. The law says that this is enough.
+/// What lines give is defined by places in the book, such as the last setup before a sight. A book
+/// keeps less: the running setup and its last heights. The law states that this is enough.
 pub fn new_book_owes_its_lines()
     ensures { (book : ℕ) (lines : List (List ℕ)) →
         due (empty book) lines ≡ lines_answer book lines }
 {}
 
-/// Each line of a book without a fault says nothing, or it is a block of sound words: none of them is
-/// at fault, and what they enter lacks no point and no height.
+/// Each line of a book without a fault is blank, or a block of sound words: none of them is at
+/// fault, and they lack no point and no height.
 pub fn faultless_book_is_sound()
     ensures { (parsed : List ParsedLine) (place : ℕ) →
         first_fault parsed ≡ None → place < length parsed → IsSound (line_at parsed place) }
@@ -36,7 +36,7 @@ pub fn answered_book_is_faultless()
         book_answer book bytes ≡ Ok observations → length (lines_of bytes) ≤ max_book }
 {}
 
-/// Each observation that a book gives is that of a sight in it, and has the number of the book.
+/// Each observation of a book is that of one of its sights, and has the book's number.
 pub fn observation_is_of_a_sight()
     ensures sight { (book : ℕ) (bytes : List ℕ) (observations : List Observed) (o : Observed) →
         book_answer book bytes ≡ Ok observations → Contains observations o →

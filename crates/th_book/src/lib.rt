@@ -8,25 +8,25 @@
 // The limit of a book.
 mod limits;
 
-// What can be wrong with a book.
+// The faults of a book.
 mod faults;
 
 // The word indexes that have a meaning.
 mod indexes;
 
-// What the counting words of a block say.
+// The counting words of a block.
 mod countings;
 
-// What a block enters, where none of its own words is at fault.
+// What a block enters into its book.
 mod entries;
 
 // The running setup, and the sights from it.
 mod setups;
 
-// What a line leaves.
+// The effect of a line.
 mod steps;
 
-// What a sight gives.
+// Observations.
 mod observations;
 
 // Books by their lines.
@@ -35,7 +35,7 @@ mod books;
 // Books by pieces of their bytes.
 mod feeds;
 
-// What holds of the definitions alone.
+// Laws of the definitions.
 pub mod laws;
 
 pub use books::{Book, read_book};

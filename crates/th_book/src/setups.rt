@@ -15,7 +15,7 @@ pub struct Setup {
     pub reflector: Option<Len>,
 }
 
-/// What is seen from a station: the height of the target above it, in units of 10 nm.
+/// A sight from a station: the height of the target above it, in units of 10 nm.
 #[derive(Clone, Copy, Debug)]
 pub struct Sight {
     pub station: Name,
@@ -30,8 +30,8 @@ impl Setup {
     ghost use Rattle.th_book.specs.Inside.Entries.{setup_at, setup_by, with_entry};
     ghost use Rattle.th_book.specs.Inside.Steps.{IsSeen, sight_fault};
 
-    /// Puts what a block enters into the running setup: the one that it begins, or the one before, takes its
-    /// heights.
+    /// Enters a block into the running setup. The setup that it begins, or the one before, takes
+    /// its heights.
     pub fn enter(running: &mut Option<Setup>, entry: &Entered)
         ensures { running.new ≡ setup_by entry.now running.old }
     {

@@ -13,15 +13,15 @@ use arrayvec::ArrayVec;
 use gsi_block::{MAX_WORDS, read_words};
 use gsi_word::Word;
 
-/// What a line without a fault leaves: what it enters, and what is seen where it is a sight.
+/// The effect of a line without a fault: what it enters, and its sight if it is one.
 #[derive(Clone, Copy, Debug)]
 pub struct Step {
     pub entry: Entered,
     pub sight: Option<Sight>,
 }
 
-/// What a line leaves in a running setup, or the first kind of its faults. Its words are read into an
-/// array that is lent.
+/// The effect of a line in a running setup, or the first kind of its faults. Its words are read
+/// into the caller's array.
 pub fn step_of_line<'a>(
     running: &Option<Setup>,
     line: &'a [u8],

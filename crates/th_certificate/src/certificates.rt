@@ -5,8 +5,8 @@ ghost use Rattle.th_certificate.specs.Certified.{AreFlows, IsOfVersion, cost_lim
 use crate::heights::StatedHeights;
 use std::marker::Model;
 
-/// What a certificate says: heights, the lowest and the highest of the best heights (in version 2),
-/// a flow for each observation, and a cost in units of 10 nm.
+/// A certificate: heights, the lowest and the highest of the best heights (in version 2), a flow
+/// for each observation, and a cost in units of 10 nm.
 #[derive(Debug, Drop)]
 pub struct Certificate {
     pub(crate) version: u32,
@@ -53,14 +53,14 @@ impl Certificate {
         &self.heights
     }
 
-    /// The lowest best heights; none in version 1.
+    /// The lowest best heights; `None` in version 1.
     pub fn low(&self) -> Option<&StatedHeights>
         ensures { option_copied result ≡ self.now.low }
     {
         self.low.as_ref()
     }
 
-    /// The highest best heights; none in version 1.
+    /// The highest best heights; `None` in version 1.
     pub fn high(&self) -> Option<&StatedHeights>
         ensures { option_copied result ≡ self.now.high }
     {

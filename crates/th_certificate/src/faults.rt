@@ -13,7 +13,7 @@ pub enum CertKind {
     BadHeader,
     /// C2: a record has another number of fields than three.
     FieldCount,
-    /// C3: a row of this kind, or with this key, may not stand there.
+    /// C3: a row of this kind, or with this key, is not allowed there.
     BadKind,
     /// C4: the key of a height's row gives no name, or that of an earlier row of its kind.
     BadName,
@@ -24,7 +24,7 @@ pub enum CertKind {
     TooLarge,
     /// C7: the records end before the cost.
     Truncated,
-    /// Memory was refused, which is no fault of the certificate.
+    /// Out of memory. The certificate is not at fault.
     NoMemory,
 }
 
@@ -39,7 +39,7 @@ pub struct CertFault {
 }
 
 impl CertFault {
-    /// Memory was refused.
+    /// Out of memory.
     pub(crate) const NO_MEMORY: CertFault = CertFault {
         row: 0,
         kind: CertKind::NoMemory,

@@ -49,7 +49,7 @@ impl StatedHeights {
         self.heights.is_empty()
     }
 
-    /// The height of a name; none for a name without a row.
+    /// The height of a name; `None` for a name without a row.
     pub fn height_of(&self, name: &Name) -> Option<i64>
         ensures value { result ≡ lookup (bytes_eq name.now) self.now }
         ensures in_range { IfSome result (λ height. unsigned_abs height < height_limit) }
@@ -57,7 +57,7 @@ impl StatedHeights {
         self.heights.get(name).copied()
     }
 
-    /// The row at this place, counted from 0; none past the last.
+    /// The row at this place, from 0; `None` past the last.
     pub fn entry(&self, k: usize) -> Option<(Name, i64)>
         ensures value { result ≡ slice_get self.now k }
         ensures rows { AreHeightRows self.now }
@@ -69,7 +69,7 @@ impl StatedHeights {
             .map(|(name, height)| (*name, *height))
     }
 
-    /// Adds a row that some content states. Where memory is refused, the rows stay as they were.
+    /// Adds a row that some content states. After an allocation failure the rows are as they were.
     pub(crate) fn add(
         &mut self,
         alloc: Global,

@@ -1,14 +1,14 @@
-//! The certificate of least heights: what it says, and its text, both ways.
+//! The certificate of least heights: its contents, and its text, written and read.
 //!
-//! A certificate carries heights, the lowest and the highest of the best heights, a flow for each
-//! observation and a cost, so that anyone can check that no heights cost less. Its text is
+//! A certificate has heights, the lowest and the highest of the best heights, a flow for each
+//! observation and a cost. From these anyone can check that no heights cost less. Its text is
 //! comma-separated values, a row for each of these. Version 2 is written; version 1, which has no
 //! lowest and highest heights, is still read. A certificate is read whole or refused with its first
-//! faulty record and the first kind of fault that applies there; whether it is right is for the
-//! checker to say.
+//! faulty record and the first kind of fault that applies there; whether it is right is up to the
+//! checker.
 #![tactic(auto)]
 
-// What a certificate says.
+// Certificates.
 mod certificates;
 mod heights;
 mod limits;
@@ -24,7 +24,7 @@ mod statements;
 mod costs;
 mod writing;
 
-// What holds of the definitions alone.
+// Laws of the definitions.
 pub mod laws;
 
 pub use certificates::Certificate;

@@ -1,9 +1,9 @@
 use th_network::MAX_OBSERVATIONS;
 
-/// How many bytes a certificate has at most.
+/// The most bytes that a certificate has.
 pub const MAX_CERTIFICATE: usize = 8_388_608;
 
-/// How many flows a certificate has at most.
+/// The most flows that a certificate has.
 pub const MAX_FLOWS: u32 = MAX_OBSERVATIONS as u32;
 
 /// How many digits a count, the number of a flow and a flow have at most, zeros in front among them.

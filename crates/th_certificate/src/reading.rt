@@ -11,12 +11,12 @@ use crate::limits::MAX_CERTIFICATE;
 use std::alloc::Global;
 use th_csv::{Record, RecordReader};
 
-/// The certificate that bytes stand for, of version 1 or 2, or its first fault.
+/// Reads a certificate of version 1 or 2, or returns its first fault.
 ///
-/// A record has three fields and stands in the order of the kinds: the version, heights, lowest and
-/// highest best heights (in version 2), flows numbered from 1, and the cost, which is the last. It
-/// allocates memory in proportion to the bytes. `NoMemory` may occur for a certificate that is not
-/// too long.
+/// A record has three fields. The kinds of records come in this order: the version, heights, lowest
+/// and highest best heights (in version 2), flows numbered from 1, and the cost, which is the last.
+/// It allocates memory in proportion to the bytes. `NoMemory` may occur for a certificate that is
+/// not too long.
 pub fn read_certificate(alloc: Global, bytes: &[u8]) -> Result<Certificate, CertFault>
     ensures certificate { IfOk result (λ certificate. certificate_of bytes.now ≡ Ok certificate) }
     ensures fault { IfErr result (λ fault. (fault ≡ no_memory) ⊎ (certificate_of bytes.now ≡ Err fault)) }
@@ -92,8 +92,8 @@ fn read_rows(
     certificate_of_draft(row, draft)
 }
 
-/// Adds the records that a reader has left of some content, the first of which is record 3, to a draft.
-/// Answers the number of the record after the last one.
+/// Adds the records that a reader has left of some content, the first of which is record 3, to a
+/// draft. Returns the number of the record after the last one.
 fn add_rows(
     alloc: Global,
     content: &[u8],

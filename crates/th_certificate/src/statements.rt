@@ -1,6 +1,6 @@
 use gsi_word::Name;
 
-/// What a record under the version row says.
+/// What a record under the version row states.
 #[derive(Clone, Copy, Debug, PartialEq, Eq)]
 pub enum Statement {
     /// The height of a name.

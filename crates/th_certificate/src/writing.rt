@@ -17,8 +17,7 @@ use th_csv::RowWriter;
 use th_network::Network;
 use th_units::metre_text;
 
-/// The text of the certificate, of version 2, that heights, a circulation and spans make over a
-/// network: that of `certificate_text`.
+/// The text of `certificate_text` for settled heights, their circulation and their spans.
 pub fn write_certificate(
     alloc: Global,
     network: &Network,
@@ -46,10 +45,9 @@ pub fn write_certificate(
     )
 }
 
-/// The text of the certificate, of version 2, of heights, lowest and highest heights, and flows over
-/// a network: a row of each map for each point, in point order, a flow for each observation, and what
-/// the heights cost. Heights are listed in the order of the points, in units of 10 nm. Over a table
-/// of weights, the network is one whose certificates are read back.
+/// The text of a certificate of version 2: a row of each map for each point, in point order, a flow
+/// for each observation, and what the heights cost. Heights are in point order and in units of
+/// 10 nm. Over a table of weights, the network is one whose certificates are read back.
 pub fn certificate_text(
     alloc: Global,
     network: &Network,

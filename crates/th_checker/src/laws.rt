@@ -1,4 +1,4 @@
-//! Laws of the definitions: what they say of one another. They compute nothing.
+//! Laws that relate the definitions to one another. They compute nothing.
 
 ghost use Rattle.std.specs.Prelude.{◌≡◌, ℕ, ℤ, List, Ok, Some};
 ghost use Rattle.th_book.specs.Observed.{Observed};
@@ -14,7 +14,7 @@ ghost use Rattle.th_checker.specs.Verdicts.{verdict_of};
 ghost use Rattle.th_checker.specs.declared.verdicts.Verdict.TheVariants.{Yes};
 
 /// A yes implies that no heights cost less than those of the certificate, in whole units or in any
-/// finer one, and the same of the lowest and of the highest heights, where it has these.
+/// finer one. The same holds for its lowest and highest heights, if it has these.
 pub fn yes_implies_least()
     ensures heights { (observations : List Observed) (benchmarks : BenchmarkRows)
         (weights : WeightRows) (certificate : Certified)
@@ -53,9 +53,9 @@ pub fn text_is_read_and_accepted()
         × (verdict_of survey.observations survey.benchmarks survey.weights certificate ≡ Yes) }
 {}
 
-/// The verdict is yes exactly where the names of each map of heights are the points, each map keeps
-/// the benchmarks, the flows are a circulation that shows each map, and the cost is that of the
-/// heights. This holds for both versions.
+/// The verdict is yes exactly where four things hold. The names of each map of heights are the
+/// points. Each map keeps the benchmarks. The flows are a circulation that shows each map. The cost
+/// is that of the heights. This holds for both versions.
 pub fn yes_is_said_of_what_is_shown()
     ensures shown { (observations : List Observed) (benchmarks : BenchmarkRows)
         (weights : WeightRows) (certificate : Certified)
@@ -68,9 +68,9 @@ pub fn yes_is_said_of_what_is_shown()
         → verdict_of observations benchmarks weights certificate ≡ Yes }
 {}
 
-/// What is written is accepted: for what makes a network, and maps of heights that keep the
-/// benchmarks and that one circulation shows, the verdict on the certificate that the text of version
-/// 1 is read as is yes.
+/// What is written is accepted. If a survey makes a network, and one circulation shows maps of
+/// heights that keep the benchmarks, the text of version 1 is read as a certificate whose verdict
+/// is yes.
 pub fn text_of_version_1_is_accepted()
     ensures { (survey : Survey) (heights : List ℕ → ℤ) (flows : List ℤ) (certificate : Certified)
         → IsCertifiable survey
@@ -81,8 +81,8 @@ pub fn text_of_version_1_is_accepted()
         → verdict_of survey.observations survey.benchmarks survey.weights certificate ≡ Yes }
 {}
 
-/// The same of the text of version 2, for heights, lowest and highest heights that one circulation
-/// shows.
+/// The same for the text of version 2, with heights, lowest and highest heights that one
+/// circulation shows.
 pub fn text_of_version_2_is_accepted()
     ensures { (survey : Survey) (heights low high : List ℕ → ℤ) (flows : List ℤ)
         (certificate : Certified)

@@ -91,8 +91,8 @@ fn heights_at(
     Ok(Some(heights))
 }
 
-/// The height that is stated for a name; none where none is. The row at a place is asked first: what
-/// is written in the order of the points has it there.
+/// The height that is stated for a name, if any. The row at a place is tried first: what is written
+/// in the order of the points has it there.
 fn height_near(stated: &StatedHeights, name: &Name, place: usize) -> Option<i64>
     ensures value { result ≡ lookup (bytes_eq name.now) stated.now }
     ensures in_range { IfSome result (λ height. unsigned_abs height < height_limit) }
@@ -117,7 +117,7 @@ fn are_points(points: &NameSet<Name>, stated: &StatedHeights) -> bool
     true
 }
 
-/// Whether a name is a point. The point at a place is asked first, as in `height_near`.
+/// Whether a name is a point. The point at a place is tried first, as in `height_near`.
 fn is_point(points: &NameSet<Name>, name: &Name, place: usize) -> bool
     ensures { result ≡ list_any (bytes_eq name.now) points.now.keys }
 {

@@ -1,11 +1,11 @@
 use gsi_word::Name;
 use std::fmt;
 
-/// Why a certificate shows nothing. The first that applies, in this order, is answered; observations
-/// are numbered from 1.
+/// Why the checker rejects a certificate. It returns the first reason that applies, in this order.
+/// Observations are numbered from 1.
 #[derive(Clone, Copy, Debug, PartialEq, Eq)]
 pub enum Reason {
-    /// The names of a map are not just the points of the network.
+    /// The names of a map are not exactly the points of the network.
     PointsDiffer,
     /// A map does not keep the height of a benchmark.
     BenchmarkMoved,
@@ -20,18 +20,18 @@ pub enum Reason {
     NotSlack(u32),
     /// The stated cost is not what the heights cost.
     WrongCost,
-    /// The same as `NotSlack`, of the lowest heights.
+    /// The same as `NotSlack`, for the lowest heights.
     LowNotSlack(u32),
-    /// The same as `NotSlack`, of the highest heights.
+    /// The same as `NotSlack`, for the highest heights.
     HighNotSlack(u32),
 }
 
-/// What is answered for a certificate.
+/// What the checker returns for a certificate.
 #[derive(Clone, Copy, Debug, PartialEq, Eq)]
 pub enum Verdict {
     /// No heights cost less than those of the certificate.
     Yes,
-    /// The certificate shows nothing, for this reason.
+    /// The checker rejects the certificate for this reason.
     No(Reason),
 }
 

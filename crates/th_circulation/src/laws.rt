@@ -1,4 +1,4 @@
-//! Laws over the definitions alone. A law is its contract: it calls nothing and computes nothing.
+//! Laws that relate the definitions to one another. A law is its contract: it computes nothing.
 
 ghost use Rattle.std.specs.Prelude.{◌≡◌, ℕ, ℤ, Bool, true, false, List, All, IsSome};
 ghost use Rattle.std.specs.List.{AllZip};
@@ -29,9 +29,9 @@ pub fn circulation_shows_all_best()
 
 /// A misreading that shows moves no lowest best height, however large it is.
 ///
-/// `heights` are the lowest that cost least, and a circulation shows them. Where each observation that
-/// errs against them errs further to the same side, and each other one stays as it was, they are still
-/// the lowest that cost least: lower ones would be lower for the observations as they were.
+/// `heights` are the lowest that cost least, and a circulation shows them. If each observation that
+/// errs against them errs further to the same side, and each other one stays as it was, they are
+/// still the lowest that cost least.
 pub fn misreading_keeps_low()
     ensures { (observations misread : List Observed) (benchmarks : BenchmarkRows)
         (weights : WeightRows) (heights : List ℕ → ℤ) (flows : List ℤ)
@@ -42,7 +42,7 @@ pub fn misreading_keeps_low()
         → Low misread benchmarks weights heights }
 {}
 
-/// Where observations tie each point to a benchmark, there are lowest and highest best heights.
+/// If observations tie each point to a benchmark, there are lowest and highest best heights.
 pub fn lowest_and_highest_exist()
     ensures low { (survey : Survey)
         → AreWeights survey.weights
@@ -68,8 +68,8 @@ pub fn lowest_and_highest_are_one()
         → All (λ point. first point ≡ second point) (points observations benchmarks) }
 {}
 
-/// Where all flows that leave or enter a set of names are full, out of it, and no benchmark is in it,
-/// no point in it is tied to a benchmark.
+/// If all flows that leave or enter a set of names are full, out of it, and it holds no benchmark,
+/// none of its points is tied to a benchmark.
 pub(crate) fn full_flows_cut_off()
     ensures { (observations : List Observed) (benchmarks : BenchmarkRows) (weights : WeightRows)
         (flows : List ℤ) (inside : List ℕ → Bool)

@@ -1,10 +1,10 @@
 //! Circulations of a height network, and the heights that they show.
 //!
 //! `best_heights` finds the lowest and the highest best heights of a network. It takes two steps:
-//! `settle` finds heights that cost least and the circulation that shows it (`Settled`), over any
-//! search; `spans` the lowest and the highest of all heights that cost as little (`Spans`). A guide
-//! proposes cycles to `settle`, which believes only what it has checked: without the guide it is slow,
-//! and as right.
+//! `settle` finds heights that cost least and the circulation that shows it (`Settled`), with any
+//! search. `spans` finds the lowest and the highest of all heights that cost as little (`Spans`). A
+//! guide proposes cycles to `settle`, which checks each of them. Without the guide it is slow, and
+//! as right.
 #![tactic(auto)]
 
 // What is settled.
@@ -36,7 +36,7 @@ mod spreading;
 // Both in one call.
 mod best;
 
-// What holds of the definitions alone.
+// Laws of the definitions.
 pub mod laws;
 
 pub use best::{BestHeights, best_heights};

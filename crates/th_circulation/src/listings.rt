@@ -95,8 +95,8 @@ impl Listing {
         }
     }
 
-    /// Lists the residual arcs that a guide proposes, in their order, at costs that the heights reduce;
-    /// those that are none of the graph's or have no room are left out.
+    /// Lists the residual arcs that a guide proposes, in their order, at costs that the heights
+    /// reduce; those that are not in the graph or have no room are left out.
     pub fn list_these(
         &mut self,
         graph: &Graph,

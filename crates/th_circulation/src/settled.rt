@@ -17,7 +17,7 @@ impl Model for Heights {
 }
 
 impl Heights {
-    /// The heights of this list, which is kept as it is.
+    /// The heights of this list.
     pub fn new(units: Vec<i64>) -> Heights
         ensures { result ≡ units.items }
     {
@@ -54,7 +54,7 @@ impl Model for Flows {
 }
 
 impl Flows {
-    /// The flows of this list, which is kept as it is.
+    /// The flows of this list.
     pub fn new(flows: Vec<i64>) -> Flows
         ensures { result ≡ flows.items }
     {
@@ -85,7 +85,7 @@ pub struct Settled {
     pub flows: Flows,
 }
 
-/// The span of each point: how low and how high it stands among all heights that cost least.
+/// The span of each point: its lowest and its highest height among all heights that cost least.
 #[derive(Debug, Drop)]
 pub struct Spans {
     /// The lowest best heights.

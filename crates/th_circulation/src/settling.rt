@@ -16,12 +16,12 @@ use th_search::Search;
 
 /// Finds heights of the points of a network that cost least, and the circulation that shows it.
 ///
-/// A step is one cycle that the search named and that was cancelled: each cycle that it names is a
-/// step, also where the call ends with an allocation failure. The search is called once for each step,
-/// and once for each of 44 phases; where all is settled at once, it is called with no arcs for the
-/// phases that are left.
-/// All memory but the search's is taken before its first call: where memory is refused, either the
-/// search refused it once, or nothing was counted. The network may be settled again afterwards.
+/// A step is one cycle that the search named and that was cancelled. Each cycle that it names is a
+/// step, even if the call ends with an allocation failure. The search is called once for each step,
+/// and once for each of 44 phases. If the first attempt settles all, it is called with no arcs for
+/// the phases that are left. All memory but the search's is allocated before its first call. So
+/// after an allocation failure either the search failed once, or nothing was counted. The network
+/// may be settled again afterwards.
 pub fn settle<S: Search>(
     alloc: Global,
     network: &Network,

@@ -17,12 +17,13 @@ use std::alloc::{AllocError, Global};
 use th_network::Network;
 use th_search::Arc;
 
-/// Finds the lowest and the highest heights that cost least, from flows that show some that do.
+/// Finds the lowest and the highest of all heights that cost least, from flows that show some of
+/// them.
 ///
-/// The flows show all heights that cost least, and no others: those that rise along no residual arc by
-/// less than its difference. So the lowest height of a point is as far below the benchmarks as the
-/// shortest walk of residual arcs from them is long, and the highest as far above as the shortest walk
-/// back to them is.
+/// The flows show all heights that cost least, and no others: those that rise along no residual arc
+/// by less than its difference. So the lowest height of a point is as far below the benchmarks as
+/// the shortest walk of residual arcs from them is long. The highest is as far above them as the
+/// shortest walk back is long.
 pub fn spans(alloc: Global, network: &Network, settled: &Settled) -> Result<Spans, AllocError>
     requires { AreShown network.now settled.now.flows
         (at_points_of network.now settled.now.heights) }

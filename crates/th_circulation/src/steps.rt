@@ -25,7 +25,7 @@ impl Steps {
         Steps { count: 0 }
     }
 
-    /// So many steps, from which a caller that kept an earlier count goes on.
+    /// This many steps, for a caller that goes on from an earlier count.
     pub fn after(count: u128) -> Steps
         ensures { result ≡ count }
     {

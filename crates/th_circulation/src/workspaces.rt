@@ -112,8 +112,8 @@ impl Workspace {
         Ok(true)
     }
 
-    /// Settles the phases one after another, each with its differences and on from the flows of the
-    /// one before it, until the flows show heights for the links' own differences.
+    /// Settles the phases one after another, each from the flows of the one before it. At the end
+    /// the flows show heights for the links' own differences.
     fn settle_by_halves<S: Search>(
         &mut self,
         alloc: Global,

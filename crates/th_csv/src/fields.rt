@@ -30,7 +30,7 @@ impl Record {
         }
     }
 
-    /// The fields of a record that has two; none for another number of them.
+    /// The fields of a record with exactly two.
     pub fn two(&self) -> Option<(&[u8], &[u8])>
         ensures { MatchOption result (length self.now ≢ 2) (λ parts.
             self.now ≡ parts.0.now ∷ parts.1.now ∷ []) }
@@ -38,7 +38,7 @@ impl Record {
         two_fields(&self.fields)
     }
 
-    /// The fields of a record that has three; none for another number of them.
+    /// The fields of a record with exactly three.
     pub fn three(&self) -> Option<(&[u8], &[u8], &[u8])>
         ensures { MatchOption result (length self.now ≢ 3) (λ parts.
             self.now ≡ parts.0.now ∷ parts.1.now ∷ parts.2.now ∷ []) }

@@ -1,4 +1,4 @@
-//! Laws of the definitions: what they say of one another, with no call of the code.
+//! Laws that relate the definitions to one another. They call nothing of the code.
 
 ghost use Rattle.std.specs.Prelude.{◌≡◌, ◌≤◌, ◌+◌, All, ℕ, List, length};
 ghost use Rattle.th_csv.specs.Records.{Fields, records_of};

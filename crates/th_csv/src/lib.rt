@@ -1,9 +1,8 @@
 //! Comma-separated values over memory: the records of a text, and the text of rows.
 //!
-//! The crate `csv` reads and writes them, and this crate settles how: records may have any number of
-//! fields, which are taken as they are, and rows are written as `csv` does by default. Over memory
-//! nothing fails but the taking of memory, which is the only error here. A reader or a writer that
-//! answered it answers it for good.
+//! The crate `csv` reads and writes them. Records may have any number of fields, which are taken as
+//! they are, and rows are written as `csv` does by default. In memory only an allocation can fail.
+//! After such a failure each call of the reader or writer fails.
 #![tactic(auto)]
 
 // Records of a text.
@@ -13,7 +12,7 @@ mod reading;
 // The text of rows.
 mod writing;
 
-// What both answer, and what holds of both.
+// The error of both, and the laws.
 mod faults;
 pub mod laws;
 

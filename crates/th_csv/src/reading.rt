@@ -16,11 +16,11 @@ enum Progress {
     Reading,
     /// There is no record left.
     Ended,
-    /// Memory was refused.
+    /// An allocation failed.
     Refused,
 }
 
-/// The records of a text that are left to be read.
+/// The records of a text that are still to be read.
 #[derive(Drop)]
 pub struct RecordReader<'a> {
     reader: Reader<&'a [u8]>,
@@ -43,7 +43,7 @@ impl<'a> Model for RecordReader<'a> {
 }
 
 impl<'a> RecordReader<'a> {
-    /// The records of a text. A byte order mark at its very beginning is passed over.
+    /// The records of a text. A byte order mark at its very beginning is skipped.
     pub fn open(alloc: Global, text: &'a [u8]) -> RecordReader<'a>
         ensures records { result.records ≡ records_of text.entry.now }
         ensures few { length result.records ≤ length text.entry.now + 1 }
@@ -58,8 +58,8 @@ impl<'a> RecordReader<'a> {
         }
     }
 
-    /// Reads the next record into `into`, and says whether there was one. Once memory was refused,
-    /// it is refused for good.
+    /// Reads the next record into `into`, and returns whether there was one. After an allocation
+    /// failure each later call fails too.
     pub fn next(&mut self, into: &mut Record) -> Result<bool, AllocError>
         ensures next { IfOk result (λ found.
             ReadsOne self.old.records self.new.records found into.new) }

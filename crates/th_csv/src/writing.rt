@@ -43,7 +43,7 @@ impl RowWriter {
         }
     }
 
-    /// Writes a row of these fields. Once memory was refused, it is refused for good.
+    /// Writes a row of these fields. After an allocation failure each later call fails too.
     pub fn write(&mut self, fields: &[&[u8]]) -> Result<(), AllocError>
         ensures text { OnOk result (self.new.text
             ≡ self.old.text ++ row_text (map (λ field. field.now) fields.now)) }
@@ -58,7 +58,7 @@ impl RowWriter {
         written
     }
 
-    /// The text of the rows, unless memory was refused for one of them.
+    /// The text of the rows, unless an allocation failed for one of them.
     pub fn into_text(self) -> Result<Vec<u8>, AllocError>
         ensures text { IfOk result (λ text. text.items ≡ self.text) }
         ensures for_good { self.refused ≡ true → IsErr result }

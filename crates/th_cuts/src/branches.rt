@@ -43,10 +43,11 @@ impl Branches {
         })
     }
 
-    /// What the lightest cut between two vertices weighs.
+    /// The weight of the lightest cut between two vertices.
     ///
-    /// No cut that separates them weighs less than each branch on the way between them. The lightest
-    /// branch's own side mostly separates them too; where it does not, they get a cut of their own.
+    /// No cut that separates them weighs less than the lightest branch on the way between them.
+    /// That branch's own side mostly separates them too; if it does not, they get a cut of their
+    /// own.
     pub fn least(&self, alloc: Global, first: u32, second: u32) -> Result<u32, AllocError>
         requires first { first < self.now.vertices }
         requires second { second < self.now.vertices }

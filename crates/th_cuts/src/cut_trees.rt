@@ -40,8 +40,9 @@ impl CutTree {
         Ok(CutTree { branches })
     }
 
-    /// What the lightest cut between two vertices weighs. The time is near the length of the way
-    /// between them in the tree, or that of a least cut where the tree's own cut does not separate them.
+    /// The weight of the lightest cut between two vertices. The time is about the length of the way
+    /// between them in the tree, or that of a least cut if the tree's own cut does not separate
+    /// them.
     pub fn least(&self, alloc: Global, first: u32, second: u32) -> Result<u32, AllocError>
         requires first { first < self.now.vertices }
         requires second { second < self.now.vertices }

@@ -11,7 +11,7 @@ use crate::paths::Path;
 use crate::trees::Tree;
 use std::alloc::{AllocError, Global};
 
-/// A side of the vertices, and what the edges with exactly one end on it weigh.
+/// A set of vertices, and the weight of the edges with exactly one end in it.
 #[derive(Debug, Drop)]
 pub struct Cut {
     pub value: u32,
@@ -19,8 +19,8 @@ pub struct Cut {
     pub side: Vec<bool>,
 }
 
-/// A cut that holds the source and not the sink and weighs least. Of all cuts that weigh as little, it has
-/// the smallest side: each other one holds it.
+/// A least cut that holds the source and not the sink. Of all such cuts it has the smallest side:
+/// every other one contains it.
 pub fn least_cut(
     alloc: Global,
     vertices: u32,

@@ -1,4 +1,4 @@
-//! One of two devices as a device, and a source that keeps to itself what another one tells.
+//! One of two devices as a device, and a source that hides the bytes that another one reports.
 ghost use Rattle.std.specs.Prelude.{◌≡◌, ◌<◌, None};
 ghost use Rattle.th_devices.specs.Limits.{call_limit};
 
@@ -69,7 +69,7 @@ impl<A: Sink, B: Sink> Sink for OneOf<A, B> {
     ghost failures_are_calls = { elim [ First own ↦ A.failures_are_calls own | Second own ↦ B.failures_are_calls own ] };
 }
 
-/// A source that gives the bytes of another one, and tells nothing of them.
+/// A source that gives the bytes of another one, and does not report them.
 #[derive(Drop)]
 pub struct Untold<S> {
     /// The other one.

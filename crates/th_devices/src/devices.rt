@@ -1,14 +1,14 @@
 //! What the program reads from and writes to.
 //!
-//! A source and a sink tell contracts the bytes that are left in them or held by them, as `Some`,
-//! or nothing, as `None`: real files tell nothing. Both count their calls, and how many of these
-//! failed. A sink also tells whether it was finished.
+//! A source reports the bytes that it has left, and a sink those that it holds, to contracts:
+//! `Some` of them, or `None`, as for real files. Both count their calls, and how many of these
+//! failed. A sink also reports whether it was finished.
 ghost use Rattle.std.specs.Prelude.{◌≡◌, ◌+◌, ◌<◌, ◌≤◌, ℕ, Bool, List, Option};
 ghost use Rattle.th_devices.specs.Devices.{IsBegun, IsFinish, IsRead, IsWrite, failures_in};
 ghost use Rattle.th_devices.specs.Limits.{call_limit};
 ghost use Rattle.th_devices.specs.Spots.{Spot};
 
-/// A device failed: what it was asked for was not done.
+/// A device failed: the call did not do its work.
 #[derive(Clone, Copy, Debug, PartialEq, Eq)]
 pub struct Failed;
 
@@ -34,7 +34,7 @@ impl Counts {
         }
     }
 
-    /// Counts a call that gave this answer.
+    /// Counts a call that returned this.
     pub fn count<T>(&mut self, answer: &Result<T, Failed>)
         requires { self.old.calls < call_limit }
         ensures calls { self.new.calls ≡ self.old.calls + 1 }
@@ -49,7 +49,7 @@ impl Counts {
 
 /// What bytes are read from.
 pub trait Source {
-    // The bytes that are left, where the source tells them.
+    // The bytes that are left, if the source reports them.
     ghost left: { Self → Option (List ℕ) };
 
     // How often it was read, and how many of these reads failed.
@@ -57,10 +57,10 @@ pub trait Source {
 
     ghost failures: { Self → ℕ };
 
-    /// Reads the next bytes into the front of `into`, and says how many.
+    /// Reads the next bytes into the front of `into`, and returns how many.
     ///
-    /// For a slice that is not empty it is 0 at the end of the source and only there. The
-    /// bytes of the slice behind the ones given stay. A read that fails takes nothing and leaves the slice.
+    /// For a slice that is not empty this is 0 exactly at the end of the source. The rest of the
+    /// slice stays as it is. A read that fails takes nothing and leaves the slice as it is.
     fn read(&mut self, into: &mut [u8]) -> Result<usize, Failed>
         requires { calls self.old < call_limit }
         ensures { IsRead left calls failures self.old self.new into.old into.new result };
@@ -74,7 +74,7 @@ pub trait Sink {
     // Where its bytes are.
     ghost spot: { Self → Spot };
 
-    // The bytes that it holds, where it tells them.
+    // The bytes that it holds, if it reports them.
     ghost held: { Self → Option (List ℕ) };
 
     // Whether it was finished, and neither begun nor written since.
@@ -85,22 +85,22 @@ pub trait Sink {
 
     ghost failures: { Self → ℕ };
 
-    /// Makes the output empty, so that it holds no byte. Where it fails, nothing is known of the
-    /// bytes. In either case the output is not finished then.
+    /// Empties the output. If the call fails, nothing is known of the bytes. Either way the output
+    /// is not finished afterwards.
     fn begin(&mut self) -> Result<(), Failed>
         requires { calls self.old < call_limit }
         ensures begun { IsBegun held is_finished calls failures self.old self.new result }
         ensures spot { spot self.new ≡ spot self.old };
 
-    /// Takes bytes of the front of `bytes`, at least one unless it is empty, and says how many. A
-    /// write that fails takes none. The output is not finished then.
+    /// Takes bytes from the front of `bytes`, at least one unless it is empty, and returns how
+    /// many. A write that fails takes none. The output is not finished afterwards.
     fn write(&mut self, bytes: &[u8]) -> Result<usize, Failed>
         requires { calls self.old < call_limit }
         ensures write { IsWrite held is_finished calls failures self.old self.new bytes.now result }
         ensures spot { spot self.new ≡ spot self.old };
 
-    /// Brings what is held to where it is to stay, so that the output is finished unless it fails.
-    /// The bytes stay as they are, also where it fails.
+    /// Brings the bytes to where they are to stay. The output is finished afterwards unless the
+    /// call fails. Either way the bytes stay as they are.
     fn finish(&mut self) -> Result<(), Failed>
         requires { calls self.old < call_limit }
         ensures finish { IsFinish held is_finished calls failures self.old self.new result }

@@ -1,4 +1,4 @@
-//! Standard error as a sink. It tells nothing of its bytes.
+//! Standard error as a sink. It does not report its bytes.
 ghost use Rattle.std.specs.Prelude.{◌≡◌, ◌<◌, false, None, IfOk, length};
 ghost use Rattle.th_devices.specs.Limits.{call_limit};
 ghost use Rattle.th_devices.specs.Spots.{errors};
@@ -6,7 +6,7 @@ ghost use Rattle.th_devices.specs.Spots.{errors};
 use crate::devices::{Counts, Failed, Sink};
 use std::str;
 
-/// Standard error. A write takes its bytes whole, and fails where they are not UTF-8.
+/// Standard error. A write takes all of its bytes, and fails if they are not UTF-8.
 #[derive(Drop)]
 pub struct StandardError<'a, R: Eprint> {
     errors: &'a R,

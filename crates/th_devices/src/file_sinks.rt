@@ -1,6 +1,6 @@
-//! Real files as a sink. The bytes go to a file beside the one of that name, which takes the name when
-//! it is finished: so the name holds the whole text or what it held before. A sink tells nothing of
-//! its bytes.
+//! Real files as sinks. The bytes go to a file beside the named one, which takes the name when it
+//! is finished. So the name has either the whole text or what it had before. These sinks do not
+//! report their bytes.
 ghost use Rattle.std.specs.Prelude.{◌≡◌, ◌<◌, ◌≤◌, ◌↔◌, ◌⊎◌, ◌++◌, true, false, codes, is_some, None, Ok, IfOk, OnOk, OnErr, IsErr, length, option_and_then};
 ghost use Rattle.std.specs.Io.KnownBytes.{Keeps, WriteAppends};
 ghost use Rattle.th_devices.specs.Files.{IsFileBegun, IsFileFinish, IsFileWrite};
@@ -23,13 +23,13 @@ pub(crate) const UNFINISHED: &str = ".unfinished";
 enum Way {
     /// To a file beside it, which takes its name.
     Beside,
-    /// To what has its name and is no regular file: a device or a pipe.
+    /// Directly to what has its name: a device or a pipe.
     Straight,
 }
 
-/// A file that is written beside its name, and takes the name at `finish`. A file that has the name
-/// before then stays as it was, and so it does where a call fails. A device or a pipe of that name is
-/// written as it is.
+/// A file that is written beside its name, and takes the name at `finish`. Until then, and if a
+/// call fails, a file of that name stays as it was. A device or a pipe of that name is written
+/// directly.
 #[derive(Drop)]
 pub struct FileSink<'a, R: Files> {
     files: &'a R,

@@ -1,5 +1,5 @@
-//! Real files as a source. It tells the bytes that are left in its file where the open file tells them,
-//! which those of the system do not.
+//! Real files as sources. A source reports the bytes that are left if its open file does, which
+//! files of the system do not.
 ghost use Rattle.std.specs.Prelude.{◌≡◌, ◌<◌, ◌≤◌, true, false, is_some, IfOk, OnOk, length, drop, option_and_then, string_bytes};
 ghost use Rattle.std.specs.Io.KnownBytes.{ReadConsumes};
 ghost use Rattle.th_devices.specs.Devices.{bytes_given};
@@ -17,7 +17,7 @@ use std::rt::Files;
 /// system does not say that it left the slice.
 const CHUNK: usize = 4_096;
 
-/// A file that is opened at the first read. Where it cannot be opened, that read fails.
+/// A file that is opened at the first read. If it cannot be opened, that read fails.
 #[derive(Drop)]
 pub struct FileSource<'a, R: Files> {
     files: &'a R,

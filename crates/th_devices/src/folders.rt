@@ -1,7 +1,7 @@
-//! A folder gives sources and sinks by where their bytes are, and takes sinks back.
+//! Folders give sources and sinks by name, and take sinks back.
 //!
-//! A contract of a program over a folder speaks of the folder before and after alone. The devices
-//! that come from it do not appear there.
+//! A contract of a program over a folder mentions the folder before and after, and none of the
+//! devices that it gave.
 ghost use Rattle.std.specs.Prelude.{◌≡◌, ◌↔◌, Bool, List, None, Option, ℕ, IfOk, IsTrue, false, true};
 ghost use Rattle.th_devices.specs.Origins.{spot_of_origin, spot_of_target};
 ghost use Rattle.th_devices.specs.Spots.{IsClosed, IsMade, IsOpened, Spot, errors};
@@ -35,13 +35,14 @@ pub trait Folder {
     /// What it gives for writing.
     type Out: Sink + Drop;
 
-    // Whether it tells the bytes that are written.
+    // Whether it reports the bytes that are written.
     ghost tells: { Bool };
 
     // The bytes at each spot, where they are told.
     ghost held: { Self → Spot → Option (List ℕ) };
 
-    // Whether a call failed of the sink whose bytes are at a spot. Only a folder that tells knows.
+    // Whether a call failed of the sink whose bytes are at a spot. Only a folder that reports its
+    // bytes knows.
     ghost has_failed: { Self → Spot → Bool };
 
     /// Whether writing the file `output` would change the file `input`: they are one file under two
@@ -61,19 +62,19 @@ pub trait Folder {
         ensures made { IfOk result (IsMade tells Self.Out.spot Self.Out.held Self.Out.is_finished
             Self.Out.calls Self.Out.failures (spot_of_target target.entry)) };
 
-    /// A sink for standard error. It takes no memory, so that a program that is out of memory can say
-    /// so.
+    /// A sink for standard error. It allocates nothing, so that a program that is out of memory can
+    /// report it.
     fn standard_error(&mut self) -> Self::Out
         ensures same { self.new ≡ self.old }
         ensures made { IsMade tells Self.Out.spot Self.Out.held Self.Out.is_finished Self.Out.calls
             Self.Out.failures errors result };
 
-    /// Takes a sink back. The bytes of a sink that was finished are at its spot then, and a file whose
-    /// sink was not finished is as it was.
+    /// Takes a sink back. If it was finished, its bytes are at its spot. If it was not, its file is
+    /// as it was.
     fn close(&mut self, sink: Self::Out)
         ensures { IsClosed tells held has_failed Self.Out.spot Self.Out.held Self.Out.is_finished
             Self.Out.calls Self.Out.failures sink self.old self.new };
 
-    // A folder that does not tell the bytes that are written tells none.
+    // A folder that does not report the bytes that are written reports none.
     ghost tells_or_not: { (folder : Self) (spot : Spot) → tells ≡ false → held folder spot ≡ None };
 }

@@ -13,7 +13,7 @@ use std::fs;
 use std::os::unix::fs::MetadataExt;
 use std::rt::Files;
 
-/// The files and standard streams of the system. It tells nothing of their bytes.
+/// The files and standard streams of the system. It does not report their bytes.
 #[derive(Drop)]
 pub struct HostFolder<'a, R> {
     rt: &'a R,
@@ -72,7 +72,7 @@ impl<'a, R: Files + Input + Print + Eprint> Folder for HostFolder<'a, R> {
     ghost tells_or_not = { λ _ _ _. refl };
 }
 
-/// Whether both names are one, or the system tells that they name one file.
+/// Whether the names are the same, or the system reports that they name one file.
 fn is_same_file<R: Files>(files: &R, first: &str, second: &str) -> bool {
     if first == second {
         return true;

@@ -1,9 +1,9 @@
 //! What a program reads from and writes to: sources and sinks, over files, standard streams and
 //! memory, and whole texts read from them and written to them.
 //!
-//! Contracts see of a device the bytes that are left in it or held by it, where it tells them, how
-//! often it was called, and how many of these calls failed. Real files and streams tell nothing of
-//! their bytes, so what is proved of a run over any devices holds of those that tell.
+//! Contracts see three things of a device: the bytes that it has left or holds, if it reports them,
+//! how often it was called, and how many of these calls failed. Real files and streams do not
+//! report their bytes, so clauses on bytes hold only for devices that do.
 #![tactic(auto)]
 
 // Limits, and the calls of devices.
@@ -28,7 +28,7 @@ mod memory_folders;
 // Whole texts.
 mod transfer;
 
-// What holds of the definitions.
+// Laws of the definitions.
 pub mod laws;
 
 pub use choices::{OneOf, Untold};

@@ -1,5 +1,4 @@
-//! Devices over memory, for tests: they give or take a few bytes a call, and fail where they are
-//! told to.
+//! Devices in memory, for tests: they give or take a few bytes a call, and fail at a chosen call.
 ghost use Rattle.std.specs.Prelude.{◌≡◌, ◌+◌, ◌<◌, ◌≤◌, ◌↔◌, ◌++◌, ℕ, false, is_ok, List, Option, Some, IsErr, IsTrue, IfOk, OnOk, OnErr, length, min, take, drop, ◌-◌, ◌⊎◌, []};
 ghost use Rattle.std.specs.Io.KnownBytes.{Appends, Consumes, IsAtEnd, Keeps};
 ghost use Rattle.th_devices.specs.Memory.{FindsNoRoom, IsSetAs, IsTextBegun, IsTextFinish, IsTextRead, IsTextWrite};
@@ -11,7 +10,7 @@ use crate::transfer::copy_front;
 use std::alloc::{AllocError, Global};
 use std::marker::Model;
 
-/// A source over bytes that are lent to it.
+/// A source over borrowed bytes.
 #[derive(Drop)]
 pub struct TextSource<'a> {
     rest: &'a [u8],

@@ -1,4 +1,4 @@
-//! A folder in memory, for tests: it tells all of its bytes.
+//! A folder in memory, for tests. It reports all of its bytes.
 ghost use Rattle.std.specs.Prelude.{◌≡◌, ◌<◌, ◌≤◌, ◌↔◌, ℕ, true, false, List, Option, Some, None, IfOk, IfSome, OnOk, OnErr, drop, length, option_map, string_bytes, take, vec_len};
 ghost use Rattle.std.specs.Io.KnownBytes.{Consumes, IsAtEnd};
 ghost use Rattle.th_devices.specs.Devices.{bytes_given};
@@ -216,7 +216,7 @@ impl MemoryFolder {
         Ok(())
     }
 
-    /// The bytes of the file of this name, where there is one.
+    /// The bytes of the file of this name, if there is one.
     pub fn file(&self, name: &str) -> Option<&[u8]>
         ensures { option_map (λ text. text.now) result ≡ memory_held self.now (file name.now) }
     {
@@ -226,7 +226,7 @@ impl MemoryFolder {
         }
     }
 
-    /// The bytes on standard output, where it was written.
+    /// The bytes on standard output, if it was written.
     pub fn output(&self) -> Option<&[u8]>
         ensures { option_map (λ text. text.now) result ≡ memory_held self.now output }
     {
@@ -236,7 +236,7 @@ impl MemoryFolder {
         }
     }
 
-    /// The bytes on standard error, where it was written.
+    /// The bytes on standard error, if it was written.
     pub fn errors(&self) -> Option<&[u8]>
         ensures { option_map (λ text. text.now) result ≡ memory_held self.now errors }
     {

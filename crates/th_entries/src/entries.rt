@@ -9,7 +9,7 @@ pub enum HeightKind {
     Instrument,
 }
 
-/// A height that a line of a book enters, where at least one sight uses it.
+/// A height that a line of a book enters and at least one sight uses.
 ///
 /// The sights that use it are exactly those from its line to `last`. The number of the book and the
 /// lines count from 1.

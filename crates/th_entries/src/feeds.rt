@@ -16,7 +16,7 @@ use gsi_word::Word;
 use std::alloc::{AllocError, Global};
 use th_book::laws::answered_book_is_faultless;
 
-/// A book that comes in pieces, however it is cut, and is reviewed. It takes the pieces that a
+/// The review of a book that comes in pieces of any size. It takes the pieces that a
 /// `th_book::BookFeed` takes, and keeps one line, the review so far and the names that were seen.
 #[derive(Drop)]
 pub struct ReviewFeed {
@@ -25,7 +25,7 @@ pub struct ReviewFeed {
 }
 
 impl ReviewFeed {
-    /// A book with its number, from 1, of which no byte came yet, and the names of the books before.
+    /// A book with its number, from 1, before its first byte, and the names of the books before.
     pub fn new(alloc: Global, book: u32, names: SeenNames) -> ReviewFeed
         ensures { (text : List ℕ) → IsReading names book text text result }
     {
@@ -44,8 +44,8 @@ impl ReviewFeed {
         take_lines(&mut self.tally, &mut self.lines, piece)
     }
 
-    /// The review of the book whose pieces came, and the names that were seen with those of this book, if
-    /// it has no fault. Of a book with a fault nothing is promised.
+    /// The review of the book, and the names seen so far, if the book has no fault. Nothing is
+    /// promised for a book with a fault.
     pub fn finish(self) -> Result<(BookReview, SeenNames), AllocError>
         ensures review { IfOk result (λ read. (names : SeenNames) (book : ℕ) (text : List ℕ) →
             IsReading names book text [] self → IsFaultless book text → Reviews book (parsed_of text) read.0) }
@@ -61,8 +61,8 @@ impl ReviewFeed {
     }
 }
 
-/// The review of a whole book with its number, from 1, if the book has no fault. Of a book with a fault
-/// nothing is promised.
+/// The review of a whole book with its number, from 1, if the book has no fault. Nothing is
+/// promised for a book with a fault.
 pub fn read_review(alloc: Global, book: u32, bytes: &[u8]) -> Result<BookReview, AllocError>
     ensures { IfOk result
         (λ review. IsFaultless book bytes.now → Reviews book (parsed_of bytes.now) review) }

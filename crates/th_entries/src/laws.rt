@@ -1,4 +1,4 @@
-//! Laws of the definitions: what they say of one another, with no call of the code.
+//! Laws that relate the definitions to one another. They call nothing of the code.
 
 ghost use Rattle.std.specs.Prelude.{◌≡◌, ◌≢◌, ◌<◌, ◌≤◌, ◌++◌, [], All, Contains, ℕ, List, Ok, Some, true, length};
 ghost use Rattle.th_book.specs.Books.{book_answer};
@@ -35,7 +35,7 @@ pub fn entry_has_one_station()
     observation_is_of_a_sight();
 }
 
-/// They still are where observations of other books come before those of its book, or behind them.
+/// They still are if observations of other books come before or after those of its book.
 pub fn other_books_keep_the_station()
     ensures before { (others observations : List Observed) (entry : Entry) →
         All (λ o. o.book ≢ entry.book) others → HasOneStation observations entry →

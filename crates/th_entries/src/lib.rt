@@ -1,5 +1,5 @@
-//! What a review tells about a book itself: the heights that were entered and the sights that use
-//! them, what its lines are, and the lines that look like a setup and are none. And about several
+//! What a review reports of a book: the heights that were entered and the sights that use them, how
+//! many blocks, setups and sights there are, and lines that only look like a setup. Of several
 //! books: the names that they spell in more than one way.
 //!
 //! A `ReviewFeed` takes the same pieces of bytes as a `th_book::BookFeed`, and gives the
@@ -18,7 +18,7 @@ mod tallies;
 // Books by pieces of their bytes.
 mod feeds;
 
-// What is told about a book.
+// The review of a book.
 mod reviews;
 
 // Names that are spelled in more than one way.
@@ -27,7 +27,7 @@ mod spellings;
 // The names that were seen, and how they are spelled.
 mod seen;
 
-// What holds of the definitions alone.
+// Laws of the definitions.
 pub mod laws;
 
 pub use entries::{Entry, HeightKind};

@@ -9,14 +9,14 @@ pub struct BookCount {
     pub sights: u32,
 }
 
-/// What a review tells about one book.
+/// What a review reports of one book.
 #[derive(Drop)]
 pub struct BookReview {
     pub counts: BookCount,
     /// The entries by line, the reflector's before the instrument's within a line.
     pub entries: Vec<Entry>,
-    /// The lines, from 1, that look like a setup and are none: a block with a point number and an
-    /// instrument height, but without a height difference and a coordinate of the station, whose
-    /// point is not the current station.
+    /// The lines, from 1, that only look like a setup: blocks with a point number and an instrument
+    /// height, but with neither a height difference nor a coordinate of the station, whose point is
+    /// not the current station.
     pub lookalikes: Vec<u32>,
 }

@@ -16,14 +16,14 @@ const MAX_DATA: usize = 16;
 /// How a name is spelled so far.
 #[derive(Drop)]
 enum Spelled {
-    /// In these data each time.
+    /// With these data each time.
     Alike(ArrayVec<u8, MAX_DATA>),
     /// In more than one way.
     Otherwise,
 }
 
-/// The names that the stations and targets of books have, and how they are spelled. It passes from one
-/// book to the next.
+/// The names of stations and targets, and how they are spelled. It passes from one book to the
+/// next.
 ///
 /// The names are kept in order, so that each costs the logarithm of their number, whatever they are. A
 /// hash could have no seed that covers the names still to come.
@@ -37,7 +37,7 @@ impl SeenNames {
     ghost use Rattle.th_entries.specs.Seen.{AreSeenInBooks};
     ghost use Rattle.th_entries.specs.Spellings.{spellings_of};
 
-    /// The names of no book.
+    /// No names yet.
     pub fn new(alloc: Global) -> SeenNames
         ensures { AreSeenInBooks [] result }
     {

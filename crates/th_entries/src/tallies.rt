@@ -79,8 +79,8 @@ impl Tally {
         }
     }
 
-    /// Takes the next line, whose words are read into an array that is lent. A line with a fault says
-    /// nothing.
+    /// Takes the next line. Its words are read into the caller's array. A faulty line has no
+    /// effect.
     pub fn take<'a>(
         &mut self,
         line: &'a [u8],

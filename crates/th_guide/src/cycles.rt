@@ -37,7 +37,7 @@ impl Cycles {
         })
     }
 
-    /// Takes up what these goals are above the links' flows.
+    /// Begins with what these goals are above the links' flows.
     pub fn start(&mut self, links: &[Link], goals: &Goals, sides: &mut Sides) -> Option<()> {
         self.clear(sides)?;
         for (place, link) in links.iter().enumerate() {
@@ -86,8 +86,8 @@ impl Cycles {
         )
     }
 
-    /// Walks on to the next cycle, and takes from it as much as is to flow all round. Answers that amount;
-    /// `None` where nothing is left.
+    /// Walks on to the next cycle, and removes from it as much as can flow all round. Returns that
+    /// amount, or `None` if nothing is left.
     pub fn next(&mut self, sides: &mut Sides) -> Option<u32> {
         for _ in 0..self.ends.len() {
             for _ in 0..2 {

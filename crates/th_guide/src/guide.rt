@@ -58,8 +58,8 @@ impl Guide {
         self.is_at_work = false;
     }
 
-    /// Takes the next cycle that costs less than 0: answers how much is to flow round it, and `cycle` has
-    /// it. `None` where nothing is left, or the guide has given up.
+    /// Proposes the next cycle that costs less than 0: returns how much is to flow round it, and
+    /// `cycle` gives its arcs. `None` if nothing is left or the guide has given up.
     pub fn propose(&mut self) -> Option<u32> {
         if !self.is_at_work {
             return None;
@@ -79,8 +79,8 @@ impl Guide {
         &self.cycles.cycle
     }
 
-    /// The height of a vertex above vertex 0; at these heights the flows that it aims at are optimal.
-    /// `None` where it found none.
+    /// The height of a vertex above vertex 0; at these heights the flows that it aims at are
+    /// optimal. `None` if it found none.
     pub fn height(&self, vertex: u32) -> Option<i64> {
         if !self.has_solved {
             return None;

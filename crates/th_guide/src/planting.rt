@@ -17,8 +17,8 @@ impl Planting {
         Ok(Planting { order })
     }
 
-    /// Plants all vertices; answers how many levels the tree has. It gives up where the network is not
-    /// connected.
+    /// Plants all vertices, and returns how many levels the tree has. It gives up if the network is
+    /// not connected.
     pub fn plant(&mut self, simplex: &mut Simplex) -> Option<u32> {
         self.begin(simplex)?;
         let mut levels = 0u32;
@@ -33,8 +33,8 @@ impl Planting {
         Some(levels)
     }
 
-    /// Plants all vertices, and pivots among those that are planted after each chunk of so many: where a
-    /// tree has many levels, the parts that move are small then.
+    /// Plants all vertices in chunks, and pivots after each. In a tree with many levels this keeps
+    /// the parts that move small.
     pub fn plant_in_chunks(&mut self, simplex: &mut Simplex, chunk: usize) -> Option<()> {
         self.begin(simplex)?;
         let mut left = chunk;

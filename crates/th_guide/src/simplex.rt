@@ -245,7 +245,7 @@ impl Simplex {
         Some(())
     }
 
-    /// Whether each link that is not tight is at the bound of its reduced cost's sign.
+    /// Whether each link that is not tight is at the bound that its reduced cost demands.
     pub fn is_optimal(&self) -> Option<bool> {
         for (place, link) in self.links.iter().enumerate() {
             let number = u32::try_from(place).ok()?;

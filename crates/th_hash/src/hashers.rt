@@ -3,8 +3,7 @@ use std::hash::{DefaultHasher, FoldHasher, Hasher};
 /// A hasher of names.
 #[derive(Clone, Copy)]
 pub enum NameHasher {
-    /// The hasher that `indexmap` takes by default, which is fast. Names that share a hash are easily
-    /// found.
+    /// The default hasher of `indexmap`, which is fast. Names that share a hash are easy to find.
     Fast(FoldHasher),
     /// SipHash-1-3 that has hashed a seed. Names that share a hash cannot be found without the seed.
     Seeded(DefaultHasher),

@@ -1,18 +1,18 @@
-//! How maps hash names that a stranger may have chosen.
+//! Hash maps of names that an attacker may have chosen.
 //!
-//! Names that share a hash slow a map down, and names that do so under a known hasher are easily
-//! found. So a map of few names takes a fast hasher that everyone knows, and a map of many names takes
-//! SipHash seeded with the SHA-256 digest of the content in which the names stand. Nobody knows that
-//! hasher before the last name is chosen. The seed changes no answer of a map, only its time.
+//! Names that share a hash slow a map down, and for a known hasher such names are easy to find. So
+//! a map of few names uses a fast, known hasher. A map of many names uses SipHash, seeded with the
+//! SHA-256 digest of the content that states the names. Nobody knows that hasher before the last
+//! name is chosen. The seed changes only the time of a map, never its answers.
 #![tactic(auto)]
 
-// what hashes a name
+// Hashers.
 mod hashers;
 
-// what a map takes its hashers from
+// Seeds.
 mod seeds;
 
-// maps with a seed
+// Maps with a seed.
 mod maps;
 
 pub use hashers::NameHasher;

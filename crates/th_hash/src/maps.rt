@@ -49,7 +49,7 @@ fn reseed_map<K: Eq + Hash + Drop, V: Drop>(
     Ok(())
 }
 
-/// Gives a set another seed. Its names stay as they are.
+/// Gives a set another seed, and keeps its names.
 pub fn reseed_set<K: Eq + Hash + Drop>(
     alloc: Global,
     set: &mut NameSet<K>,

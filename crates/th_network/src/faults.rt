@@ -6,7 +6,7 @@ use std::alloc::AllocError;
 use std::error::Error;
 use std::{fmt, str};
 
-/// Why observations and benchmarks make no network. Of several faults the first in this order counts.
+/// Why observations and benchmarks make no network. The first fault in this order counts.
 #[derive(Clone, Copy, Debug, PartialEq, Eq)]
 pub enum NetFault {
     /// N1: there are more than `MAX_OBSERVATIONS` observations.
@@ -15,7 +15,7 @@ pub enum NetFault {
     TooManyPoints,
     /// N3: from this point, the first of its kind, no chain of observations leads to a benchmark.
     NoBenchmark(Name),
-    /// Memory was refused, which is no fault of the observations.
+    /// Out of memory. The observations are not at fault.
     NoMemory,
 }
 

@@ -1,4 +1,4 @@
-//! Laws over the definitions alone. A law is its contract: it calls nothing and computes nothing.
+//! Laws that relate the definitions to one another. A law is its contract: it computes nothing.
 
 ghost use Rattle.std.specs.Prelude.{◌≡◌, ◌↔◌, ◌⊎◌, bytes_eq, Contains, IsSome, ℕ, ℤ, ◌-ℤ◌, List, None, Some, slice_get};
 ghost use Rattle.std.specs.List.{IsDistinct};
@@ -12,7 +12,7 @@ ghost use Rattle.th_network.specs.Links.{IsRelative, link_difference};
 ghost use Rattle.th_points.specs.Points.{ends, points};
 ghost use Rattle.th_network.specs.Vertices.{vertex_at, vertex_of};
 
-/// Observations and benchmarks have one fault at most, and where they make a network they have none.
+/// Observations and benchmarks have at most one fault, and none if they make a network.
 pub fn faults_exclude_each_other()
     ensures one { (observations : List Observed) (benchmarks : BenchmarkRows)
         (first second : NetFault)
@@ -26,10 +26,10 @@ pub fn faults_exclude_each_other()
 
 /// A circulation that shows heights proves that no others cost less, in whole units or finer ones.
 ///
-/// This is complementary slackness (Ahuja, Magnanti and Orlin, Network Flows, section 9.3), used for
-/// least absolute residuals: whatever the heights, each weighted size of a residual is at least the
-/// flow times that residual. The flows are in balance, so the sum of these products is the same for
-/// all heights that keep the benchmarks, and at the heights that are shown it is their cost.
+/// This is complementary slackness (Ahuja, Magnanti and Orlin, Network Flows, section 9.3), used
+/// for least absolute residuals: whatever the heights, each weighted size of a residual is at least
+/// the flow times that residual. The flows are in balance, so the sum of these products is the same
+/// for all heights that keep the benchmarks. At the heights that are shown it is their cost.
 pub fn circulation_shows_least()
     ensures { (observations : List Observed) (benchmarks : BenchmarkRows) (weights : WeightRows)
         (heights : List ℕ → ℤ) (flows : List ℤ)
@@ -48,7 +48,7 @@ pub fn least_in_finer_units_is_least()
 {}
 
 /// An observation's residual is that of its link, with heights relative to the benchmarks: the
-/// benchmarks' heights may be taken out of the differences, and every benchmark set to zero.
+/// benchmarks' heights may be removed from the differences, and every benchmark set to zero.
 pub fn link_keeps_residual()
     ensures { (o : Observed) (benchmarks : BenchmarkRows) (heights relative : List ℕ → ℤ)
         → IsHeights benchmarks heights

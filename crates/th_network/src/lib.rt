@@ -2,16 +2,16 @@
 //! shows that heights are least.
 //!
 //! A network has at most `MAX_OBSERVATIONS` observations and `MAX_POINTS` points, and from each
-//! point a chain of observations leads to a benchmark. `Network::build` makes it, or names the first
-//! fault: it takes the points in order of first sight (`th_points`), walks from the benchmarks to all
-//! that they reach (`anchors`, over `neighbours` and `marks`), numbers the vertices (`vertices`) and
-//! takes the benchmarks' heights out of the observations (`links`).
+//! point a chain of observations leads to a benchmark. `Network::build` makes it, or returns the
+//! first fault. It takes the points in order of first sight (`th_points`), walks from the
+//! benchmarks to all that they reach (`anchors`, over `neighbours` and `marks`), and numbers the
+//! vertices (`vertices`). It removes the benchmarks' heights from the observations (`links`).
 //!
-//! The definitions stand in `specs/`: walks and faults, heights and their cost, circulations,
+//! The definitions are in `specs/`: walks and faults, heights and their cost, circulations,
 //! vertices and links. `laws` proves what they are for: heights that a circulation shows are least.
 #![tactic(auto)]
 
-// How large a network is, and why there is none.
+// Limits and faults.
 mod faults;
 mod limits;
 
@@ -30,7 +30,7 @@ mod weights;
 // The network.
 mod networks;
 
-// What holds of the definitions alone.
+// Laws of the definitions.
 pub mod laws;
 
 pub use faults::NetFault;

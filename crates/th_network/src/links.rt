@@ -20,8 +20,8 @@ pub struct Link {
     pub tail: u32,
     /// The target's vertex.
     pub head: u32,
-    /// The observed difference, with the station's height as a benchmark added and the target's
-    /// taken off, in units of 10 nm: at most 50 km in size.
+    /// The observed difference, plus the station's height if it is a benchmark, minus the target's
+    /// if that is one, in units of 10 nm: at most 50 km in size.
     pub diff: i64,
 }
 

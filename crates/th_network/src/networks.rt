@@ -57,8 +57,8 @@ impl<'a> Model for Network<'a> {
 }
 
 impl<'a> Network<'a> {
-    /// Makes the network of some observations, or answers the first fault of `NetFault` that they
-    /// have. `NoMemory` may occur where there are not too many observations. The time is nearly
+    /// Makes the network of some observations, or returns their first fault in the order of
+    /// `NetFault`. `NoMemory` may occur unless there are too many observations. The time is nearly
     /// proportional to the number of observations, points and benchmarks.
     pub fn build(
         alloc: Global,
@@ -97,7 +97,7 @@ impl<'a> Network<'a> {
     }
 
     /// The points in order of first sight, the station before the target, and then the benchmarks
-    /// that no observation sees, in table order.
+    /// that no observation names, in table order.
     pub fn points(&self) -> &[Name]
         ensures points { result.now ≡ points_of self.now }
         ensures distinct { IsDistinct bytes_eq result.now }
@@ -124,7 +124,7 @@ impl<'a> Network<'a> {
         self.weights
     }
 
-    /// The height of point `k`, counted from 0, where it is a benchmark, in units of 10 nm.
+    /// The height of point `k`, from 0, in units of 10 nm, if it is a benchmark.
     pub fn fixed(&self, k: usize) -> Option<i64>
         requires { k < length (points_of self.now) }
         ensures height { slice_get (heights_of self.now) k ≡ Some result }

@@ -1,5 +1,4 @@
-//! The notes of a review: what a reader should look at in the books and in the tables, though no
-//! number shows it.
+//! The notes of a review: what looks odd in the books and in the tables, though no number shows it.
 //!
 //! `notes_of` finds them, and `write_notes` writes a line for each. Out of memory is the only failure.
 #![tactic(auto)]

@@ -1,7 +1,7 @@
 use gsi_word::Name;
 
-/// What a review notes. Books and lines count from 1, and so do the records of a table, of which the
-/// first is the header.
+/// What a review notes. Books, lines and the records of a table count from 1. A table's first
+/// record is its header.
 #[derive(Clone, Copy, Debug)]
 pub enum Note {
     /// A book has no sight, and so many blocks.

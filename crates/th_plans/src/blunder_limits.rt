@@ -32,7 +32,7 @@ impl Limit {
     ghost use Rattle.std.specs.Prelude.{◌≤ℤ◌, ◌*◌, pos};
     ghost use Rattle.th_plans.specs.Limits.{max_blunder, units_in_micrometre};
 
-    /// The limit of so many micrometres; none above `MAX_BLUNDER`.
+    /// The limit of this many micrometres; `None` above `MAX_BLUNDER`.
     pub fn of_micrometres(micrometres: u32) -> Option<Limit>
         ensures { result ≡ limit_of micrometres }
     {

@@ -17,7 +17,7 @@ impl<'a> Books<'a> {
     ghost use Rattle.th_plans.specs.Asked.{books_of};
     ghost use Rattle.th_plans.specs.Books.{names_in};
 
-    /// The books of these names; none where there is no name or more than `MAX_BOOKS`.
+    /// The books of these names; `None` if there is no name, or more than `MAX_BOOKS`.
     pub fn of(names: &[&'a str]) -> Option<Books<'a>>
         ensures { option_map names_in result ≡ books_of (map (λ name. name.now) names.now) }
     {

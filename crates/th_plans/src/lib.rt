@@ -1,14 +1,14 @@
 //! The plan of a command line, as `clap` reads it.
 //!
-//! `plan` answers which command the arguments name, with the names of its files, the prefix of its
-//! outputs and the limit of blunders, just as `clap` states them for the arguments; or why they name
-//! none. By their types a plan has 1 to 16 books and a limit of 0 to 1,000 m. The last part of a prefix
-//! is not empty, `.` or `..`.
+//! `plan` returns the command that the arguments name, or why they name none. It has the names of
+//! the files, the prefix of the outputs and the limit of blunders exactly as `clap` states them.
+//! The types keep a plan at 1 to 16 books and a limit of 0 to 1,000 m. The last part of a prefix is
+//! not empty, `.` or `..`.
 #![tactic(auto)]
 
 mod limits;
 
-// What a command line may ask for.
+// Plans, and what they consist of.
 mod blunder_limits;
 mod books;
 mod faults;

@@ -1,4 +1,4 @@
-//! The plans that the command line may ask for.
+//! The plans that a command line may give.
 
 use crate::blunder_limits::Limit;
 use crate::books::Books;
@@ -10,7 +10,7 @@ pub struct Inputs<'a> {
     pub books: Books<'a>,
     /// The table of benchmarks.
     pub benchmarks: &'a str,
-    /// The table of weights, where one is named.
+    /// The table of weights, if one is named.
     pub weights: Option<&'a str>,
 }
 

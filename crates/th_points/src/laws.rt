@@ -1,4 +1,4 @@
-//! Laws over the definitions alone. A law is its contract: it calls nothing and computes nothing.
+//! Laws that relate the definitions to one another. A law is its contract: it computes nothing.
 
 ghost use Rattle.std.specs.Prelude.{◌↔◌, ◌⊎◌, bytes_eq, Contains, IsSome, ℕ, List};
 ghost use Rattle.std.specs.List.{IsDistinct};

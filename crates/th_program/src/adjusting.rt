@@ -21,11 +21,11 @@ pub(crate) const ENDINGS: Four<&str> = Four {
     fourth: ".heights.gsi",
 };
 
-/// Adjusts the network of the files of these names. The names of the four files that are written
-/// begin with the prefix. That they are none of the inputs, the caller has made sure.
+/// Adjusts the network of the named files, and writes four files whose names begin with the prefix.
+/// That they are none of the inputs, the caller has made sure.
 ///
-/// After a write that failed, the files before that one in the order heights, certificate, report,
-/// GSI-16 are whole, and its own and those behind it are as they were.
+/// If a write fails, the files before it, in the order heights, certificate, report, GSI-16, are
+/// whole. Its own and later ones are as they were.
 pub(crate) fn adjust<F: Folder>(
     alloc: Global,
     folder: &mut F,

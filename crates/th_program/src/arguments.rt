@@ -16,10 +16,10 @@ use th_devices::{Folder, Target, write_all};
 use th_plans::{PlanFault, plan};
 use th_runs::{NO_MEMORY, Refusal, USAGE};
 
-/// Does what the arguments ask for, where they were read, the program's own name first, and answers
-/// the status to end with.
+/// Runs the program with its arguments, if they were read, and returns its exit status. The first
+/// of them is the program's name.
 ///
-/// The only errors of reading them are an argument that is no text, and no memory.
+/// Reading them fails only if one is not UTF-8, or if memory runs out.
 pub fn run_arguments<F: Folder>(alloc: Global, folder: &mut F, words: io::Result<Vec<String>>) -> u8
     ensures done { IfOk words (λ own. AreDone F.tells F.held F.has_failed folder.old folder.new
         (map string_bytes own.items) result) }
@@ -38,7 +38,7 @@ pub fn run_arguments<F: Folder>(alloc: Global, folder: &mut F, words: io::Result
     }
 }
 
-/// Does what these words ask for, the program's own name first, and answers the status to end with.
+/// Runs the program with these arguments, the program's name first, and returns its exit status.
 pub fn run_words<F: Folder, S: AsStr>(alloc: Global, folder: &mut F, words: &[S]) -> u8
     ensures { AreDone F.tells F.held F.has_failed folder.old folder.new (map S.text words.now) result }
 {

@@ -15,7 +15,7 @@ use th_devices::{Folder, Origin, Target};
 use th_plans::Inputs;
 use th_runs::{Refusal, run_check};
 
-/// Checks the certificate in the file of this name against the files of these names.
+/// Checks the certificate in the named file against the other named files.
 pub fn check<F: Folder>(
     alloc: Global,
     folder: &mut F,

@@ -1,4 +1,4 @@
-//! What the promise of the program comes to. A law is its contract: it calls nothing of the product.
+//! The headline of the program. A law is its contract: it calls nothing of the product.
 
 ghost use Rattle.std.specs.Prelude.{◌≡◌, ◌⊎◌, ℕ, ℤ, List, None, Ok, Some};
 ghost use Rattle.th_devices.specs.Spots.{file};

@@ -1,9 +1,9 @@
 //! The program, over any folder: what it reads, what it writes, and the status that it ends with.
 //!
-//! A contract speaks of the folder before and after a run. On success the outputs hold what the
-//! inputs ask for. A refusal names the first fault of the inputs, has its status and its line on
-//! standard error, and a refusal before outputs were begun changes nothing else. A command whose
-//! outputs would overwrite one of its inputs is not begun.
+//! A contract speaks of the folder before and after a run. On success the outputs hold the texts
+//! that the inputs give. A refusal names the first fault of the inputs, and has a status and a line
+//! on standard error. Before outputs are begun it changes nothing else. A command whose outputs
+//! would overwrite one of its inputs is not begun.
 #![tactic(auto)]
 
 // The sources and sinks of a run.
@@ -21,7 +21,7 @@ mod overwrites;
 mod plans;
 mod refusals;
 
-// What the promise comes to.
+// The headline.
 pub mod laws;
 
 pub use arguments::{run_arguments, run_words};

@@ -14,8 +14,8 @@ use th_devices::{Folder, Origin};
 use th_plans::Plan;
 use th_runs::{DONE, Refusal, status_of_verdict};
 
-/// Runs a plan, and answers the status to end with. A refusal has its line on standard error. A plan
-/// whose outputs would overwrite an input is refused before anything is read or written.
+/// Runs a plan, and returns the exit status. A refusal has its line on standard error. A plan whose
+/// outputs would overwrite an input is refused before anything is read or written.
 pub fn run_plan<F: Folder>(alloc: Global, folder: &mut F, plan: &Plan<'_>) -> u8
     ensures { IsRun F.tells F.held F.has_failed folder.old folder.new plan.now result }
 {
@@ -36,7 +36,7 @@ fn run_apart<F: Folder>(alloc: Global, folder: &mut F, plan: &Plan<'_>) -> u8
     }
 }
 
-/// Runs a plan, and answers the status to end with, or why it was refused.
+/// Runs a plan, and returns the exit status, or why it was refused.
 fn carry_out<F: Folder>(alloc: Global, folder: &mut F, plan: &Plan<'_>) -> Result<u8, Refusal>
     ensures done { IfOk result (IsDone F.tells (F.held folder.old) (F.held folder.new) plan.now) }
     ensures refused { IfErr result (IsRefused F.tells (F.held folder.old) (F.held folder.new)

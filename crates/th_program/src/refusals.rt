@@ -9,10 +9,10 @@ use std::alloc::Global;
 use th_devices::{Folder, write_all};
 use th_runs::{Refusal, USAGE, status_of};
 
-/// Reports a refusal in one line on standard error, and answers the status to end with.
+/// Reports a refusal in one line on standard error, and returns the exit status.
 ///
-/// Where standard error does not take the line, the status still tells. Where there is no memory for
-/// the line, it is that of `NoMemory`.
+/// If standard error does not take the line, the status still reports the refusal. If there is no
+/// memory for the line, it is that of `NoMemory`.
 pub(crate) fn refuse<F: Folder>(alloc: Global, folder: &mut F, refusal: &Refusal) -> u8
     ensures status { result ≡ status_of refusal.now }
     ensures reported { F.has_failed folder.new errors ≡ false → IsReported F.tells (F.held folder.new) refusal.now }

@@ -21,12 +21,11 @@ pub(crate) const ENDINGS: Four<&str> = Four {
     fourth: ".review.txt",
 };
 
-/// Reviews the network of the files of these names: what a mistake in them would do. The names of the
-/// four files that are written begin with the prefix. That they are none of the inputs, the caller has
-/// made sure.
+/// Reviews the network of the named files: what a mistake in them would do. Writes four files whose
+/// names begin with the prefix. That they are none of the inputs, the caller has made sure.
 ///
-/// After a write that failed, the files before that one in the order points, observations, entries,
-/// review are whole, and its own and those behind it are as they were.
+/// If a write fails, the files before it, in the order points, observations, entries, review, are
+/// whole. Its own and later ones are as they were.
 pub(crate) fn review<F: Folder>(
     alloc: Global,
     folder: &mut F,

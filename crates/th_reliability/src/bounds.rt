@@ -1,4 +1,4 @@
-//! What the controls of an entry's observations tell of a mistake in it.
+//! What the controls of an entry's observations show of a mistake in it.
 //!
 //! Controls bound what a mistake does from both sides:
 //!

@@ -7,7 +7,7 @@ use std::alloc::{AllocError, Global};
 use th_cuts::CutTree;
 use th_network::Network;
 
-/// For each observation its control, none where both ends are benchmarks, in their order.
+/// The control of each observation, in order; `None` between two benchmarks.
 pub(crate) fn controls_of(
     alloc: Global,
     network: &Network,

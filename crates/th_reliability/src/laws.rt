@@ -1,4 +1,4 @@
-//! Laws over the definitions alone. A law is its contract: it calls nothing and computes nothing.
+//! Laws that relate the definitions to one another. A law is its contract: it computes nothing.
 
 ghost use Rattle.std.specs.Prelude.{◌≡◌, ◌≢◌, ℕ, ◌-◌, ◌*◌, ◌<◌, ◌≤◌, ℤ, pos, ◌-ℤ◌, Bool, true, false, List, ◌∷◌, ◌++◌, All, Contains, IsSome, Option, Some, slice_get, unsigned_abs};
 ghost use Rattle.th_book.specs.Observed.{Observed};
@@ -41,9 +41,9 @@ pub fn vertices_have_the_cuts_of_names()
 
 /// A mistake in an observation that weighs more than the others that check it hides.
 ///
-/// Whatever such an observation says, best heights agree with it and others are blamed: a set of points
-/// that holds one of its ends, moved by one unit towards it, costs the others less than it gains. Where
-/// nothing checks it, nothing is blamed: the others have the same residuals, whatever it says.
+/// Whatever such an observation says, best heights agree with it and others are blamed: moving a
+/// set of points that holds one of its ends by one unit costs the others less than it gains. If
+/// nothing checks it, nothing is blamed: the others keep their residuals, whatever it says.
 pub fn mistake_hides()
     ensures hidden { (observations : List Observed) (benchmarks : BenchmarkRows) (weights : WeightRows)
         (heights : List ℕ → ℤ) (o : Observed) (control : ℕ)
@@ -64,8 +64,8 @@ pub fn mistake_hides()
 
 /// A mistake in an observation that weighs less than the others that check it shows.
 ///
-/// Where all other observations fit the true heights exactly, best heights are the true ones, so the
-/// mistake is in that observation's residual, whole. The same holds between two benchmarks.
+/// If all other observations fit the true heights exactly, best heights are the true ones, so that
+/// observation's residual is the whole mistake. The same holds between two benchmarks.
 pub fn mistake_shows()
     ensures checked { (before after : List Observed) (benchmarks : BenchmarkRows)
         (weights : WeightRows) (truth heights : List ℕ → ℤ) (o : Observed) (control : ℕ)
@@ -93,8 +93,8 @@ pub fn mistake_shows()
 
 /// A mistake in an observation that weighs as much as the others that check it may show or hide.
 ///
-/// Where all other observations fit the true heights exactly, these are best unless it weighs more than
-/// the others that check it. Where it weighs as much, heights that it fits are as good.
+/// If all other observations fit the true heights exactly, these are best unless it weighs more
+/// than the others that check it. If it weighs as much, heights that it fits are as good.
 pub fn mistake_ties()
     ensures least { (before after : List Observed) (benchmarks : BenchmarkRows)
         (weights : WeightRows) (truth : List ℕ → ℤ) (o : Observed) (control : ℕ)
@@ -117,8 +117,8 @@ pub fn mistake_ties()
 /// Errors reach a point only as far as its strength lets them.
 ///
 /// The distance of its best height from the true one, times its strength, is at most twice what the
-/// true heights cost, where no residual counts more than that distance: a few large blunders count no
-/// more than as many small ones.
+/// true heights cost, if no residual counts more than that distance. So a few large blunders count
+/// no more than as many small ones.
 pub fn errors_reach_a_point()
     ensures bounded { (observations : List Observed) (benchmarks : BenchmarkRows)
         (weights : WeightRows) (truth heights : List ℕ → ℤ) (point : List ℕ) (strength : ℕ)
@@ -131,8 +131,8 @@ pub fn errors_reach_a_point()
 
 /// A point withstands blunders that weigh less than half its strength together.
 ///
-/// Whatever they say, however wrong, the best height of the point is off the true one by no more than
-/// the small errors of the good observations allow. Where these have none, it is the true one.
+/// However wrong they are, the best height of the point is off the true one by no more than the
+/// small errors of the good observations allow. If these have none, it is the true one.
 pub fn blunders_are_withstood()
     ensures near { (observations : List Observed) (benchmarks : BenchmarkRows)
         (weights : WeightRows) (truth heights : List ℕ → ℤ) (blunder : Observed → Bool)
@@ -154,10 +154,11 @@ pub fn blunders_are_withstood()
         → heights point ≡ truth point }
 {}
 
-/// A mistake that a group of observations shares shows where the group's control is above its weight.
+/// A mistake that a group of observations shares shows if the group's control is above its weight.
 ///
-/// Where all other observations fit the true heights exactly, best heights are the true ones, so each of
-/// the group has its whole error as its residual. (The errors may differ, and so may the stations.)
+/// If all other observations fit the true heights exactly, best heights are the true ones, so each
+/// of the group has its whole error as its residual. (The errors may differ, and so may the
+/// stations.)
 pub fn shared_mistake_shows()
     ensures shown { (observations : List Observed) (benchmarks : BenchmarkRows)
         (weights : WeightRows) (truth heights : List ℕ → ℤ) (group : Observed → Bool) (control : ℕ)
@@ -170,10 +171,12 @@ pub fn shared_mistake_shows()
         × All (λ o. residual o heights ≡ residual o truth) observations }
 {}
 
-/// A mistake that the sights of one station share may show or drag where their control is their weight.
+/// A mistake that the sights of one station share may show or drag if their control equals their
+/// weight.
 ///
-/// Where all other observations fit the true heights exactly, these are best unless the group weighs more
-/// than its control. Where it weighs as much, heights with a point off by the whole mistake are as good.
+/// If all other observations fit the true heights exactly, these are best unless the group weighs
+/// more than its control. If it weighs as much, heights with a point off by the whole mistake are
+/// as good.
 pub fn shared_mistake_ties()
     ensures least { (observations : List Observed) (benchmarks : BenchmarkRows)
         (weights : WeightRows) (truth : List ℕ → ℤ) (group : Observed → Bool) (control : ℕ)
@@ -198,11 +201,12 @@ pub fn shared_mistake_ties()
         × (unsigned_abs (others point -ℤ truth point) ≡ unsigned_abs error)) }
 {}
 
-/// A mistake that the sights of one station share drags points along where their control is below their
-/// weight.
+/// A mistake that the sights of one station share drags points along if their control is below
+/// their weight.
 ///
-/// Best heights never leave such sights with one and the same residual, other than 0: so where they all
-/// err by the same amount from the true heights, whatever the others say, best heights are not the true ones.
+/// Best heights never leave all such sights with the same residual other than 0. So if they all err
+/// by the same amount from the true heights, best heights are not the true ones, whatever the
+/// others say.
 pub fn shared_mistake_drags()
     ensures agrees { (observations : List Observed) (benchmarks : BenchmarkRows)
         (weights : WeightRows) (heights : List ℕ → ℤ) (group : Observed → Bool) (control : ℕ)
@@ -226,11 +230,11 @@ pub fn shared_mistake_drags()
         → ⊥ }
 {}
 
-/// The control of a group and its weight decide what a mistake does that the group shares, and it does
-/// one thing only. Where no free set holds a point, it shows: all heights are given.
+/// The control of a group and its weight decide what a shared mistake does, and it does one thing
+/// only. If no free set holds a point, it shows: all heights are given.
 ///
-/// In a group of one observation, the control of that observation decides it. Where the observation has
-/// none, its ends are benchmarks, and the mistake shows.
+/// In a group of one observation, that observation's control decides. If it has none, its ends are
+/// benchmarks, and the mistake shows.
 pub fn control_decides_shared_mistake()
     ensures decided { (survey : Survey) (group : Observed → Bool) (control : ℕ)
         → IsGroupControl survey.observations survey.benchmarks survey.weights group control

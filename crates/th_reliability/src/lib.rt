@@ -16,18 +16,18 @@ mod strengths;
 // Both, from one cut tree.
 mod numbers;
 
-// What becomes of a mistake, by control and weight.
+// The effect of a mistake, by control and weight.
 mod mistakes;
 
-// What a mistake in an entry would do: its sights and where they are, what their controls tell, the graphs in
-// which they are turned round, and the least cuts of these.
+// What a mistake in an entry would do: its sights, the bounds that their controls give, the graphs
+// in which the sights are turned round, and the least cuts of these.
 mod bounds;
 mod pulls;
 mod runs;
 mod shared;
 mod sights;
 
-// What holds of the definitions alone.
+// Laws of the definitions.
 pub mod laws;
 
 pub use mistakes::{Mistake, SharedMistake};

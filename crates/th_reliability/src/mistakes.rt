@@ -2,10 +2,10 @@ ghost use Rattle.std.specs.Prelude.{◌≡◌};
 ghost use Rattle.th_reliability.specs.Mistakes.{mistake_of};
 ghost use Rattle.th_reliability.specs.SharedMistakes.{shared_mistake_of, single_mistake_of, worse};
 
-/// What best heights make of a mistake in one observation.
+/// The effect of a mistake in one observation.
 #[derive(Clone, Copy, Debug, PartialEq, Eq)]
 pub enum Mistake {
-    /// The others that check the observation outweigh it: the mistake is its residual, whole.
+    /// The others that check the observation outweigh it: its residual is the whole mistake.
     Shows,
     /// The others weigh just as much: the mistake may show or hide.
     Ties,
@@ -15,7 +15,7 @@ pub enum Mistake {
     Unchecked,
 }
 
-/// What best heights make of a mistake that all sights of one entry share.
+/// The effect of a mistake that all sights of one entry share.
 #[derive(Clone, Copy, Debug, PartialEq, Eq)]
 pub enum SharedMistake {
     /// The others outweigh the sights: each sight has the whole mistake as its residual.
@@ -43,7 +43,7 @@ impl Mistake {
 }
 
 impl SharedMistake {
-    /// What a mistake does that is shared by sights with this control and weight.
+    /// What a mistake does if sights with this control and weight share it.
     pub fn of(control: u32, weight: u32) -> SharedMistake
         ensures { result ≡ shared_mistake_of control weight }
     {

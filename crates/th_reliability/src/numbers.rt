@@ -12,9 +12,9 @@ use th_network::Network;
 /// The strengths of a network's points and the controls of its observations.
 #[derive(Debug, Drop)]
 pub struct Reliability {
-    /// For each point its strength, none where it is a benchmark, in point order.
+    /// The strength of each point, in point order; `None` for a benchmark.
     pub strengths: Vec<Option<u32>>,
-    /// For each observation its control, none where both ends are benchmarks, in their order.
+    /// The control of each observation, in order; `None` between two benchmarks.
     pub controls: Vec<Option<u32>>,
 }
 
@@ -35,8 +35,8 @@ impl Reliability {
     }
 }
 
-/// For each point its strength, none where it is a benchmark, in point order: those of `Reliability`,
-/// without the controls.
+/// The strength of each point, in point order, as in `Reliability`; `None` for a benchmark.
+/// Controls are not computed.
 pub fn point_strengths(alloc: Global, network: &Network) -> Result<Vec<Option<u32>>, AllocError>
     ensures { IfOk result (λ strengths. AreStrengths network.now strengths.items) }
 {

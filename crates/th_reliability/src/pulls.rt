@@ -23,8 +23,8 @@ pub(crate) fn station_of(network: &Network, edges: &[Edge], sights: &Sights) -> 
     0
 }
 
-/// The edges of the graph for sets that hold the station: each of the sights joins its target to vertex 0,
-/// so that it is cut just where it is not cut in the network.
+/// The edges of the graph for sets that hold the station: each of the sights joins its target to
+/// vertex 0, so that it is cut exactly where it is not cut in the network.
 pub(crate) fn pulled_edges(
     alloc: Global,
     network: &Network,
@@ -48,8 +48,9 @@ pub(crate) fn pulled_edges(
     Ok(made)
 }
 
-/// The edges of the graph for sets that do not hold the station: the station is vertex 0, and each of the
-/// sights joins the apex to its target, so that it is cut just where it is not cut in the network.
+/// The edges of the graph for sets that do not hold the station: the station is vertex 0, and each
+/// of the sights joins the apex to its target, so that it is cut exactly where it is not cut in the
+/// network.
 pub(crate) fn pushed_edges(
     alloc: Global,
     network: &Network,

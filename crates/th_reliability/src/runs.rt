@@ -28,8 +28,8 @@ impl<'a> Runs<'a> {
         }
     }
 
-    /// What some sights weigh together, where the runs are those of a network's observations. Where
-    /// these are in order, the time is that of one pass over the sights.
+    /// What some sights weigh together, if the runs are those of the network's observations. If
+    /// these are in order, it takes one pass over the sights.
     pub fn weight_of(&self, network: &Network, sights: &Sights) -> u32
         requires { self.now.observations.now ≡ network.now.observations }
         ensures { result ≡ weight_in network.now.observations network.now.weights (in_sights sights.now) }

@@ -16,11 +16,11 @@ use std::alloc::{AllocError, Global};
 use th_cuts::{Edge, least_cut};
 use th_network::Network;
 
-/// What a mistake in each entry would do, where an entry is the sights of one station that a keyed-in
+/// What a mistake in each entry would do. An entry is the sights of one station that a keyed-in
 /// height serves: a mistake in it is in all of them.
 ///
-/// The controls of the sights decide an entry of one sight, and often one of several. Any other takes
-/// near two least cuts, unless the entry before has the same sights.
+/// The controls of the sights decide an entry of one sight, and often one of several. Any other
+/// takes about two least cuts, unless the entry before has the same sights.
 pub fn shared_mistakes(
     alloc: Global,
     network: &Network,

@@ -8,7 +8,7 @@ use std::alloc::{AllocError, Global};
 use th_cuts::CutTree;
 use th_network::Network;
 
-/// For each point its strength, none where it is a benchmark, in point order.
+/// The strength of each point, in point order; `None` for a benchmark.
 pub(crate) fn strengths_of(
     alloc: Global,
     network: &Network,

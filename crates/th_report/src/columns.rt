@@ -11,7 +11,7 @@ use th_units::metre_text;
 /// Spaces for the widest column.
 const SPACES: [u8; 26] = [b' '; 26];
 
-/// How many bytes a line of a table has as a rule.
+/// How many bytes a line of a table usually has.
 pub const LINE: usize = 88;
 
 /// How many spaces stand between neighbouring columns.

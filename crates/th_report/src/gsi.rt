@@ -16,9 +16,9 @@ use gsi_word::{Name, Word};
 use std::alloc::{AllocError, Global};
 use th_network::Network;
 
-/// The heights of a network, which are listed in point order and in units of 10 nm, as a GSI-16
-/// block for each point: a word 11 with the point's number from 1 and its name, and a word 83 with
-/// the height in 1/100 mm, rounded to the nearest, and at the half away from zero.
+/// A GSI-16 block for each point of a network. Word 11 has the point's number from 1 and its name.
+/// Word 83 has the height in 1/100 mm, rounded to the nearest, halves away from zero. Heights are
+/// in point order and in units of 10 nm.
 ///
 /// The name is read back from its word; no height is written as minus zero.
 pub fn heights_gsi(alloc: Global, network: &Network, heights: &[i64]) -> Result<Vec<u8>, AllocError>

@@ -11,9 +11,9 @@ use th_csv::RowWriter;
 use th_network::Network;
 use th_units::metre_text;
 
-/// The text of the heights file, with the lowest and the highest best heights of a network, each
-/// listed in point order and in units of 10 nm: the names of its fields, and then a row for each
-/// point with its name, its height, which is the lowest one, and both, in metres.
+/// The text of the heights file: a header, and a row for each point with its name, its height,
+/// which is the lowest one, and its lowest and highest best height, in metres. Both lists are in
+/// point order and in units of 10 nm.
 pub fn heights_csv(
     alloc: Global,
     network: &Network,

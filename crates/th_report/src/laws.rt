@@ -1,4 +1,4 @@
-//! Laws of the definitions: what they say of one another, with no call of the code.
+//! Laws that relate the definitions to one another. They call nothing of the code.
 
 ghost use Rattle.std.specs.Prelude.{◌≡◌, ◌∷◌, ℕ, ℤ, All, List, Some, map, take};
 ghost use Rattle.gsi_block.specs.Lines.{lines_of};
@@ -12,7 +12,7 @@ ghost use Rattle.th_report.specs.Reports.{report_text};
 use gsi_block::laws::{block_line_is_read, lines_of_is_the_list_of_lines};
 use th_csv::laws::records_of_rows_are_the_rows;
 
-/// A point's name is read back from the data of its word 11, in which zeros stand before it.
+/// A point's name is read back from the data of its word 11, in which zeros come before it.
 pub fn padded_name_is_read_back()
     ensures { (name : List ℕ) → name_of name ≡ Some name → name_of (padded_name name) ≡ Some name }
 {}
@@ -39,8 +39,8 @@ pub fn no_line_of_report_ends_with_space()
         → HasNoSpaceAtEnd (report_text survey heights limit) }
 {}
 
-/// What the heights file shows of the points, but for the highest best heights, is the lowest best
-/// heights: its records are read back as a header, and a name with its height for each point.
+/// The records of the heights file are read back as a header and, for each point, its name and its
+/// lowest best height. The highest best heights are left out here.
 pub fn heights_are_read_back()
     ensures { (survey : Survey) (low high : List ℕ → ℤ)
         → printed_heights (heights_text survey low high)

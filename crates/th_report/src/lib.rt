@@ -12,19 +12,19 @@ mod lists;
 mod gsi;
 mod heights;
 
-// The report: what its lines are made of, its parts from the first to the last, and the whole.
+// The report: its columns, its parts in order, and the whole.
 mod columns;
 mod heads;
 mod opposite_lists;
 mod point_tables;
 mod residual_tables;
-// The parts stand on those before them in the report.
+// A part uses those before it in the report.
 mod reports;
 
-// What holds of the definitions alone.
+// Laws of the definitions.
 pub mod laws;
 
-// What texts of other crates take over: columns, label lines, and the columns of observations.
+// For texts of other crates: columns, label lines, and the columns of observations.
 pub use columns::{LINE, Page};
 pub use gsi::heights_gsi;
 pub use heads::{benchmark_count, write_count, write_label};

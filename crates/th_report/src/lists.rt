@@ -9,8 +9,8 @@ use th_book::Observation;
 use th_csv::RowWriter;
 use th_units::metre_text;
 
-/// The text of the list: the names of its fields, and then a row for each observation with its
-/// number from 1, its station, its target, and the difference in metres.
+/// The text of the list: a header, and a row for each observation with its number from 1, its
+/// station, its target, and the difference in metres.
 pub fn list_text(alloc: Global, observations: &[Observation]) -> Result<Vec<u8>, AllocError>
     ensures { IfOk result (λ text. text.items ≡ list_text observations.now) }
 {

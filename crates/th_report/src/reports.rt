@@ -14,10 +14,9 @@ use std::alloc::{AllocError, Global};
 use th_blunders::{cost, residuals};
 use th_network::Network;
 
-/// The report on the heights of a network, which are listed in point order and in units of 10 nm:
-/// what was adjusted in numbers, the points with their heights, the observations with their
-/// residuals, those whose residual is above the limit in size, and those that were repeated with
-/// the ends exchanged.
+/// The report on the heights of a network, which are in point order and in units of 10 nm: counts,
+/// the points with their heights, the observations with their residuals, those whose residual is
+/// above the limit in size, and the opposites.
 ///
 /// The limit is in units of 10 nm.
 #[tactic(auto, unfolding(crate::specs::Reports::report_text))]

@@ -11,8 +11,8 @@ use th_reliability::{Runs, SharedMistake};
 
 /// The rows of entries, with what a mistake in each would do, listed in the order of the entries.
 ///
-/// Where the observations are in the order of books and lines, as those of a survey are, the time is
-/// that of one pass over them, and of one over the sights of each entry.
+/// If the observations are in the order of books and lines, as in a survey, it takes one pass over
+/// them, and one over the sights of each entry.
 pub(crate) fn entry_rows(
     alloc: Global,
     network: &Network,

@@ -9,7 +9,7 @@
 // The entries of all books, and the sights of each.
 mod entries;
 
-// What the texts say of each point, observation and entry.
+// Rows of points, observations and entries.
 mod entry_list;
 mod observation_list;
 mod point_list;
@@ -26,7 +26,7 @@ mod heads;
 mod largest;
 mod observation_tables;
 mod point_tables;
-// The parts stand on those before them in the review.
+// A part uses those before it in the review.
 mod reviews;
 
 // All of them.

@@ -44,9 +44,9 @@ pub struct ReviewTexts {
     pub review: Vec<u8>,
 }
 
-/// The texts of a review of a network, with its lowest and highest best heights, which are listed in
-/// point order and in units of 10 nm, with what was found of it, with the reviews of its books in
-/// their order, and with the names that are spelled in more than one way.
+/// The texts of a review of a network. `low` and `high` are its lowest and highest best heights, in
+/// point order and in units of 10 nm. The reviews are those of its books, in order. The spellings
+/// are the names that are spelled in more than one way.
 ///
 /// The limit of blunders is in units of 10 nm.
 pub fn review_texts(

@@ -23,13 +23,13 @@ use th_checker::{Verdict, check};
 use th_devices::{Sink, Source};
 use th_network::Network;
 
-/// Checks a certificate against up to 16 books, benchmarks and weights, which may be absent, and
-/// writes the line of the verdict.
+/// Checks a certificate against up to 16 books, benchmarks and optional weights, and writes the
+/// line of the verdict.
 ///
-/// Inputs are read one after the other: the books, the benchmarks, the weights, the certificate. Each
-/// is read to its end, or to one byte more than it may have, before its faults are answered, and the
-/// first that is refused decides. The fault of a network comes behind those of all inputs. The line
-/// is made in memory before the output is begun.
+/// Inputs are read one after the other: the books, the benchmarks, the weights, the certificate.
+/// Each is read to its end, or to one byte more than it may have, before its faults are reported.
+/// The first that is refused decides. The faults of the network come after those of all inputs. The
+/// line is made in memory before the output is begun.
 pub fn run_check<B: Source, T: Source, W: Source, C: Source, K: Sink>(
     alloc: Global,
     books: &mut [B],

@@ -17,7 +17,7 @@ use th_report::list_text;
 /// Lists the observations of a book.
 ///
 /// The book is read to its end, or to one byte more than it may have, before its faults are
-/// answered. The list is made in memory before the output is begun.
+/// reported. The list is made in memory before the output is begun.
 pub fn run_list<S: Source, K: Sink>(alloc: Global, book: &mut S, out: &mut K) -> Result<(), Refusal>
     requires book_calls { S.calls book.old ≤ calls_before }
     requires out_calls { K.calls out.old ≤ calls_before }

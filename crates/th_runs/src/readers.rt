@@ -17,12 +17,13 @@ use th_entries::{BookReview, ReviewFeed, SeenNames};
 
 /// What reads the books of a run, one after the other: their observations, and what else the run needs.
 pub(crate) trait BookReader {
-    // What is known after the book with this number, whose text is told or not, and its observations.
+    // What is known after the book with this number, whose text is reported or not, and its
+    // observations.
     ghost has_read: { ℕ → Option (List ℕ) → List Observed → Self → Self → Type 0 };
 
     /// The observations of the book with this number, which is read in pieces.
     ///
-    /// Of the book one line is kept, and nothing else but what the reader is for.
+    /// Only one line of the book is kept, and what the reader collects.
     fn read<S: Source>(
         &mut self,
         alloc: Global,

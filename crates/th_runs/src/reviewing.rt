@@ -1,4 +1,4 @@
-//! A run that reviews the height network of books: what would a mistake do in it?
+//! A run that reviews the height network of books: what a mistake in it would do.
 ghost use Rattle.std.specs.Prelude.{◌≡◌, ◌≤◌, All, IfErr, IfOk, IfSome, List, [], is_some, length, map};
 ghost use Rattle.std.specs.List.{AllZip};
 ghost use Rattle.th_devices.specs.Limits.{calls_before};
@@ -32,13 +32,13 @@ use th_reliability::{Reliability, SharedMistake, Sights, point_strengths, shared
 use th_review::{Findings, ReviewTexts, entries_of, review_texts, sights_of};
 use th_tables::Weights;
 
-/// Reviews the height network of up to 16 books, over benchmarks and weights, which may be absent:
-/// writes the tables of its points, of its observations and of its entries, which say what a mistake in
-/// each would do, and a review for people. Heights and residuals are those of `run_adjust`.
+/// Reviews the height network of up to 16 books, benchmarks and optional weights. It writes the
+/// tables of its points, of its observations and of its entries, and a review for people. These say
+/// what a mistake in each would do. Heights and residuals are those of `run_adjust`.
 ///
-/// An observation is marked as a blunder where its residual is above `limit` in size, in units of
-/// 10 nm. Inputs are read as `run_adjust` reads them, and refused as it refuses them. All outputs are
-/// made in memory before the first is begun.
+/// An observation is marked as a blunder if its residual is above `limit` in size, in units of
+/// 10 nm. Inputs are read as `run_adjust` reads them, and refused as it refuses them. All outputs
+/// are made in memory before the first is begun.
 pub fn run_review<B: Source, T: Source, W: Source, P: Sink, O: Sink, E: Sink, R: Sink>(
     alloc: Global,
     books: &mut [B],

@@ -15,7 +15,7 @@ pub struct Arc {
 }
 
 /// Whether the arcs have their ends among `n` vertices, numbered from 0, and costs of at most
-/// `MAX_COST` in size: what a search asks of its arcs.
+/// `MAX_COST` in size: what a search requires of its arcs.
 pub fn are_arcs(n: u32, arcs: &[Arc]) -> bool
     ensures { IsTrue result ↔ All (IsArc n) arcs.now }
 {

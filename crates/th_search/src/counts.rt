@@ -10,7 +10,7 @@ use std::alloc::AllocError;
 pub(crate) struct Counts {
     /// Its calls.
     pub calls: u128,
-    /// The calls that were refused memory.
+    /// The calls that ran out of memory.
     pub refusals: u128,
     /// The calls that named a cycle.
     pub cycles: u128,

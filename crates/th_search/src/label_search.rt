@@ -18,7 +18,7 @@ pub struct LabelSearch {
 }
 
 impl LabelSearch {
-    /// A search that was not called yet.
+    /// A search before its first call.
     pub fn new() -> LabelSearch
         ensures calls { ⟦<LabelSearch as Search>⟧.calls result ≡ 0 }
         ensures refusals { ⟦<LabelSearch as Search>⟧.refusals result ≡ 0 }

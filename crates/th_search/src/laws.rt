@@ -1,4 +1,4 @@
-//! Laws over the definitions alone. A law is its contract: it calls nothing and computes nothing.
+//! Laws that relate the definitions to one another. A law is its contract: it computes nothing.
 
 ghost use Rattle.std.specs.Prelude.{◌≡◌, ℕ, ℤ, List};
 ghost use Rattle.th_search.specs.Limits.{max_arcs, max_calls, max_cost, max_vertices};
@@ -8,7 +8,7 @@ ghost use Rattle.th_search.specs.declared.arcs.Arc.{Arc as AnArc};
 
 use crate::limits::{MAX_ARCS, MAX_CALLS, MAX_COST, MAX_VERTICES};
 
-/// The constants are the limits that clauses cite.
+/// The constants are the limits that contracts cite.
 pub fn constants_are_the_limits()
     ensures vertices { MAX_VERTICES ≡ max_vertices }
     ensures arcs { MAX_ARCS ≡ max_arcs }
@@ -16,9 +16,9 @@ pub fn constants_are_the_limits()
     ensures calls { MAX_CALLS ≡ max_calls }
 {}
 
-/// Where there are potentials no cycle costs less than nothing: round a cycle no arc may lead to more
-/// than the value at its tail plus its cost, and the values at the vertices come and go. So
-/// each answer of a search is the only kind of answer that there is.
+/// If there are potentials, no cycle costs less than 0: along each arc the potential rises by at
+/// most the arc's cost, and round a cycle the rises sum to 0. So each network has only one of the
+/// two kinds of answers.
 pub fn potentials_exclude_negative_cycles()
     ensures { (arcs : List AnArc) (values : List ℤ) (walk : List ℕ)
         → IsFeasible arcs values → ¬ IsNegativeCycle arcs walk }

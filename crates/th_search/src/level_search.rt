@@ -10,16 +10,16 @@ use crate::levels::Level;
 use crate::searches::{Found, Search};
 use std::alloc::{AllocError, Global};
 
-/// A search that makes a table: for each number of arcs, from 0 on, and for each vertex the least cost
-/// of a walk to it over at most so many arcs. Its memory is near `n + 1` times `n` entries, its time
-/// `n` times the number of arcs; it is there for tests and for comparing.
+/// A search that makes a table, for tests and comparison: for each number of arcs, from 0 on, and
+/// each vertex the least cost of a walk to it over at most that many arcs. It takes about `n + 1`
+/// times `n` entries of memory, and time in proportion to `n` times the number of arcs.
 #[derive(Debug, Drop)]
 pub struct LevelSearch {
     counts: Counts,
 }
 
 impl LevelSearch {
-    /// A search that was not called yet.
+    /// A search before its first call.
     pub fn new() -> LevelSearch
         ensures calls { ⟦<LevelSearch as Search>⟧.calls result ≡ 0 }
         ensures refusals { ⟦<LevelSearch as Search>⟧.refusals result ≡ 0 }

@@ -1,14 +1,13 @@
 //! Potentials of a network whose arcs have costs, or a cycle of arcs whose costs sum to less than
 //! zero.
 //!
-//! `Search` is what both searches promise, for whoever is generic over them: one of the two answers
-//! of `Found`, each with its definition, and counts of calls, refusals and cycles. `LabelSearch` lowers labels
-//! in place, over one row of them and one of the arcs by which they fell; the program uses it.
-//! `LevelSearch` makes a table of the cheapest walks over 0, 1, 2, .. arcs, for tests and for comparing.
-//! `laws` proves that no network has both answers.
+//! The trait `Search` is what both searches promise: one of the two answers of `Found`, and counts
+//! of calls, refusals and cycles. `LabelSearch`, which the program uses, lowers labels in place.
+//! `LevelSearch`, for tests and comparison, makes a table of the cheapest walks of 0, 1, 2, ..
+//! arcs. `laws` proves that no network has both answers.
 #![tactic(auto)]
 
-// What a search is given and what it promises.
+// The input of a search, and its promise.
 mod arcs;
 mod counts;
 pub mod laws;

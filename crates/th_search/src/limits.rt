@@ -7,5 +7,5 @@ pub const MAX_ARCS: usize = 80_000;
 /// The greatest size of a cost.
 pub const MAX_COST: u64 = 10_000_000_000_000;
 
-/// How many calls come with a promise: the counts, which are kept in 128 bits, hold more.
+/// The most calls that contracts cover. The counts, which have 128 bits, can hold more.
 pub const MAX_CALLS: u128 = 1_000_000_000_000_000_000_000_000_000_000_000_000;

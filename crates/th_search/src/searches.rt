@@ -9,12 +9,12 @@ use std::alloc::{AllocError, Global};
 /// What a search finds.
 #[derive(Debug, Drop)]
 pub enum Found {
-    /// For each vertex a potential: no arc leads to a higher one than that of its tail and its cost
-    /// together. They are at most 0, and not below it by more than the greatest size of a cost for
-    /// each vertex but one.
+    /// A potential for each vertex: at an arc's head it is at most that at its tail plus the arc's
+    /// cost. Potentials are at most 0, and below 0 by at most the greatest size of a cost for each
+    /// vertex but one.
     Potentials(Vec<i64>),
-    /// The numbers of arcs, counted from 0, that make a cycle whose costs sum to less than 0, each
-    /// arc on from where the one before it ends, and no vertex entered twice.
+    /// The numbers, from 0, of the arcs of a cycle whose costs sum to less than 0. Each arc begins
+    /// where the one before it ends, and no vertex is entered twice.
     Cycle(Vec<u32>),
 }
 
@@ -29,9 +29,9 @@ pub trait Search {
 
     /// Finds potentials of the vertices 0 to `n - 1`, or a cycle of arcs that costs less than 0.
     ///
-    /// `n` is 1 to `MAX_VERTICES`, the arcs are at most `MAX_ARCS` with their ends below `n` and
-    /// costs of at most `MAX_COST` in size (`are_arcs` tells). Where memory is refused the call
-    /// counts as a refusal, and the search may be called again.
+    /// `n` is 1 to `MAX_VERTICES`. There are at most `MAX_ARCS` arcs, with ends below `n` and costs
+    /// of at most `MAX_COST` in size (`are_arcs` tests it). If memory runs out, the call counts as
+    /// a refusal, and the search may be called again.
     fn search(&mut self, alloc: Global, n: u32, arcs: &[Arc]) -> Result<Found, AllocError>
         requires some { 1 ≤ n }
         requires vertices { n ≤ max_vertices }

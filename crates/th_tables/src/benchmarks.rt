@@ -31,7 +31,7 @@ impl Model for Benchmarks {
 }
 
 impl Benchmarks {
-    /// The height of a benchmark, at most `MAX_LEN` in size; none for another name.
+    /// The height of a benchmark, at most `MAX_LEN` in size; `None` for another name.
     pub fn height_of(&self, name: &Name) -> Option<i64>
         ensures value { result ≡ height_of self.now name.now }
         ensures range { IfSome result (λ height. unsigned_abs height ≤ max_len) }
@@ -47,7 +47,7 @@ impl Benchmarks {
         self.heights.len()
     }
 
-    /// The row at this place of the table, counted from 0; none past its end.
+    /// The row at this place of the table, from 0; `None` past its end.
     pub fn entry(&self, k: usize) -> Option<(Name, i64)>
         ensures value { result ≡ slice_get self.now k }
         ensures benchmarks { AreBenchmarks self.now }
@@ -60,7 +60,7 @@ impl Benchmarks {
     }
 }
 
-/// The benchmarks of a table with the header `point,height`, or its first fault.
+/// Reads a table of benchmarks with the header `point,height`, or returns its first fault.
 ///
 /// A record under the header has a name and metres of at most 10 km in size, and no name that an
 /// earlier record has. `NoMemory` may occur for a table that is not too long.

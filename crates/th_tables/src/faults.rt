@@ -5,8 +5,8 @@ use std::alloc::{AllocError, AllocFailed};
 use std::error::Error;
 use std::fmt;
 
-/// What is wrong with a table. A record has the first kind that applies, in this order; a table that
-/// is too long is that before all else.
+/// What is wrong with a table. A record has the first kind that applies, in this order.
+/// `TableTooLong` comes before all others.
 #[derive(Clone, Copy, Debug, PartialEq, Eq)]
 pub enum TableKind {
     /// E1: record 1 is not the table's header, or there is no record.
@@ -23,7 +23,7 @@ pub enum TableKind {
     Repeated,
     /// E7: the table has more than `MAX_TABLE` bytes.
     TableTooLong,
-    /// Memory was refused, which is no fault of the table.
+    /// Out of memory. The table is not at fault.
     NoMemory,
 }
 
@@ -38,7 +38,7 @@ pub struct TableFault {
 }
 
 impl TableFault {
-    /// Memory was refused.
+    /// Out of memory.
     pub(crate) const NO_MEMORY: TableFault = TableFault {
         row: 0,
         kind: TableKind::NoMemory,

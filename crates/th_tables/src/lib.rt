@@ -1,23 +1,22 @@
-//! The tables of benchmarks and of weights, as they stand in files of comma-separated values.
+//! The tables of benchmarks and of weights, read from comma-separated values.
 //!
-//! A table is a header and records under it; the crate `th_csv` says what the records of some
-//! bytes are. Each record under the header is one row, with a name, or a station and a target, that no
-//! earlier record has. A table is read whole or refused with its first faulty record and the first
-//! kind of fault that applies there.
+//! A table is a header and records under it, as `th_csv` reads them. Each record under the header
+//! is one row, with a name, or a station and a target, that no earlier record has. A table is read
+//! whole or refused with its first faulty record and the first kind of fault that applies there.
 #![tactic(auto)]
 
-// How large a table is, and why it is refused.
+// Limits and faults.
 mod faults;
 mod limits;
 
-// What a record says.
+// Records.
 mod fields;
 
-// What a table says.
+// Tables.
 mod benchmarks;
 mod weights;
 
-// What holds of the definitions alone.
+// Laws of the definitions.
 pub mod laws;
 
 pub use benchmarks::{Benchmarks, read_benchmarks};

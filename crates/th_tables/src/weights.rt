@@ -47,7 +47,7 @@ impl Weights {
         }
     }
 
-    /// The weight of the observations from a station to a target, 1 where none is listed.
+    /// The weight of the observations from a station to a target; 1 if none is listed.
     pub fn of(&self, station: &Name, target: &Name) -> u32
         ensures value { result ≡ weight_of self.now station.now target.now }
         ensures positive { 1 ≤ result }
@@ -67,8 +67,7 @@ impl Weights {
         self.weights.len()
     }
 
-    /// The row at this place of the table, counted from 0: station, target and weight; none past its
-    /// end.
+    /// The row at this place of the table, from 0: station, target and weight; `None` past its end.
     pub fn entry(&self, k: usize) -> Option<((Name, Name), u32)>
         ensures value { result ≡ slice_get self.now k }
         ensures rows { AreWeights self.now }
@@ -81,10 +80,11 @@ impl Weights {
     }
 }
 
-/// The weights of a table with the header `from,to,weight`, none for no bytes, or its first fault.
+/// Reads a table of weights with the header `from,to,weight`, or returns its first fault. No bytes
+/// are an empty table.
 ///
-/// A record under the header has a station's and a target's name and a weight of 1 to `MAX_WEIGHT`,
-/// and no station and target that an earlier record has in this order. `NoMemory` may
+/// A record under the header has the names of a station and a target, and a weight of 1 to
+/// `MAX_WEIGHT`. No earlier record has the same station and target in this order. `NoMemory` may
 /// occur for a table that has bytes and is not too long.
 pub fn read_weights(alloc: Global, bytes: &[u8]) -> Result<Weights, TableFault>
     ensures table { IfOk result (λ table. weights_of bytes.now ≡ Ok table) }

@@ -17,7 +17,7 @@ impl Family {
     };
 }
 
-/// The children of each vertex of a tree, as lists of which any can be taken out.
+/// The children of each vertex of a tree, as lists from which any child can be removed.
 #[derive(Drop)]
 pub struct Families {
     rows: Vec<Family>,

@@ -88,7 +88,8 @@ impl Goals {
         Some(())
     }
 
-    /// Sets the flow of a link to what gains most where a unit gains so much; answers it.
+    /// Sets the flow of a link to the bound that gains most if a unit gains this much, and returns
+    /// it.
     #[inline]
     pub fn fill(&mut self, place: usize, gained: i64) -> Option<i64> {
         let goal = self.rows.get_mut(place)?;

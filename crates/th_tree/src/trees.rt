@@ -100,8 +100,8 @@ impl Tree {
         Some(())
     }
 
-    /// Sends so much more from vertex `tail` to vertex `head` by an arc that is not in the tree, and back
-    /// through the tree. Answers the join: where the ways up from both meet.
+    /// Sends `more` from vertex `tail` to vertex `head` along an arc outside the tree, and back
+    /// through the tree. Returns the join, where the ways up from both meet.
     pub fn send_round(&mut self, tail: u32, head: u32, more: i64) -> Option<u32> {
         let mut tail = tail;
         let mut head = head;
@@ -120,7 +120,7 @@ impl Tree {
         None
     }
 
-    /// Sends so much more from a vertex to its parent; answers the parent.
+    /// Sends `more` from a vertex to its parent, and returns the parent.
     #[inline]
     fn send_up(&mut self, vertex: u32, more: i64) -> Option<u32> {
         let up = self.up_mut(vertex)?;

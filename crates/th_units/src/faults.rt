@@ -4,9 +4,9 @@ use std::fmt;
 /// Why digits and a unit give no length.
 #[derive(Clone, Copy, Debug, PartialEq, Eq)]
 pub enum LenFault {
-    /// There is no byte, or one that has no place in the form that is asked.
+    /// There is no byte, or one that the form does not allow.
     NotDigits,
-    /// The length is larger than what is read.
+    /// The length is too large to be read.
     TooLarge,
 }
 

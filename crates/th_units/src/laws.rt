@@ -1,4 +1,4 @@
-//! Laws of the definitions: what they say of one another, with no call of the code.
+//! Laws that relate the definitions to one another. They call nothing of the code.
 
 ghost use Rattle.std.specs.Prelude.{◌≡◌, ◌<◌, ◌^◌, ℤ, Ok, unsigned_abs};
 ghost use Rattle.th_units.specs.Metres.{metres, value};

@@ -37,10 +37,10 @@ impl Len {
     }
 }
 
-/// The length that a sign, digits and a unit write.
+/// The length that a sign, digits and a unit give.
 ///
-/// The digits may have any number of leading zeros. `NotDigits` where there is no byte or one that
-/// is no digit; `TooLarge` where the size is above `MAX_LEN`.
+/// The digits may have any number of leading zeros. `NotDigits` if there is no byte, or one that is
+/// not a digit; `TooLarge` if the size is above `MAX_LEN`.
 pub fn to_len(negative: bool, digits: &[u8], unit: Unit) -> Result<Len, LenFault>
     ensures { result ≡ length_of negative digits.now unit }
 {

@@ -1,25 +1,24 @@
-//! Lengths in whole units of ten nanometres, and the texts in metres that show them or give them.
+//! Lengths in whole units of 10 nm, and their texts in metres.
 //!
-//! A metre is 100,000,000 units, so each unit of length that a total station writes is a whole
-//! number of units, and nothing here rounds. A length of a book is a `Len`, whose type keeps it
-//! within 10 km of zero.
+//! A metre is 100,000,000 units. Each unit of length that a total station writes is a whole number
+//! of these, so nothing here rounds. The type `Len` keeps a book's lengths within 10 km of zero.
 #![tactic(auto)]
 
-// what a length is at most, and why there is none
+// Limits and faults.
 mod faults;
 mod limits;
 
-// the units that a book's lengths have
+// The units of a book's lengths.
 mod units;
 
-// what digits write: lengths, and short numbers
+// From digits: lengths and short numbers.
 mod lengths;
 mod short_numbers;
 
-// texts in metres
+// Texts in metres.
 mod metres;
 
-// what holds of the definitions alone
+// Laws of the definitions.
 pub mod laws;
 
 pub use faults::LenFault;

@@ -1,7 +1,7 @@
 /// The size that no length of a book exceeds: 10 km, in units of 10 nm.
 pub const MAX_LEN: u64 = 1_000_000_000_000;
 
-/// How many digits a short number has at most.
+/// The most digits of a short number.
 pub const MAX_SHORT: usize = 9;
 
 /// How many digits a text in metres has at most before its dot.

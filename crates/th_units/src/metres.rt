@@ -104,11 +104,11 @@ pub fn metre_text(units: i64) -> MetreText
     text
 }
 
-/// The length in units of 10 nm that a text in metres writes.
+/// Reads a text in metres as a length in units of 10 nm.
 ///
 /// The form is an optional `+` or `-`, one or more digits, and optionally a dot and one to eight
-/// digits. `NotDigits` for a text of another form; `TooLarge` for one with more than nine digits
-/// before the dot, where leading zeros count.
+/// digits. `NotDigits` for a text of another form; `TooLarge` for more than nine digits before the
+/// dot, leading zeros included.
 pub fn parse_metres(text: &[u8]) -> Result<i64, LenFault>
     ensures { result ≡ value text.now }
 {

@@ -5,7 +5,7 @@ ghost use Rattle.th_units.specs.Lengths.{is_digit, number, short_number};
 use crate::lengths::are_digits;
 use crate::limits::MAX_SHORT;
 
-/// The number that one to nine digits write; none for another text.
+/// The number that one to nine digits write, or `None` for any other text.
 pub fn short_number(bytes: &[u8]) -> Option<u32>
     ensures { result ≡ short_number bytes.now }
 {

@@ -1,7 +1,7 @@
 ghost use Rattle.std.specs.Prelude.{◌≡◌, pos};
 ghost use Rattle.th_units.specs.Units.{step, unit_of};
 
-/// The unit of a book's length: what one of its last digit stands for.
+/// The unit of the last digit of a book's length.
 ///
 /// The codes are those of the Leica GSI Online manual, position 6 of a data word. Feet are
 /// international feet of 0.3048 m; codes of other units have no meaning here.
@@ -33,7 +33,7 @@ pub fn unit_of(code: u8) -> Option<Unit>
     }
 }
 
-/// How long one of a unit is, in units of 10 nm.
+/// The length of one unit, in units of 10 nm.
 pub fn step(unit: Unit) -> i64
     ensures { result ≡ pos (step unit) }
 {
