@@ -44,12 +44,12 @@ impl Lines {
         }
     }
 
+    // Inlined with what it calls: two readers call it for every line, and a call would double its cost.
     /// Takes bytes of the next piece, up to and including the first line end. Returns how many it
     /// took, and whether a line is complete now, which `line` then gives. If none is, it took the
     /// whole piece. Pass the bytes that are left to the next call.
     ///
     /// An LF right behind a CR that ended a line belongs to that end, also in a later piece.
-    // Inlined with what it calls: two readers call it for every line, and a call would double its cost.
     #[inline(always)]
     pub fn take(&mut self, piece: &[u8]) -> (usize, bool)
         ensures within { result.0 ≤ length piece.now }
