@@ -2,7 +2,7 @@
 """Compares the program with the second office on mutated books, tables and certificates.
 
     compare_mutated.py [--program PATH] [--inputs N] [--first K] [--seed S] [--workers W] [--minutes M]
-    compare_mutated.py --each-byte [--program PATH] [--workers W]
+    compare_mutated.py --each-byte [--program PATH] [--first K] [--workers W] [--minutes M]
 
 Each input is a small project with a mutated text, which the program lists, adjusts, reviews or checks: one run an
 input. Standard output, standard error, status and files have to be the second office's (of the certificate all but
@@ -187,7 +187,7 @@ def arguments(words: Optional[List[str]] = None) -> argparse.Namespace:
     parser.add_argument("--each-byte", action="store_true", help="each beginning and each changed byte of some texts")
     chosen = parser.parse_args(words)
     if chosen.each_byte:
-        chosen.seed, chosen.first, chosen.inputs = None, 0, COUNT_OF_CHANGES
+        chosen.seed, chosen.inputs = None, COUNT_OF_CHANGES - chosen.first
     return chosen
 
 
