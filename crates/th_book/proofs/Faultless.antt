@@ -7,7 +7,7 @@ use Rattle.th_units.specs.Lengths.{are_digits, number, signed}
 use Rattle.th_units.specs.Units.{step, unit_of}
 use Rattle.th_units.specs.declared.units.Unit.{Unit}
 use Rattle.th_units.specs.declared.faults.LenFault.TheVariants as len_fault
-use Rattle.th_units.specs.declared.limits.TheConstants.{MAX_LEN}
+use Rattle.th_units.specs.Limits.{max_len}
 use Rattle.gsi_word.specs.Words.{Parts}
 use Rattle.gsi_word.specs.Values as word_data
 use Rattle.gsi_word.specs.Values.{in_unit, length_of}
@@ -75,7 +75,7 @@ unit_read : (word : Parts) (unit : Option Unit) → are_digits word.body ≡ tru
 unit_read word None d u h = absurd (true≢false u)
 unit_read word (Some unit) d u h =
     let size = number word.body * step unit in
-    digits_read (are_digits word.body) (nat_le size MAX_LEN) (signed word.negative size) d h
+    digits_read (are_digits word.body) (nat_le size max_len) (signed word.negative size) d h
 
 -- the length of a word without a defect is read
 word_read : (word : Parts) → has_bad_number word ≡ false → has_bad_unit word ≡ false → is_too_large word ≡ false → is_some (result_ok (length_of word)) ≡ true

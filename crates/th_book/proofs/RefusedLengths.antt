@@ -7,7 +7,7 @@ use Rattle.th_units.specs.Lengths.{are_digits, number, signed}
 use Rattle.th_units.specs.Units.{step, unit_of}
 use Rattle.th_units.specs.declared.units.Unit.{Unit}
 use Rattle.th_units.specs.declared.faults.LenFault.TheVariants as len_fault
-use Rattle.th_units.specs.declared.limits.TheConstants.{MAX_LEN}
+use Rattle.th_units.specs.Limits.{max_len}
 use Rattle.gsi_word.specs.Words.{Parts}
 use Rattle.gsi_word.specs.Values as word_data
 use Rattle.gsi_word.specs.Values.{in_unit, length_of}
@@ -20,7 +20,7 @@ use Rattle.th_book.proofs.CountedWords.{any_same}
 -- a length of digits is not refused for its number, nor for its unit where it has one
 in_unit-digits : (word : Parts) (unit : Option Unit) → are_digits word.body ≡ true → is_refused length_fault.BadNumber (in_unit word unit) ≡ false
 in_unit-digits word None digits = refl
-in_unit-digits word (Some unit) digits = go (are_digits word.body) (nat_le (number word.body * step unit) MAX_LEN) (signed word.negative (number word.body * step unit)) digits
+in_unit-digits word (Some unit) digits = go (are_digits word.body) (nat_le (number word.body * step unit) max_len) (signed word.negative (number word.body * step unit)) digits
   where
     go : (numbered within : Bool) (length : ℤ) → numbered ≡ true → is_refused length_fault.BadNumber (result_map_both (λ read. read) word_data.length_fault (cond numbered (cond within (Ok length) (Err len_fault.TooLarge)) (Err len_fault.NotDigits))) ≡ false
     go true true length e = refl
@@ -29,7 +29,7 @@ in_unit-digits word (Some unit) digits = go (are_digits word.body) (nat_le (numb
 
 in_unit-unit : (word : Parts) (unit : Option Unit) → are_digits word.body ≡ true → is_none unit ≡ is_refused length_fault.BadUnit (in_unit word unit)
 in_unit-unit word None digits = refl
-in_unit-unit word (Some unit) digits = go (are_digits word.body) (nat_le (number word.body * step unit) MAX_LEN) (signed word.negative (number word.body * step unit)) digits
+in_unit-unit word (Some unit) digits = go (are_digits word.body) (nat_le (number word.body * step unit) max_len) (signed word.negative (number word.body * step unit)) digits
   where
     go : (numbered within : Bool) (length : ℤ) → numbered ≡ true → false ≡ is_refused length_fault.BadUnit (result_map_both (λ read. read) word_data.length_fault (cond numbered (cond within (Ok length) (Err len_fault.TooLarge)) (Err len_fault.NotDigits)))
     go true true length e = refl

@@ -1,4 +1,5 @@
 use Rattle.std.specs.Prelude.{◌≢◌, ◌≤◌, ℕ, ℤ, List, unsigned_abs}
+pub use Rattle.th_limits.specs.Limits.{largest_difference}
 
 -- a height difference observed from a station to a target, in units of 10 nm, and where it stands: the book's number and the line, both from 1
 pub record Observed : Type 0 where
@@ -7,10 +8,6 @@ pub record Observed : Type 0 where
   pub difference : ℤ
   pub book : ℕ
   pub line : ℕ
-
--- the size that no observed difference exceeds: three lengths, 30 km, in units of 10 nm
-abbrev pub largest_difference : ℕ
-largest_difference = 3000000000000
 
 -- the ends are two points, and the difference is at most three lengths in size
 pub record IsBetweenPoints (observed : Observed) : Type 0 where

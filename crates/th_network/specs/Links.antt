@@ -1,4 +1,5 @@
 use Rattle.std.specs.Prelude.{◌≡◌, ℕ, ℤ, pos, ◌+ℤ◌, ◌-ℤ◌, List, unwrap_or, MatchOption}
+pub use Rattle.th_limits.specs.Limits.{largest_link_difference}
 use Rattle.th_book.specs.Observed.{Observed}
 use Rattle.th_tables.specs.Rows.{BenchmarkRows, height_of}
 use Rattle.th_network.specs.Vertices.{vertex_of}
@@ -11,10 +12,6 @@ base benchmarks name = unwrap_or (height_of benchmarks name) (pos 0)
 -- the observed difference with the benchmarks' heights taken out of it
 abbrev pub link_difference : BenchmarkRows → Observed → ℤ
 link_difference benchmarks o = o.difference +ℤ base benchmarks o.station -ℤ base benchmarks o.target
-
--- the size that no difference of a link exceeds: an observed difference and the heights of two benchmarks, 50 km, in units of 10 nm
-abbrev pub largest_link_difference : ℕ
-largest_link_difference = 5000000000000
 
 -- relative heights: zero at each benchmark, the height at each other name
 abbrev pub IsRelative : BenchmarkRows → (List ℕ → ℤ) → (List ℕ → ℤ) → Type 0

@@ -11,9 +11,8 @@
 //! vertices and links. `laws` proves what they are for: heights that a circulation shows are least.
 #![tactic(auto)]
 
-// Limits and faults.
+// Faults.
 mod faults;
-mod limits;
 
 // Which points a chain of observations ties to a benchmark: what joins the points, and what is marked
 // as the walk goes on.
@@ -34,6 +33,6 @@ mod networks;
 pub mod laws;
 
 pub use faults::NetFault;
-pub use limits::{MAX_OBSERVATIONS, MAX_POINTS};
 pub use links::Link;
 pub use networks::Network;
+pub use th_limits::{MAX_OBSERVATIONS, MAX_POINTS};

@@ -13,7 +13,6 @@ ghost use Rattle.th_units.specs.Limits.{max_len};
 
 use crate::anchors::first_untied;
 use crate::faults::NetFault;
-use crate::limits::{MAX_OBSERVATIONS, MAX_POINTS};
 use crate::links::{Link, links_of};
 use crate::vertices::Vertices;
 use crate::weights::weights_of;
@@ -22,6 +21,7 @@ use std::alloc::Global;
 use std::marker::Model;
 use th_book::Observation;
 use th_hash::NameSet;
+use th_limits::{MAX_OBSERVATIONS, MAX_POINTS};
 use th_points::Points;
 use th_tables::{Benchmarks, Weights};
 

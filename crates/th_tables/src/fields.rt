@@ -2,9 +2,10 @@ ghost use Rattle.std.specs.Prelude.{◌≡◌};
 ghost use Rattle.th_tables.specs.Fields.{benchmark_in, height_in, is_benchmarks_header, is_weights_header, name_in, weight_in, weighted_in};
 
 use crate::faults::TableKind;
-use crate::limits::{MAX_WEIGHT, MAX_WEIGHT_DIGITS};
+use crate::limits::MAX_WEIGHT_DIGITS;
 use gsi_word::{Name, name_of};
 use th_csv::Record;
+use th_limits::MAX_WEIGHT;
 use th_units::{MAX_LEN, parse_metres, short_number};
 
 /// Whether a record is the header of the benchmarks.

@@ -21,5 +21,6 @@ pub mod laws;
 
 pub use benchmarks::{Benchmarks, read_benchmarks};
 pub use faults::{TableFault, TableKind};
-pub use limits::{MAX_TABLE, MAX_WEIGHT, MAX_WEIGHT_DIGITS};
+pub use limits::{MAX_TABLE, MAX_WEIGHT_DIGITS};
+pub use th_limits::MAX_WEIGHT;
 pub use weights::{Weights, read_weights};

@@ -12,12 +12,13 @@ use std::alloc::Global;
 use std::marker::Model;
 use th_csv::{Record, RecordReader};
 use th_hash::{HashSeed, NameMap, insert_stated};
+use th_limits::MAX_OBSERVATIONS;
 
 /// How many bytes a row has as a rule.
 const ROW: usize = 16;
 
 /// The most pairs that are hashed without a seed: a network has no more observations.
-const FEW_PAIRS: usize = 40_000;
+const FEW_PAIRS: usize = MAX_OBSERVATIONS;
 
 /// The weights of observations by their station and target, in the order of their table.
 #[derive(Debug, Drop)]

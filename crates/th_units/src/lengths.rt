@@ -4,9 +4,9 @@ ghost use Rattle.th_units.specs.Lengths.{length_of, is_digit, are_digits, number
 ghost use Rattle.th_units.specs.Limits.{max_len};
 
 use crate::faults::LenFault;
-use crate::limits::MAX_LEN;
 use crate::units::{Unit, step};
 use std::marker::Model;
+use th_limits::MAX_LEN;
 
 /// A length of a book in units of 10 nm, at most `MAX_LEN` in size.
 #[derive(Clone, Copy, Debug, PartialEq, Eq)]

@@ -23,7 +23,8 @@ pub mod laws;
 
 pub use faults::LenFault;
 pub use lengths::{Len, are_digits, is_digit, to_len};
-pub use limits::{MAX_LEN, MAX_SHORT};
+pub use limits::MAX_SHORT;
 pub use metres::{MetreText, metre_text, parse_metres};
 pub use short_numbers::short_number;
+pub use th_limits::MAX_LEN;
 pub use units::{Unit, step, unit_of};

@@ -1,6 +1,3 @@
-/// The size that no length of a book exceeds: 10 km, in units of 10 nm.
-pub const MAX_LEN: u64 = 1_000_000_000_000;
-
 /// The most digits of a short number.
 pub const MAX_SHORT: usize = 9;
 

@@ -3,6 +3,7 @@ use Rattle.std.specs.Prelude.{unsigned_abs}
 use Rattle.std.proofs.lemmas.Int.{ints}
 use Rattle.std.proofs.lemmas.Bool.{false≢true}
 use Rattle.std.specs.Cmp.Lexicographic.{bytes_decides}
+use Rattle.th_units.specs.Limits.{max_len}
 use Rattle.th_book.specs.Inside.Steps.{observed_from}
 use Rattle.th_book.specs.declared.setups.Setup.{Setup}
 use Rattle.th_book.proofs.setups.Setup.sight.Goals as goal
@@ -13,7 +14,7 @@ sum sighted instrument reflector =
     to_z w64 (of_z w64 (to_z w64 (of_z w64 (to_z w64 (of_z w64 sighted) +ℤ to_z w64 (of_z w64 instrument))) -ℤ to_z w64 (of_z w64 reflector)))
 
 -- three lengths stay far within 64 bits
-sum_exact : (sighted instrument reflector : ℤ) → unsigned_abs sighted ≤ 1000000000000 → unsigned_abs instrument ≤ 1000000000000 → unsigned_abs reflector ≤ 1000000000000 → sum sighted instrument reflector ≡ sighted +ℤ instrument -ℤ reflector
+sum_exact : (sighted instrument reflector : ℤ) → unsigned_abs sighted ≤ max_len → unsigned_abs instrument ≤ max_len → unsigned_abs reflector ≤ max_len → sum sighted instrument reflector ≡ sighted +ℤ instrument -ℤ reflector
 sum_exact sighted instrument reflector a b c = omega (arith, ints)
 
 -- with both heights the observation is the one from the setup
