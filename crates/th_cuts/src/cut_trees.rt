@@ -1,4 +1,5 @@
 ghost use Rattle.std.specs.Prelude.{◌≡◌, ◌≢◌, ◌<◌, ◌≤◌, ℕ, Bool, All, IfOk, sum_by};
+ghost use Rattle.th_limits.specs.Limits.{max_total_weight};
 ghost use Rattle.th_cuts.specs.Cuts.{IsLeastCut, cut_weight};
 
 use crate::branches::Branches;
@@ -30,7 +31,7 @@ impl CutTree {
     /// pair of vertices.
     pub fn of(alloc: Global, vertices: u32, edges: Vec<Edge>) -> Result<CutTree, AllocError>
         requires ends { All (λ edge. (edge.tail < vertices) × (edge.head < vertices)) edges.items }
-        requires light { sum_by (λ edge. edge.weight) edges.items ≤ 40000000 }
+        requires light { sum_by (λ edge. edge.weight) edges.items ≤ max_total_weight }
         ensures vertices { IfOk result (λ tree. tree.vertices ≡ vertices) }
         ensures cuts { IfOk result (λ tree. (inside : ℕ → Bool)
             → cut_weight inside tree.edges ≡ cut_weight inside edges.items) }

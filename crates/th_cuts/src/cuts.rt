@@ -1,4 +1,5 @@
 ghost use Rattle.std.specs.Prelude.{◌≡◌, ◌≢◌, ◌+◌, ◌<◌, ◌≤◌, ℕ, Bool, All, IfOk, false, length, sum_by, true};
+ghost use Rattle.th_limits.specs.Limits.{max_total_weight};
 ghost use Rattle.th_cuts.specs.Cuts.{cut_weight, on_side};
 ghost use Rattle.th_cuts.specs.Inside.Neighbours.{AreNeighbours};
 
@@ -29,7 +30,7 @@ pub fn least_cut(
     sink: u32,
 ) -> Result<Cut, AllocError>
     requires ends { All (λ edge. (edge.tail < vertices) × (edge.head < vertices)) edges.now }
-    requires light { sum_by (λ edge. edge.weight) edges.now ≤ 40000000 }
+    requires light { sum_by (λ edge. edge.weight) edges.now ≤ max_total_weight }
     requires source { source < vertices }
     requires sink { sink < vertices }
     requires apart { source ≢ sink }

@@ -1,4 +1,5 @@
 ghost use Rattle.std.specs.Prelude.{◌≡◌, ◌+◌, ◌<◌, ◌≤◌, ℕ, IfOk, length};
+ghost use Rattle.th_limits.specs.Limits.{max_total_weight};
 ghost use Rattle.th_cuts.specs.Inside.Flows.{AreBounded, IsFlow};
 ghost use Rattle.th_cuts.specs.Inside.Guides.{IsGuide};
 ghost use Rattle.th_cuts.specs.Inside.Neighbours.{AreNeighbours};
@@ -42,7 +43,7 @@ impl Flow {
         ensures flow { IsFlow graph.now.edges.now graph.now.source graph.now.sink
             self.new.value self.new.flows.items }
         ensures more { self.old.value < self.new.value }
-        ensures small { self.new.value ≤ 40000000 }
+        ensures small { self.new.value ≤ max_total_weight }
     {
         let amount = steps[last].limit;
         augment(graph, &mut self.flows, steps, last);
@@ -66,7 +67,7 @@ impl Flow {
             self.new.value self.new.flows.items) }
         ensures more { IfOk result (λ _. self.old.value ≤ self.new.value) }
         ensures guide { IfOk result (λ _. IsGuide graph.now.vertices guide.new) }
-        ensures small { IfOk result (λ _. self.old.value < self.new.value → self.new.value ≤ 40000000) }
+        ensures small { IfOk result (λ _. self.old.value < self.new.value → self.new.value ≤ max_total_weight) }
     {
         'sending: while path.find(graph, &self.flows, neighbours, guide)? {
             self.send(graph, &path.steps, path.steps.len() - 1);

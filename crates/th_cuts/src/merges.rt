@@ -1,4 +1,5 @@
 ghost use Rattle.std.specs.Prelude.{◌≡◌, ◌+◌, ◌≤◌, IfOk, IsTrue, ◌⊎◌, sum_by};
+ghost use Rattle.th_limits.specs.Limits.{max_total_weight};
 ghost use Rattle.th_cuts.specs.Inside.Merges.{IsAdded, IsMerged};
 
 use crate::edges::Edge;
@@ -21,7 +22,7 @@ struct Merging {
 /// The edges without loops, and with most of those that join the same two vertices as one edge with
 /// their weight.
 pub(crate) fn merged(alloc: Global, edges: &[Edge]) -> Result<Vec<Edge>, AllocError>
-    requires { sum_by (λ edge. edge.weight) edges.now ≤ 40000000 }
+    requires { sum_by (λ edge. edge.weight) edges.now ≤ max_total_weight }
     ensures { IfOk result (λ merged. IsMerged edges.now merged.items) }
 {
     let mut merging = Merging {
@@ -49,7 +50,7 @@ fn slots_for(edges: usize) -> usize {
 impl Merging {
     /// Adds an edge: to one that joins the same vertices, if its slot has one, and else as one more.
     fn add(&mut self, edge: Edge) -> Result<(), AllocError>
-        requires { sum_by (λ edge. edge.weight) self.old.edges.items + edge.weight ≤ 40000000 }
+        requires { sum_by (λ edge. edge.weight) self.old.edges.items + edge.weight ≤ max_total_weight }
         ensures { IfOk result (λ _. IsAdded edge self.old.edges.items self.new.edges.items) }
     {
         if edge.tail == edge.head {

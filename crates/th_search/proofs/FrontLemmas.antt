@@ -8,6 +8,7 @@ use Rattle.std.proofs.lemmas.Int.{ints, to_z-of_z, fits_signed_from_abs}
 use Rattle.std.proofs.lemmas.List.{length-set, get_or-set_other, get_or-set_same, get_or_default, map-append}
 use Rattle.std.proofs.lemmas.List.Folds.{list_any-append}
 use Rattle.std.proofs.lemmas.Map.Keys.{IsDistinct-push}
+use Rattle.th_search.specs.Limits.{max_arcs, max_cost}
 use Rattle.th_search.specs.Walks.{IsArc, IsWalk, IsNegativeCycle, arc_at, cost_of, entered_by}
 use Rattle.th_search.specs.declared.arcs.Arc.{Arc}
 use Rattle.th_search.proofs.DepthLemmas.{arc_is, none_twice}
@@ -18,7 +19,7 @@ pub record IsFront (n : ℕ) (arcs : List Arc) (start vertex : ℕ) (walk : List
   pub size : length walk ≡ number
   pub leads : IsWalk arcs start walk vertex
   pub costs : cost ≡ cost_of arcs walk
-  pub cost_size : unsigned_abs cost ≤ number * 10000000000000
+  pub cost_size : unsigned_abs cost ≤ number * max_cost
   pub once : IsDistinct eqb (entered_by arcs walk)
   pub tells : (q : ℕ) → get_or entered q false ≡ list_any (eqb q) (entered_by arcs walk)
 
@@ -79,7 +80,7 @@ front_next n arcs start vertex walk entered cost number mark all within at read 
     let costs = front.costs in
     let more = cost_push arcs walk number in
     let few = front.cost_size in
-    let one : unsigned_abs (arc_at arcs number).cost ≤ 10000000000000 = arc.cost in
+    let one : unsigned_abs (arc_at arcs number).cost ≤ max_cost = arc.cost in
     let size = front.size in
     let longer = length-append walk (number ∷ []) in
     record {
@@ -104,10 +105,10 @@ front_closed n arcs start vertex walk entered cost number some back low front =
     }
 
 -- the code's sum of costs is their sum
-pub front_cost : (n : ℕ) (arcs : List Arc) (start vertex : ℕ) (walk : List ℕ) (entered : List Bool) (cost : ℤ) (number : ℕ) → All (IsArc n) arcs → length arcs ≤ 80000 → number < length arcs → IsFront n arcs start vertex walk entered cost number → to_z w64 (of_z w64 (cost +ℤ to_z w64 (of_z w64 (arc_at arcs number).cost))) ≡ cost +ℤ (arc_at arcs number).cost
+pub front_cost : (n : ℕ) (arcs : List Arc) (start vertex : ℕ) (walk : List ℕ) (entered : List Bool) (cost : ℤ) (number : ℕ) → All (IsArc n) arcs → length arcs ≤ max_arcs → number < length arcs → IsFront n arcs start vertex walk entered cost number → to_z w64 (of_z w64 (cost +ℤ to_z w64 (of_z w64 (arc_at arcs number).cost))) ≡ cost +ℤ (arc_at arcs number).cost
 front_cost n arcs start vertex walk entered cost number all many within front =
-    let one : unsigned_abs (arc_at arcs number).cost ≤ 10000000000000 = (arc_is n arcs number all within).cost in
+    let one : unsigned_abs (arc_at arcs number).cost ≤ max_cost = (arc_is n arcs number all within).cost in
     let few = front.cost_size in
     let is = to_z-of_z w64 (arc_at arcs number).cost (fits_signed_from_abs w64 (arc_at arcs number).cost (omega arith)) in
-    let small : unsigned_abs (cost +ℤ (arc_at arcs number).cost) ≤ 800000000000000000 = omega (arith, ints) in
+    let small : unsigned_abs (cost +ℤ (arc_at arcs number).cost) ≤ max_arcs * max_cost = omega (arith, ints) in
     ap (λ z. to_z w64 (of_z w64 (cost +ℤ z))) is ∙ to_z-of_z w64 (cost +ℤ (arc_at arcs number).cost) (fits_signed_from_abs w64 (cost +ℤ (arc_at arcs number).cost) (omega arith))

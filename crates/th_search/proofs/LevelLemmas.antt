@@ -6,6 +6,8 @@ use Rattle.std.proofs.lemmas.Bool.{cases_eq}
 use Rattle.std.proofs.lemmas.Int.{ints, to_z-of_z, fits_signed_from_abs}
 use Rattle.std.proofs.lemmas.List.{length-set, get_or_default, get_or-set_other, get_or-set_same}
 use Rattle.std.proofs.lemmas.Option.{none-some, same_Some}
+use Rattle.th_search.specs.Limits.{farthest, max_cost}
+use Rattle.th_search.specs.Inside.Bounds.{most_between}
 use Rattle.th_search.specs.Walks.{IsArc, arc_at}
 use Rattle.th_search.specs.Potentials.{value_at}
 use Rattle.th_search.specs.Inside.Levels.{Falls, IsAbove, Row, last_at}
@@ -22,17 +24,17 @@ pub record IsRising (arcs : List Arc) (below costs : List ℤ) (last : List (Opt
   pub size : length costs ≡ length below
   pub last_size : length last ≡ length below
   pub most : (v : ℕ) → value_at costs v ≤ℤ value_at below v
-  pub within : (v : ℕ) → unsigned_abs (value_at costs v) ≤ 50000000000000000
+  pub within : (v : ℕ) → unsigned_abs (value_at costs v) ≤ most_between
   pub least : (k : ℕ) → k < number → value_at costs (arc_at arcs k).head ≤ℤ (value_at below (arc_at arcs k).tail +ℤ (arc_at arcs k).cost)
   pub kept : (v : ℕ) → last_at (row costs last) v ≡ None → value_at costs v ≡ value_at below v
   pub fell : (v a : ℕ) → last_at (row costs last) v ≡ Some a → Falls arcs (row below []) (row costs last) v a
 
-pub rising_first : (arcs : List Arc) (below costs : List ℤ) (last : List (Option ℕ)) → costs ≡ below → length last ≡ length below → ((v : ℕ) → get_or last v None ≡ None) → ((v : ℕ) → unsigned_abs (value_at below v) ≤ 40000000000000000) → IsRising arcs below costs last 0
+pub rising_first : (arcs : List Arc) (below costs : List ℤ) (last : List (Option ℕ)) → costs ≡ below → length last ≡ length below → ((v : ℕ) → get_or last v None ≡ None) → ((v : ℕ) → unsigned_abs (value_at below v) ≤ farthest) → IsRising arcs below costs last 0
 rising_first arcs below costs last same size none sized = record {
   size = ap length same;
   last_size = size;
   most = λ v. subst (λ costs. value_at costs v ≤ℤ value_at below v) (sym same) (omega (arith, ints));
-  within = λ v. let few = sized v in subst (λ costs. unsigned_abs (value_at costs v) ≤ 50000000000000000) (sym same) (omega arith);
+  within = λ v. let few = sized v in subst (λ costs. unsigned_abs (value_at costs v) ≤ most_between) (sym same) (omega arith);
   least = λ k less. absurd (omega arith);
   kept = λ v is. ap (λ costs. value_at costs v) same;
   fell = λ v a at. absurd (none-some a (sym (none v) ∙ at));
@@ -50,7 +52,7 @@ rising_by arcs below costs last number fits rising = record {
 }
 
 -- a walk over the arc costs less
-pub rising_lower : (arcs : List Arc) (below costs : List ℤ) (last : List (Option ℕ)) (number : ℕ) (cost : ℤ) → All (IsArc (length below)) arcs → ((v : ℕ) → unsigned_abs (value_at below v) ≤ 40000000000000000) → number < length arcs → cost ≡ value_at below (arc_at arcs number).tail +ℤ (arc_at arcs number).cost → cost <ℤ value_at costs (arc_at arcs number).head → IsRising arcs below costs last number → IsRising arcs below (set costs (arc_at arcs number).head cost) (set last (arc_at arcs number).head (Some number)) (number + 1)
+pub rising_lower : (arcs : List Arc) (below costs : List ℤ) (last : List (Option ℕ)) (number : ℕ) (cost : ℤ) → All (IsArc (length below)) arcs → ((v : ℕ) → unsigned_abs (value_at below v) ≤ farthest) → number < length arcs → cost ≡ value_at below (arc_at arcs number).tail +ℤ (arc_at arcs number).cost → cost <ℤ value_at costs (arc_at arcs number).head → IsRising arcs below costs last number → IsRising arcs below (set costs (arc_at arcs number).head cost) (set last (arc_at arcs number).head (Some number)) (number + 1)
 rising_lower arcs below costs last number cost all sized within is less rising =
     let head : ℕ = (arc_at arcs number).head in
     let inside = (arc_is (length below) arcs number all within).head in
@@ -58,9 +60,9 @@ rising_lower arcs below costs last number cost all sized within is less rising =
     let last_size = rising.last_size in
     let here : head < length costs = omega arith in
     let there : head < length last = omega arith in
-    let cost_size : unsigned_abs (arc_at arcs number).cost ≤ 10000000000000 = (arc_is (length below) arcs number all within).cost in
+    let cost_size : unsigned_abs (arc_at arcs number).cost ≤ max_cost = (arc_is (length below) arcs number all within).cost in
     let tail_size = sized (arc_at arcs number).tail in
-    let new_size : unsigned_abs cost ≤ 50000000000000000 = subst (λ z. unsigned_abs z ≤ 50000000000000000) (sym is) (omega (arith, ints)) in
+    let new_size : unsigned_abs cost ≤ most_between = subst (λ z. unsigned_abs z ≤ most_between) (sym is) (omega (arith, ints)) in
     let cost_here : (v : ℕ) → v ≡ head → value_at (set costs head cost) v ≡ cost = λ v same. ap (value_at (set costs head cost)) same ∙ get_or-set_same costs head cost (pos 0) here in
     let cost_else : (v : ℕ) → v ≢ head → value_at (set costs head cost) v ≡ value_at costs v = λ v other. get_or-set_other costs head v cost (pos 0) other in
     let last_here : (v : ℕ) → v ≡ head → get_or (set last head (Some number)) v None ≡ Some number = λ v same. ap (λ v. get_or (set last head (Some number)) v None) same ∙ get_or-set_same last head (Some number) None there in
@@ -74,8 +76,8 @@ rising_lower arcs below costs last number cost all sized within is less rising =
       last_size = length-set last head (Some number) ∙ rising.last_size;
       most = λ v. let fall = lower v in let most = rising.most v in omega (arith, ints);
       within = λ v. elim (cases_eq v head) [
-        | inl same ↦ subst (λ z. unsigned_abs z ≤ 50000000000000000) (sym (cost_here v same)) new_size
-        | inr other ↦ subst (λ z. unsigned_abs z ≤ 50000000000000000) (sym (cost_else v other)) (rising.within v)
+        | inl same ↦ subst (λ z. unsigned_abs z ≤ most_between) (sym (cost_here v same)) new_size
+        | inr other ↦ subst (λ z. unsigned_abs z ≤ most_between) (sym (cost_else v other)) (rising.within v)
       ];
       least = below_more (λ k. value_at (set costs head cost) (arc_at arcs k).head ≤ℤ (value_at below (arc_at arcs k).tail +ℤ (arc_at arcs k).cost)) number
           (λ k before. let fall = lower (arc_at arcs k).head in let least = rising.least k before in omega (arith, ints))
@@ -120,20 +122,20 @@ pub record IsReading (arcs : List Arc) (below costs : List ℤ) (number : ℕ) (
   pub sum : to_z w64 (of_z w64 (to_z w64 (of_z w64 r) +ℤ to_z w64 (of_z w64 (arc_at arcs number).cost))) ≡ value_at below (arc_at arcs number).tail +ℤ (arc_at arcs number).cost
   pub head : to_z w64 (of_z w64 s) ≡ value_at costs (arc_at arcs number).head
 
-kept_z : (z : ℤ) → unsigned_abs z ≤ 50000000000000000 → to_z w64 (of_z w64 z) ≡ z
+kept_z : (z : ℤ) → unsigned_abs z ≤ most_between → to_z w64 (of_z w64 z) ≡ z
 kept_z z small = to_z-of_z w64 z (fits_signed_from_abs w64 z (omega arith))
 
-pub reading : (arcs : List Arc) (below costs : List ℤ) (last : List (Option ℕ)) (number : ℕ) (r s : ℤ) → All (IsArc (length below)) arcs → ((v : ℕ) → unsigned_abs (value_at below v) ≤ 40000000000000000) → number < length arcs → r ≡ get_or below (arc_at arcs number).tail r → s ≡ get_or costs (arc_at arcs number).head s → IsRising arcs below costs last number → IsReading arcs below costs number r s
+pub reading : (arcs : List Arc) (below costs : List ℤ) (last : List (Option ℕ)) (number : ℕ) (r s : ℤ) → All (IsArc (length below)) arcs → ((v : ℕ) → unsigned_abs (value_at below v) ≤ farthest) → number < length arcs → r ≡ get_or below (arc_at arcs number).tail r → s ≡ get_or costs (arc_at arcs number).head s → IsRising arcs below costs last number → IsReading arcs below costs number r s
 reading arcs below costs last number r s all sized within low high rising =
     let arc = arc_is (length below) arcs number all within in
     let inside = arc.head in
     let size = rising.size in
     let r_is : r ≡ value_at below (arc_at arcs number).tail = low ∙ get_or_default below (arc_at arcs number).tail r (pos 0) arc.tail in
     let s_is : s ≡ value_at costs (arc_at arcs number).head = high ∙ get_or_default costs (arc_at arcs number).head s (pos 0) (omega arith) in
-    let c_size : unsigned_abs (arc_at arcs number).cost ≤ 10000000000000 = arc.cost in
-    let r_size : unsigned_abs r ≤ 40000000000000000 = subst (λ z. unsigned_abs z ≤ 40000000000000000) (sym r_is) (sized (arc_at arcs number).tail) in
-    let s_size : unsigned_abs s ≤ 50000000000000000 = subst (λ z. unsigned_abs z ≤ 50000000000000000) (sym s_is) (rising.within (arc_at arcs number).head) in
-    let all_size : unsigned_abs (r +ℤ (arc_at arcs number).cost) ≤ 50000000000000000 = omega (arith, ints) in
+    let c_size : unsigned_abs (arc_at arcs number).cost ≤ max_cost = arc.cost in
+    let r_size : unsigned_abs r ≤ farthest = subst (λ z. unsigned_abs z ≤ farthest) (sym r_is) (sized (arc_at arcs number).tail) in
+    let s_size : unsigned_abs s ≤ most_between = subst (λ z. unsigned_abs z ≤ most_between) (sym s_is) (rising.within (arc_at arcs number).head) in
+    let all_size : unsigned_abs (r +ℤ (arc_at arcs number).cost) ≤ most_between = omega (arith, ints) in
     let both : to_z w64 (of_z w64 r) +ℤ to_z w64 (of_z w64 (arc_at arcs number).cost) ≡ r +ℤ (arc_at arcs number).cost = ap (λ z. z +ℤ to_z w64 (of_z w64 (arc_at arcs number).cost)) (kept_z r (omega arith)) ∙ ap (λ z. r +ℤ z) (kept_z (arc_at arcs number).cost (omega arith)) in
     record {
       fits = subst (FitsSigned w64) (sym both) (fits_signed_from_abs w64 (r +ℤ (arc_at arcs number).cost) (omega arith));
@@ -141,7 +143,7 @@ reading arcs below costs last number r s all sized within low high rising =
       head = kept_z s s_size ∙ s_is;
     }
 
-pub sum_fits : (arcs : List Arc) (below costs : List ℤ) (last : List (Option ℕ)) (number : ℕ) (r : ℤ) → All (IsArc (length below)) arcs → ((v : ℕ) → unsigned_abs (value_at below v) ≤ 40000000000000000) → number < length arcs → r ≡ get_or below (arc_at arcs number).tail r → IsRising arcs below costs last number → FitsSigned w64 (to_z w64 (of_z w64 r) +ℤ to_z w64 (of_z w64 (arc_at arcs number).cost))
+pub sum_fits : (arcs : List Arc) (below costs : List ℤ) (last : List (Option ℕ)) (number : ℕ) (r : ℤ) → All (IsArc (length below)) arcs → ((v : ℕ) → unsigned_abs (value_at below v) ≤ farthest) → number < length arcs → r ≡ get_or below (arc_at arcs number).tail r → IsRising arcs below costs last number → FitsSigned w64 (to_z w64 (of_z w64 r) +ℤ to_z w64 (of_z w64 (arc_at arcs number).cost))
 sum_fits arcs below costs last number r all sized within low rising =
     let inside = (arc_is (length below) arcs number all within).head in
     let size = rising.size in

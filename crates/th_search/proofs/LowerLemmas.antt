@@ -6,8 +6,10 @@ use Rattle.std.proofs.lemmas.Int.{ints}
 use Rattle.std.proofs.lemmas.List.{length-set, get_or-set_other, get_or-set_same, get_or_past}
 use Rattle.std.proofs.lemmas.List.Sums.{sum_by-set}
 use Rattle.std.proofs.lemmas.Option.{none-some, same_Some}
+use Rattle.th_search.specs.Limits.{max_cost, max_vertices}
 use Rattle.th_search.specs.Walks.{IsArc, arc_at}
 use Rattle.th_search.specs.Potentials.{value_at}
+use Rattle.th_search.specs.Inside.Bounds.{most_between, most_within}
 use Rattle.th_search.specs.Inside.Entries.{AreEntries, IsEntry, IsOnCycle, Meets, MeetsAfter, entry_at}
 use Rattle.th_search.specs.Inside.Labels.{AreLabels, Holds, Improves, IsForest, room}
 use Rattle.th_search.specs.declared.arcs.Arc.{Arc}
@@ -169,13 +171,13 @@ abbrev pub AreWithin : List ℤ → ℕ → Type 0
 AreWithin values most = (v : ℕ) → unsigned_abs (value_at values v) ≤ most
 
 -- where all entries end, a value is in range
-pub values_within : (arcs : List Arc) (values : List ℤ) (entries : List (Option ℕ)) → All (IsArc (length values)) arcs → length values ≤ 4001 → AreLabels arcs values entries → IsForest arcs entries → AreWithin values 40010000000000000
+pub values_within : (arcs : List Arc) (values : List ℤ) (entries : List (Option ℕ)) → All (IsArc (length values)) arcs → length values ≤ max_vertices → AreLabels arcs values entries → IsForest arcs entries → AreWithin values most_between
 values_within arcs values entries all few labels forest v =
     elim (cases_lt v (length values)) [
       | inl within ↦
           let deep = forest v in
           let most = depth_below (length values) arcs entries (tails_of (length values) arcs entries all labels.entered) deep.0 v within deep.1 in
-          let least = low arcs values entries 10000000000000 (λ k inside. (arc_is (length values) arcs k all inside).cost) labels deep.0 v deep.1 in
+          let least = low arcs values entries max_cost (λ k inside. (arc_is (length values) arcs k all inside).cost) labels deep.0 v deep.1 in
           let high = labels.high v in
           omega (arith, ints)
       | inr past ↦
@@ -184,31 +186,31 @@ values_within arcs values entries all few labels forest v =
     ]
 
 -- a label that an arc gives is larger by no more than the arc's cost
-pub label_within : (arcs : List Arc) (values : List ℤ) (number most : ℕ) → All (IsArc (length values)) arcs → AreWithin values most → number < length arcs → unsigned_abs (value_at values (arc_at arcs number).tail +ℤ (arc_at arcs number).cost) ≤ most + 10000000000000
+pub label_within : (arcs : List Arc) (values : List ℤ) (number most : ℕ) → All (IsArc (length values)) arcs → AreWithin values most → number < length arcs → unsigned_abs (value_at values (arc_at arcs number).tail +ℤ (arc_at arcs number).cost) ≤ most + max_cost
 label_within arcs values number most all sized within =
     let size = sized (arc_at arcs number).tail in
-    let cost : unsigned_abs (arc_at arcs number).cost ≤ 10000000000000 = (arc_is (length values) arcs number all within).cost in
+    let cost : unsigned_abs (arc_at arcs number).cost ≤ max_cost = (arc_is (length values) arcs number all within).cost in
     omega (arith, ints)
 
 -- and so are all values after it
-pub within_after : (arcs : List Arc) (values : List ℤ) (number most : ℕ) (label : ℤ) → All (IsArc (length values)) arcs → AreWithin values most → number < length arcs → Improves arcs values number label → AreWithin (set values (arc_at arcs number).head label) (most + 10000000000000)
+pub within_after : (arcs : List Arc) (values : List ℤ) (number most : ℕ) (label : ℤ) → All (IsArc (length values)) arcs → AreWithin values most → number < length arcs → Improves arcs values number label → AreWithin (set values (arc_at arcs number).head label) (most + max_cost)
 within_after arcs values number most label all sized within improves v =
     let here = (arc_is (length values) arcs number all within).head in
-    let size : unsigned_abs label ≤ most + 10000000000000 = subst (λ z. unsigned_abs z ≤ most + 10000000000000) (sym improves.is) (label_within arcs values number most all sized within) in
+    let size : unsigned_abs label ≤ most + max_cost = subst (λ z. unsigned_abs z ≤ most + max_cost) (sym improves.is) (label_within arcs values number most all sized within) in
     elim (cases_eq v (arc_at arcs number).head) [
-      | inl same ↦ subst (λ z. unsigned_abs z ≤ most + 10000000000000) (sym (value_here values (arc_at arcs number).head label here v same)) size
+      | inl same ↦ subst (λ z. unsigned_abs z ≤ most + max_cost) (sym (value_here values (arc_at arcs number).head label here v same)) size
       | inr other ↦
           let kept = value_else values (arc_at arcs number).head label v other in
           let was = sized v in
-          subst (λ z. unsigned_abs z ≤ most + 10000000000000) (sym kept) (omega arith)
+          subst (λ z. unsigned_abs z ≤ most + max_cost) (sym kept) (omega arith)
     ]
 
 -- the room falls
-pub room_falls : (arcs : List Arc) (values : List ℤ) (entries : List (Option ℕ)) (number most : ℕ) (label : ℤ) → All (IsArc (length values)) arcs → most ≤ 840000000000000000 → AreWithin values most → AreLabels arcs values entries → number < length arcs → Improves arcs values number label → room (set values (arc_at arcs number).head label) < room values
+pub room_falls : (arcs : List Arc) (values : List ℤ) (entries : List (Option ℕ)) (number most : ℕ) (label : ℤ) → All (IsArc (length values)) arcs → most + max_cost ≤ most_within → AreWithin values most → AreLabels arcs values entries → number < length arcs → Improves arcs values number label → room (set values (arc_at arcs number).head label) < room values
 room_falls arcs values entries number most label all few sized labels within improves =
     let here = (arc_is (length values) arcs number all within).head in
-    let size : unsigned_abs label ≤ most + 10000000000000 = subst (λ z. unsigned_abs z ≤ most + 10000000000000) (sym improves.is) (label_within arcs values number most all sized within) in
+    let size : unsigned_abs label ≤ most + max_cost = subst (λ z. unsigned_abs z ≤ most + max_cost) (sym improves.is) (label_within arcs values number most all sized within) in
     let high = labels.high (arc_at arcs number).head in
     let below = improves.below in
-    let sums = sum_by-set (λ value. 840010000000000000 - unsigned_abs value) values (arc_at arcs number).head label (pos 0) here in
+    let sums = sum_by-set (λ value. most_within - unsigned_abs value) values (arc_at arcs number).head label (pos 0) here in
     omega (arith, ints)

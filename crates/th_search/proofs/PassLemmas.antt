@@ -6,8 +6,10 @@ use Rattle.std.proofs.lemmas.List.Elements.{All-from_get_or}
 use Rattle.std.proofs.lemmas.Int.{ints, to_z-of_z, fits_signed_from_abs}
 use Rattle.std.proofs.Math.ListN.{set}
 use Rattle.std.proofs.lemmas.List.{get_or_default, length-set}
+use Rattle.th_search.specs.Limits.{max_arcs, max_cost, max_vertices}
 use Rattle.th_search.specs.Walks.{IsArc, arc_at}
 use Rattle.th_search.specs.Potentials.{IsFeasible, value_at}
+use Rattle.th_search.specs.Inside.Bounds.{most_between, most_within}
 use Rattle.th_search.specs.Inside.Labels.{AreLabels, Improves, IsForest, room}
 use Rattle.th_search.specs.Inside.Passes.{place_at}
 use Rattle.th_search.proofs.DepthLemmas.{arc_is}
@@ -20,7 +22,7 @@ IsFitting arcs values number = value_at values (arc_at arcs number).head ≤ℤ 
 
 -- how large values are at a step of a pass
 abbrev pub most_at : ℕ → ℕ
-most_at step = 40010000000000000 + step * 10000000000000
+most_at step = most_between + step * max_cost
 
 -- the pass has come to this step
 pub record IsPassing (arcs : List Arc) (old new : List ℤ) (was entries : List (Option ℕ)) (lowered backwards : Bool) (step : ℕ) : Type 0 where
@@ -32,7 +34,7 @@ pub record IsPassing (arcs : List Arc) (old new : List ℤ) (was entries : List 
   pub kept : lowered ≡ false → entries ≡ was
   pub feasible : lowered ≡ false → (k : ℕ) → k < step → IsFitting arcs new (place_at backwards (length arcs) k)
 
-pub passing_first : (arcs : List Arc) (values : List ℤ) (entries : List (Option ℕ)) (backwards : Bool) → All (IsArc (length values)) arcs → length values ≤ 4001 → AreLabels arcs values entries → IsForest arcs entries → IsPassing arcs values values entries entries false backwards 0
+pub passing_first : (arcs : List Arc) (values : List ℤ) (entries : List (Option ℕ)) (backwards : Bool) → All (IsArc (length values)) arcs → length values ≤ max_vertices → AreLabels arcs values entries → IsForest arcs entries → IsPassing arcs values values entries entries false backwards 0
 passing_first arcs values entries backwards all few labels forest = record {
   size = refl;
   labels = labels;
@@ -56,7 +58,7 @@ passing_by arcs old new was entries lowered backwards step number place fits pas
 }
 
 -- an arc by which a label was lowered
-pub passing_lower : (arcs : List Arc) (old new : List ℤ) (was entries entries' : List (Option ℕ)) (lowered backwards : Bool) (step number : ℕ) (label : ℤ) → All (IsArc (length new)) arcs → step < 80000 → number < length arcs → Improves arcs new number label → AreLabels arcs (set new (arc_at arcs number).head label) entries' → IsPassing arcs old new was entries lowered backwards step → IsPassing arcs old (set new (arc_at arcs number).head label) was entries' true backwards (step + 1)
+pub passing_lower : (arcs : List Arc) (old new : List ℤ) (was entries entries' : List (Option ℕ)) (lowered backwards : Bool) (step number : ℕ) (label : ℤ) → All (IsArc (length new)) arcs → step < max_arcs → number < length arcs → Improves arcs new number label → AreLabels arcs (set new (arc_at arcs number).head label) entries' → IsPassing arcs old new was entries lowered backwards step → IsPassing arcs old (set new (arc_at arcs number).head label) was entries' true backwards (step + 1)
 passing_lower arcs old new was entries entries' lowered backwards step number label all few within improves labels passing =
     let most = passing.most in
     let less = room_falls arcs new entries number (most_at step) label all (omega arith) passing.within passing.labels within improves in
@@ -94,7 +96,7 @@ pub record IsRead (arcs : List Arc) (values : List ℤ) (number : ℕ) (r s : �
 value_read : (values : List ℤ) (v : ℕ) (r : ℤ) → v < length values → r ≡ get_or values v r → r ≡ value_at values v
 value_read values v r within read = read ∙ get_or_default values v r (pos 0) within
 
-pub reads : (arcs : List Arc) (values : List ℤ) (number most : ℕ) (r s : ℤ) → All (IsArc (length values)) arcs → most ≤ 840000000000000000 → AreWithin values most → number < length arcs → r ≡ get_or values (arc_at arcs number).tail r → s ≡ get_or values (arc_at arcs number).head s → IsRead arcs values number r s
+pub reads : (arcs : List Arc) (values : List ℤ) (number most : ℕ) (r s : ℤ) → All (IsArc (length values)) arcs → most + max_cost ≤ most_within → AreWithin values most → number < length arcs → r ≡ get_or values (arc_at arcs number).tail r → s ≡ get_or values (arc_at arcs number).head s → IsRead arcs values number r s
 reads arcs values number most r s all few sized within low high =
     let arc = arc_is (length values) arcs number all within in
     let r_is = value_read values (arc_at arcs number).tail r arc.tail low in
@@ -102,10 +104,10 @@ reads arcs values number most r s all few sized within low high =
     let low_size = sized (arc_at arcs number).tail in
     let high_size = sized (arc_at arcs number).head in
     let sum_size = label_within arcs values number most all sized within in
-    let cost_size : unsigned_abs (arc_at arcs number).cost ≤ 10000000000000 = arc.cost in
+    let cost_size : unsigned_abs (arc_at arcs number).cost ≤ max_cost = arc.cost in
     let r_size : unsigned_abs r ≤ most = subst (λ z. unsigned_abs z ≤ most) (sym r_is) low_size in
     let s_size : unsigned_abs s ≤ most = subst (λ z. unsigned_abs z ≤ most) (sym s_is) high_size in
-    let all_size : unsigned_abs (r +ℤ (arc_at arcs number).cost) ≤ most + 10000000000000 = subst (λ z. unsigned_abs (z +ℤ (arc_at arcs number).cost) ≤ most + 10000000000000) (sym r_is) sum_size in
+    let all_size : unsigned_abs (r +ℤ (arc_at arcs number).cost) ≤ most + max_cost = subst (λ z. unsigned_abs (z +ℤ (arc_at arcs number).cost) ≤ most + max_cost) (sym r_is) sum_size in
     record {
       low = r_is;
       high = s_is;
@@ -135,7 +137,7 @@ fits_as_is arcs values number r s read not =
     let least = not_less (to_z w64 (of_z w64 (sum_of r (arc_at arcs number).cost))) (to_z w64 (of_z w64 s)) not in
     subst (λ z. value_at values (arc_at arcs number).head ≤ℤ z) label (subst (λ z. z ≤ℤ to_z w64 (of_z w64 (sum_of r (arc_at arcs number).cost))) high least)
 
-pub read_low : (arcs : List Arc) (values : List ℤ) (number most : ℕ) (r : ℤ) → All (IsArc (length values)) arcs → most ≤ 840000000000000000 → AreWithin values most → number < length arcs → r ≡ get_or values (arc_at arcs number).tail r → FitsSigned w64 (sum_of r (arc_at arcs number).cost)
+pub read_low : (arcs : List Arc) (values : List ℤ) (number most : ℕ) (r : ℤ) → All (IsArc (length values)) arcs → most + max_cost ≤ most_within → AreWithin values most → number < length arcs → r ≡ get_or values (arc_at arcs number).tail r → FitsSigned w64 (sum_of r (arc_at arcs number).cost)
 read_low arcs values number most r all few sized within low =
     let s = value_at values (arc_at arcs number).head in
     sum_fits arcs values number r s (reads arcs values number most r s all few sized within low (get_or_default values (arc_at arcs number).head (pos 0) s (arc_is (length values) arcs number all within).head))

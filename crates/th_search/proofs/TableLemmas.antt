@@ -4,6 +4,8 @@ use Rattle.std.proofs.lemmas.Bool.{cases_lt}
 use Rattle.std.proofs.lemmas.Int.{ints}
 use Rattle.std.proofs.lemmas.List.{get_or-map, get_or_append_left, get_or_push}
 use Rattle.std.proofs.lemmas.List.Elements.{All-from_get_or}
+use Rattle.th_limits.specs.Limits.{max_points}
+use Rattle.th_search.specs.Limits.{farthest, max_cost}
 use Rattle.th_search.specs.Walks.{IsArc, arc_at}
 use Rattle.th_search.specs.Potentials.{ArePotentials, largest_cost, value_at}
 use Rattle.th_search.specs.Inside.Levels.{AreLevels, IsAbove, Row, last_at, row_at, row_of, rows_of}
@@ -81,9 +83,9 @@ low n arcs rows most costs levels (suc k) v within = by (λ v. low n arcs rows m
         let before = rest (arc_at arcs number).tail in
         omega (arith, ints)
 
-pub sized : (n : ℕ) (arcs : List Arc) (rows : List Row) (k v : ℕ) → All (IsArc n) arcs → AreLevels n arcs rows → k < length rows → k ≤ 4000 → unsigned_abs (cost_at rows k v) ≤ 40000000000000000
+pub sized : (n : ℕ) (arcs : List Arc) (rows : List Row) (k v : ℕ) → All (IsArc n) arcs → AreLevels n arcs rows → k < length rows → k ≤ max_points → unsigned_abs (cost_at rows k v) ≤ farthest
 sized n arcs rows k v all levels within few =
-    let least = low n arcs rows 10000000000000 (λ number inside. (arc_is n arcs number all inside).cost) levels k v within in
+    let least = low n arcs rows max_cost (λ number inside. (arc_is n arcs number all inside).cost) levels k v within in
     let most = high n arcs rows k v levels within in
     omega (arith, ints)
 

@@ -1,4 +1,5 @@
 -- what private functions say to one another
+pub mod Bounds
 pub mod Entries
 pub mod Labels
 pub mod Levels

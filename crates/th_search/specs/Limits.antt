@@ -1,17 +1,19 @@
-use Rattle.std.specs.Prelude.{ℕ}
+use Rattle.std.specs.Prelude.{ℕ, ◌+◌, ◌*◌}
+use Rattle.th_limits.specs.Limits.{largest_link_difference, max_observations, max_points}
+pub use Rattle.th_limits.specs.Limits.{max_calls}
 
--- the most vertices that are searched
+-- the most vertices that are searched: one for all benchmarks, and the points
 abbrev pub max_vertices : ℕ
-max_vertices = 4001
+max_vertices = max_points + 1
 
--- the most arcs that are searched
+-- the most arcs that are searched: two for each observation
 abbrev pub max_arcs : ℕ
-max_arcs = 80000
+max_arcs = 2 * max_observations
 
--- the greatest size of a cost: 10^13
+-- the greatest size of a cost: twice the largest difference of a link, 10^13
 abbrev pub max_cost : ℕ
-max_cost = 10000000000000
+max_cost = 2 * largest_link_difference
 
--- how many calls come with a promise: 10^36
-abbrev pub max_calls : ℕ
-max_calls = 1000000000000000000000000000000000000
+-- the size that no potential exceeds: an arc of the greatest cost for each vertex but one
+abbrev pub farthest : ℕ
+farthest = max_points * max_cost

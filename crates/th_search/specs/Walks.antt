@@ -3,7 +3,7 @@ use Rattle.std.specs.List.{IsDistinct}
 use Rattle.th_search.specs.Limits.{max_cost}
 use Rattle.th_search.specs.declared.arcs.Arc.{Arc}
 
--- the arc has its ends among n vertices, and a cost of at most 10^13 in size
+-- the arc has its ends among n vertices, and a cost of at most the greatest size
 pub record IsArc (n : ℕ) (arc : Arc) : Type 0 where
   pub tail : arc.tail < n
   pub head : arc.head < n

@@ -1,5 +1,5 @@
 ghost use Rattle.std.specs.Prelude.{◌≡◌, ◌≢◌, ◌<◌, ◌≤◌, ℕ, All, IfOk, IfSome, None, Some, length, pos, slice_set, unsigned_abs};
-ghost use Rattle.th_search.specs.Limits.{max_arcs, max_vertices};
+ghost use Rattle.th_search.specs.Limits.{farthest, max_arcs, max_vertices};
 ghost use Rattle.th_search.specs.Potentials.{value_at};
 ghost use Rattle.th_search.specs.Walks.{IsArc};
 ghost use Rattle.th_search.specs.Inside.Levels.{IsAbove, last_at, row_of};
@@ -34,7 +34,7 @@ impl Level {
         requires arcs { All (IsArc (length self.now.costs.items)) arcs.now }
         requires many { length arcs.now ≤ max_arcs }
         requires within { (vertex : ℕ)
-            → unsigned_abs (value_at self.now.costs.items vertex) ≤ 40000000000000000 }
+            → unsigned_abs (value_at self.now.costs.items vertex) ≤ farthest }
         ensures { IfOk result (λ level. IsAbove arcs.now (row_of self.now) (row_of level)) }
     {
         let costs = self.costs.to_vec(alloc)?;

@@ -28,5 +28,6 @@ mod levels;
 pub use arcs::{Arc, are_arcs};
 pub use label_search::LabelSearch;
 pub use level_search::LevelSearch;
-pub use limits::{MAX_ARCS, MAX_CALLS, MAX_COST, MAX_VERTICES};
+pub use limits::{MAX_ARCS, MAX_COST, MAX_VERTICES};
 pub use searches::{Found, Search};
+pub use th_limits::MAX_CALLS;

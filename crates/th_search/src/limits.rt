@@ -1,11 +1,10 @@
-/// The most vertices that are searched.
-pub const MAX_VERTICES: u32 = 4_001;
+use th_limits::{LARGEST_LINK_DIFFERENCE, MAX_OBSERVATIONS, MAX_POINTS};
 
-/// The most arcs that are searched.
-pub const MAX_ARCS: usize = 80_000;
+/// The most vertices that are searched: one for all benchmarks, and the points.
+pub const MAX_VERTICES: u32 = MAX_POINTS as u32 + 1;
 
-/// The greatest size of a cost.
-pub const MAX_COST: u64 = 10_000_000_000_000;
+/// The most arcs that are searched: two for each observation.
+pub const MAX_ARCS: usize = 2 * MAX_OBSERVATIONS;
 
-/// The most calls that contracts cover. The counts, which have 128 bits, can hold more.
-pub const MAX_CALLS: u128 = 1_000_000_000_000_000_000_000_000_000_000_000_000;
+/// The greatest size of a cost: twice the largest difference of a link, 10^13.
+pub const MAX_COST: u64 = 2 * LARGEST_LINK_DIFFERENCE;

@@ -1,16 +1,12 @@
 -- Bounds that follow from the limits of networks, tables and searches.
 use Rattle.std.specs.Prelude.{ℕ, ◌+◌, ◌*◌, ◌/◌}
-use Rattle.th_network.specs.Limits.{max_points}
 use Rattle.th_search.specs.Limits.{max_cost}
+pub use Rattle.th_search.specs.Limits.{farthest}
 use Rattle.th_tables.specs.Limits.{max_weight}
 
 -- the most that there can be room for on a residual arc: twice the greatest weight
 abbrev pub most_room : ℕ
 most_room = 2 * max_weight
-
--- the size that no distance and no potential exceeds: an arc of the greatest cost for each vertex but one
-abbrev pub farthest : ℕ
-farthest = max_points * max_cost
 
 -- the size of heights within a phase and at its end: a quarter of the greatest cost of an arc
 abbrev pub height_bound : ℕ

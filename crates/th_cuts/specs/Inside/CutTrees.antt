@@ -1,4 +1,5 @@
 use Rattle.std.specs.Prelude.{◌≡◌, ℕ, ◌+◌, ◌<◌, ◌≤◌, Bool, true, List, All, length, slice_index_or, sum_by}
+use Rattle.th_limits.specs.Limits.{max_total_weight}
 use Rattle.th_cuts.specs.declared.branches.Branch.{Branch}
 use Rattle.th_cuts.specs.declared.edges.Edge.{Edge}
 use Rattle.th_cuts.specs.declared.neighbours.Neighbour.{Neighbour}
@@ -8,7 +9,7 @@ use Rattle.th_cuts.specs.Inside.Neighbours.{AreNeighbours}
 -- the edges are between the vertices, and together not too heavy
 pub record AreEdges (vertices : ℕ) (edges : List Edge) : Type 0 where
   pub ends : All (λ edge. (edge.tail < vertices) × (edge.head < vertices)) edges
-  pub light : sum_by (λ edge. edge.weight) edges ≤ 40000000
+  pub light : sum_by (λ edge. edge.weight) edges ≤ max_total_weight
 
 -- a least cut between a vertex and one before it
 pub record IsBranch (vertices : ℕ) (edges : List Edge) (vertex : ℕ) (branch : Branch) : Type 0 where

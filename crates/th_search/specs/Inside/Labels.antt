@@ -1,6 +1,7 @@
 use Rattle.std.specs.Prelude.{◌≡◌, ℕ, ◌-◌, ◌<◌, ℤ, pos, ◌+ℤ◌, ◌≤ℤ◌, ◌<ℤ◌, List, Option, None, Some, length, sum_by, unsigned_abs}
 use Rattle.th_search.specs.Walks.{arc_at}
 use Rattle.th_search.specs.Potentials.{value_at}
+use Rattle.th_search.specs.Inside.Bounds.{most_within}
 use Rattle.th_search.specs.Inside.Entries.{AreEntries, IsRooted, entry_at}
 use Rattle.th_search.specs.declared.arcs.Arc.{Arc}
 
@@ -26,6 +27,6 @@ pub record Improves (arcs : List Arc) (values : List ℤ) (number : ℕ) (label 
   pub is : label ≡ value_at values (arc_at arcs number).tail +ℤ (arc_at arcs number).cost
   pub below : label <ℤ value_at values (arc_at arcs number).head
 
--- how far the values can still fall, within one pass over 80,000 arcs from those of 4,001 vertices
+-- how far the values can still fall within one pass
 abbrev pub room : List ℤ → ℕ
-room values = sum_by (λ value. 840010000000000000 - unsigned_abs value) values
+room values = sum_by (λ value. most_within - unsigned_abs value) values

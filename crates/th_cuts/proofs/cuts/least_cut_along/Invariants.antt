@@ -1,4 +1,5 @@
 use Rattle.std.proofs.Common.{◌-◌}
+use Rattle.th_limits.specs.Limits.{max_total_weight}
 use Rattle.th_cuts.specs.Inside.Flows.{IsFlow}
 use Rattle.th_cuts.specs.Inside.Guides.{IsGuide}
 use Rattle.th_cuts.proofs.cuts.least_cut_along.Given as goal
@@ -10,4 +11,4 @@ invariant-flowing l = record {
 }
 
 abbrev pub decreases-flowing : goal.decreases-flowing
-decreases-flowing l = 40000000 - l.flow.value
+decreases-flowing l = max_total_weight - l.flow.value

@@ -1,5 +1,6 @@
 use Rattle.std.proofs.Common.{All, [], ◌∷◌, ◌++◌, None, ◌≢◌, ◌≡◌, ◌+◌, length, ◌≤◌, unsigned_abs, subst, sym, ap, refl, ◌∙◌, arith, length-append}
 use Rattle.std.proofs.lemmas.List.{map-append}
+use Rattle.th_search.specs.Limits.{farthest}
 use Rattle.th_search.specs.Walks.{IsArc}
 use Rattle.th_search.specs.Potentials.{value_at}
 use Rattle.th_search.specs.Inside.Levels.{IsAbove, last_at, row_of, rows_of}
@@ -26,7 +27,7 @@ above-requires-clause-within c v =
     let size = c.loop-number.invariant.size in
     let few = c.requires.vertices in
     let row = row_read c.loop-number.levels.items c.loop-number.number _ (omega arith) c.index.ensures in
-    subst (λ row. unsigned_abs (value_at row.costs v) ≤ 40000000000000000) row (sized _ _ _ c.loop-number.number v c.requires.arcs c.loop-number.invariant.levels (omega (arith, rows_size c.loop-number.levels.items _ refl)) (omega arith))
+    subst (λ row. unsigned_abs (value_at row.costs v) ≤ farthest) row (sized _ _ _ c.loop-number.number v c.requires.arcs c.loop-number.invariant.levels (omega (arith, rows_size c.loop-number.levels.items _ refl)) (omega arith))
 
 pub lowered_vertex-requires : goal.lowered_vertex-requires
 lowered_vertex-requires c =
