@@ -6,7 +6,7 @@ use Rattle.std.proofs.lemmas.List.{take-take, take_all, take_min, drop-take, get
 use Rattle.std.proofs.lemmas.List.Sums.{prefix_len_stops, prefix_len-le-length}
 use Rattle.std.proofs.Math.Nat.{min_comm}
 use Rattle.std.proofs.Math.Seq.{take-add, take-append-add}
-use Rattle.gsi_block.specs.Limits.{max_kept}
+use Rattle.gsi_block.specs.Limits.{max_kept, max_line}
 use Rattle.gsi_block.specs.Lines.{is_line_feed, is_in_line, onto_first, lines_of}
 use Rattle.gsi_block.specs.Pieces.{LineState, cut_line, cut_lines, behind_return, begun, lines_due}
 use Rattle.gsi_block.specs.Inside.Ends.{end_len, is_lone_return, feed_len}
@@ -46,7 +46,7 @@ take-onto_taken (suc n) (byte ∷ front) line = ap (λ bytes. byte ∷ bytes) (t
 cut_lines-onto : (front : List ℕ) (lines : List (List ℕ)) → cut_lines (onto_lines (cut_line front) lines) ≡ cut_lines (onto_lines front lines)
 cut_lines-onto [] lines = refl
 cut_lines-onto (byte ∷ front) [] =
-    ap cut_lines (onto_lines-none byte (take 1600 front))
+    ap cut_lines (onto_lines-none byte (take max_line front))
     ∙ ap (λ line. line ∷ []) (take-take max_kept max_kept (byte ∷ front) (omega arith))
     ∙ ap cut_lines (sym (onto_lines-none byte front))
 cut_lines-onto (byte ∷ front) (line ∷ lines) =

@@ -1,4 +1,4 @@
-use Rattle.std.specs.Prelude.{ℕ}
+use Rattle.std.specs.Prelude.{ℕ, ◌+◌}
 
 -- the most bytes that a line of a book has, without its end
 abbrev pub max_line : ℕ
@@ -10,4 +10,4 @@ max_words = 64
 
 -- the most bytes that are kept of a line that comes in pieces: one more than a line of a book has, so that one that is too long is seen to be
 abbrev pub max_kept : ℕ
-max_kept = 1601
+max_kept = max_line + 1

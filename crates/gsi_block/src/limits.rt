@@ -1,3 +1,5 @@
+use gsi_word::MAX_WORD;
+
 /// The most bytes that a line of a book has, without its end.
 pub const MAX_LINE: usize = 1_600;
 
@@ -5,7 +7,7 @@ pub const MAX_LINE: usize = 1_600;
 pub const MAX_WORDS: usize = 64;
 
 /// The most bytes that `Lines` keeps of a line: one more than `MAX_LINE`.
-pub const MAX_KEPT: usize = 1_601;
+pub const MAX_KEPT: usize = MAX_LINE + 1;
 
-/// The most bytes that a block is written in: `*`, 64 words of 24 bytes, CR and LF.
-pub(crate) const MAX_WRITTEN: usize = 1_539;
+/// The most bytes that a block is written in: `*`, its words, CR and LF.
+pub(crate) const MAX_WRITTEN: usize = 1 + MAX_WORDS * MAX_WORD + 2;

@@ -1,5 +1,6 @@
 ghost use Rattle.std.specs.Prelude.{◌≡◌, ◌+◌, ◌*◌, ◌≤◌, ◌++◌, IsOk, OnErr, OnOk, length, map, vec_capacity, vec_len};
 ghost use Rattle.std.specs.List.{flat_map};
+ghost use Rattle.gsi_word.specs.Limits.{max_word};
 ghost use Rattle.arrayvec.specs.ArrayVec.{array_vec_len};
 ghost use Rattle.gsi_word.specs.Words.{closed, parts_of};
 ghost use Rattle.gsi_block.specs.Blocks.{block_parts};
@@ -34,9 +35,9 @@ pub fn write_block(block: &Block, out: &mut Vec<u8>) -> Result<(), AllocError>
 /// Appends words to a line, each with the space that closes it.
 fn append_words(words: &[Word], width: Width, line: &mut ArrayVec<u8, MAX_WRITTEN>)
     requires spelled { AreSpelled width (map parts_of words.now) }
-    requires room { array_vec_len line.old + 24 * length words.now ≤ 1539 }
+    requires room { array_vec_len line.old + max_word * length words.now ≤ MAX_WRITTEN }
     ensures items { line.new.items ≡ line.old.items ++ flat_map closed (map parts_of words.now) }
-    ensures len { array_vec_len line.new ≤ array_vec_len line.old + 24 * length words.now }
+    ensures len { array_vec_len line.new ≤ array_vec_len line.old + max_word * length words.now }
 {
     for word in words {
         let mut closed = ArrayVec::new();

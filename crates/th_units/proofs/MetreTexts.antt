@@ -15,7 +15,7 @@ use Rattle.std.proofs.lemmas.List.Folds.{list_all-append}
 use Rattle.std.proofs.lemmas.Str.{digit_value_digit}
 use Rattle.std.proofs.lemmas.Str.Parse.{digit_from_value}
 use Rattle.th_units.specs.Lengths.{is_digit, are_digits, number, signed}
-use Rattle.th_units.specs.Metres.{last_digits, metres, size_in_metres, is_dot, whole, decimals, are_decimals, units_of, size_value, value, has_minus, has_sign, without_sign}
+use Rattle.th_units.specs.Metres.{last_digits, metres, size_in_metres, is_dot, whole, decimals, are_decimals, units_of, size_value, value, has_minus, has_sign, without_sign, metre}
 use Rattle.th_units.proofs.Digits.{length-last_digits, list_all-get_or, digit_bounds}
 
 -- a byte from 48 to 57 passes the test for digits
@@ -91,18 +91,18 @@ size_value-parts text digits places first second digits_are places_are short =
 -- a size in metres is read as that size
 size_value-size_in_metres : (size : ℕ) → size < 10 ^ 17 → size_value (size_in_metres size) ≡ Ok size
 size_value-size_in_metres size small =
-    let digits = decimal (size / 100000000) in
-    let places = last_digits 8 (size % 100000000) in
-    let numeral = decimal_is_IsNumeral (size / 100000000) (omega arith) in
+    let digits = decimal (size / metre) in
+    let places = last_digits 8 (size % metre) in
+    let numeral = decimal_is_IsNumeral (size / metre) (omega arith) in
     let all : list_all is_digit digits ≡ true = list_all-from_AllDigits digits numeral.0.1 in
     let parts = whole_decimals digits places all in
-    let long : length places ≡ 8 = length-last_digits 8 (size % 100000000) in
-    let short : length digits ≤ 9 = length-decimal-le 9 (size / 100000000) (omega arith) (omega arith) (omega arith) in
+    let long : length places ≡ 8 = length-last_digits 8 (size % metre) in
+    let short : length digits ≤ 9 = length-decimal-le 9 (size / metre) (omega arith) (omega arith) (omega arith) in
     let eight : nat_le (length places) 8 ≡ true = grind (arith, nat_tests) in
     let places_are : are_decimals places ≡ true =
-    ap (λ b. b && nat_le (length places) 8) (are_digits-from_all places (omega arith) (last_digits_are 8 (size % 100000000))) ∙ eight in
-    let metres_are : number digits ≡ size / 100000000 = numeral.1 in
-    let decimals_are : number places ≡ size % 100000000 = number-last_digits 8 (size % 100000000) (omega arith) in
+    ap (λ b. b && nat_le (length places) 8) (are_digits-from_all places (omega arith) (last_digits_are 8 (size % metre))) ∙ eight in
+    let metres_are : number digits ≡ size / metre = numeral.1 in
+    let decimals_are : number places ≡ size % metre = number-last_digits 8 (size % metre) (omega arith) in
     size_value-parts (size_in_metres size) digits places parts.0 parts.1 (are_digits-from_all digits numeral.0.0 all) places_are short
     ∙ ap Ok (rw (metres_are, decimals_are, long) (omega arith))
 
@@ -117,11 +117,11 @@ not_negative n = grind (arith, nat_tests)
 -- a size in metres begins with a digit, which is no sign
 no_sign : (size : ℕ) → size < 10 ^ 17 → (has_minus (size_in_metres size) ≡ false) × (without_sign (size_in_metres size) ≡ size_in_metres size)
 no_sign size small =
-    let digits = decimal (size / 100000000) in
+    let digits = decimal (size / metre) in
     let text = size_in_metres size in
-    let numeral = decimal_is_IsNumeral (size / 100000000) (omega arith) in
+    let numeral = decimal_is_IsNumeral (size / metre) (omega arith) in
     let all : list_all is_digit digits ≡ true = list_all-from_AllDigits digits numeral.0.1 in
-    let first : get_or text 0 0 ≡ get_or digits 0 0 = get_or_append_left digits (46 ∷ last_digits 8 (size % 100000000)) 0 0 numeral.0.0 in
+    let first : get_or text 0 0 ≡ get_or digits 0 0 = get_or_append_left digits (46 ∷ last_digits 8 (size % metre)) 0 0 numeral.0.0 in
     let bounds = digit_bounds (get_or digits 0 0) (list_all-get_or is_digit digits 0 numeral.0.0 all) in
     let no_minus : has_minus text ≡ false = rw first (grind (arith, nat_tests)) in
     let no_plus : (get_or text 0 0 == 43) ≡ false = rw first (grind (arith, nat_tests)) in
