@@ -1,7 +1,6 @@
 -- The tests over places give the verdict.
-use Rattle.std.proofs.Common.{◌≡◌, ◌<◌, ◌*◌, ◌==◌, ◌&&◌, ℕ, ℤ, pos, ◌-ℤ◌, not, Bool, true, false, if◌then◌else◌, List, [], ◌∷◌, length, get_or, map, Option, Some, None, Result, IfOk, IfSome, All, find, is_none, nat_lt, sum_by, unsigned_abs, suc, refl, sym, ap, subst, ◌∙◌, arith}
+use Rattle.std.proofs.Common.{◌≡◌, ◌<◌, ◌*◌, ◌==◌, ◌&&◌, ℕ, ℤ, pos, ◌-ℤ◌, not, Bool, true, false, if◌then◌else◌, List, [], ◌∷◌, length, get_or, map, Option, Some, None, IfSome, find, is_none, sum_by, unsigned_abs, suc, refl, sym, ap, ◌∙◌, arith}
 use Rattle.std.specs.List.{position_from, zip}
-use Rattle.std.specs.declared.alloc.AllocError.{AllocError}
 use Rattle.std.specs.Ordering.{int_eq}
 use Rattle.std.proofs.lemmas.Bool.Decides.{Decides-int_eq}
 use Rattle.std.proofs.lemmas.Int.{ints}
@@ -12,25 +11,23 @@ use Rattle.th_network.specs.Circulation.{arriving, leaving, total_by}
 use Rattle.th_network.specs.Heights.{cost, residual}
 use Rattle.th_points.specs.Ends.{ArePoints, ends_in}
 use Rattle.th_points.specs.Points.{points}
-use Rattle.th_network.proofs.NetworkLemmas.{ends_within}
 use Rattle.th_points.proofs.PointLemmas.{ends_are_points}
 use Rattle.th_certificate.specs.Certified.{Certified, HeightRows, stated_height}
 use Rattle.th_certificate.proofs.SurveyLemmas.{IsDistinct-points}
-use Rattle.th_checker.specs.Inside.Tests.{added_at, AreBalances, AreBelow, AreHeightsAt, AreListed, AreMaps, AreStated, cost_at, first_place, is_slack_at, listed_in, not_slack_at, residual_at, slack_verdict_at, span_not_slack_at}
+use Rattle.th_checker.specs.Inside.Tests.{added_at, AreBalances, AreHeightsAt, AreListed, AreMaps, AreMapsAt, AreStated, cost_at, first_place, is_slack_at, listed_in, not_slack_at, residual_at, slack_verdict_at, span_not_slack_at, too_large_at}
 use Rattle.th_checker.specs.Verdicts.{first_not_slack, first_too_large, first_unbalanced, flow_verdict, if_found, not_slack_in, slack_verdict, unless}
 use Rattle.th_checker.specs.declared.maps.Maps.{Maps}
 use Rattle.th_checker.specs.declared.verdicts.Reason.TheVariants.{FlowTooLarge, Unbalanced, NotSlack, WrongCost, LowNotSlack, HighNotSlack}
-use Rattle.th_checker.specs.declared.verdicts.Verdict.{Verdict}
 use Rattle.th_checker.specs.declared.verdicts.Verdict.TheVariants.{Yes}
 use Rattle.th_checker.proofs.PlaceLemmas.{balance_by_places, cost_by_places, not_slack_same, residuals_by_places, too_large_same, weight_by}
 
 -- the first flow that is too large
 pub too_large_found : (weights : WeightRows) (observations : List Observed) (flows fs : List ℤ) (ws : List ℕ) (found : Option ℕ) → ws ≡ map (weight_by weights) observations → fs ≡ flows
-    → found ≡ position_from (λ pair. nat_lt pair.0 (unsigned_abs pair.1)) 1 (zip ws fs) → found ≡ first_too_large observations weights flows
+    → found ≡ too_large_at ws fs → found ≡ first_too_large observations weights flows
 too_large_found weights observations flows fs ws found a b h =
     h
-    ∙ ap (λ (ws : List ℕ). position_from (λ pair. nat_lt pair.0 (unsigned_abs pair.1)) 1 (zip ws fs)) a
-    ∙ ap (λ (fs : List ℤ). position_from (λ pair. nat_lt pair.0 (unsigned_abs pair.1)) 1 (zip (map (weight_by weights) observations) fs)) b
+    ∙ ap (λ (ws : List ℕ). too_large_at ws fs) a
+    ∙ ap (too_large_at (map (weight_by weights) observations)) b
     ∙ too_large_same weights observations flows 1
 
 -- a difference is zero just where both are the same
@@ -81,19 +78,22 @@ unbalanced_found observations benchmarks flows fs names ends balances found are 
     ∙ ap (λ (es : List (ℕ × ℕ)). total_by (added_at k) (zip es flows)) placed
     ∙ balance_by_places all observations flows k [] (IsDistinct-points observations benchmarks) within)
 
--- the heights of a map at the places of the ends
-pub heights_at_ends : (observations : List Observed) (benchmarks : BenchmarkRows) (names : List (List ℕ)) (ends : List (ℕ × ℕ)) (rows : HeightRows) (heights : List ℤ) → ArePoints observations benchmarks names ends → AreStated names rows heights
-    → AreHeightsAt ends heights
-heights_at_ends observations benchmarks names ends rows heights are stated =
-    let size : length names ≡ length heights = sym (ap length stated.value ∙ length-map names (stated_height rows)) in
-    record { within = subst (λ n. All (AreBelow n) ends) size (ends_within observations benchmarks names ends are); in_range = stated.in_range }
+-- a height for each of the names
+heights_at_names : (names : List (List ℕ)) (rows : HeightRows) (heights : List ℤ) → AreStated names rows heights → AreHeightsAt (length names) heights
+heights_at_names names rows heights stated = record { each = ap length stated.value ∙ length-map names (stated_height rows); in_range = stated.in_range }
 
-pub span_at_ends : (observations : List Observed) (benchmarks : BenchmarkRows) (names : List (List ℕ)) (ends : List (ℕ × ℕ)) (span : Option HeightRows) (heights : Option (List ℤ)) → ArePoints observations benchmarks names ends → AreListed names span heights
-    → IfSome heights (AreHeightsAt ends)
-span_at_ends observations benchmarks names ends None None are listed = tt
-span_at_ends observations benchmarks names ends None (Some heights) are listed = absurd listed
-span_at_ends observations benchmarks names ends (Some rows) None are listed = tt
-span_at_ends observations benchmarks names ends (Some rows) (Some heights) are listed = heights_at_ends observations benchmarks names ends rows heights are listed
+span_at_names : (names : List (List ℕ)) (span : Option HeightRows) (heights : Option (List ℤ)) → AreListed names span heights → IfSome heights (AreHeightsAt (length names))
+span_at_names names None None listed = tt
+span_at_names names None (Some heights) listed = absurd listed
+span_at_names names (Some rows) None listed = tt
+span_at_names names (Some rows) (Some heights) listed = heights_at_names names rows heights listed
+
+pub maps_at_names : (names : List (List ℕ)) (certificate : Certified) (maps : Maps) → AreMaps names certificate maps → AreMapsAt (length names) maps
+maps_at_names names certificate maps are = record {
+  heights = heights_at_names names certificate.heights maps.heights.items are.heights;
+  low = span_at_names names certificate.low (listed_in maps.low) are.low;
+  high = span_at_names names certificate.high (listed_in maps.high) are.high;
+}
 
 module _ (observations : List Observed) (benchmarks : BenchmarkRows) (weights : WeightRows) (names : List (List ℕ)) (ends : List (ℕ × ℕ)) (are : ArePoints observations benchmarks names ends) where
   -- the residuals over listed heights
@@ -142,11 +142,8 @@ module _ (observations : List Observed) (benchmarks : BenchmarkRows) (weights : 
       (span_is certificate.high (listed_in maps.high) flows maps_are.high)
 
 -- the verdict where no flow is too large and no point out of balance
-pub flow_is : (observations : List Observed) (benchmarks : BenchmarkRows) (weights : WeightRows) (certificate : Certified) (result : Result Verdict AllocError) (verdict : Verdict) → None ≡ first_too_large observations weights certificate.flows
-    → None ≡ first_unbalanced observations benchmarks certificate.flows → verdict ≡ slack_verdict observations weights certificate → IfOk result (λ v. v ≡ verdict) → IfOk result (λ v. v ≡ flow_verdict observations benchmarks weights certificate)
-flow_is observations benchmarks weights certificate result verdict none balanced slack h =
-    subst (λ (verdict : Verdict). IfOk result (λ v. v ≡ verdict))
-    (slack
-    ∙ ap (λ (f : Option (List ℕ)). if_found f Unbalanced (slack_verdict observations weights certificate)) balanced
-    ∙ ap (λ (f : Option ℕ). if_found f FlowTooLarge (if_found (first_unbalanced observations benchmarks certificate.flows) Unbalanced (slack_verdict observations weights certificate))) none)
-    h
+pub flow_is : (observations : List Observed) (benchmarks : BenchmarkRows) (weights : WeightRows) (certificate : Certified) → None ≡ first_too_large observations weights certificate.flows → None ≡ first_unbalanced observations benchmarks certificate.flows
+    → slack_verdict observations weights certificate ≡ flow_verdict observations benchmarks weights certificate
+flow_is observations benchmarks weights certificate none balanced =
+    ap (λ (f : Option (List ℕ)). if_found f Unbalanced (slack_verdict observations weights certificate)) balanced
+    ∙ ap (λ (f : Option ℕ). if_found f FlowTooLarge (if_found (first_unbalanced observations benchmarks certificate.flows) Unbalanced (slack_verdict observations weights certificate))) none

@@ -1,12 +1,13 @@
 -- Numbers of the machine that are compared.
-use Rattle.std.proofs.Common.{◌≡◌, ◌<◌, ◌≤◌, ◌*◌, ◌^◌, ◌==◌, ℕ, ℤ, pos, ◌*ℤ◌, Bool, true, false, w64, to_z, of_z, Option, Some, None, IfSome, unsigned_abs, refl, sym, ap, ◌∙◌, arith, eq-eqb, mul-le-mul, All, List, length, get_or}
+use Rattle.std.proofs.Common.{◌≡◌, ◌<◌, ◌≤◌, ◌*◌, ◌^◌, ◌==◌, ℕ, ℤ, pos, ◌-ℤ◌, ◌*ℤ◌, Bool, true, false, w64, to_z, of_z, Option, Some, None, IfSome, unsigned_abs, refl, sym, ap, ◌∙◌, arith, eq-eqb, mul-le-mul, All, List, length, get_or}
 use Rattle.std.specs.Int.{w128}
 use Rattle.std.specs.Option.{unwrap_or}
 use Rattle.std.specs.Ordering.{int_eq}
 use Rattle.std.proofs.lemmas.Bool.{eqb-true}
 use Rattle.std.proofs.lemmas.Bool.Decides.{Decides-int_eq}
 use Rattle.std.proofs.lemmas.List.Elements.{All-get_or}
-use Rattle.std.proofs.lemmas.Int.{fits_signed_from_abs, to_z-of_z, unsigned_abs-mul}
+use Rattle.std.proofs.lemmas.Int.{fits_signed_from_abs, ints, to_z-of_z, unsigned_abs-mul}
+use Rattle.th_book.specs.Observed.{largest_difference}
 use Rattle.th_certificate.specs.Certified.{AreFlows, flow_limit}
 use Rattle.th_network.specs.Limits.{height_limit}
 use Rattle.th_certificate.specs.Limits.{most_residual}
@@ -55,11 +56,6 @@ small_or_zero None h = omega arith
 small_or_zero (Some height) h = h
 
 -- a number of a list of numbers in their range
-pub plain : (xs : List ℤ) (i : ℕ) → All (λ x. unsigned_abs x ≤ most_residual) xs → i < length xs → to_z w64 (of_z w64 (get_or xs i (pos 0))) ≡ get_or xs i (pos 0)
-plain xs i each within =
-    let small = All-get_or (λ x. unsigned_abs x ≤ most_residual) xs i (pos 0) within each in
-    to_z-of_z w64 (get_or xs i (pos 0)) (fits_signed_from_abs w64 (get_or xs i (pos 0)) (omega (arith, small)))
-
 pub plain_flow : (flows : List ℤ) (i : ℕ) → AreFlows flows → i < length flows → to_z w64 (of_z w64 (get_or flows i (pos 0))) ≡ get_or flows i (pos 0)
 plain_flow flows i each within =
     let small = All-get_or (λ x. unsigned_abs x < flow_limit) flows i (pos 0) within each in
@@ -69,3 +65,21 @@ pub plain_height : (heights : List ℤ) (k : ℕ) → All (λ height. unsigned_a
 plain_height heights k each within =
     let small = All-get_or (λ x. unsigned_abs x < height_limit) heights k (pos 0) within each in
     to_z-of_z w64 (get_or heights k (pos 0)) (fits_signed_from_abs w64 (get_or heights k (pos 0)) (omega (arith, small)))
+
+-- what the machine makes of a difference between two heights in their range
+pub residual_plain : (d t s : ℤ) → unsigned_abs d ≤ largest_difference → unsigned_abs t < height_limit → unsigned_abs s < height_limit
+    → to_z w64 (of_z w64 (to_z w64 (of_z w64 d) -ℤ to_z w64 (of_z w64 (to_z w64 (of_z w64 t) -ℤ to_z w64 (of_z w64 s))))) ≡ d -ℤ (t -ℤ s)
+residual_plain d t s a b e =
+    let own : to_z w64 (of_z w64 d) ≡ d = to_z-of_z w64 d (fits_signed_from_abs w64 d (omega (arith, a))) in
+    let to : to_z w64 (of_z w64 t) ≡ t = to_z-of_z w64 t (fits_signed_from_abs w64 t (omega (arith, b))) in
+    let from : to_z w64 (of_z w64 s) ≡ s = to_z-of_z w64 s (fits_signed_from_abs w64 s (omega (arith, e))) in
+    let rise : to_z w64 (of_z w64 (t -ℤ s)) ≡ t -ℤ s = to_z-of_z w64 (t -ℤ s) (fits_signed_from_abs w64 (t -ℤ s) (omega (arith, ints, b, e))) in
+    let left : to_z w64 (of_z w64 (d -ℤ (t -ℤ s))) ≡ d -ℤ (t -ℤ s) = to_z-of_z w64 (d -ℤ (t -ℤ s)) (fits_signed_from_abs w64 (d -ℤ (t -ℤ s)) (omega (arith, ints, a, b, e))) in
+    ap (λ z. to_z w64 (of_z w64 (z -ℤ to_z w64 (of_z w64 (to_z w64 (of_z w64 t) -ℤ to_z w64 (of_z w64 s)))))) own
+    ∙ ap (λ z. to_z w64 (of_z w64 (d -ℤ to_z w64 (of_z w64 (z -ℤ to_z w64 (of_z w64 s)))))) to
+    ∙ ap (λ z. to_z w64 (of_z w64 (d -ℤ to_z w64 (of_z w64 (t -ℤ z))))) from
+    ∙ ap (λ z. to_z w64 (of_z w64 (d -ℤ z))) rise
+    ∙ left
+
+pub residual_small : (d t s : ℤ) → unsigned_abs d ≤ largest_difference → unsigned_abs t < height_limit → unsigned_abs s < height_limit → unsigned_abs (d -ℤ (t -ℤ s)) ≤ most_residual
+residual_small d t s a b e = omega (arith, ints, a, b, e)

@@ -1,7 +1,7 @@
 -- The first of some elements that passes a test, as a loop looks for it.
-use Rattle.std.proofs.Common.{◌≡◌, ◌<◌, ◌≤◌, ◌+◌, ◌&&◌, ℕ, Bool, true, false, cond, List, [], ◌∷◌, ◌++◌, map, length, get_or, drop, take, Some, None, slice_get, ◌⊎◌, inl, inr, sym, ap, ◌∙◌}
+use Rattle.std.proofs.Common.{◌≡◌, ◌<◌, ◌≤◌, ◌+◌, ◌&&◌, ℕ, Bool, true, false, cond, List, [], ◌∷◌, length, get_or, drop, take, Some, None, slice_get, ◌⊎◌, inl, inr, sym, ap, ◌∙◌}
 use Rattle.std.specs.List.{list_all, position_from}
-use Rattle.std.proofs.lemmas.List.{drop_all, drop_more, map-append, take_all, take_more}
+use Rattle.std.proofs.lemmas.List.{drop_all, drop_more, take_all, take_more}
 use Rattle.std.proofs.lemmas.Option.{slice_get_cases}
 use Rattle.std.proofs.lemmas.List.Folds.{list_all-append, list_all_at}
 
@@ -43,8 +43,3 @@ module _ {X : Type 0} (test : X → Bool) where
   -- all of them pass
   pub all_pass : (xs : List X) (k : ℕ) → length xs ≤ k → list_all test (take k xs) ≡ true → list_all test xs ≡ true
   all_pass xs k past so_far = ap (list_all test) (sym (take_all k xs past)) ∙ so_far
-
--- one more element of a list that is made from another, element by element
-pub map_more : {X Y : Type 0} (f : X → Y) (xs : List X) (k : ℕ) (x : X) (ys : List Y) (y : Y) → k < length xs → ys ≡ map f (take k xs) → y ≡ f (get_or xs k x) → ys ++ y ∷ [] ≡ map f (take (k + 1) xs)
-map_more f xs k x ys y within so_far is =
-    ap (λ front. front ++ y ∷ []) so_far ∙ ap (λ last. map f (take k xs) ++ last ∷ []) is ∙ sym (map-append f (take k xs) (get_or xs k x ∷ [])) ∙ ap (map f) (sym (take_more xs k x within))

@@ -1,44 +1,33 @@
-ghost use Rattle.std.specs.Prelude.{◌≡◌, ◌&&◌, ◌<◌, ◌≤◌, ◌==◌, ℕ, pos, ◌^◌, ◌+ℤ◌, ◌-ℤ◌, All, IfOk, find, get_or, is_none, length, map, not, slice_get, slice_set, unsigned_abs};
+ghost use Rattle.std.specs.Prelude.{◌≡◌, ◌&&◌, ◌<◌, ◌≤◌, ◌==◌, ℕ, pos, ◌^◌, ◌+ℤ◌, IfOk, find, get_or, is_none, length, not, slice_get, slice_set, unsigned_abs};
 ghost use Rattle.std.specs.List.{zip};
 ghost use Rattle.std.specs.Ordering.{int_eq};
-ghost use Rattle.th_network.specs.Limits.{max_observations};
 ghost use Rattle.th_tables.specs.Rows.{height_of};
-ghost use Rattle.th_certificate.specs.Certified.{AreFlows, flow_limit};
-ghost use Rattle.th_checker.specs.Inside.Tests.{AreBalances, AreBelow, first_place};
+ghost use Rattle.th_certificate.specs.Certified.{flow_limit};
+ghost use Rattle.th_checker.specs.Inside.Tests.{AreBalances, first_place};
 
+use crate::observations::Tested;
 use gsi_word::Name;
 use std::alloc::{AllocError, Global};
 use th_tables::Benchmarks;
 
 /// For each point how much more flow arrives than leaves, by the places of the ends.
-pub(crate) fn balances_of(
-    alloc: Global,
-    points: usize,
-    ends: &[(usize, usize)],
-    flows: &[i64],
-) -> Result<Vec<i64>, AllocError>
-    requires each { length flows.now ≡ length ends.now }
-    requires few { length ends.now ≤ max_observations }
-    requires within { All (AreBelow points) ends.now }
-    requires in_range { AreFlows flows.now }
-    ensures { IfOk result (λ balances. AreBalances points (zip ends.now flows.now) balances.items) }
+pub(crate) fn balances_of(alloc: Global, tested: &Tested<'_>) -> Result<Vec<i64>, AllocError>
+    ensures { IfOk result (λ balances. AreBalances tested.now.points
+        (zip tested.now.ends.now tested.now.flows.now) balances.items) }
 {
-    let mut balances = vec![in alloc; 0; points]?;
-    add_all(&mut balances, ends, flows);
+    let mut balances = vec![in alloc; 0; tested.points]?;
+    add_all(&mut balances, tested);
     Ok(balances)
 }
 
 /// Takes each flow from its station's balance, and gives it to that of its target.
-fn add_all(balances: &mut [i64], ends: &[(usize, usize)], flows: &[i64])
-    requires each { length flows.now ≡ length ends.now }
-    requires few { length ends.now ≤ max_observations }
-    requires within { All (AreBelow (length balances.old)) ends.now }
-    requires in_range { AreFlows flows.now }
+fn add_all(balances: &mut [i64], tested: &Tested<'_>)
+    requires size { length balances.old ≡ tested.now.points }
     requires zero { (place : ℕ) → get_or balances.old place (pos 0) ≡ pos 0 }
-    ensures { AreBalances (length balances.old) (zip ends.now flows.now) balances.new }
+    ensures { AreBalances tested.now.points (zip tested.now.ends.now tested.now.flows.now) balances.new }
 {
-    for (i, flow) in flows.iter().enumerate() {
-        let (station, target) = ends[i];
+    for (i, flow) in tested.flows.iter().enumerate() {
+        let (station, target) = tested.ends[i];
         add(balances, station, -*flow);
         add(balances, target, *flow);
     }

@@ -7,7 +7,7 @@ ghost use Rattle.th_network.specs.Heights.{LeastFine};
 ghost use Rattle.th_network.specs.Networks.{Survey};
 ghost use Rattle.th_certificate.specs.Certified.{Certified, HeightRows, stated_height};
 ghost use Rattle.th_certificate.specs.Reading.{certificate_of};
-ghost use Rattle.th_certificate.specs.Texts.{AreOfObservations, IsCertifiable, text_of_version_1, text_of_version_2};
+ghost use Rattle.th_certificate.specs.Texts.{IsCertifiable, text_of_version_1, text_of_version_2};
 ghost use Rattle.th_checker.specs.Accepted.{IsShown};
 ghost use Rattle.th_checker.specs.Shown.{Shown};
 ghost use Rattle.th_checker.specs.Verdicts.{verdict_of};
@@ -66,32 +66,4 @@ pub fn yes_is_said_of_what_is_shown()
         → AreBenchmarks benchmarks
         → IsShown observations benchmarks weights certificate
         → verdict_of observations benchmarks weights certificate ≡ Yes }
-{}
-
-/// What is written is accepted. If a survey makes a network, and one circulation shows maps of
-/// heights that keep the benchmarks, the text of version 1 is read as a certificate whose verdict
-/// is yes.
-pub fn text_of_version_1_is_accepted()
-    ensures { (survey : Survey) (heights : List ℕ → ℤ) (flows : List ℤ) (certificate : Certified)
-        → IsCertifiable survey
-        → AreBenchmarks survey.benchmarks
-        → Shown survey heights flows
-        → AreOfObservations survey flows
-        → certificate_of (text_of_version_1 survey heights flows) ≡ Ok certificate
-        → verdict_of survey.observations survey.benchmarks survey.weights certificate ≡ Yes }
-{}
-
-/// The same for the text of version 2, with heights, lowest and highest heights that one
-/// circulation shows.
-pub fn text_of_version_2_is_accepted()
-    ensures { (survey : Survey) (heights low high : List ℕ → ℤ) (flows : List ℤ)
-        (certificate : Certified)
-        → IsCertifiable survey
-        → AreBenchmarks survey.benchmarks
-        → Shown survey heights flows
-        → Shown survey low flows
-        → Shown survey high flows
-        → AreOfObservations survey flows
-        → certificate_of (text_of_version_2 survey heights low high flows) ≡ Ok certificate
-        → verdict_of survey.observations survey.benchmarks survey.weights certificate ≡ Yes }
 {}

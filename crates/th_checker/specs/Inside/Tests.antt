@@ -1,13 +1,13 @@
 -- What is tested of observations by the places of their ends among the points.
-use Rattle.std.specs.Prelude.{◌≡◌, ◌<◌, ◌==◌, ◌&&◌, ℕ, ℤ, ◌*◌, pos, ◌-ℤ◌, ◌*ℤ◌, not, Bool, List, [], ◌∷◌, All, Option, Some, None, Vec, ⊤, map, sum_by, length, get_or, if◌then◌else◌, is_none, unsigned_abs}
+use Rattle.std.specs.Prelude.{◌≡◌, ◌<◌, ◌≤◌, ◌==◌, ◌&&◌, ℕ, ℤ, ◌*◌, pos, ◌-ℤ◌, ◌*ℤ◌, not, Bool, List, [], ◌∷◌, All, IfSome, Option, Some, None, Vec, ⊤, map, nat_lt, sum_by, length, get_or, if◌then◌else◌, is_none, unsigned_abs}
 use Rattle.std.specs.Ordering.{int_eq}
 use Rattle.th_book.specs.Observed.{Observed}
 use Rattle.th_tables.specs.Rows.{BenchmarkRows, height_of}
 use Rattle.std.specs.declared.alloc.Global.{Global}
 use Rattle.th_network.specs.Circulation.{total_by}
 use Rattle.std.specs.List.{position_from, zip}
-use Rattle.th_certificate.specs.Certified.{Certified, HeightRows, stated_height}
-use Rattle.th_network.specs.Limits.{height_limit}
+use Rattle.th_certificate.specs.Certified.{AreFlows, Certified, HeightRows, stated_height}
+use Rattle.th_network.specs.Limits.{height_limit, max_observations}
 use Rattle.th_checker.specs.Verdicts.{if_found, unless}
 use Rattle.th_checker.specs.declared.maps.Maps.{Maps}
 use Rattle.th_checker.specs.declared.verdicts.Reason.TheVariants.{NotSlack, WrongCost, LowNotSlack, HighNotSlack}
@@ -42,9 +42,18 @@ first_place benchmarks (name ∷ names) [] = None
 first_place benchmarks (name ∷ names) (balance ∷ balances) =
     if not (int_eq balance (pos 0)) && is_none (height_of benchmarks name) then Some name else first_place benchmarks names balances
 
--- heights in their range that are listed in the order of the points, among which both ends of each observation have a place
-pub record AreHeightsAt (ends : List (ℕ × ℕ)) (heights : List ℤ) : Type 0 where
-  pub within : All (AreBelow (length heights)) ends
+-- observations, as few as a network may have, that end among so many points, with a weight and a flow in its range for each
+pub record AreTested (points : ℕ) (observations : List Observed) (ends : List (ℕ × ℕ)) (weights : List ℕ) (flows : List ℤ) : Type 0 where
+  pub few : length observations ≤ max_observations
+  pub ended : length ends ≡ length observations
+  pub within : All (AreBelow points) ends
+  pub weighed : length weights ≡ length observations
+  pub flowing : length flows ≡ length observations
+  pub in_range : AreFlows flows
+
+-- a height in its range for each of so many points
+pub record AreHeightsAt (points : ℕ) (heights : List ℤ) : Type 0 where
+  pub each : length heights ≡ points
   pub in_range : All (λ height. unsigned_abs height < height_limit) heights
 
 -- the heights that rows state for some names, in their order, and each in its range
@@ -70,9 +79,23 @@ pub record AreMaps (names : List (List ℕ)) (certificate : Certified) (maps : M
   pub low : AreListed names certificate.low (listed_in maps.low)
   pub high : AreListed names certificate.high (listed_in maps.high)
 
+-- each map has a height for each of so many points
+pub record AreMapsAt (points : ℕ) (maps : Maps) : Type 0 where
+  pub heights : AreHeightsAt points maps.heights.items
+  pub low : IfSome (listed_in maps.low) (AreHeightsAt points)
+  pub high : IfSome (listed_in maps.high) (AreHeightsAt points)
+
+-- the number of the first observation whose flow is above its weight in size
+abbrev pub too_large_at : List ℕ → List ℤ → Option ℕ
+too_large_at weights flows = position_from (λ pair. nat_lt pair.0 (unsigned_abs pair.1)) 1 (zip weights flows)
+
+-- the residuals over listed heights
+abbrev pub residuals_at : List (Observed × (ℕ × ℕ)) → List ℤ → List ℤ
+residuals_at ended heights = map (residual_at heights) ended
+
 -- the number of the first observation that is not slack, over listed heights
 abbrev pub not_slack_at : List ℕ → List (Observed × (ℕ × ℕ)) → List ℤ → List ℤ → Option ℕ
-not_slack_at weights ended flows heights = position_from (λ it. not (is_slack_at it)) 1 (zip weights (zip (map (residual_at heights) ended) flows))
+not_slack_at weights ended flows heights = position_from (λ it. not (is_slack_at it)) 1 (zip weights (zip (residuals_at ended heights) flows))
 
 -- the same of a map that may be there
 abbrev pub span_not_slack_at : List ℕ → List (Observed × (ℕ × ℕ)) → List ℤ → Option (List ℤ) → Option ℕ
@@ -81,7 +104,7 @@ span_not_slack_at weights ended flows None = None
 
 -- what listed heights cost
 abbrev pub cost_at : List ℕ → List (Observed × (ℕ × ℕ)) → List ℤ → ℕ
-cost_at weights ended heights = sum_by (λ pair. pair.0 * unsigned_abs pair.1) (zip weights (map (residual_at heights) ended))
+cost_at weights ended heights = sum_by (λ pair. pair.0 * unsigned_abs pair.1) (zip weights (residuals_at ended heights))
 
 -- the reasons of slackness and of the cost, over listed heights
 abbrev pub slack_verdict_at : List ℕ → List (Observed × (ℕ × ℕ)) → Certified → List ℤ → Option (List ℤ) → Option (List ℤ) → Verdict

@@ -1,4 +1,4 @@
-use Rattle.std.proofs.Common.{◌≡◌, ◌<◌, ◌+ℤ◌, ◌-ℤ◌, ℕ, ℤ, pos, neg_ℤ, List, length, get_or, to_z, of_z, unsigned_abs, w64, subst, ap, ◌∙◌, arith}
+use Rattle.std.proofs.Common.{◌≡◌, ◌<◌, ◌+ℤ◌, ◌-ℤ◌, ℕ, ℤ, pos, neg_ℤ, List, length, get_or, to_z, of_z, unsigned_abs, w64, subst, sym, ap, ◌∙◌, arith}
 use Rattle.std.specs.List.{zip}
 use Rattle.std.proofs.Math.ListN.{set}
 use Rattle.std.proofs.lemmas.Int.{fits_signed_from_abs, ints, to_z-of_z}
@@ -13,17 +13,19 @@ use Rattle.th_checker.proofs.balances.add_all.Goals as goal
 
 pub loop-i-preserved : goal.loop-i-preserved
 loop-i-preserved c =
-    let ends = c.args.ends.now in
-    let flows = c.args.flows.now in
+    let tested = c.args.tested.now.tested in
+    let ends = c.args.tested.now.ends.now in
+    let flows = c.args.tested.now.flows.now in
+    let same : length flows ≡ length ends = tested.flowing ∙ sym tested.ended in
     let i = c.loop-i.i in
     let old = c.loop-i.balances in
-    let points = length c.args.balances.now in
+    let points = c.args.tested.now.points in
     let end = get_or ends i (0, 0) in
     let flow = get_or flows i (pos 0) in
-    let within : i < length ends = omega (arith, c.requires.each, c.loop-i-test.true) in
-    let below : AreBelow points end = All-get_or (AreBelow points) ends i (0, 0) within c.requires.within in
-    let small : unsigned_abs flow < flow_limit = All-get_or (λ flow. unsigned_abs flow < flow_limit) flows i (pos 0) c.loop-i-test.true c.requires.in_range in
-    let plain = plain_flow flows i c.requires.in_range c.loop-i-test.true in
+    let within : i < length ends = omega (arith, same, c.loop-i-test.true) in
+    let below : AreBelow points end = All-get_or (AreBelow points) ends i (0, 0) within tested.within in
+    let small : unsigned_abs flow < flow_limit = All-get_or (λ flow. unsigned_abs flow < flow_limit) flows i (pos 0) c.loop-i-test.true tested.in_range in
+    let plain = plain_flow flows i tested.in_range c.loop-i-test.true in
     let turned : pos 0 -ℤ flow ≡ neg_ℤ flow = omega (arith, ints) in
     let back : to_z w64 (of_z w64 (pos 0 -ℤ to_z w64 (of_z w64 flow))) ≡ neg_ℤ flow =
     ap (λ z. to_z w64 (of_z w64 (pos 0 -ℤ z))) plain ∙ ap (λ z. to_z w64 (of_z w64 z)) turned ∙ to_z-of_z w64 (neg_ℤ flow) (fits_signed_from_abs w64 (neg_ℤ flow) (omega (arith, ints, small))) in
@@ -39,6 +41,7 @@ loop-i-preserved c =
 
 pub returns : goal.returns
 returns c =
-    let pairs = zip c.args.ends.now c.args.flows.now in
-    subst (λ (ps : List ((ℕ × ℕ) × ℤ)). AreBalances (length c.args.balances.now) ps c.loop-i.balances)
-    (take_all c.loop-i.i pairs (omega (arith, length-zip c.args.ends.now c.args.flows.now, c.loop-i-test.false))) c.loop-i.invariant.sums
+    let tested = c.args.tested.now.tested in
+    let pairs = zip c.args.tested.now.ends.now c.args.tested.now.flows.now in
+    subst (λ (ps : List ((ℕ × ℕ) × ℤ)). AreBalances c.args.tested.now.points ps c.loop-i.balances)
+    (take_all c.loop-i.i pairs (omega (arith, length-zip c.args.tested.now.ends.now c.args.tested.now.flows.now, tested.flowing, tested.ended, c.loop-i-test.false))) c.loop-i.invariant.sums

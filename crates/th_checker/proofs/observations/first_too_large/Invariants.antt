@@ -1,7 +1,0 @@
-use Rattle.std.proofs.Common.{◌≡◌, ◌+◌, drop, nat_lt, unsigned_abs}
-use Rattle.std.specs.List.{position_from, zip}
-use Rattle.th_checker.proofs.observations.first_too_large.Given as goal
-
-abbrev pub invariant-loop-i : goal.invariant-loop-i
-invariant-loop-i l =
-    position_from (λ pair. nat_lt pair.0 (unsigned_abs pair.1)) (l.i + 1) (drop l.i (zip l.weights l.flows)) ≡ position_from (λ pair. nat_lt pair.0 (unsigned_abs pair.1)) 1 (zip l.weights l.flows)
