@@ -7,6 +7,7 @@ use Rattle.std.proofs.lemmas.List.{get_or-map, get_or_default, get_or_append_lef
 use Rattle.std.proofs.lemmas.List.Sums.{sum_by-append, sum_by-cons, count_by_more_no, count_by_more_yes, get_or-le-sum_by, sum_by-take-le}
 use Rattle.std.proofs.lemmas.List.Elements.{All-push}
 use Rattle.std.proofs.lemmas.Option.{get_or_from_slice_get, slice_get-get_or, slice_get_within}
+use Rattle.th_tables.specs.Limits.{max_weight}
 use Rattle.th_book.specs.Observed.{IsBetweenPoints, Observed}
 use Rattle.th_tables.specs.Rows.{BenchmarkRows, height_of, weight_of}
 use Rattle.th_points.specs.Points.{points}
@@ -221,7 +222,7 @@ edges_pushed survey list i d weight edges more are within weighs so_far pushed =
 pub edges_within : (vertices : ℕ) (edges more : List Edge) (edge : Edge) → All (λ edge. (edge.tail < vertices) × (edge.head < vertices)) edges → (edge.tail < vertices) × (edge.head < vertices) → more ≡ edges ++ edge ∷ [] → All (λ edge. (edge.tail < vertices) × (edge.head < vertices)) more
 edges_within vertices edges more edge before here pushed = subst (All (λ (edge : Edge). (edge.tail < vertices) × (edge.head < vertices))) (sym pushed) (All-push (λ (edge : Edge). (edge.tail < vertices) × (edge.head < vertices)) edges edge before here)
 
-pub edges_light : (edges more : List Edge) (edge : Edge) (i : ℕ) → sum_by (λ edge. edge.weight) edges ≤ 1000 * i → edge.weight ≤ 1000 → more ≡ edges ++ edge ∷ [] → sum_by (λ edge. edge.weight) more ≤ 1000 * (i + 1)
+pub edges_light : (edges more : List Edge) (edge : Edge) (i : ℕ) → sum_by (λ edge. edge.weight) edges ≤ max_weight * i → edge.weight ≤ max_weight → more ≡ edges ++ edge ∷ [] → sum_by (λ edge. edge.weight) more ≤ max_weight * (i + 1)
 edges_light edges more edge i before here pushed =
     let weigh : Edge → ℕ = λ e. e.weight in
     let all = ap (sum_by weigh) pushed in

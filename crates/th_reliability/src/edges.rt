@@ -1,4 +1,5 @@
 ghost use Rattle.std.specs.Prelude.{◌≡◌, ◌<◌, ◌≤◌, All, IfOk, length, sum_by};
+ghost use Rattle.th_limits.specs.Limits.{max_total_weight};
 ghost use Rattle.th_network.specs.Limits.{max_observations};
 ghost use Rattle.th_network.specs.Networks.{vertices_of};
 ghost use Rattle.th_reliability.specs.Edges.{edges_of as edges_in};
@@ -14,7 +15,7 @@ pub(crate) fn edges_of(alloc: Global, network: &Network) -> Result<Vec<Edge>, Al
         ≡ edges_in network.now.observations network.now.benchmarks network.now.weights) }
     ensures ends { IfOk result (λ edges. All (λ edge. (edge.tail < vertices_of network.now)
         × (edge.head < vertices_of network.now)) edges.items) }
-    ensures light { IfOk result (λ edges. sum_by (λ edge. edge.weight) edges.items ≤ 40000000) }
+    ensures light { IfOk result (λ edges. sum_by (λ edge. edge.weight) edges.items ≤ max_total_weight) }
 {
     let arcs = network.arcs();
     let mut edges = Vec::with_capacity(alloc, arcs.len())?;

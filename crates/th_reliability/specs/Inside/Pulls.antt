@@ -1,4 +1,5 @@
 use Rattle.std.specs.Prelude.{◌≡◌, ◌≢◌, ℕ, ◌<◌, ◌≤◌, ◌==◌, ◌&&◌, Bool, true, List, All, Contains, sum_by, if◌then◌else◌}
+use Rattle.th_limits.specs.Limits.{max_total_weight}
 use Rattle.th_book.specs.Observed.{Observed}
 use Rattle.th_tables.specs.Rows.{weight_of}
 use Rattle.th_network.specs.Networks.{Survey, vertices_of}
@@ -16,7 +17,7 @@ vertex survey name = vertex_of survey.observations survey.benchmarks name
 pub record AreEdges (survey : Survey) (edges : List Edge) : Type 0 where
   pub all : edges ≡ edges_of survey.observations survey.benchmarks survey.weights
   pub ends : All (λ edge. (edge.tail < vertices_of survey) × (edge.head < vertices_of survey)) edges
-  pub light : sum_by (λ edge. edge.weight) edges ≤ 40000000
+  pub light : sum_by (λ edge. edge.weight) edges ≤ max_total_weight
 
 -- the vertex of the station that a group's observations are from, or 0 if it has none
 pub record IsStation (survey : Survey) (group : Observed → Bool) (station : ℕ) : Type 0 where
