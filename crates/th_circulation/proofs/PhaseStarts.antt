@@ -1,5 +1,5 @@
 -- The differences of one phase after those of the phase before it, and where the first phase starts.
-use Rattle.std.proofs.Common.{◌≡◌, ℕ, zero, suc, ◌≤◌, ◌+◌, ◌*◌, ◌<◌, ◌^◌, ◌/◌, ℤ, pos, negsuc, ◌+ℤ◌, ◌*ℤ◌, ◌≤ℤ◌, List, [], ◌∷◌, All, length, map, sum, unsigned_abs, Bool, true, false, eqb, zip, if◌then◌else◌, replicate, refl, ap, sym, subst, ◌∙◌, arith}
+use Rattle.std.proofs.Common.{◌≡◌, ℕ, zero, suc, ◌≤◌, ◌+◌, ◌-◌, ◌*◌, ◌<◌, ◌^◌, ◌/◌, ℤ, pos, negsuc, ◌+ℤ◌, ◌*ℤ◌, ◌≤ℤ◌, List, [], ◌∷◌, All, length, map, sum, unsigned_abs, Bool, true, false, eqb, zip, if◌then◌else◌, replicate, refl, ap, sym, subst, ◌∙◌, arith}
 use Rattle.std.proofs.lemmas.Int.{ints}
 use Rattle.std.proofs.lemmas.Nat.{shr-shr, shr_le}
 use Rattle.std.proofs.lemmas.List.Elements.{All-map, recursion_from_All}
@@ -8,6 +8,7 @@ use Rattle.std.proofs.Math.Nat.{mul-le-mul_left, mul-suc}
 use Rattle.std.proofs.Math.IntN.{*ℤ_comm, *ℤ-zero}
 use Rattle.std.specs.Prelude.{slice_index_or}
 use Rattle.std.specs.List.{AllByRecursion}
+use Rattle.th_circulation.specs.Limits.{phases}
 use Rattle.th_network.specs.declared.links.Link.{Link}
 use Rattle.th_circulation.specs.Inside.Flows.{AreBounded, IsFlow, Next, ShowsLinks, arriving, gain, leaving, residuals}
 use Rattle.th_circulation.specs.Inside.Graphs.{AreWithin, IsGraph}
@@ -62,9 +63,9 @@ first_differences (link ∷ links) = ap (λ (d : ℤ). d ∷ differences_in 0 li
     whole (negsuc a) = omega (arith, ints)
 
 -- in the first phase each difference is 0 or -1
-first_is : (d : ℤ) → unsigned_abs d ≤ largest_link_difference → (difference_in 43 d ≤ℤ pos 0) × (pos 0 ≤ℤ (difference_in 43 d +ℤ pos 1))
-first_is (pos a) h = let none : a / 2 ^ 43 ≡ 0 = omega arith in (omega (arith, ints), omega (arith, ints))
-first_is (negsuc a) h = let none : a / 2 ^ 43 ≡ 0 = omega arith in (omega (arith, ints), omega (arith, ints))
+first_is : (d : ℤ) → unsigned_abs d ≤ largest_link_difference → (difference_in (phases - 1) d ≤ℤ pos 0) × (pos 0 ≤ℤ (difference_in (phases - 1) d +ℤ pos 1))
+first_is (pos a) h = let none : a / 2 ^ (phases - 1) ≡ 0 = omega arith in (omega (arith, ints), omega (arith, ints))
+first_is (negsuc a) h = let none : a / 2 ^ (phases - 1) ≡ 0 = omega arith in (omega (arith, ints), omega (arith, ints))
 
 -- a product by nothing or minus one
 times_first : (g d : ℤ) (w : ℕ) → unsigned_abs g ≤ w → d ≤ℤ pos 0 → pos 0 ≤ℤ (d +ℤ pos 1) → (g *ℤ d) ≤ℤ pos w
@@ -73,7 +74,7 @@ times_first g (pos (suc n)) w bound high low = absurd (omega (arith, ints))
 times_first g (negsuc zero) w bound high low = omega (arith, ints)
 times_first g (negsuc (suc n)) w bound high low = absurd (omega (arith, ints))
 
-first_gain : (links : List Link) (weights : List ℕ) (flows : List ℤ) → AllByRecursion (λ link. unsigned_abs link.diff ≤ largest_link_difference) links → AreBounded weights flows → gain flows (differences_in 43 links) ≤ℤ pos (sum weights)
+first_gain : (links : List Link) (weights : List ℕ) (flows : List ℤ) → AllByRecursion (λ link. unsigned_abs link.diff ≤ largest_link_difference) links → AreBounded weights flows → gain flows (differences_in (phases - 1) links) ≤ℤ pos (sum weights)
 first_gain links [] [] near bounded = omega (arith, ints)
 first_gain links [] (flow ∷ flows) near bounded = absurd bounded
 first_gain links (weight ∷ weights) [] near bounded = absurd bounded
@@ -81,8 +82,8 @@ first_gain [] (weight ∷ weights) (flow ∷ flows) near bounded = omega (arith,
 first_gain (link ∷ links) (weight ∷ weights) (flow ∷ flows) near bounded =
     let rest = first_gain links weights flows near.1 bounded.1 in
     let is = first_is link.diff near.0 in
-    let one = times_first flow (difference_in 43 link.diff) weight bounded.0 is.0 is.1 in
-    let a = gain-cons flow (difference_in 43 link.diff) flows (differences_in 43 links) in
+    let one = times_first flow (difference_in (phases - 1) link.diff) weight bounded.0 is.0 is.1 in
+    let a = gain-cons flow (difference_in (phases - 1) link.diff) flows (differences_in (phases - 1) links) in
     let s = sum_by-cons (λ (x : ℕ). x) weight weights in
     omega (arith, ints)
 
@@ -101,10 +102,10 @@ gain_none (flow ∷ flows) (diff ∷ diffs) none =
     let e = *ℤ-zero diff in
     omega (arith, ints)
 
-none_near : (vertices : ℕ) (links : List Link) (weights : List ℕ) (flows : List ℤ) → IsGraph vertices links weights → AllByRecursion (λ flow. flow ≡ pos 0) flows → IsNear links weights (differences_in 43 links) flows
+none_near : (vertices : ℕ) (links : List Link) (weights : List ℕ) (flows : List ℤ) → IsGraph vertices links weights → AllByRecursion (λ flow. flow ≡ pos 0) flows → IsNear links weights (differences_in (phases - 1) links) flows
 none_near vertices links weights flows graph none others flow =
     let most = first_gain links weights others (recursion_from_All (λ link. unsigned_abs link.diff ≤ largest_link_difference) links graph.near) flow.bounded in
-    let nothing = gain_none flows (differences_in 43 links) none in
+    let nothing = gain_none flows (differences_in (phases - 1) links) none in
     omega (arith, ints)
 
 pub next_near : (links : List Link) (weights : List ℕ) (flows : List ℤ) (heights : ℕ → ℤ) (k : ℕ) → IsFlow links weights flows → ShowsLinks weights flows (residuals links (differences_in (suc k) links) heights) → IsNear links weights (differences_in k links) flows
@@ -118,7 +119,7 @@ phases_more w done = ap (λ (k : ℕ). 2 * w * k) (add-one done) ∙ mul-suc (2 
     add-one : (n : ℕ) → n + 1 ≡ suc n
     add-one n = omega arith
 
-pub phases_most : (w done : ℕ) → done ≤ 44 → 2 * w * done ≤ 88 * w
+pub phases_most : (w done : ℕ) → done ≤ phases → 2 * w * done ≤ 2 * phases * w
 phases_most w done h = let most = mul-le-mul_left (2 * w) h in omega arith
 
 all_none : (n : ℕ) → AllByRecursion (λ flow. flow ≡ pos 0) (replicate n (pos 0))
@@ -126,10 +127,10 @@ all_none zero = tt
 all_none (suc n) = (refl, all_none n)
 
 -- the first phase starts from no flow, and raises the gain by at most the sum of the weights
-pub first_rise : (vertices : ℕ) (links : List Link) (weights : List ℕ) (flows new diffs : List ℤ) (rise : ℕ) → IsGraph vertices links weights → diffs ≡ differences_in 43 links → flows ≡ replicate (length links) (pos 0) → IsFlow links weights new → (gain flows diffs +ℤ pos rise) ≤ℤ gain new diffs → rise ≤ sum weights
+pub first_rise : (vertices : ℕ) (links : List Link) (weights : List ℕ) (flows new diffs : List ℤ) (rise : ℕ) → IsGraph vertices links weights → diffs ≡ differences_in (phases - 1) links → flows ≡ replicate (length links) (pos 0) → IsFlow links weights new → (gain flows diffs +ℤ pos rise) ≤ℤ gain new diffs → rise ≤ sum weights
 first_rise vertices links weights flows new diffs rise graph is none flow gained =
     let most = first_gain links weights new (recursion_from_All (λ link. unsigned_abs link.diff ≤ largest_link_difference) links graph.near) flow.bounded in
-    let nothing = gain_none (replicate (length links) (pos 0)) (differences_in 43 links) (all_none (length links)) in
+    let nothing = gain_none (replicate (length links) (pos 0)) (differences_in (phases - 1) links) (all_none (length links)) in
     let more = subst (λ (ds : List ℤ). (gain (replicate (length links) (pos 0)) ds +ℤ pos rise) ≤ℤ gain new ds) is (subst (λ (fs : List ℤ). (gain fs diffs +ℤ pos rise) ≤ℤ gain new diffs) none gained) in
     omega (arith, ints)
 
@@ -188,5 +189,5 @@ none_flows links weights sized = record {
   balanced = λ vertex. none_arrives links vertex ∙ sym (none_leaves links vertex);
 }
 
-pub none_near_replicate : (vertices : ℕ) (links : List Link) (weights : List ℕ) → IsGraph vertices links weights → IsNear links weights (differences_in 43 links) (replicate (length links) (pos 0))
+pub none_near_replicate : (vertices : ℕ) (links : List Link) (weights : List ℕ) → IsGraph vertices links weights → IsNear links weights (differences_in (phases - 1) links) (replicate (length links) (pos 0))
 none_near_replicate vertices links weights graph = none_near vertices links weights (replicate (length links) (pos 0)) graph (all_none (length links))

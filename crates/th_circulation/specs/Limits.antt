@@ -1,9 +1,10 @@
 use Rattle.std.specs.Prelude.{ℕ}
+use Rattle.th_limits.specs.Limits.{calls_before}
 
--- how many calls of its search and how many steps a settling may start with: 10^30
+-- how many calls of its search and how many steps a settling may start with
 abbrev pub max_counted : ℕ
-max_counted = 1000000000000000000000000000000
+max_counted = calls_before
 
--- how many phases a settling has: differences of links are below 2^43 in size, so that with their sign they have 44 binary digits
+-- how many phases a settling has: the binary digits of the largest difference of a link, and one for its sign
 abbrev pub phases : ℕ
 phases = 44

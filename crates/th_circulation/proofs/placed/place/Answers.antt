@@ -1,6 +1,7 @@
-use Rattle.std.proofs.Common.{ℕ, ◌≡◌, ◌<◌, ◌+◌, ◌≤◌, ◌-ℤ◌, pos, ℤ, List, Some, None, length, slice_get, unsigned_abs, ap, ◌∙◌, refl, arith}
+use Rattle.std.proofs.Common.{ℕ, ◌≡◌, ◌<◌, ◌+◌, ◌-◌, ◌-ℤ◌, pos, ℤ, List, Some, None, length, slice_get, unsigned_abs, ap, ◌∙◌, refl, arith}
 use Rattle.std.proofs.lemmas.Option.{slice_get_within}
 use Rattle.std.proofs.lemmas.Int.{ints}
+use Rattle.th_network.specs.Limits.{height_limit}
 use Rattle.th_network.specs.Networks.{points_of}
 use Rattle.th_search.specs.Potentials.{value_at}
 use Rattle.th_circulation.specs.Inside.Placed.{placed}
@@ -26,7 +27,7 @@ loop-place-preserved c =
     let same = c.loop-place.auto.listed in
     let place : i < length c.loop-place.listed = omega arith in
     let Right : ℕ → ℤ → Type 0 = λ k z. (name : List ℕ) → slice_get (points_of network) k ≡ Some name → z ≡ placed network.observations network.benchmarks (value_at c.args.heights.now) name in
-    let Small : ℕ → ℤ → Type 0 = λ k z. unsigned_abs z ≤ 99999999999999999 in
+    let Small : ℕ → ℤ → Type 0 = λ k z. unsigned_abs z < height_limit in
     elim c.match-fixed.branch [
       | in-Some w ↦
           let found = c.fixed.ensures.height ∙ ap Some w.in-Some.is in
@@ -54,5 +55,5 @@ returns-clause-placed c = λ k name at. let test = c.loop-place-test.false in le
 pub returns-clause-in_range : goal.returns-clause-in_range
 returns-clause-in_range c =
     let test = c.loop-place-test.false in
-    let all = all_within (length c.loop-place.listed) 99999999999999999 c.loop-place.listed refl (λ v h. c.loop-place.invariant.1 v (omega arith)) in
+    let all = all_within (length c.loop-place.listed) (height_limit - 1) c.loop-place.listed refl (λ v h. let small = c.loop-place.invariant.1 v (omega arith) in omega arith) in
     λ k d within. let one = all.small k d within in omega arith

@@ -1,4 +1,5 @@
-use Rattle.std.proofs.Common.{◌≡◌, ◌<◌, ◌≤◌, ℕ, pos, List, Some, get_or, slice_get, unsigned_abs}
+use Rattle.std.proofs.Common.{◌≡◌, ◌<◌, ℕ, pos, List, Some, get_or, slice_get, unsigned_abs}
+use Rattle.th_network.specs.Limits.{height_limit}
 use Rattle.th_search.specs.Potentials.{value_at}
 use Rattle.th_network.specs.Networks.{points_of}
 use Rattle.th_network.specs.Vertices.{free_before}
@@ -8,5 +9,5 @@ use Rattle.th_circulation.proofs.placed.place.Given as goal
 abbrev pub invariant-loop-place : goal.invariant-loop-place
 invariant-loop-place l =
     (l.vertex ≡ free_before l.network.benchmarks (points_of l.network) l.place)
-    × ((k : ℕ) → k < l.place → unsigned_abs (value_at l.listed k) ≤ 99999999999999999)
+    × ((k : ℕ) → k < l.place → unsigned_abs (value_at l.listed k) < height_limit)
     × ((k : ℕ) → k < l.place → (name : List ℕ) → slice_get (points_of l.network) k ≡ Some name → get_or l.listed k (pos 0) ≡ placed l.network.observations l.network.benchmarks (value_at l.heights) name)

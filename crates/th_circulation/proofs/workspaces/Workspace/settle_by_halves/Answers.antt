@@ -1,4 +1,5 @@
 use Rattle.std.proofs.Common.{◌≡◌, ◌+◌, ◌-◌, ◌≤◌, ◌<◌, ◌*◌, ℕ, ℤ, pos, ◌+ℤ◌, ◌≤ℤ◌, List, length, replicate, sum, suc, refl, ap, sym, ◌∙◌, subst, arith}
+use Rattle.th_circulation.specs.Limits.{phases}
 use Rattle.th_search.specs.Potentials.{value_at}
 use Rattle.th_network.specs.declared.links.Link.{Link}
 use Rattle.th_circulation.specs.Inside.Flows.{IsFlow, ShowsLinks, gain, residuals}
@@ -25,13 +26,13 @@ settle_phase-requires-clause-steps g c =
     omega arith
 
 -- by how much the first phase raises the steps
-first : (vertices : ℕ) (links : List Link) (weights : List ℕ) (flows flows' new diffs : List ℤ) (done now next : ℕ) → IsGraph vertices links weights → diffs ≡ differences_in (43 - done) links → flows' ≡ flows → (done ≡ 0 → flows ≡ replicate (length links) (pos 0)) → IsFlow links weights new → (gain flows' diffs +ℤ pos (next - now)) ≤ℤ gain new diffs → now ≤ next → done ≡ 0 → next ≤ now + sum weights
+first : (vertices : ℕ) (links : List Link) (weights : List ℕ) (flows flows' new diffs : List ℤ) (done now next : ℕ) → IsGraph vertices links weights → diffs ≡ differences_in (phases - 1 - done) links → flows' ≡ flows → (done ≡ 0 → flows ≡ replicate (length links) (pos 0)) → IsFlow links weights new → (gain flows' diffs +ℤ pos (next - now)) ≤ℤ gain new diffs → now ≤ next → done ≡ 0 → next ≤ now + sum weights
 first vertices links weights flows flows' new diffs done now next graph is kept none flow gained more e =
-    let rise = first_rise vertices links weights flows' new diffs (next - now) graph (is ∙ ap (λ (k : ℕ). differences_in (43 - k) links) e) (kept ∙ none e) flow gained in
+    let rise = first_rise vertices links weights flows' new diffs (next - now) graph (is ∙ ap (λ (k : ℕ). differences_in (phases - 1 - k) links) e) (kept ∙ none e) flow gained in
     omega arith
 
 -- how many steps there are after one phase more
-few_after : (vertices : ℕ) (links : List Link) (weights : List ℕ) (flows flows' new diffs : List ℤ) (done start now next : ℕ) → IsGraph vertices links weights → diffs ≡ differences_in (43 - done) links → flows' ≡ flows → (done ≡ 0 → flows ≡ replicate (length links) (pos 0)) → IsFlow links weights new → (gain flows' diffs +ℤ pos (next - now)) ≤ℤ gain new diffs → now ≤ next → next ≤ now + 2 * sum weights → now ≤ start + 2 * sum weights * done → (0 < done → now + sum weights ≤ start + 2 * sum weights * done) → next + sum weights ≤ start + 2 * sum weights * (done + 1)
+few_after : (vertices : ℕ) (links : List Link) (weights : List ℕ) (flows flows' new diffs : List ℤ) (done start now next : ℕ) → IsGraph vertices links weights → diffs ≡ differences_in (phases - 1 - done) links → flows' ≡ flows → (done ≡ 0 → flows ≡ replicate (length links) (pos 0)) → IsFlow links weights new → (gain flows' diffs +ℤ pos (next - now)) ≤ℤ gain new diffs → now ≤ next → next ≤ now + 2 * sum weights → now ≤ start + 2 * sum weights * done → (0 < done → now + sum weights ≤ start + 2 * sum weights * done) → next + sum weights ≤ start + 2 * sum weights * (done + 1)
 few_after vertices links weights flows flows' new diffs done start now next graph is kept none flow gained more rise few fewer =
     few_more (sum weights) done start now next few more rise (first vertices links weights flows flows' new diffs done now next graph is kept none flow gained more) fewer
 
@@ -52,7 +53,7 @@ phases-init g c =
     let weights = graph.weights.now in
     record {
       rested = c.requires.rested;
-      near = λ less. subst (IsNear links weights (differences_in 43 links)) (sym c.requires.none) (none_near_replicate graph.vertices links weights graph.graph);
+      near = λ less. subst (IsNear links weights (differences_in (phases - 1) links)) (sym c.requires.none) (none_near_replicate graph.vertices links weights graph.graph);
       none = λ e. c.requires.none;
       shown = λ some. absurd (omega arith);
       more = omega arith;
@@ -77,7 +78,7 @@ phases-preserved g c =
     let kept = ap (λ (ds : List ℤ). length ds) e.goes_on.differences in
     let long = c.start_phase.ensures.ready.differences.each in
     let after = few_after graph.vertices links weights c.phases.self.flows.items c.start_phase.new.self.flows.items c.settle_phase.new.self.flows.items c.start_phase.new.self.differences.items done c.args.steps.now c.phases.steps c.settle_phase.new.steps graph.graph c.start_phase.ensures.differences c.start_phase.ensures.flows i.none e.goes_on.flow e.goes_on.gained e.counts.more_steps e.few i.few i.fewer in
-    let shown : AreShownFor graph (differences_in (43 - done) links) c.settle_phase.new.self = subst (λ (ds : List ℤ). AreShownFor graph ds c.settle_phase.new.self) c.start_phase.ensures.differences c.in_ok-settle_phase.ensures.shown in
+    let shown : AreShownFor graph (differences_in (phases - 1 - done) links) c.settle_phase.new.self = subst (λ (ds : List ℤ). AreShownFor graph ds c.settle_phase.new.self) c.start_phase.ensures.differences c.in_ok-settle_phase.ensures.shown in
     let calls = c.in_ok-settle_phase.ensures.counts.all_calls in
     let cycles = e.counts.one_step_each in
     let refused = c.in_ok-settle_phase.ensures.counts.refused in
@@ -89,9 +90,9 @@ phases-preserved g c =
         flow = e.goes_on.flow;
         fits = e.goes_on.fits;
       };
-      near = λ less. let earlier : 43 - done ≡ suc (43 - (done + 1)) = omega arith in next_near links weights c.settle_phase.new.self.flows.items (value_at c.settle_phase.new.self.heights.items) (43 - (done + 1)) e.goes_on.flow (subst (λ (k : ℕ). ShowsLinks weights c.settle_phase.new.self.flows.items (residuals links (differences_in k links) (value_at c.settle_phase.new.self.heights.items))) earlier shown.shown);
+      near = λ less. let earlier : phases - 1 - done ≡ suc (phases - 1 - (done + 1)) = omega arith in next_near links weights c.settle_phase.new.self.flows.items (value_at c.settle_phase.new.self.heights.items) (phases - 1 - (done + 1)) e.goes_on.flow (subst (λ (k : ℕ). ShowsLinks weights c.settle_phase.new.self.flows.items (residuals links (differences_in k links) (value_at c.settle_phase.new.self.heights.items))) earlier shown.shown);
       none = λ e. absurd (omega arith);
-      shown = λ some. let same : 43 - done ≡ 44 - (done + 1) = omega arith in subst (λ (k : ℕ). AreShownFor graph (differences_in k links) c.settle_phase.new.self) same shown;
+      shown = λ some. let same : phases - 1 - done ≡ phases - (done + 1) = omega arith in subst (λ (k : ℕ). AreShownFor graph (differences_in k links) c.settle_phase.new.self) same shown;
       more = omega arith;
       few = omega arith;
       fewer = λ some. after;
