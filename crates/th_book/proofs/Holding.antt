@@ -132,9 +132,14 @@ taken_ok (Ok value) state new line step sound none left with_step more =
     subst (λ (own : BookState). IsTaken state own line) (sym with_step) (IsTaken-step state line step new.room sound none left more)
 taken_ok (Err fault) state new line step sound none left with_step more = tt
 
+-- a line without a fault is not refused for one
+pub never_refused : {A : Type 0} (given : Result A BookFault) (state new : BookState) (line : List ℕ) → IfErr given (λ fault. (new ≡ state) × (fault ≡ fault_in state.lines NoMemory)) → IfErr given (λ fault. fault.kind ≢ NoMemory → IsRefused state new line fault)
+never_refused (Ok value) state new line as_before = tt
+never_refused (Err fault) state new line as_before = λ kept. absurd (kept (ap (λ (own : BookFault). own.kind) as_before.1))
+
 -- and one for which memory was wanting
-pub wanting_err : {A : Type 0} (given : Result A BookFault) (state new : BookState) (line : List ℕ) (step : Step) → state.fault ≡ None → None ≡ line_fault state.setup (block_at line) → IsLeft state.setup (words_in (block_at line)) step → IfErr given (λ fault. (new ≡ state) × (fault ≡ fault_in state.lines NoMemory)) → OnErr given (IsSome step.sight) → OnErr given (state.room ≤ length state.observations) → IfErr given (λ fault. fault.kind ≡ NoMemory → IsWanting state new line fault)
-wanting_err (Ok value) state new line step sound none left as_before sight full = tt
-wanting_err (Err fault) state new line step sound none left as_before sight full = λ wanting.
+pub wanting_err : {A : Type 0} (given : Result A BookFault) (state new : BookState) (line : List ℕ) (step : Step) → state.fault ≡ None → None ≡ line_fault state.setup (block_at line) → IsLeft state.setup (words_in (block_at line)) step → IfErr given (λ fault. (new ≡ state) × (fault ≡ fault_in state.lines NoMemory)) → OnErr given (IsSome step.sight × (state.room ≤ length state.observations)) → IfErr given (λ fault. fault.kind ≡ NoMemory → IsWanting state new line fault)
+wanting_err (Ok value) state new line step sound none left as_before full = tt
+wanting_err (Err fault) state new line step sound none left as_before full = λ wanting.
     subst (λ (own : BookState). IsWanting state own line fault) (sym as_before.0)
-    (subst (λ (own : BookFault). IsWanting state state line own) (sym as_before.1) (IsWanting-step state line step sound none left sight full))
+    (subst (λ (own : BookFault). IsWanting state state line own) (sym as_before.1) (IsWanting-step state line step sound none left full.0 full.1))

@@ -1,4 +1,4 @@
-use Rattle.std.specs.Prelude.{◌≡◌, ◌≢◌, ◌≤◌, ℕ, ℤ, ◌+◌, ◌||◌, true, false, List, [], ◌∷◌, ◌++◌, Option, Some, None, Result, Ok, Err, if◌then◌else◌, is_none, is_some, length, map, option_and_then, option_map, option_to_list}
+use Rattle.std.specs.Prelude.{◌≡◌, ◌≢◌, ◌≤◌, ℕ, ℤ, ◌+◌, ◌||◌, true, false, List, [], ◌∷◌, ◌++◌, Option, Some, None, Result, Ok, Err, IfErr, OnOk, if◌then◌else◌, is_none, is_some, length, map, option_and_then, option_map, option_to_list}
 use Rattle.gsi_word.specs.Words.{Parts}
 use Rattle.gsi_block.specs.Blocks.{block_at}
 use Rattle.th_book.specs.Observed.{Observed}
@@ -125,6 +125,12 @@ pub record IsWanting (old new : BookState) (line : List ℕ) (fault : BookFault)
   pub at_line : fault.line ≡ old.lines + 1
   pub observes : EndsWithSight (due old (line ∷ [])) fault.line
   pub full : old.room ≤ length old.observations
+
+-- what a book answers to a line: the line was taken, or its fault was answered, or memory was wanting for its observation
+pub record IsAnswered {A : Type 0} (old new : BookState) (line : List ℕ) (result : Result A BookFault) : Type 0 where
+  pub taken : OnOk result (IsTaken old new line)
+  pub refused : IfErr result (λ fault. fault.kind ≢ NoMemory → IsRefused old new line fault)
+  pub wanting : IfErr result (λ fault. fault.kind ≡ NoMemory → IsWanting old new line fault)
 
 -- a fault that is kept is no want of memory
 abbrev pub IsLasting : Option BookFault → Type 0

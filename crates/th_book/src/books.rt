@@ -4,7 +4,7 @@ ghost use Rattle.gsi_word.specs.Words.{result_map};
 ghost use Rattle.th_book.specs.Books.{lines_answer, book_answer, too_long};
 ghost use Rattle.th_book.specs.Limits.{max_book};
 ghost use Rattle.th_book.specs.Faults.{fault_in};
-ghost use Rattle.th_book.specs.Due.{due, empty, EndsWithSight, IsTaken, IsRefused, IsWanting};
+ghost use Rattle.th_book.specs.Due.{due, empty, EndsWithSight, IsAnswered};
 ghost use Rattle.th_book.specs.Inside.Feeds.{IsGiven};
 ghost use Rattle.th_book.specs.Inside.Steps.{state_refusing, state_with};
 
@@ -70,11 +70,7 @@ impl Book {
     /// which may be passed again.
     pub fn line(&mut self, line: &[u8]) -> Result<(), BookFault>
         requires { self.old.lines < max_book }
-        ensures taken { OnOk result (IsTaken self.old self.new line.now) }
-        ensures refused { IfErr result
-            (λ fault. fault.kind ≢ BookKind.NoMemory → IsRefused self.old self.new line.now fault) }
-        ensures wanting { IfErr result
-            (λ fault. fault.kind ≡ BookKind.NoMemory → IsWanting self.old self.new line.now fault) }
+        ensures { IsAnswered self.old self.new line.now result }
     {
         self.read(line, &mut ArrayVec::new())
     }
@@ -87,11 +83,7 @@ impl Book {
         words: &mut ArrayVec<Word<'a>, MAX_WORDS>,
     ) -> Result<(), BookFault>
         requires { self.old.lines < max_book }
-        ensures taken { OnOk result (IsTaken self.old self.new line.now) }
-        ensures refused { IfErr result
-            (λ fault. fault.kind ≢ BookKind.NoMemory → IsRefused self.old self.new line.now fault) }
-        ensures wanting { IfErr result
-            (λ fault. fault.kind ≡ BookKind.NoMemory → IsWanting self.old self.new line.now fault) }
+        ensures { IsAnswered self.old self.new line.now result }
     {
         if let Some(fault) = self.fault {
             return Err(fault);
@@ -146,8 +138,8 @@ impl Book {
         ensures room { OnOk result (self.old.room ≤ self.new.room) }
         ensures wanting { IfErr result
             (λ fault. (self.new ≡ self.old) × (fault ≡ fault_in self.old.lines BookKind.NoMemory)) }
-        ensures sight { OnErr result (IsSome step.now.sight) }
-        ensures full { OnErr result (self.old.room ≤ length self.old.observations) }
+        ensures full { OnErr result
+            (IsSome step.now.sight × (self.old.room ≤ length self.old.observations)) }
     {
         if let Some(sight) = &step.sight {
             let line = self.lines + 1;

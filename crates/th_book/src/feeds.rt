@@ -2,7 +2,7 @@ ghost use Rattle.std.specs.Prelude.{◌≡◌, ◌≢◌, ◌<◌, ◌≤◌, �
 ghost use Rattle.gsi_block.specs.Pieces.{lines_due};
 ghost use Rattle.th_book.specs.Books.{book_answer, too_long};
 ghost use Rattle.th_book.specs.Limits.{max_book};
-ghost use Rattle.th_book.specs.Due.{EndsWithSight, IsRefused, IsTaken, IsWanting};
+ghost use Rattle.th_book.specs.Due.{EndsWithSight, IsAnswered, IsWanting};
 ghost use Rattle.th_book.specs.Feeds.{feed_due, IsFed, IsWantingIn, StopsAt};
 ghost use Rattle.th_book.specs.Inside.Feeds.{AreTaken, IsGiven};
 
@@ -167,11 +167,7 @@ fn read_line<'p>(
     words: &mut ArrayVec<Word<'p>, MAX_WORDS>,
 ) -> Result<(), BookFault>
     requires { book.old.lines < max_book }
-    ensures taken { OnOk result (IsTaken book.old book.new line.now) }
-    ensures refused { IfErr result
-        (λ fault. fault.kind ≢ BookKind.NoMemory → IsRefused book.old book.new line.now fault) }
-    ensures wanting { IfErr result
-        (λ fault. fault.kind ≡ BookKind.NoMemory → IsWanting book.old book.new line.now fault) }
+    ensures { IsAnswered book.old book.new line.now result }
 {
     let (front, _) = rest.split_at(line.len().min(rest.len()));
     if front == line {
