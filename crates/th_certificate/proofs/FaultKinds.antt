@@ -37,10 +37,10 @@ not_long n = by (nat_lt max_digits n) refl
   where
     by : (long : Bool) → nat_lt max_digits n ≡ long → not long ≡ nat_le n max_digits
     by true is =
-        let small : nat_le n 9 ≡ false = grind (arith, nat_tests) in
+        let small : nat_le n max_digits ≡ false = grind (arith, nat_tests) in
         sym small
     by false is =
-        let small : nat_le n 9 ≡ true = grind (arith, nat_tests) in
+        let small : nat_le n max_digits ≡ true = grind (arith, nat_tests) in
         sym small
 
 -- a height's number
@@ -420,7 +420,7 @@ begun_kind (letter ∷ key ∷ text ∷ more ∷ others) = refl
 
 -- a count that is read is what the digits write
 count_is : (text : List ℕ) (count : ℕ) → count_in text ≡ Ok count → count ≡ number text
-count_is text count h = by (are_digits text) (nat_le (length text) 9 && nat_le (number text) max_flows) h
+count_is text count h = by (are_digits text) (nat_le (length text) max_digits && nat_le (number text) max_flows) h
   where
     by : (formed small : Bool) → (if formed then (if small then Ok (number text) else Err TooLarge) else Err BadNumber) ≡ Ok count → count ≡ number text
     by false small h = cc h

@@ -6,6 +6,7 @@ use Rattle.std.proofs.lemmas.Nat.{pow-add}
 use Rattle.std.specs.List.{list_all}
 use Rattle.std.specs.Option.{option_map_or}
 use Rattle.std.specs.Result.{result_map_both}
+use Rattle.th_certificate.specs.Limits.{max_cost_digits, max_digits}
 use Rattle.th_units.specs.Lengths.{are_digits, is_digit, number, signed}
 use Rattle.th_units.specs.Metres.{are_decimals, decimals, has_minus, is_in_metres, size_value, units_of, whole, without_sign}
 use Rattle.th_units.specs.declared.faults.LenFault.{LenFault}
@@ -80,41 +81,41 @@ pub height_small : (field : List ℕ) (height : ℤ) → height_in field ≡ Ok 
 height_small field height h = value_small (size_value (without_sign field)) (has_minus field) height (size_small (without_sign field)) h
 
 pub flow_small : (place : ℕ) (key field : List ℕ) (flow : ℤ) → flow_in place key field ≡ Ok flow → unsigned_abs flow < flow_limit
-flow_small place key field flow h = by (writes key place && are_digits (without_sign field)) (nat_le (length key) 9 && nat_le (length (without_sign field)) 9) refl refl h
+flow_small place key field flow h = by (writes key place && are_digits (without_sign field)) (nat_le (length key) max_digits && nat_le (length (without_sign field)) max_digits) refl refl h
   where
-    by : (form short : Bool) → (writes key place && are_digits (without_sign field)) ≡ form → (nat_le (length key) 9 && nat_le (length (without_sign field)) 9) ≡ short
+    by : (form short : Bool) → (writes key place && are_digits (without_sign field)) ≡ form → (nat_le (length key) max_digits && nat_le (length (without_sign field)) max_digits) ≡ short
         → (if form then (if short then Ok (signed (has_minus field) (number (without_sign field))) else Err TooLarge) else Err BadNumber) ≡ Ok flow → unsigned_abs flow < flow_limit
     by false short is is' h = cc h
     by true false is is' h = cc h
     by true true is is' h =
         let same : signed (has_minus field) (number (without_sign field)) ≡ flow = cc in
         let digits = all_digits (without_sign field) (second_of (writes key place) (are_digits (without_sign field)) is) in
-        let test : nat_le (length (without_sign field)) 9 ≡ true = second_of (nat_le (length key) 9) (nat_le (length (without_sign field)) 9) is' in
-        let few : length (without_sign field) ≤ 9 = grind (arith, nat_tests) in
-        let small : number (without_sign field) < flow_limit = number_below (without_sign field) 9 digits few in
+        let test : nat_le (length (without_sign field)) max_digits ≡ true = second_of (nat_le (length key) max_digits) (nat_le (length (without_sign field)) max_digits) is' in
+        let few : length (without_sign field) ≤ max_digits = grind (arith, nat_tests) in
+        let small : number (without_sign field) < flow_limit = number_below (without_sign field) max_digits digits few in
         subst (λ z. unsigned_abs z < flow_limit) same (subst (λ n. n < flow_limit) (sym (abs_signed (has_minus field) (number (without_sign field)))) small)
 
 pub cost_small : (field : List ℕ) (cost : ℕ) → cost_in field ≡ Ok cost → cost < cost_limit
-cost_small field cost h = by (are_digits field) (nat_le (length field) 30) refl refl h
+cost_small field cost h = by (are_digits field) (nat_le (length field) max_cost_digits) refl refl h
   where
-    by : (form short : Bool) → are_digits field ≡ form → nat_le (length field) 30 ≡ short → (if form then (if short then Ok (number field) else Err TooLarge) else Err BadNumber) ≡ Ok cost → cost < cost_limit
+    by : (form short : Bool) → are_digits field ≡ form → nat_le (length field) max_cost_digits ≡ short → (if form then (if short then Ok (number field) else Err TooLarge) else Err BadNumber) ≡ Ok cost → cost < cost_limit
     by false short is is' h = cc h
     by true false is is' h = cc h
     by true true is is' h =
         let same : number field ≡ cost = cc in
-        let few : length field ≤ 30 = grind (arith, nat_tests) in
-        subst (λ n. n < cost_limit) same (number_below field 30 (all_digits field is) few)
+        let few : length field ≤ max_cost_digits = grind (arith, nat_tests) in
+        subst (λ n. n < cost_limit) same (number_below field max_cost_digits (all_digits field is) few)
 
 -- of at most thirty digits the capped number is the number
-pub uncapped : (field : List ℕ) → list_all is_digit field ≡ true → length field ≤ 30 → min (number field) cost_limit ≡ number field
-uncapped field digits few = omega (arith, number_below field 30 digits few)
+pub uncapped : (field : List ℕ) → list_all is_digit field ≡ true → length field ≤ max_cost_digits → min (number field) cost_limit ≡ number field
+uncapped field digits few = omega (arith, number_below field max_cost_digits digits few)
 
 -- a cost that is read
-pub cost_read : (field : List ℕ) (n : ℕ) → are_digits field ≡ true → length field ≤ 30 → n ≡ min (number field) cost_limit → ◌≡◌ {A = Result ℕ CertKind} (Ok n) (cost_in field)
+pub cost_read : (field : List ℕ) (n : ℕ) → are_digits field ≡ true → length field ≤ max_cost_digits → n ≡ min (number field) cost_limit → ◌≡◌ {A = Result ℕ CertKind} (Ok n) (cost_in field)
 cost_read field n digits few is =
-    let short : nat_le (length field) 30 ≡ true = grind (arith, nat_tests) in
+    let short : nat_le (length field) max_cost_digits ≡ true = grind (arith, nat_tests) in
     ap Ok (is ∙ uncapped field (all_digits field digits) few)
-    ∙ sym (ap (λ form. if form then (if nat_le (length field) 30 then Ok (number field) else Err TooLarge) else Err BadNumber) digits ∙ ap (λ short. if short then Ok (number field) else Err TooLarge) short)
+    ∙ sym (ap (λ form. if form then (if nat_le (length field) max_cost_digits then Ok (number field) else Err TooLarge) else Err BadNumber) digits ∙ ap (λ short. if short then Ok (number field) else Err TooLarge) short)
 
 -- whether a capped number is one below the cap
 pub capped_test : (m n : ℕ) → n < cost_limit → (min m cost_limit == n) ≡ (m == n)

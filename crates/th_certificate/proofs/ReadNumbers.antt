@@ -13,7 +13,7 @@ use Rattle.th_units.proofs.MetreTexts.{value-metres}
 use Rattle.th_certificate.specs.Certified.{cost_limit}
 use Rattle.th_network.specs.Limits.{height_limit}
 use Rattle.th_certificate.specs.Numbers.{cost_in, count_in, flow_in, height_from, height_in, writes}
-use Rattle.th_certificate.specs.Limits.{max_flows}
+use Rattle.th_certificate.specs.Limits.{max_cost_digits, max_digits, max_flows}
 use Rattle.th_certificate.specs.declared.faults.CertKind.TheVariants.{BadNumber, TooLarge}
 use Rattle.th_tables.specs.Limits.{max_weight}
 
@@ -56,18 +56,18 @@ same_test m n same = grind (arith, nat_tests)
 
 pub count_in-decimal : (n : ℕ) → n ≤ max_flows → count_in (decimal n) ≡ Ok n
 count_in-decimal n few =
-    let written = decimal_written n 9 (omega arith) (omega arith) (omega arith) (omega arith) in
+    let written = decimal_written n max_digits (omega arith) (omega arith) (omega arith) (omega arith) in
     let within : nat_le (number (decimal n)) max_flows ≡ true = let value = written.value in grind (arith, nat_tests) in
-    ap (λ form. if form then (if nat_le (length (decimal n)) 9 && nat_le (number (decimal n)) max_flows then Ok (number (decimal n)) else Err TooLarge) else Err BadNumber) written.are
-    ∙ ap (λ short. if short && nat_le (number (decimal n)) max_flows then Ok (number (decimal n)) else Err TooLarge) (short_test (decimal n) 9 written.short)
+    ap (λ form. if form then (if nat_le (length (decimal n)) max_digits && nat_le (number (decimal n)) max_flows then Ok (number (decimal n)) else Err TooLarge) else Err BadNumber) written.are
+    ∙ ap (λ short. if short && nat_le (number (decimal n)) max_flows then Ok (number (decimal n)) else Err TooLarge) (short_test (decimal n) max_digits written.short)
     ∙ ap (λ short. if short then Ok (number (decimal n)) else Err TooLarge) within
     ∙ ap Ok written.value
 
 pub cost_in-decimal : (n : ℕ) → n < cost_limit → cost_in (decimal n) ≡ Ok n
 cost_in-decimal n small =
-    let written = decimal_written n 30 (omega arith) (omega arith) (omega arith) (omega arith) in
-    ap (λ form. if form then (if nat_le (length (decimal n)) 30 then Ok (number (decimal n)) else Err TooLarge) else Err BadNumber) written.are
-    ∙ ap (λ short. if short then Ok (number (decimal n)) else Err TooLarge) (short_test (decimal n) 30 written.short)
+    let written = decimal_written n max_cost_digits (omega arith) (omega arith) (omega arith) (omega arith) in
+    ap (λ form. if form then (if nat_le (length (decimal n)) max_cost_digits then Ok (number (decimal n)) else Err TooLarge) else Err BadNumber) written.are
+    ∙ ap (λ short. if short then Ok (number (decimal n)) else Err TooLarge) (short_test (decimal n) max_cost_digits written.short)
     ∙ ap Ok written.value
 
 -- digits have no sign
@@ -82,26 +82,26 @@ unsigned text some digits =
     )
 
 -- a flow whose size is written
-flow_written : (place : ℕ) (key field digits : List ℕ) (negative : Bool) (size : ℕ) → IsWritten place 9 key → IsWritten size 9 digits → has_minus field ≡ negative → without_sign field ≡ digits → flow_in place key field ≡ Ok (signed negative size)
+flow_written : (place : ℕ) (key field digits : List ℕ) (negative : Bool) (size : ℕ) → IsWritten place max_digits key → IsWritten size max_digits digits → has_minus field ≡ negative → without_sign field ≡ digits → flow_in place key field ≡ Ok (signed negative size)
 flow_written place key field digits negative size key_is digits_are minus bare =
     let same : writes key place ≡ true = ap (λ b. b && (number key == place)) key_is.are ∙ same_test (number key) place key_is.value in
-    ap (λ (bare : List ℕ). if writes key place && are_digits bare then (if nat_le (length key) 9 && nat_le (length bare) 9 then Ok (signed (has_minus field) (number bare)) else Err TooLarge) else Err BadNumber) bare
-    ∙ ap (λ form. if form && are_digits digits then (if nat_le (length key) 9 && nat_le (length digits) 9 then Ok (signed (has_minus field) (number digits)) else Err TooLarge) else Err BadNumber) same
-    ∙ ap (λ form. if form then (if nat_le (length key) 9 && nat_le (length digits) 9 then Ok (signed (has_minus field) (number digits)) else Err TooLarge) else Err BadNumber) digits_are.are
-    ∙ ap (λ short. if short && nat_le (length digits) 9 then Ok (signed (has_minus field) (number digits)) else Err TooLarge) (short_test key 9 key_is.short)
-    ∙ ap (λ short. if short then Ok (signed (has_minus field) (number digits)) else Err TooLarge) (short_test digits 9 digits_are.short)
+    ap (λ (bare : List ℕ). if writes key place && are_digits bare then (if nat_le (length key) max_digits && nat_le (length bare) max_digits then Ok (signed (has_minus field) (number bare)) else Err TooLarge) else Err BadNumber) bare
+    ∙ ap (λ form. if form && are_digits digits then (if nat_le (length key) max_digits && nat_le (length digits) max_digits then Ok (signed (has_minus field) (number digits)) else Err TooLarge) else Err BadNumber) same
+    ∙ ap (λ form. if form then (if nat_le (length key) max_digits && nat_le (length digits) max_digits then Ok (signed (has_minus field) (number digits)) else Err TooLarge) else Err BadNumber) digits_are.are
+    ∙ ap (λ short. if short && nat_le (length digits) max_digits then Ok (signed (has_minus field) (number digits)) else Err TooLarge) (short_test key max_digits key_is.short)
+    ∙ ap (λ short. if short then Ok (signed (has_minus field) (number digits)) else Err TooLarge) (short_test digits max_digits digits_are.short)
     ∙ ap (λ negative. Ok (signed negative (number digits))) minus
     ∙ ap (λ size. Ok (signed negative size)) digits_are.value
 
 pub flow_in-decimal : (place : ℕ) (flow : ℤ) → place ≤ max_flows → unsigned_abs flow ≤ max_weight → flow_in place (decimal place) (signed_decimal flow) ≡ Ok flow
 flow_in-decimal place (pos size) few small =
-    let key = decimal_written place 9 (omega arith) (omega arith) (omega arith) (omega arith) in
-    let digits = decimal_written size 9 (omega arith) (omega arith) (omega arith) (omega arith) in
+    let key = decimal_written place max_digits (omega arith) (omega arith) (omega arith) (omega arith) in
+    let digits = decimal_written size max_digits (omega arith) (omega arith) (omega arith) (omega arith) in
     let plain = unsigned (decimal size) digits.some digits.digits in
     flow_written place (decimal place) (decimal size) (decimal size) false size key digits plain.0 plain.1
 flow_in-decimal place (negsuc size) few small =
-    let key = decimal_written place 9 (omega arith) (omega arith) (omega arith) (omega arith) in
-    let digits = decimal_written (suc size) 9 (omega arith) (omega arith) (omega arith) (omega arith) in
+    let key = decimal_written place max_digits (omega arith) (omega arith) (omega arith) (omega arith) in
+    let digits = decimal_written (suc size) max_digits (omega arith) (omega arith) (omega arith) (omega arith) in
     flow_written place (decimal place) (45 ∷ decimal (suc size)) (decimal (suc size)) true (suc size) key digits refl refl
 
 pub height_in-metres : (height : ℤ) → unsigned_abs height < height_limit → height_in (metres height) ≡ Ok height

@@ -16,7 +16,7 @@ use Rattle.th_csv.specs.Records.{Fields}
 use Rattle.th_csv.specs.Texts.{csv_text, row_text}
 use Rattle.th_certificate.specs.Certified.{cost_limit, rows_at}
 use Rattle.th_network.specs.Limits.{height_limit}
-use Rattle.th_certificate.specs.Limits.{max_flows}
+use Rattle.th_certificate.specs.Limits.{max_cost_digits, max_digits, max_flows}
 use Rattle.th_certificate.specs.Texts.{cost_row, flow_row, header_row, height_row, version_row}
 use Rattle.th_certificate.proofs.ReadRows.{IsReadable}
 use Rattle.th_tables.specs.Limits.{max_weight}
@@ -100,23 +100,23 @@ short_heights letter (name ∷ names) heights one each = (
   short_heights letter names heights one each.1,
 )
 
--- a flow of at most 1,000 in size has at most five bytes
-length-flow : (flow : ℤ) → unsigned_abs flow ≤ max_weight → length (signed_decimal flow) ≤ 5
-length-flow (pos size) small = length-decimal-le_wide 5 size (omega arith) (omega arith) (omega arith)
-length-flow (negsuc size) small = omega (arith, length-decimal-le_wide 4 (suc size) (omega arith) (omega arith) (omega arith))
+-- a flow has at most its digits and a sign
+length-flow : (flow : ℤ) → unsigned_abs flow ≤ max_weight → length (signed_decimal flow) ≤ max_digits + 1
+length-flow (pos size) small = omega (arith, length-decimal-le_wide max_digits size (omega arith) (omega arith) (omega arith))
+length-flow (negsuc size) small = omega (arith, length-decimal-le_wide max_digits (suc size) (omega arith) (omega arith) (omega arith))
 
 pub short_flows : (first : ℕ) (flows : List ℤ) → first + length flows ≤ max_flows + 1 → AllByRecursion (λ flow. unsigned_abs flow ≤ max_weight) flows → AllByRecursion IsShortRow (map flow_row (enumerate_from first flows))
 short_flows first [] few each = tt
 short_flows first (flow ∷ flows) few each = (
-  short_row (codes "F") (decimal first) (signed_decimal flow) (omega (arith, length-decimal-le_wide 5 first (omega arith) (omega arith) (omega arith), length-flow flow each.0)),
+  short_row (codes "F") (decimal first) (signed_decimal flow) (omega (arith, length-decimal-le_wide max_digits first (omega arith) (omega arith) (omega arith), length-flow flow each.0)),
   short_flows (first + 1) flows (omega arith) each.1,
 )
 
 pub short_version : (version : List ℕ) (count : ℕ) → length version ≤ 1 → count ≤ max_flows → IsShortRow (version_row version count)
-short_version version count one few = short_row (codes "V") version (decimal count) (omega (arith, length-decimal-le_wide 5 count (omega arith) (omega arith) (omega arith)))
+short_version version count one few = short_row (codes "V") version (decimal count) (omega (arith, length-decimal-le_wide max_digits count (omega arith) (omega arith) (omega arith)))
 
 pub short_cost : (cost : ℕ) → cost < cost_limit → IsShortRow (cost_row cost)
-short_cost cost small = short_row (codes "Z") (codes "cost") (decimal cost) (omega (arith, length-decimal-le_wide 30 cost (omega arith) (omega arith) (omega arith)))
+short_cost cost small = short_row (codes "Z") (codes "cost") (decimal cost) (omega (arith, length-decimal-le_wide max_cost_digits cost (omega arith) (omega arith) (omega arith)))
 
 pub short_header : IsShortRow header_row
 short_header = short_row (codes "kind") (codes "key") (codes "value") (omega arith)
