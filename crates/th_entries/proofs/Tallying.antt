@@ -157,7 +157,7 @@ blank-taken names number parsed n old counts small block blank more was = record
 
 -- a line is one of few enough
 few : (n many : ℕ) → many ≤ max_book → n < many → n < 4294967295
-few n many short within = let own : many ≤ 67108864 = short in omega (arith, own, within)
+few n many short within = let own : many ≤ max_book = short in omega (arith, own, within)
 
 -- what the law of sound books says
 abbrev Law : Type 0

@@ -30,7 +30,7 @@ no_limit n large = go (nat_le n max_blunder) refl
     go : (b : Bool) → nat_le n max_blunder ≡ b → None ≡ limit_of n
     go false e = rw e refl
     go true e =
-        let few : n ≤ 1000000000 = leb-true _ _ e in
+        let few : n ≤ max_blunder = leb-true _ _ e in
         absurd (large (omega (arith, few)))
 
 -- what `parse` gives of a text at a number of 32 bits

@@ -1,8 +1,5 @@
 use Rattle.std.specs.Prelude.{ℕ}
-
--- the most books that a command takes
-abbrev pub max_books : ℕ
-max_books = 16
+pub use Rattle.th_limits.specs.Limits.{max_books}
 
 -- the largest limit of blunders that a command takes, in micrometres
 abbrev pub max_blunder : ℕ

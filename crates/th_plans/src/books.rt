@@ -1,8 +1,8 @@
 ghost use Rattle.std.specs.Prelude.{◌≤◌, length};
 ghost use Rattle.th_plans.specs.Limits.{max_books};
 
-use crate::limits::MAX_BOOKS;
 use arrayvec::ArrayVec;
+use th_limits::MAX_BOOKS;
 
 /// The names of the books that a command is to read, in order: 1 to `MAX_BOOKS` of them.
 #[derive(Debug, Drop)]

@@ -10,13 +10,13 @@ use crate::blunder_limits::Limit;
 use crate::books::Books;
 use crate::commands::command_line;
 use crate::faults::PlanFault;
-use crate::limits::MAX_BOOKS;
 use crate::plans::{Inputs, Plan};
 use crate::prefixes::names_files;
 use clap::ArgMatches;
 use clap::error::ErrorKind;
 use std::alloc::Global;
 use std::convert::AsStr;
+use th_limits::MAX_BOOKS;
 
 /// The plan of a command line, whose first word is the program's own name.
 pub fn plan<'a, S: AsStr>(alloc: Global, words: &'a [S]) -> Result<Plan<'a>, PlanFault>

@@ -4,6 +4,7 @@ ghost use Rattle.clap.specs.Words.{App, app_of};
 ghost use Rattle.th_plans.specs.Inside.Commands.{IsArgument, IsCommand};
 ghost use Rattle.th_plans.specs.Plans.{adjust_command, blunder_rule, book_rule, books_rule, check_command, command_line, list_command, needed_rule, option_rule, review_command, with_options};
 
+use crate::limits::MAX_BLUNDER;
 use clap::{Arg, ArgAction, Command};
 use std::alloc::{AllocError, Global};
 
@@ -216,7 +217,7 @@ fn blunder<'a>(alloc: Global) -> Arg<'a>
 {
     Arg::new(alloc, "blunder")
         .long("blunder")
-        .value_parser(clap::value_parser!(u32).range(0..=1_000_000_000))
+        .value_parser(clap::value_parser!(u32).range(0..=MAX_BLUNDER as i64))
         .default_value("20000")
         .value_name("MICROMETRES")
         .help("Residuals above this size are marked as blunders, 0 to 1000000000")

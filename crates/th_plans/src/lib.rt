@@ -23,5 +23,6 @@ pub use blunder_limits::Limit;
 pub use books::Books;
 pub use command_lines::plan;
 pub use faults::PlanFault;
-pub use limits::{MAX_BLUNDER, MAX_BOOKS};
+pub use limits::MAX_BLUNDER;
 pub use plans::{Inputs, Plan};
+pub use th_limits::MAX_BOOKS;

@@ -1,5 +1,2 @@
-/// The most books that a command takes.
-pub const MAX_BOOKS: usize = 16;
-
 /// The largest limit of blunders that a command takes, in micrometres: 1,000 m.
 pub const MAX_BLUNDER: u32 = 1_000_000_000;
