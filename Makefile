@@ -148,4 +148,4 @@ uninstall:
 	rm -f $(INSTALLED)
 
 clean:
-	rm -rf crates/*/out out $(LOG)
+	rm -rf crates/*/out out $(LOG)*
