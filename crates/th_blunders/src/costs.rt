@@ -16,10 +16,10 @@ pub fn cost(network: &Network, residuals: &[i64]) -> u128
     ensures cost { (heights : List ℕ → ℤ) → residuals.now ≡ residuals_of network.now.observations heights
         → result ≡ cost network.now.observations network.now.weights heights }
 {
-    let _ = network.points();
+    let weights = network.weights();
     let mut total = 0;
     for (i, residual) in residuals.iter().enumerate() {
-        total += u128::from(network.weight(i)) * u128::from(residual.unsigned_abs());
+        total += u128::from(weights[i]) * u128::from(residual.unsigned_abs());
     }
     total
 }

@@ -53,13 +53,13 @@ turned ends place other (inl from) = inr from
 turned ends place other (inr to) = inl to
 
 -- a place that waited has its neighbours marked
-pub reaching_next : (heights : List (Option ℤ)) (ends : List (ℕ × ℕ)) (lists : List (List ℕ)) (neighbours : List ℕ) (place : ℕ) (m1 m2 : List Bool) (w0 w1 w2 : List ℕ) → w0 ≡ w1 ++ place ∷ [] → AreNeighbours ends lists → ((other : ℕ) → Contains neighbours other ↔ IsListed lists place other) → AreAdded neighbours m1 m2 → Spreads m1 w1 m2 w2 → IsReaching heights ends m1 w0 → IsReaching heights ends m2 w2
-reaching_next heights ends lists neighbours place m1 m2 w0 w1 w2 popped are of added spreads h = record {
+pub reaching_next : (count : ℕ) (heights : List (Option ℤ)) (ends : List (ℕ × ℕ)) (lists : List (List ℕ)) (neighbours : List ℕ) (place : ℕ) (m1 m2 : List Bool) (w0 w1 w2 : List ℕ) → w0 ≡ w1 ++ place ∷ [] → AreNeighbours count ends lists → ((other : ℕ) → Contains neighbours other ↔ IsListed lists place other) → AreAdded neighbours m1 m2 → Spreads m1 w1 m2 w2 → IsReaching heights ends m1 w0 → IsReaching heights ends m2 w2
+reaching_next count heights ends lists neighbours place m1 m2 w0 w1 w2 popped are of added spreads h = record {
   size = spreads.size ∙ h.size;
   seeds = λ other height at. spreads.kept other (h.seeds other height at);
   sound = λ other is. elim (added.no_other other is) [
     | inl before ↦ h.sound other before
-    | inr new ↦ joined other place (turned ends place other ((are place other).0 ((of other).0 new))) here
+    | inr new ↦ joined other place (turned ends place other ((are.joined place other).0 ((of other).0 new))) here
   ];
   no_other = λ other waits. elim (spreads.no_other other waits) [
     | inl before ↦ spreads.kept other (h.no_other other (waited other before))
@@ -71,7 +71,7 @@ reaching_next heights ends lists neighbours place m1 m2 w0 w1 w2 popped are of a
       | inr was ↦ inr (spreads.kept other was)
       | inl did ↦ elim (left one did) [
         | inl waits ↦ inl (spreads.still_waits one waits)
-        | inr same ↦ inr (added.all other ((of other).1 ((are place other).1 (subst (λ (p : ℕ). Joins ends p other) (sym same) joins))))
+        | inr same ↦ inr (added.all other ((of other).1 ((are.joined place other).1 (subst (λ (p : ℕ). Joins ends p other) (sym same) joins))))
       ]
     ]
   ];
@@ -97,10 +97,10 @@ pub joined_within : (limit : ℕ) (ends : List (ℕ × ℕ)) (place other : ℕ)
 joined_within limit ends place other below (inl from) = (All-contains (AreBelow limit) ends (place, other) below from).1
 joined_within limit ends place other below (inr to) = (All-contains (AreBelow limit) ends (other, place) below to).0
 
-pub neighbours_within : (limit : ℕ) (ends : List (ℕ × ℕ)) (lists : List (List ℕ)) (neighbours : List ℕ) (place : ℕ) → All (AreBelow limit) ends → AreNeighbours ends lists → ((other : ℕ) → Contains neighbours other ↔ IsListed lists place other) → All (λ other. other < limit) neighbours
-neighbours_within limit ends lists neighbours place below are of = λ k d within.
+pub neighbours_within : (limit count : ℕ) (ends : List (ℕ × ℕ)) (lists : List (List ℕ)) (neighbours : List ℕ) (place : ℕ) → All (AreBelow limit) ends → AreNeighbours count ends lists → ((other : ℕ) → Contains neighbours other ↔ IsListed lists place other) → All (λ other. other < limit) neighbours
+neighbours_within limit count ends lists neighbours place below are of = λ k d within.
     let has : Contains neighbours (get_or neighbours k d) = Contains-get_or neighbours k d within in
-    joined_within limit ends place (get_or neighbours k d) below ((are place (get_or neighbours k d)).0 ((of (get_or neighbours k d)).0 has))
+    joined_within limit ends place (get_or neighbours k d) below ((are.joined place (get_or neighbours k d)).0 ((of (get_or neighbours k d)).0 has))
 
 -- when no place waits, just what is reached is marked
 pub reached_all : (heights : List (Option ℤ)) (ends : List (ℕ × ℕ)) (marked : List Bool) (waiting : List ℕ) → length waiting ≡ 0 → IsReaching heights ends marked waiting → (place : ℕ) → IsMarked marked place ↔ IsReached heights ends place

@@ -6,8 +6,9 @@ pub mod MarkLemmas
 pub mod AnchorLemmas
 pub mod TieLemmas
 pub mod VertexLemmas
-pub mod LinkLemmas
 pub mod NetworkLemmas
+pub mod SiteLemmas
+pub mod LinkLemmas
 pub mod Slackness
 pub mod WalkLemmas
 pub mod Examples

@@ -1,5 +1,5 @@
 -- How marks spread: one at a time, and one state after another.
-use Rattle.std.proofs.Common.{◌≡◌, ◌≢◌, ℕ, ◌+◌, ◌<◌, ◌≤◌, ◌⊎◌, inl, inr, Bool, true, false, ℤ, List, [], ◌∷◌, ◌++◌, length, get_or, take, map, Option, None, Contains, is_some, if◌then◌else◌, refl, sym, ap, ◌∙◌, subst, arith, length-append, length-take}
+use Rattle.std.proofs.Common.{◌≡◌, ◌≢◌, ℕ, ◌+◌, ◌<◌, ◌≤◌, inl, inr, Bool, true, false, ℤ, List, [], ◌∷◌, ◌++◌, length, get_or, take, map, Option, None, Contains, is_some, if◌then◌else◌, refl, sym, ap, ◌∙◌, subst, arith, length-append, length-take}
 use Rattle.std.proofs.Math.ListN.{set, get_or-append}
 use Rattle.std.proofs.Math.Seq.{get_or-append_seam}
 use Rattle.std.proofs.lemmas.Bool.{cases_eq, false≢true}
@@ -18,6 +18,26 @@ marked_other marked place other differs is =
 marked_here : (marked : List Bool) (place : ℕ) → place < length marked → IsMarked (set marked place true) place
 marked_here marked place within =
     slice_get_read (set marked place true) (length marked) place true (sym (length-set marked place true)) within (sym (get_or-set_same marked place true true within))
+
+-- what a list of one place has
+only_here : (place other : ℕ) → Contains (place ∷ []) other → place ≡ other
+only_here place other has = elim (Contains-push_cases [] place other has) [ inl none ↦ absurd (omega (arith, none.1)) | inr same ↦ same ]
+
+-- one place is marked, or it was
+pub added_mark : (marked : List Bool) (place : ℕ) → place < length marked → AreAdded (place ∷ []) marked (set marked place true)
+added_mark marked place within = record {
+  all = λ other has. subst (IsMarked (set marked place true)) (only_here place other has) (marked_here marked place within);
+  no_other = λ other is. elim (cases_eq other place) [
+    | inl same ↦ inr (subst (Contains (place ∷ [])) (sym same) (Contains-push [] place))
+    | inr differs ↦ inl (got-set_other marked place other true true differs is)
+  ];
+}
+
+pub added_before : (marked : List Bool) (place : ℕ) → IsMarked marked place → AreAdded (place ∷ []) marked marked
+added_before marked place is = record {
+  all = λ other has. subst (IsMarked marked) (only_here place other has) is;
+  no_other = λ other now. inl now;
+}
 
 -- what a mark leaves to do at its place
 abbrev left_by : Bool → ℕ
@@ -93,9 +113,10 @@ none_marked places marked waiting = record {
   spreads = spreads_none marked waiting;
 }
 
-pub one_more_marked : (places : List ℕ) (i : ℕ) (m1 m2 m3 : List Bool) (w1 w2 w3 : List ℕ) → i < length places → IsMarked m3 (get_or places i 0) → ((other : ℕ) → IsMarked m3 other → IsMarked m2 other ⊎ (other ≡ get_or places i 0)) → Spreads m2 w2 m3 w3 → AreMarkedTo places i m1 w1 m2 w2 → AreMarkedTo places (i + 1) m1 w1 m3 w3
-one_more_marked places i m1 m2 m3 w1 w2 w3 within is only more h =
+pub one_more_marked : (places : List ℕ) (i : ℕ) (m1 m2 m3 : List Bool) (w1 w2 w3 : List ℕ) → i < length places → AreAdded (get_or places i 0 ∷ []) m2 m3 → Spreads m2 w2 m3 w3 → AreMarkedTo places i m1 w1 m2 w2 → AreMarkedTo places (i + 1) m1 w1 m3 w3
+one_more_marked places i m1 m2 m3 w1 w2 w3 within one more h =
     let place = get_or places i 0 in
+    let is : IsMarked m3 place = one.all place (Contains-push [] place) in
     let taken : take (i + 1) places ≡ take i places ++ place ∷ [] = take_more places i 0 within in
     record {
       added = subst (λ (done : List ℕ). AreAdded done m1 m3) (sym taken) (record {
@@ -103,12 +124,12 @@ one_more_marked places i m1 m2 m3 w1 w2 w3 within is only more h =
           | inl before ↦ more.kept other (h.added.all other before)
           | inr same ↦ subst (IsMarked m3) same is
         ];
-        no_other = λ other now. elim (only other now) [
+        no_other = λ other now. elim (one.no_other other now) [
           | inl before ↦ elim (h.added.no_other other before) [
             | inl old ↦ inl old
             | inr done ↦ inr (Contains-append_left (take i places) (place ∷ []) other done)
           ]
-          | inr same ↦ inr (subst (Contains (take i places ++ place ∷ [])) (sym same) (Contains-push (take i places) place))
+          | inr new ↦ inr (subst (Contains (take i places ++ place ∷ [])) (only_here place other new) (Contains-push (take i places) place))
         ];
       });
       spreads = spreads_on m1 m2 m3 w1 w2 w3 h.spreads more;

@@ -1,11 +1,11 @@
 -- One more neighbour in a list, one more observation in the lists.
-use Rattle.std.proofs.Common.{◌≡◌, ◌≢◌, ◌↔◌, ℕ, ◌+◌, ◌<◌, ◌≤◌, ◌⊎◌, inl, inr, List, [], ◌∷◌, ◌++◌, length, get_or, slice_get, take, map, Some, None, option_map, All, Contains, refl, sym, ap, ◌∙◌, subst, arith, length-take}
+use Rattle.std.proofs.Common.{◌≡◌, ◌≢◌, ◌↔◌, ℕ, ◌+◌, ◌<◌, ◌≤◌, ◌⊎◌, inl, inr, List, [], ◌∷◌, ◌++◌, length, get_or, slice_get, take, map, Some, None, option_map, All, Contains, refl, sym, ap, ◌∙◌, subst, arith}
 use Rattle.std.proofs.Math.ListN.{set}
 use Rattle.std.proofs.lemmas.Bool.{cases_eq}
-use Rattle.std.proofs.lemmas.List.{length-map, length-set, map-set, get_or-set_same, get_or-set_other, take_more, take_all}
+use Rattle.std.proofs.lemmas.List.{length-map, length-set, map-set, get_or-set_same, get_or-set_other, take_more}
 use Rattle.std.proofs.lemmas.List.Elements.{Contains-append_left, Contains-push, Contains-push_cases}
 use Rattle.std.proofs.lemmas.Option.{slice_get_within, slice_get_read, slice_get_cases, slice_get-map, get_or_from_slice_get, same_Some}
-use Rattle.th_network.specs.Inside.Neighbours.{Joins, IsListed, AreNeighbours}
+use Rattle.th_network.specs.Inside.Neighbours.{Joins, IsListed}
 use Rattle.th_network.proofs.Gets.{got-set_other, got-set_same}
 
 -- one list has one more element
@@ -68,10 +68,14 @@ module _ {X : Type 0} where
           let near : place < length (map seen xs) = slice_get_within (map seen xs) place h.0 h.1 in
           omega (arith, length-map xs seen)
 
+-- just what the observations join is listed
+abbrev pub AreJoined : List (ℕ × ℕ) → List (List ℕ) → Type 0
+AreJoined ends lists = (place other : ℕ) → IsListed lists place other ↔ Joins ends place other
+
 -- what the lists have after one more observation
-pub neighbours_more : (ends : List (ℕ × ℕ)) (i : ℕ) (d : ℕ × ℕ) (l1 l2 l3 : List (List ℕ)) → i < length ends → AreNeighbours (take i ends) l1 → ((at to : ℕ) → IsListed l2 at to ↔ (IsListed l1 at to ⊎ ((at ≡ (get_or ends i d).0) × (to ≡ (get_or ends i d).1)))) → ((at to : ℕ) → IsListed l3 at to ↔ (IsListed l2 at to ⊎ ((at ≡ (get_or ends i d).1) × (to ≡ (get_or ends i d).0)))) → AreNeighbours (take (i + 1) ends) l3
+pub neighbours_more : (ends : List (ℕ × ℕ)) (i : ℕ) (d : ℕ × ℕ) (l1 l2 l3 : List (List ℕ)) → i < length ends → AreJoined (take i ends) l1 → ((at to : ℕ) → IsListed l2 at to ↔ (IsListed l1 at to ⊎ ((at ≡ (get_or ends i d).0) × (to ≡ (get_or ends i d).1)))) → ((at to : ℕ) → IsListed l3 at to ↔ (IsListed l2 at to ⊎ ((at ≡ (get_or ends i d).1) × (to ≡ (get_or ends i d).0)))) → AreJoined (take (i + 1) ends) l3
 neighbours_more ends i d l1 l2 l3 within are first second =
-    subst (λ (done : List (ℕ × ℕ)). AreNeighbours done l3) (sym (take_more ends i d within)) (λ place other. (there place other, back place other))
+    subst (λ (done : List (ℕ × ℕ)). AreJoined done l3) (sym (take_more ends i d within)) (λ place other. (there place other, back place other))
   where
     station : ℕ
     station = (get_or ends i d).0
@@ -111,12 +115,10 @@ neighbours_more ends i d l1 l2 l3 within are first second =
       | inr same ↦ (second place other).1 (inr (ap (λ (p : ℕ × ℕ). p.1) (sym same), ap (λ (p : ℕ × ℕ). p.0) (sym same)))
     ]
 
-pub neighbours_none : (ends : List (ℕ × ℕ)) (lists : List (List ℕ)) → ((place other : ℕ) → ¬ IsListed lists place other) → AreNeighbours (take 0 ends) lists
-neighbours_none ends lists none = λ place other. (λ h. absurd (none place other h), empty place other)
+-- no observation joins places
+pub joined_none : (lists : List (List ℕ)) → ((place other : ℕ) → ¬ IsListed lists place other) → AreJoined [] lists
+joined_none lists none = λ place other. (λ h. absurd (none place other h), empty place other)
   where
-    empty : (place other : ℕ) → Joins (take 0 ends) place other → IsListed lists place other
-    empty place other (inl from) = absurd (omega (arith, from.1, length-take 0 ends))
-    empty place other (inr to) = absurd (omega (arith, to.1, length-take 0 ends))
-
-pub neighbours_all : (ends : List (ℕ × ℕ)) (i : ℕ) (lists : List (List ℕ)) → length ends ≤ i → AreNeighbours (take i ends) lists → AreNeighbours ends lists
-neighbours_all ends i lists all are = subst (λ (done : List (ℕ × ℕ)). AreNeighbours done lists) (take_all i ends all) are
+    empty : (place other : ℕ) → Joins [] place other → IsListed lists place other
+    empty place other (inl from) = absurd (omega (arith, from.1))
+    empty place other (inr to) = absurd (omega (arith, to.1))

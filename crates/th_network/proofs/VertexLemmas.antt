@@ -54,14 +54,12 @@ numbered_free benchmarks names i count name vertices vertices' here open_end pus
     by None e = refl
     by (Some height) e = sym e
 
-pub numbered_all : (benchmarks : BenchmarkRows) (names : List (List ℕ)) (i count : ℕ) (vertices : List ℕ) → i ≡ length names → IsNumbered benchmarks names i count vertices → AreVertices benchmarks names vertices × (count ≡ count_by (is_free benchmarks) names + 1)
-numbered_all benchmarks names i count vertices all h = (
-  record {
-    size = h.size ∙ all;
-    each = λ place name at. h.each place name (omega (arith, slice_get_within names place name at)) at;
-  },
-  h.next ∙ ap (λ xs. count_by (is_free benchmarks) xs + 1) (take_all i names (omega arith)),
-)
+pub numbered_all : (benchmarks : BenchmarkRows) (names : List (List ℕ)) (i count : ℕ) (vertices : List ℕ) → i ≡ length names → IsNumbered benchmarks names i count vertices → AreVertices benchmarks names vertices count
+numbered_all benchmarks names i count vertices all h = record {
+  size = h.size ∙ all;
+  each = λ place name at. h.each place name (omega (arith, slice_get_within names place name at)) at;
+  all = h.next ∙ ap (λ xs. count_by (is_free benchmarks) xs + 1) (take_all i names (omega arith));
+}
 
 pub numbered_on : {benchmarks : BenchmarkRows} {names : List (List ℕ)} {i count other : ℕ} {vertices : List ℕ} → count ≡ other → IsNumbered benchmarks names i count vertices → IsNumbered benchmarks names i other vertices
 numbered_on {benchmarks = benchmarks} {names = names} {i = i} {vertices = vertices} same h = subst (λ (n : ℕ). IsNumbered benchmarks names i n vertices) same h

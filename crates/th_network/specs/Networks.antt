@@ -1,8 +1,9 @@
-use Rattle.std.specs.Prelude.{◌≡◌, ◌<◌, ◌≤◌, ℕ, ℤ, List, Option, All, length, map, unsigned_abs}
+use Rattle.std.specs.Prelude.{◌≡◌, ◌<◌, ◌≤◌, ℕ, ℤ, pos, List, Option, All, length, map, unsigned_abs, unwrap_or}
 use Rattle.th_book.specs.Observed.{Observed, IsBetweenPoints}
 use Rattle.th_tables.specs.Limits.{max_weight}
 use Rattle.th_tables.specs.Rows.{BenchmarkRows, WeightRows, height_of, weight_of}
 use Rattle.th_points.specs.Points.{points}
+use Rattle.th_units.specs.Limits.{max_len}
 use Rattle.th_points.specs.Ends.{ends_of}
 use Rattle.th_network.specs.Faults.{IsNetwork}
 use Rattle.th_network.specs.Vertices.{vertex_count}
@@ -15,6 +16,10 @@ pub record Survey : Type 0 where
   pub observations : List Observed
   pub benchmarks : BenchmarkRows
   pub weights : WeightRows
+
+-- these observations, over the rows of these tables
+abbrev pub surveyed : List Observed → BenchmarkRows → WeightRows → Survey
+surveyed observations benchmarks weights = record { observations = observations; benchmarks = benchmarks; weights = weights }
 
 -- the points of a survey, in order of first sight
 abbrev pub points_of : Survey → List (List ℕ)
@@ -49,14 +54,16 @@ AreInRange survey heights = All (λ name. unsigned_abs (heights name) < height_l
 abbrev pub IsWeight : ℕ → Type 0
 IsWeight weight = (1 ≤ weight) × (weight ≤ max_weight)
 
--- observations and benchmarks make a network, with these points and ends, and over these weights with the ones listed, so many vertices, and these arcs
-pub record IsBuilt (observations : List Observed) (benchmarks : BenchmarkRows) (weights : WeightRows) (names : List (List ℕ)) (ends : List (ℕ × ℕ)) (listed : List ℕ) (count : ℕ) (arcs : List Link) : Type 0 where
-  pub network : IsNetwork observations benchmarks
-  pub between : All IsBetweenPoints observations
-  pub all_points : names ≡ points observations benchmarks
-  pub placed : ends ≡ ends_of observations benchmarks
-  pub weighed : listed ≡ map (λ o. weight_of weights o.station o.target) observations
-  pub light : All IsWeight listed
-  pub vertices : count ≡ vertex_count observations benchmarks
-  pub links : arcs ≡ map (link_of observations benchmarks) observations
+-- a survey makes a network, with these points, their heights, the places of the ends among them, the weights of observations, so many vertices, and these arcs
+pub record IsBuilt (survey : Survey) (names : List (List ℕ)) (heights : List (Option ℤ)) (ends : List (ℕ × ℕ)) (weights : List ℕ) (count : ℕ) (arcs : List Link) : Type 0 where
+  pub network : IsNetwork survey.observations survey.benchmarks
+  pub between : All IsBetweenPoints survey.observations
+  pub all_points : names ≡ points_of survey
+  pub fixed : heights ≡ heights_of survey
+  pub low : All (λ height. unsigned_abs (unwrap_or height (pos 0)) ≤ max_len) heights
+  pub placed : ends ≡ ends_of survey.observations survey.benchmarks
+  pub weighed : weights ≡ weights_of survey
+  pub light : All IsWeight weights
+  pub vertices : count ≡ vertices_of survey
+  pub links : arcs ≡ arcs_of survey
   pub in_range : All (λ arc. unsigned_abs arc.diff ≤ largest_link_difference) arcs

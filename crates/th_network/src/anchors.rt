@@ -1,47 +1,45 @@
-ghost use Rattle.std.specs.Prelude.{◌≡◌, ◌↔◌, ℕ, All, IfOk, length, map};
+ghost use Rattle.std.specs.Prelude.{◌≡◌, All, IfOk, MatchOption, length};
+ghost use Rattle.th_network.specs.Faults.{IsFirstUntied};
 ghost use Rattle.th_network.specs.Inside.Pairs.{AreBelow};
-ghost use Rattle.th_network.specs.Inside.Marks.{IsMarked};
-ghost use Rattle.th_network.specs.Inside.Reached.{IsFirstUnreached, IsReached};
-ghost use Rattle.th_tables.specs.Rows.{height_of};
+ghost use Rattle.th_network.specs.Inside.Reached.{AreReached, IsFirstUnreached};
+ghost use Rattle.th_network.specs.Walks.{Anchored};
 
 use crate::marks::Marks;
 use crate::neighbours::Neighbours;
+use crate::sites::Sites;
 use gsi_word::Name;
 use std::alloc::{AllocError, Global};
-use th_points::Points;
-use th_tables::Benchmarks;
 
 /// The first point from which no chain of observations leads to a benchmark.
-pub(crate) fn first_untied(
-    alloc: Global,
-    points: &Points,
-    benchmarks: &Benchmarks,
-) -> Result<Option<Name>, AllocError>
-    requires { All (AreBelow (length points.now.names.keys)) points.now.ends.items }
-    ensures { IfOk result (IsFirstUnreached (map (height_of benchmarks.now) points.now.names.keys)
-        points.now.ends.items points.now.names.keys) }
+pub(crate) fn first_untied(alloc: Global, sites: &Sites<'_>) -> Result<Option<Name>, AllocError>
+    ensures { IfOk result (λ found. MatchOption found
+        (Anchored sites.now.observations sites.now.benchmarks)
+        (IsFirstUntied sites.now.observations sites.now.benchmarks)) }
 {
-    let names = points.names.as_slice();
-    let heights = heights_of(alloc, names, benchmarks)?;
-    let reached = reached_places(alloc, &heights, &points.ends)?;
+    first_unreached(
+        alloc,
+        sites.points.names.as_slice(),
+        &sites.heights,
+        &sites.points.ends,
+    )
+}
+
+/// The first name whose place is not reached from those that have a height.
+fn first_unreached(
+    alloc: Global,
+    names: &[Name],
+    heights: &[Option<i64>],
+    ends: &[(usize, usize)],
+) -> Result<Option<Name>, AllocError>
+    requires each { length heights.now ≡ length names.now }
+    requires within { All (AreBelow (length heights.now)) ends.now }
+    ensures { IfOk result (IsFirstUnreached heights.now ends.now names.now) }
+{
+    let reached = reached_places(alloc, heights, ends)?;
     let Some(place) = reached.iter().position(|mark| !*mark) else {
         return Ok(None);
     };
     Ok(Some(names[place]))
-}
-
-/// The heights of the points that are benchmarks, in the order of the points.
-fn heights_of(
-    alloc: Global,
-    names: &[Name],
-    benchmarks: &Benchmarks,
-) -> Result<Vec<Option<i64>>, AllocError>
-    ensures { IfOk result (λ heights. heights.items ≡ map (height_of benchmarks.now) names.now) }
-{
-    names
-        .iter()
-        .map(|name| benchmarks.height_of(name))
-        .collect(alloc)
 }
 
 /// Which places are reached from those that have a height, by observations that end at these places.
@@ -54,9 +52,7 @@ fn reached_places(
     ends: &[(usize, usize)],
 ) -> Result<Vec<bool>, AllocError>
     requires { All (AreBelow (length heights.now)) ends.now }
-    ensures size { IfOk result (λ marked. length marked.items ≡ length heights.now) }
-    ensures reached { IfOk result (λ marked.
-        (place : ℕ) → IsMarked marked.items place ↔ IsReached heights.now ends.now place) }
+    ensures { IfOk result (λ marked. AreReached heights.now ends.now marked.items) }
 {
     let neighbours = Neighbours::of(alloc, ends, heights.len())?;
     let mut marks = Marks::of(alloc, heights)?;

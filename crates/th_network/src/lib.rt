@@ -3,9 +3,10 @@
 //!
 //! A network has at most `MAX_OBSERVATIONS` observations and `MAX_POINTS` points, and from each
 //! point a chain of observations leads to a benchmark. `Network::build` makes it, or returns the
-//! first fault. It takes the points in order of first sight (`th_points`), walks from the
-//! benchmarks to all that they reach (`anchors`, over `neighbours` and `marks`), and numbers the
-//! vertices (`vertices`). It removes the benchmarks' heights from the observations (`links`).
+//! first fault. It takes the points in order of first sight (`th_points`), looks their heights up
+//! (`sites`), walks from the benchmarks to all that they reach (`anchors`, over `neighbours` and
+//! `marks`), and numbers the vertices (`vertices`). It removes the benchmarks' heights from the
+//! observations (`links`).
 //!
 //! The definitions are in `specs/`: walks and faults, heights and their cost, circulations,
 //! vertices and links. `laws` proves what they are for: heights that a circulation shows are least.
@@ -13,6 +14,9 @@
 
 // Faults.
 mod faults;
+
+// The points, and the heights of those that are benchmarks.
+mod sites;
 
 // Which points a chain of observations ties to a benchmark: what joins the points, and what is marked
 // as the walk goes on.

@@ -1,5 +1,5 @@
-ghost use Rattle.std.specs.Prelude.{◌≡◌, ◌⊎◌, ◌<◌, ℕ, All, IfOk, OnErr, OnOk, length};
-ghost use Rattle.th_network.specs.Inside.Marks.{AreAdded, IsMarked, IsSeeded, Spreads};
+ghost use Rattle.std.specs.Prelude.{◌<◌, ◌∷◌, [], All, IfOk, OnOk, length};
+ghost use Rattle.th_network.specs.Inside.Marks.{IsSeeded, MarksAll};
 
 use std::alloc::{AllocError, Global};
 
@@ -32,10 +32,7 @@ impl Marks {
     /// Marks some points, and lets those wait that were not marked yet.
     pub fn mark_all(&mut self, places: &[usize]) -> Result<(), AllocError>
         requires { All (λ place. place < length self.old.marked.items) places.now }
-        ensures added { OnOk result
-            (AreAdded places.now self.old.marked.items self.new.marked.items) }
-        ensures spreads { OnOk result (Spreads self.old.marked.items self.old.waiting.items
-            self.new.marked.items self.new.waiting.items) }
+        ensures { OnOk result (MarksAll places.now self.old self.new) }
     {
         for place in places {
             self.mark(*place)?;
@@ -43,17 +40,10 @@ impl Marks {
         Ok(())
     }
 
-    /// Marks a point, and lets it wait if it was not marked yet. Where room to wait is refused, nothing
-    /// is marked.
+    /// Marks a point, and lets it wait if it was not marked yet.
     fn mark(&mut self, place: usize) -> Result<(), AllocError>
         requires { place < length self.old.marked.items }
-        ensures marks { OnOk result (IsMarked self.new.marked.items place) }
-        ensures no_other { OnOk result ((other : ℕ) → IsMarked self.new.marked.items other
-            → IsMarked self.old.marked.items other ⊎ (other ≡ place)) }
-        ensures spreads { OnOk result (Spreads self.old.marked.items self.old.waiting.items
-            self.new.marked.items self.new.waiting.items) }
-        ensures kept { OnErr result ((self.new.marked.items ≡ self.old.marked.items)
-            × (self.new.waiting.items ≡ self.old.waiting.items)) }
+        ensures { OnOk result (MarksAll (place ∷ []) self.old self.new) }
     {
         if !self.marked[place] {
             self.waiting.push(place)?;

@@ -1,4 +1,4 @@
-ghost use Rattle.std.specs.Prelude.{◌≡◌, ◌↔◌, ◌⊎◌, ◌<◌, ℕ, All, Contains, IfOk, OnOk, length};
+ghost use Rattle.std.specs.Prelude.{◌≡◌, ◌↔◌, ◌⊎◌, ◌<◌, [], ℕ, All, Contains, IfOk, OnOk, length};
 ghost use Rattle.th_network.specs.Inside.Pairs.{AreBelow};
 ghost use Rattle.th_network.specs.Inside.Neighbours.{AreNeighbours, IsListed};
 
@@ -27,8 +27,7 @@ impl Neighbours {
         count: usize,
     ) -> Result<Neighbours, AllocError>
         requires { All (AreBelow count) ends.now }
-        ensures size { IfOk result (λ neighbours. length neighbours ≡ count) }
-        ensures neighbours { IfOk result (λ neighbours. AreNeighbours ends.now neighbours) }
+        ensures { IfOk result (AreNeighbours count ends.now) }
     {
         let mut neighbours = Neighbours::none(alloc, count)?;
         for (station, target) in ends {
@@ -40,9 +39,7 @@ impl Neighbours {
 
     /// No neighbours for so many places.
     fn none(alloc: Global, count: usize) -> Result<Neighbours, AllocError>
-        ensures size { IfOk result (λ neighbours. length neighbours ≡ count) }
-        ensures none { IfOk result (λ neighbours.
-            (place other : ℕ) → ¬ IsListed neighbours place other) }
+        ensures { IfOk result (AreNeighbours count []) }
     {
         let mut lists = Vec::with_capacity(alloc, count)?;
         for _ in 0..count {

@@ -4,7 +4,7 @@ ghost use Rattle.th_book.specs.Observed.{IsBetweenPoints};
 ghost use Rattle.th_network.specs.Faults.{HasFault, IsNetwork};
 ghost use Rattle.th_network.specs.Limits.{max_observations, max_points};
 ghost use Rattle.th_network.specs.Links.{largest_link_difference};
-ghost use Rattle.th_network.specs.Networks.{IsBuilt, arcs_of, heights_of, points_of, vertices_of, weights_of};
+ghost use Rattle.th_network.specs.Networks.{IsWeight, arcs_of, heights_of, points_of, surveyed, vertices_of, weights_of};
 ghost use Rattle.th_points.specs.Ends.{ends_of};
 ghost use Rattle.th_network.specs.declared.faults.NetFault.TheVariants.{NoMemory, TooManyObservations};
 ghost use Rattle.th_tables.specs.Limits.{max_weight};
@@ -14,6 +14,7 @@ ghost use Rattle.th_units.specs.Limits.{max_len};
 use crate::anchors::first_untied;
 use crate::faults::NetFault;
 use crate::links::{Link, links_of};
+use crate::sites::Sites;
 use crate::vertices::Vertices;
 use crate::weights::weights_of;
 use gsi_word::Name;
@@ -22,38 +23,35 @@ use std::marker::Model;
 use th_book::Observation;
 use th_hash::NameSet;
 use th_limits::{MAX_OBSERVATIONS, MAX_POINTS};
-use th_points::Points;
 use th_tables::{Benchmarks, Weights};
 
 /// The height network of some observations, over the tables of its benchmarks and weights, which it
-/// borrows. The weight of each observation is looked up once, and so are the points where it ends.
+/// borrows. The height of each point and the weight of each observation are looked up once, and so
+/// are the points where an observation ends.
 #[derive(Drop)]
 pub struct Network<'a> {
     observations: Vec<Observation>,
     benchmarks: &'a Benchmarks,
-    weights: &'a Weights,
+    weight_table: &'a Weights,
     points: NameSet<Name>,
+    heights: Vec<Option<i64>>,
     ends: Vec<(usize, usize)>,
-    listed: Vec<u32>,
+    weights: Vec<u32>,
     vertices: u32,
     arcs: Vec<Link>,
 }
 
 impl<'a> Model for Network<'a> {
-    ghost use Rattle.th_network.specs.Links.{largest_link_difference};
-    ghost use Rattle.th_network.specs.Networks.{IsBuilt, Survey};
+    ghost use Rattle.th_network.specs.Networks.{IsBuilt, Survey, surveyed};
 
     ghost Value = { Survey };
 
-    ghost view = { λ network. record {
-      observations = network.observations.items;
-      benchmarks = network.benchmarks.now;
-      weights = network.weights.now;
-    } };
+    ghost view = { λ network. surveyed network.observations.items network.benchmarks.now
+        network.weight_table.now };
 
-    ghost invariant = { λ network. IsBuilt network.observations.items network.benchmarks.now
-        network.weights.now network.points.keys network.ends.items network.listed.items
-        network.vertices network.arcs.items };
+    ghost invariant = { λ network. IsBuilt (surveyed network.observations.items network.benchmarks.now
+        network.weight_table.now) network.points.keys network.heights.items network.ends.items
+        network.weights.items network.vertices network.arcs.items };
 }
 
 impl<'a> Network<'a> {
@@ -66,32 +64,41 @@ impl<'a> Network<'a> {
         benchmarks: &'a Benchmarks,
         weights: &'a Weights,
     ) -> Result<Network<'a>, NetFault>
-        ensures survey { IfOk result (λ network. network ≡ record {
-          observations = observations.items;
-          benchmarks = benchmarks.now;
-          weights = weights.now;
-        }) }
+        ensures survey { IfOk result (λ network. network
+            ≡ surveyed observations.items benchmarks.now weights.now) }
         ensures network { OnOk result (IsNetwork observations.items benchmarks.now) }
         ensures fault { IfErr result (λ fault.
             fault ≢ NoMemory → HasFault observations.items benchmarks.now fault) }
         ensures many { max_observations < length observations.items
             → result ≡ Err TooManyObservations }
     {
-        let Graph {
+        if observations.len() > MAX_OBSERVATIONS {
+            return Err(NetFault::TooManyObservations);
+        }
+        let sites = Sites::of(alloc, &observations, benchmarks)?;
+        if sites.count() > MAX_POINTS {
+            return Err(NetFault::TooManyPoints);
+        }
+        if let Some(name) = first_untied(alloc, &sites)? {
+            return Err(NetFault::NoBenchmark(name));
+        }
+        let vertices = Vertices::of(alloc, &sites)?;
+        let arcs = links_of(alloc, &sites, &vertices)?;
+        let listed = weights_of(alloc, &observations, weights)?;
+        let Sites {
             points,
-            ends,
-            weights: listed,
-            vertices,
-            arcs,
-        } = graph_of(alloc, &observations, benchmarks, weights)?;
+            heights,
+            ..
+        } = sites;
         Ok(Network {
             observations,
             benchmarks,
-            weights,
-            points,
-            ends,
-            listed,
-            vertices,
+            weight_table: weights,
+            points: points.names,
+            heights,
+            ends: points.ends,
+            weights: listed,
+            vertices: vertices.count,
             arcs,
         })
     }
@@ -118,10 +125,17 @@ impl<'a> Network<'a> {
     }
 
     /// The table of its weights.
-    pub fn weights(&self) -> &Weights
+    pub fn weight_table(&self) -> &Weights
         ensures { result.now ≡ self.now.weights }
     {
-        self.weights
+        self.weight_table
+    }
+
+    /// The height of each point in units of 10 nm, if it is a benchmark.
+    pub fn fixed_heights(&self) -> &[Option<i64>]
+        ensures { result.now ≡ heights_of self.now }
+    {
+        &self.heights
     }
 
     /// The height of point `k`, from 0, in units of 10 nm, if it is a benchmark.
@@ -130,12 +144,13 @@ impl<'a> Network<'a> {
         ensures height { slice_get (heights_of self.now) k ≡ Some result }
         ensures in_range { IfSome result (λ height. unsigned_abs height ≤ max_len) }
     {
-        self.benchmarks.height_of(&self.points[k])
+        self.heights[k]
     }
 
     /// The observations in their order.
     pub fn observations(&self) -> &[Observation]
         ensures observations { result.now ≡ self.now.observations }
+        ensures few { length self.now.observations ≤ max_observations }
         ensures between { All IsBetweenPoints self.now.observations }
     {
         &self.observations
@@ -150,6 +165,15 @@ impl<'a> Network<'a> {
         &self.ends
     }
 
+    /// The weight of each observation.
+    pub fn weights(&self) -> &[u32]
+        ensures weights { result.now ≡ weights_of self.now }
+        ensures in_range { All IsWeight result.now }
+        ensures few { length result.now ≤ max_observations }
+    {
+        &self.weights
+    }
+
     /// The weight of observation `i`, counted from 0.
     pub fn weight(&self, i: usize) -> u32
         requires { i < length self.now.observations }
@@ -157,7 +181,7 @@ impl<'a> Network<'a> {
         ensures positive { 1 ≤ result }
         ensures in_range { result ≤ max_weight }
     {
-        self.listed[i]
+        self.weights[i]
     }
 
     /// How many vertices there are: 0 for all benchmarks, and one for each other point.
@@ -177,51 +201,4 @@ impl<'a> Network<'a> {
     {
         &self.arcs
     }
-}
-
-/// The points of a network, where its observations end among them and what they weigh, how many
-/// vertices it has, and its arcs.
-#[derive(Drop)]
-struct Graph {
-    points: NameSet<Name>,
-    ends: Vec<(usize, usize)>,
-    weights: Vec<u32>,
-    vertices: u32,
-    arcs: Vec<Link>,
-}
-
-/// The graph that observations, benchmarks and weights make, or the first fault that they have.
-fn graph_of(
-    alloc: Global,
-    observations: &[Observation],
-    benchmarks: &Benchmarks,
-    weights: &Weights,
-) -> Result<Graph, NetFault>
-    ensures graph { IfOk result (λ graph. IsBuilt observations.now benchmarks.now weights.now
-        graph.points.keys graph.ends.items graph.weights.items graph.vertices graph.arcs.items) }
-    ensures fault { IfErr result (λ fault.
-        fault ≢ NoMemory → HasFault observations.now benchmarks.now fault) }
-    ensures many { max_observations < length observations.now
-        → result ≡ Err TooManyObservations }
-{
-    if observations.len() > MAX_OBSERVATIONS {
-        return Err(NetFault::TooManyObservations);
-    }
-    let points = Points::of(alloc, observations, benchmarks)?;
-    if points.names.len() > MAX_POINTS {
-        return Err(NetFault::TooManyPoints);
-    }
-    if let Some(name) = first_untied(alloc, &points, benchmarks)? {
-        return Err(NetFault::NoBenchmark(name));
-    }
-    let vertices = Vertices::of(alloc, points.names.as_slice(), benchmarks)?;
-    let arcs = links_of(alloc, observations, benchmarks, &points, &vertices)?;
-    let weights = weights_of(alloc, observations, weights)?;
-    Ok(Graph {
-        points: points.names,
-        ends: points.ends,
-        weights,
-        vertices: vertices.count,
-        arcs,
-    })
 }

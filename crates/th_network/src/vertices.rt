@@ -1,11 +1,10 @@
-ghost use Rattle.std.specs.Prelude.{◌≡◌, ◌+◌, ◌≤◌, IfOk, count_by, length};
+ghost use Rattle.std.specs.Prelude.{◌≤◌, IfOk, length};
 ghost use Rattle.th_network.specs.Inside.Numbered.{AreVertices};
 ghost use Rattle.th_network.specs.Limits.{max_points};
-ghost use Rattle.th_network.specs.Vertices.{is_free};
+ghost use Rattle.th_points.specs.Points.{points};
 
-use gsi_word::Name;
+use crate::sites::Sites;
 use std::alloc::{AllocError, Global};
-use th_tables::Benchmarks;
 
 /// The vertices of some points: 0 for the benchmarks, and 1, 2, 3 and so on for the others.
 #[derive(Drop)]
@@ -18,21 +17,17 @@ pub(crate) struct Vertices {
 
 impl Vertices {
     /// Numbers the vertices of some points.
-    pub fn of(
-        alloc: Global,
-        names: &[Name],
-        benchmarks: &Benchmarks,
-    ) -> Result<Vertices, AllocError>
-        requires { length names.now ≤ max_points }
-        ensures of_places { IfOk result (λ vertices.
-            AreVertices benchmarks.now names.now vertices.of_places.items) }
-        ensures count { IfOk result (λ vertices.
-            vertices.count ≡ count_by (is_free benchmarks.now) names.now + 1) }
+    pub fn of(alloc: Global, sites: &Sites<'_>) -> Result<Vertices, AllocError>
+        requires { length (points sites.now.observations sites.now.benchmarks) ≤ max_points }
+        ensures { IfOk result (λ vertices. AreVertices sites.now.benchmarks
+            (points sites.now.observations sites.now.benchmarks)
+            vertices.of_places.items vertices.count) }
     {
-        let mut of_places = Vec::with_capacity(alloc, names.len())?;
+        let heights = sites.heights.as_slice();
+        let mut of_places = Vec::with_capacity(alloc, heights.len())?;
         let mut count = 1;
-        for name in names {
-            let fixed = benchmarks.height_of(name).is_some();
+        for height in heights {
+            let fixed = height.is_some();
             if fixed {
                 of_places.push(0)?;
             } else {

@@ -27,7 +27,7 @@ pub fn notes_of(
     add_sight_notes(&mut notes, reviews)?;
     add_same_notes(alloc, &mut notes, observations, reviews)?;
     add_lookalike_notes(&mut notes, reviews)?;
-    add_weight_notes(alloc, &mut notes, observations, network.weights())?;
+    add_weight_notes(alloc, &mut notes, observations, network.weight_table())?;
     add_benchmark_notes(alloc, &mut notes, observations, network.benchmarks())?;
     add_spelling_notes(&mut notes, spellings)?;
     Ok(notes)

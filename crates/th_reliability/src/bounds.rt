@@ -34,7 +34,7 @@ pub(crate) fn mistake_by_controls(
 {
     // a network is anchored, and its weights are positive
     let _ = network.points();
-    let _ = network.weights().entry(0);
+    let _ = network.weight_table().entry(0);
     let observations = network.observations();
     let (start, end) = runs.run_of(sights);
     let mut best = SharedMistake::Shows;

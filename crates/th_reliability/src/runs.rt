@@ -34,8 +34,6 @@ impl<'a> Runs<'a> {
         requires { self.now.observations.now ≡ network.now.observations }
         ensures { result ≡ weight_in network.now.observations network.now.weights (in_sights sights.now) }
     {
-        // its points say that a network has few observations
-        let _ = network.points();
         let observations = network.observations();
         let (start, end) = self.run_of(sights);
         let mut sum = 0;

@@ -1,5 +1,6 @@
 -- Places that are marked, and places that wait.
 use Rattle.std.specs.Prelude.{◌≡◌, ℕ, ◌+◌, ◌⊎◌, Bool, true, List, Option, ℤ, Some, Contains, if◌then◌else◌, length, slice_get, sum_by, map, is_some}
+use Rattle.th_network.specs.declared.marks.Marks.{Marks}
 
 -- the place is marked
 abbrev pub IsMarked : List Bool → ℕ → Type 0
@@ -28,3 +29,8 @@ pub record Spreads (marked : List Bool) (waiting : List ℕ) (marked' : List Boo
 pub record AreAdded (places : List ℕ) (marked marked' : List Bool) : Type 0 where
   pub all : (place : ℕ) → Contains places place → IsMarked marked' place
   pub no_other : (place : ℕ) → IsMarked marked' place → IsMarked marked place ⊎ Contains places place
+
+-- these places are marked, no others are, and those that were not marked wait
+pub record MarksAll (places : List ℕ) (old new : Marks) : Type 0 where
+  pub added : AreAdded places old.marked.items new.marked.items
+  pub spreads : Spreads old.marked.items old.waiting.items new.marked.items new.waiting.items

@@ -1,5 +1,5 @@
 -- Which places an observation joins.
-use Rattle.std.specs.Prelude.{◌≡◌, ◌↔◌, ◌⊎◌, ℕ, List, Some, Contains, slice_get}
+use Rattle.std.specs.Prelude.{◌≡◌, ◌↔◌, ◌⊎◌, ℕ, List, Some, Contains, length, slice_get}
 
 -- some observation joins the two places, whichever of them is its station's
 abbrev pub Joins : List (ℕ × ℕ) → ℕ → ℕ → Type 0
@@ -9,6 +9,7 @@ Joins ends place other = Contains ends (place, other) ⊎ Contains ends (other, 
 abbrev pub IsListed : List (List ℕ) → ℕ → ℕ → Type 0
 IsListed lists place other = (others : List ℕ) × (slice_get lists place ≡ Some others) × Contains others other
 
--- for each place the list of those that an observation joins it to
-abbrev pub AreNeighbours : List (ℕ × ℕ) → List (List ℕ) → Type 0
-AreNeighbours ends lists = (place other : ℕ) → IsListed lists place other ↔ Joins ends place other
+-- for each of so many places the list of those that an observation joins it to
+pub record AreNeighbours (count : ℕ) (ends : List (ℕ × ℕ)) (lists : List (List ℕ)) : Type 0 where
+  pub size : length lists ≡ count
+  pub joined : (place other : ℕ) → IsListed lists place other ↔ Joins ends place other

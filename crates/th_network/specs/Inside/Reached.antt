@@ -1,5 +1,6 @@
 -- Which places are reached from those that have a height.
-use Rattle.std.specs.Prelude.{◌≡◌, ◌<◌, ℕ, ℤ, List, Option, Some, MatchOption, length, slice_get}
+use Rattle.std.specs.Prelude.{◌≡◌, ◌↔◌, ◌<◌, ℕ, ℤ, Bool, List, Option, Some, MatchOption, length, slice_get}
+use Rattle.th_network.specs.Inside.Marks.{IsMarked}
 use Rattle.th_network.specs.Inside.Neighbours.{Joins}
 
 -- a place is reached if it has a height, or if an observation joins it to a place that is reached
@@ -11,3 +12,8 @@ pub data IsReached (heights : List (Option ℤ)) (ends : List (ℕ × ℕ)) : �
 abbrev pub IsFirstUnreached : List (Option ℤ) → List (ℕ × ℕ) → List (List ℕ) → Option (List ℕ) → Type 0
 IsFirstUnreached heights ends names found =
     MatchOption found ((place : ℕ) → place < length names → IsReached heights ends place) (λ name. (k : ℕ) × (slice_get names k ≡ Some name) × ((place : ℕ) → place < k → IsReached heights ends place) × (¬ IsReached heights ends k))
+
+-- just the places that are reached are marked
+pub record AreReached (heights : List (Option ℤ)) (ends : List (ℕ × ℕ)) (marked : List Bool) : Type 0 where
+  pub size : length marked ≡ length heights
+  pub reached : (place : ℕ) → IsMarked marked place ↔ IsReached heights ends place

@@ -1,14 +1,16 @@
 use Rattle.std.proofs.Common.{◌≡◌, ◌<◌, ◌≤◌, ◌+◌, ◌*◌, pos, length, get_or, unsigned_abs, ap, ◌∙◌, arith}
-use Rattle.std.proofs.Common.{ℕ, ℤ, sum_by, take, sym}
+use Rattle.std.proofs.Common.{ℕ, ℤ, List, Some, slice_get, sum_by, take, sym}
 use Rattle.std.specs.List.{zip}
 use Rattle.std.proofs.lemmas.List.{take_all}
 use Rattle.std.proofs.lemmas.List.Sums.{sum_by_more}
 use Rattle.std.proofs.lemmas.Slice.Zip.{get_or-zip, length-zip}
-use Rattle.std.proofs.lemmas.Option.{get_or_from_slice_get}
+use Rattle.std.proofs.lemmas.Option.{slice_get-get_or}
+use Rattle.std.proofs.lemmas.List.Elements.{All-get_or}
+use Rattle.th_book.specs.Observed.{Observed}
 use Rattle.std.proofs.lemmas.List.{length-map}
 use Rattle.th_tables.specs.Limits.{max_weight}
 use Rattle.th_tables.specs.Rows.{weight_of}
-use Rattle.th_network.specs.Networks.{weights_of}
+use Rattle.th_network.specs.Networks.{IsWeight, weights_of}
 use Rattle.std.proofs.lemmas.Int.{ints}
 use Rattle.th_blunders.specs.Residuals.{residual_limit}
 use Rattle.th_blunders.proofs.CostLemmas.{bounded-more, cost-more}
@@ -25,7 +27,10 @@ size_there c =
     (omega (arith, ints, bound), omega (arith, ints, bound))
 
 light : (c : goal.After-from-in-loop-i) → c.from.result ≤ max_weight
-light c = omega (arith, c.weight.ensures.in_range)
+light c =
+    let within : c.loop-i.i < length c.weights-weights.result.now = omega (arith, ap length c.weights-weights.ensures.weights, length-map c.args.network.now.observations (λ (o : Observed). weight_of c.args.network.now.weights o.station o.target), c.requires.each, c.loop-i-test.true) in
+    let here = All-get_or IsWeight c.weights-weights.result.now c.loop-i.i 0 within c.weights-weights.ensures.in_range in
+    omega (arith, c.from.ensures, here.1)
 
 pub loop-i-preserved : goal.loop-i-preserved
 loop-i-preserved c =
@@ -36,8 +41,8 @@ loop-i-preserved c =
     let pairs = zip weights residuals in
     let i = c.loop-i.i in
     let there : length weights ≡ length network.observations = length-map network.observations (λ o. weight_of network.weights o.station o.target) in
-    let weight : get_or weights i 0 ≡ c.weight.result = get_or_from_slice_get weights i c.weight.result 0 c.weight.ensures.weight in
-    let as_weight : c.from.result ≡ get_or weights i 0 = c.from.ensures ∙ sym weight in
+    let as_weight : c.from.result ≡ get_or weights i 0 = c.from.ensures ∙ ap (λ (ws : List ℕ). get_or ws i 0) c.weights-weights.ensures.weights in
+    let found : slice_get weights i ≡ Some c.from.result = slice_get-get_or weights i 0 (omega (arith, there, within)) ∙ ap Some (sym as_weight) in
     let pair_is = get_or-zip weights residuals i (0, pos 0) (omega (arith, there, within)) (omega arith) in
     record {
       sum = ap (λ total. total + c.from.result * c.from-in-loop-i.result) c.loop-i.invariant.sum
@@ -46,16 +51,15 @@ loop-i-preserved c =
           ∙ ap (λ pair. sum_by weighted (take i pairs) + weighted pair) (sym pair_is)
           ∙ sym (sum_by_more weighted pairs i (0, pos 0) (omega (arith, length-zip weights residuals, there, within)));
       total = λ heights are.
-          ap (λ weight. c.loop-i.total + weight * c.from-in-loop-i.result) c.from.ensures
-          ∙ cost-more network.weights network.observations heights c.args.residuals.now c.loop-i.i c.loop-i.total c.weight.result c.from-in-loop-i.result are within c.weight.ensures.weight (size_there c).0 (c.loop-i.invariant.total heights are);
+          cost-more network.weights network.observations heights c.args.residuals.now c.loop-i.i c.loop-i.total c.from.result c.from-in-loop-i.result are within found (size_there c).0 (c.loop-i.invariant.total heights are);
       small = bounded-more c.loop-i.total c.loop-i.i c.from.result c.from-in-loop-i.result residual_limit c.loop-i.invariant.small (light c) (size_there c).1;
     }
 
 pub overflow_add-total : goal.overflow_add-total
 overflow_add-total c =
     let more = bounded-more c.loop-i.total c.loop-i.i c.from.result c.from-in-loop-i.result residual_limit c.loop-i.invariant.small (light c) (size_there c).1 in
-    let few = c.points.ensures.network.few_observations in
-    omega (arith, more, few)
+    let there = length-map c.args.network.now.observations (λ (o : Observed). weight_of c.args.network.now.weights o.station o.target) in
+    omega (arith, more, c.weights-weights.ensures.few, ap length c.weights-weights.ensures.weights, there, c.requires.each)
 
 pub returns-clause-sum : goal.returns-clause-sum
 returns-clause-sum c =

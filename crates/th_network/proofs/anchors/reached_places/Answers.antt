@@ -7,12 +7,15 @@ loop-place-init c = reaching_first _ _ _ _ c.in_ok-marks.ensures
 
 pub loop-place-preserved : goal.loop-place-preserved
 loop-place-preserved c =
-    reaching_next _ _ _ _ c.in-Some.place _ _ _ _ _ c.in-Some.ensures.items c.in_ok-neighbours.ensures.neighbours c.of_place.ensures c.in_ok-mark_all.ensures.added c.in_ok-mark_all.ensures.spreads c.loop-place.invariant
+    reaching_next _ _ _ _ _ c.in-Some.place _ _ _ _ _ c.in-Some.ensures.items c.in_ok-neighbours.ensures c.of_place.ensures c.in_ok-mark_all.ensures.added c.in_ok-mark_all.ensures.spreads c.loop-place.invariant
 
-pub returns-clause-reached : goal.returns-clause-reached
-returns-clause-reached c =
+pub returns : goal.returns
+returns c =
     let waiting = c.loop-place.marks.waiting in
-    reached_all _ _ _ _ (omega (arith, waiting.ok.0, c.in_default.ensures.cases.0)) c.loop-place.invariant
+    record {
+      size = c.loop-place.invariant.size;
+      reached = reached_all _ _ _ _ (omega (arith, waiting.ok.0, c.in_default.ensures.cases.0)) c.loop-place.invariant;
+    }
 
 pub of_place-requires : goal.of_place-requires
 of_place-requires c =
@@ -20,4 +23,4 @@ of_place-requires c =
 
 pub mark_all-requires : goal.mark_all-requires
 mark_all-requires c = λ k d within.
-    omega (arith, neighbours_within _ _ _ _ _ c.requires c.in_ok-neighbours.ensures.neighbours c.of_place.ensures k d within, c.loop-place.invariant.size)
+    omega (arith, neighbours_within _ _ _ _ _ _ c.requires c.in_ok-neighbours.ensures c.of_place.ensures k d within, c.loop-place.invariant.size)

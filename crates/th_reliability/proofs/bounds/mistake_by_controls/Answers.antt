@@ -50,5 +50,5 @@ returns c =
     subst (λ (observations : List Observed). HoldsSights observations sights c.run_of-start.result) c.requires.runs c.run_of-start.ensures in
     let all = all_held survey sights c.loop-i.least c.run_of-start.result c.loop-i.i run c.loop-i-test.false c.loop-i.invariant.least in
     let worst : IsNoWorse survey group c.worst_of.result = subst (IsNoWorse survey group) (sym (c.worst_of.ensures ∙ ap (worst_of c.loop-i.least) c.requires.weight))
-    (no_worse survey group c.loop-i.least (subst AreWeights c.weights.ensures c.entry.ensures.rows) c.points.ensures.network.anchored all) in
+    (no_worse survey group c.loop-i.least (subst AreWeights c.weight_table.ensures c.entry.ensures.rows) c.points.ensures.network.anchored all) in
     subst (λ (found : Option SharedMistake). IfSome found (IsSharedMistake survey group)) (sym c.bounded.ensures) (is_bounded survey group c.loop-i.best c.worst_of.result c.loop-i.invariant.best worst)

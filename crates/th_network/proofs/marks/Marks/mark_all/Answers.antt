@@ -6,7 +6,10 @@ pub loop-place-init : goal.loop-place-init
 loop-place-init c = none_marked _ _ _
 
 pub loop-place-preserved : goal.loop-place-preserved
-loop-place-preserved c = one_more_marked _ _ _ _ _ _ _ _ (omega arith) c.in_ok-mark.ensures.marks c.in_ok-mark.ensures.no_other c.in_ok-mark.ensures.spreads c.loop-place.invariant
+loop-place-preserved c = one_more_marked _ _ _ _ _ _ _ _ (omega arith) c.in_ok-mark.ensures.added c.in_ok-mark.ensures.spreads c.loop-place.invariant
 
-pub returns-clause-added : goal.returns-clause-added
-returns-clause-added c = all_marked _ _ _ _ _ _ (omega arith) c.loop-place.invariant
+pub returns : goal.returns
+returns c = record {
+  added = all_marked _ _ _ _ _ _ (omega arith) c.loop-place.invariant;
+  spreads = c.loop-place.invariant.spreads;
+}
