@@ -1,5 +1,6 @@
 //! The rows of the observations.
 ghost use Rattle.std.specs.Prelude.{◌≡◌, ◌<◌, ◌^◌, All, IfOk, length, unsigned_abs};
+ghost use Rattle.th_blunders.specs.Residuals.{residual_limit};
 ghost use Rattle.th_network.specs.Heights.{heights_at};
 ghost use Rattle.th_network.specs.Networks.{AreAtPoints, points_of};
 ghost use Rattle.th_review.specs.Rows.{observation_row_of, observation_rows, rows_of};
@@ -39,7 +40,7 @@ fn rows_of(
 ) -> Result<Vec<ObservationRow>, AllocError>
     requires few { length network.now.observations < 2 ^ 32 }
     requires each { length residuals.now ≡ length network.now.observations }
-    requires small { All (λ residual. unsigned_abs residual < 10 ^ 18) residuals.now }
+    requires small { All (λ residual. unsigned_abs residual < residual_limit) residuals.now }
     requires controls { length controls.now ≡ length network.now.observations }
     ensures { IfOk result (λ rows. rows.items ≡ rows_of network.now residuals.now controls.now) }
 {
