@@ -5,3 +5,4 @@ pub mod Labels
 pub mod Levels
 pub mod Marks
 pub mod Passes
+pub mod Searched

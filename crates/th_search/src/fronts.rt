@@ -1,6 +1,6 @@
-ghost use Rattle.std.specs.Prelude.{◌≡◌, ◌≤◌, ◌<ℤ◌, All, IfOk, IfSome, pos, length};
-ghost use Rattle.th_search.specs.Limits.{max_arcs};
-ghost use Rattle.th_search.specs.Walks.{IsArc, IsNegativeCycle};
+ghost use Rattle.std.specs.Prelude.{◌≡◌, ◌<ℤ◌, IfOk, IfSome, pos};
+ghost use Rattle.th_search.specs.Inside.Searched.{IsSearched};
+ghost use Rattle.th_search.specs.Walks.{IsNegativeCycle};
 
 use crate::arcs::Arc;
 use std::alloc::{AllocError, Global};
@@ -12,8 +12,7 @@ pub(crate) fn cycle_in_front(
     n: u32,
     arcs: &[Arc],
 ) -> Result<Option<Vec<u32>>, AllocError>
-    requires many { length arcs.now ≤ max_arcs }
-    requires arcs { All (IsArc n) arcs.now }
+    requires { IsSearched n arcs.now }
     ensures { IfOk result (λ found. IfSome found (λ cycle. IsNegativeCycle arcs.now cycle.items)) }
 {
     let Some(first) = arcs.first().copied() else {

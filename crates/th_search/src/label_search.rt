@@ -1,7 +1,6 @@
-ghost use Rattle.std.specs.Prelude.{◌≡◌, ◌<◌, ◌≤◌, All, IfOk, length};
-ghost use Rattle.th_search.specs.Limits.{max_vertices, max_arcs};
-ghost use Rattle.th_search.specs.Walks.{IsArc};
+ghost use Rattle.std.specs.Prelude.{◌≡◌, IfOk};
 ghost use Rattle.th_search.specs.Answers.{IsAnswer};
+ghost use Rattle.th_search.specs.Inside.Searched.{IsSearched};
 
 use crate::arcs::Arc;
 use crate::counts::Counts;
@@ -48,10 +47,7 @@ impl Search for LabelSearch {
 
 /// Potentials or a negative cycle of a network of `n` vertices.
 fn found_in(alloc: Global, n: u32, arcs: &[Arc]) -> Result<Found, AllocError>
-    requires some { 1 ≤ n }
-    requires vertices { n ≤ max_vertices }
-    requires many { length arcs.now ≤ max_arcs }
-    requires arcs { All (IsArc n) arcs.now }
+    requires { IsSearched n arcs.now }
     ensures { IfOk result (IsAnswer n arcs.now) }
 {
     if let Some(cycle) = cycle_in_front(alloc, n, arcs)? {

@@ -1,7 +1,7 @@
 ghost use Rattle.std.specs.Prelude.{◌≡◌, ◌≢◌, ◌+◌, ◌<◌, ◌≤◌, All, IfOk, None, drop, length, reverse};
-ghost use Rattle.th_search.specs.Limits.{max_vertices, max_arcs};
 ghost use Rattle.th_search.specs.Walks.{IsArc, IsNegativeCycle};
 ghost use Rattle.th_search.specs.Answers.{IsAnswer};
+ghost use Rattle.th_search.specs.Inside.Searched.{IsSearched};
 ghost use Rattle.th_search.specs.Inside.Levels.{AreLevels, last_at, row_at, rows_of};
 
 use crate::arcs::Arc;
@@ -50,10 +50,7 @@ impl Search for LevelSearch {
 /// Potentials or a negative cycle of a network of `n` vertices: the costs of a level that is as the
 /// one below, or what walks over `n` arcs pass twice where even they cost less than those over fewer.
 fn found_in(alloc: Global, n: u32, arcs: &[Arc]) -> Result<Found, AllocError>
-    requires some { 1 ≤ n }
-    requires vertices { n ≤ max_vertices }
-    requires many { length arcs.now ≤ max_arcs }
-    requires arcs { All (IsArc n) arcs.now }
+    requires { IsSearched n arcs.now }
     ensures { IfOk result (IsAnswer n arcs.now) }
 {
     let mut levels = Vec::new(alloc);

@@ -1,8 +1,6 @@
-ghost use Rattle.std.specs.Prelude.{◌≡◌, ◌<◌, ◌≤◌, All, length};
-ghost use Rattle.th_search.specs.Limits.{max_vertices, max_arcs};
-ghost use Rattle.th_search.specs.Walks.{IsArc};
+ghost use Rattle.std.specs.Prelude.{◌≡◌, ◌<◌, length};
 ghost use Rattle.th_search.specs.Inside.Labels.{AreLabels, IsForest};
-ghost use Rattle.th_search.specs.Inside.Passes.{IsPass, place_at};
+ghost use Rattle.th_search.specs.Inside.Passes.{IsPass, IsReady, place_at};
 
 use crate::arcs::Arc;
 use crate::entries::{leads_back, vertex_on_cycle};
@@ -27,19 +25,15 @@ pub(crate) fn pass_over(
     labels: &mut Labels,
     marks: &mut [u32],
 ) -> Pass
-    requires arcs { All (IsArc (length labels.old.values.items)) arcs.now }
-    requires many { length arcs.now ≤ max_arcs }
-    requires size { length labels.old.values.items ≤ max_vertices }
+    requires ready { IsReady arcs.now labels.old.values.items labels.old.entries.items }
     requires marks { length marks.old ≡ length labels.old.values.items }
-    requires labels { AreLabels arcs.now labels.old.values.items labels.old.entries.items }
-    requires forest { IsForest arcs.now labels.old.entries.items }
     ensures size { length labels.new.values.items ≡ length labels.old.values.items }
     ensures labels { AreLabels arcs.now labels.new.values.items labels.new.entries.items }
     ensures pass { IsPass arcs.now labels.old.values.items labels.new.values.items
         labels.new.entries.items result }
     ensures forest { result ≡ Pass.Lowered → IsForest arcs.now labels.new.entries.items }
 {
-    match go_over(arcs, backwards, labels) {
+    match lower_once(arcs, backwards, labels) {
         Pass::Lowered => match vertex_on_cycle(arcs, &labels.entries, marks) {
             Some(vertex) => Pass::Closed(vertex),
             None => Pass::Lowered,
@@ -51,12 +45,8 @@ pub(crate) fn pass_over(
 /// The pass without a look for cycles at its end. An entry that is new at its head may close a cycle:
 /// the entries are walked back from its tail, as long as all these walks together take no more steps
 /// than there are arcs.
-fn go_over(arcs: &[Arc], backwards: bool, labels: &mut Labels) -> Pass
-    requires arcs { All (IsArc (length labels.old.values.items)) arcs.now }
-    requires many { length arcs.now ≤ max_arcs }
-    requires size { length labels.old.values.items ≤ max_vertices }
-    requires labels { AreLabels arcs.now labels.old.values.items labels.old.entries.items }
-    requires forest { IsForest arcs.now labels.old.entries.items }
+fn lower_once(arcs: &[Arc], backwards: bool, labels: &mut Labels) -> Pass
+    requires { IsReady arcs.now labels.old.values.items labels.old.entries.items }
     ensures size { length labels.new.values.items ≡ length labels.old.values.items }
     ensures labels { AreLabels arcs.now labels.new.values.items labels.new.entries.items }
     ensures pass { IsPass arcs.now labels.old.values.items labels.new.values.items

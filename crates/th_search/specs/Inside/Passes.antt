@@ -1,7 +1,9 @@
-use Rattle.std.specs.Prelude.{ℕ, ◌-◌, ◌<◌, Bool, ℤ, if◌then◌else◌, List, Option, length}
+use Rattle.std.specs.Prelude.{ℕ, ◌-◌, ◌<◌, ◌≤◌, All, Bool, ℤ, if◌then◌else◌, List, Option, length}
+use Rattle.th_search.specs.Limits.{max_arcs, max_vertices}
+use Rattle.th_search.specs.Walks.{IsArc}
 use Rattle.th_search.specs.Potentials.{IsFeasible}
 use Rattle.th_search.specs.Inside.Entries.{IsOnCycle}
-use Rattle.th_search.specs.Inside.Labels.{IsForest, room}
+use Rattle.th_search.specs.Inside.Labels.{AreLabels, IsForest, room}
 use Rattle.th_search.specs.declared.arcs.Arc.{Arc}
 use Rattle.th_search.specs.declared.passes.Pass.{Pass}
 use Rattle.th_search.specs.declared.passes.Pass.TheVariants.{Lowered, Done, Closed}
@@ -15,3 +17,11 @@ IsPass arcs old new entries (Closed vertex) = (vertex < length new) × IsOnCycle
 -- the place that a step comes to, of so many, from the front or from the back
 abbrev pub place_at : Bool → ℕ → ℕ → ℕ
 place_at backwards size step = if backwards then size - 1 - step else step
+
+-- a pass may begin: the ends of arcs, which are not too many, have labels, and from each vertex the entries lead back to one that was not entered
+pub record IsReady (all : List Arc) (values : List ℤ) (entries : List (Option ℕ)) : Type 0 where
+  pub arcs : All (IsArc (length values)) all
+  pub many : length all ≤ max_arcs
+  pub size : length values ≤ max_vertices
+  pub labels : AreLabels all values entries
+  pub forest : IsForest all entries

@@ -6,8 +6,8 @@ use Rattle.th_search.specs.Inside.Labels.{IsForest}
 use Rattle.th_search.proofs.DepthLemmas.{arc_is}
 use Rattle.th_search.proofs.LowerLemmas.{closed_after}
 use Rattle.th_search.proofs.PassLemmas.{fits_as_is, improves, most_at, passing_by, passing_done, passing_first, passing_lower, read_low, reads}
-use Rattle.th_search.proofs.passes.go_over.Goals as goal
-use Rattle.th_search.proofs.passes.go_over.Goals.{then-label-index+else-closes, then-ne, else-ne, else-label-index}
+use Rattle.th_search.proofs.passes.lower_once.Goals as goal
+use Rattle.th_search.proofs.passes.lower_once.Goals.{then-label-index+else-closes, then-ne, else-ne, else-label-index}
 
 pub loop-step-init : goal.loop-step-init
 loop-step-init c = passing_first _ _ _ _ c.requires.arcs c.requires.size c.requires.labels c.requires.forest
