@@ -131,8 +131,8 @@ fn times_of_printing<R: Clock + Files>(
     answer: &Answer,
     prefix: &str,
 ) -> Result<[Duration; 2]>
-    requires low { AreAtPoints network.now answer.now.spans.low }
-    requires high { AreAtPoints network.now answer.now.spans.high }
+    requires low { AreAtPoints network.now answer.now.spans.low.items }
+    requires high { AreAtPoints network.now answer.now.spans.high.items }
 {
     let watch = Watch::start(rt);
     let outputs = outputs_of(alloc, network, answer)?;
@@ -147,8 +147,8 @@ fn times_of_printing<R: Clock + Files>(
 
 /// The texts that are written of an adjustment, whose heights are the lowest ones.
 fn outputs_of(alloc: Global, network: &Network, answer: &Answer) -> Result<[Vec<u8>; 4]>
-    requires low { AreAtPoints network.now answer.now.spans.low }
-    requires high { AreAtPoints network.now answer.now.spans.high }
+    requires low { AreAtPoints network.now answer.now.spans.low.items }
+    requires high { AreAtPoints network.now answer.now.spans.high.items }
 {
     let Answer { settled, spans, .. } = answer;
     let low = spans.low.as_slice();

@@ -23,8 +23,8 @@ pub struct Answer {
 
 /// Settles a network, finds its spans, and takes the time of both.
 pub fn timed_answer(clock: &impl Clock, alloc: Global, network: &Network) -> Result<Answer>
-    ensures low { IfOk result (λ answer. AreAtPoints network.now answer.spans.low) }
-    ensures high { IfOk result (λ answer. AreAtPoints network.now answer.spans.high) }
+    ensures low { IfOk result (λ answer. AreAtPoints network.now answer.spans.low.items) }
+    ensures high { IfOk result (λ answer. AreAtPoints network.now answer.spans.high.items) }
 {
     let mut steps = Steps::new();
     let watch = Watch::start(clock);

@@ -75,7 +75,7 @@ fn once(clock: &impl Clock, alloc: Global, network: &Network) -> Result<Run> {
 /// What the flows gain: the sum of each flow times its difference.
 fn gain_of(network: &Network, settled: &Settled) -> i128 {
     let mut gain = 0i128;
-    for (link, flow) in network.arcs().iter().zip(settled.flows.as_slice()) {
+    for (link, flow) in network.arcs().iter().zip(&settled.flows) {
         gain = gain.wrapping_add(i128::from(link.diff).wrapping_mul(i128::from(*flow)));
     }
     gain

@@ -1,12 +1,11 @@
 ghost use Rattle.std.specs.Prelude.{◌≡◌, ◌≤◌, All, IfOk, length, unsigned_abs};
-ghost use Rattle.th_certificate.specs.Texts.{AreOfObservations};
-ghost use Rattle.th_network.specs.Networks.{AreAtPoints};
+ghost use Rattle.th_network.specs.Networks.{AreAtPoints, AreOfObservations};
 
 use crate::large::Large;
 use anyhow::{Result, anyhow};
 use std::alloc::Global;
 use th_certificate::write_certificate;
-use th_circulation::{Flows, Heights, Settled, Spans};
+use th_circulation::{Settled, Spans};
 use th_network::Network;
 
 /// The text of the certificate of a network, whose lowest and highest best heights are the heights.
@@ -23,8 +22,8 @@ pub fn text_of(alloc: Global, network: &Network, large: &Large) -> Result<Vec<u8
 }
 
 /// These heights, where they are in their range and there is one for each point.
-pub fn heights_of(alloc: Global, network: &Network, units: &[i64]) -> Result<Heights>
-    ensures { IfOk result (λ heights. AreAtPoints network.now heights) }
+pub fn heights_of(alloc: Global, network: &Network, units: &[i64]) -> Result<Vec<i64>>
+    ensures { IfOk result (λ heights. AreAtPoints network.now heights.items) }
 {
     let mut heights = Vec::new(alloc);
     for height in units {
@@ -36,12 +35,12 @@ pub fn heights_of(alloc: Global, network: &Network, units: &[i64]) -> Result<Hei
     if heights.len() != network.points().len() {
         return Err(anyhow!("the count of heights"));
     }
-    Ok(Heights::new(heights))
+    Ok(heights)
 }
 
 /// These flows, where they are in their range and there is one for each observation.
-pub fn flows_of(alloc: Global, network: &Network, units: &[i64]) -> Result<Flows>
-    ensures { IfOk result (λ flows. AreOfObservations network.now flows) }
+pub fn flows_of(alloc: Global, network: &Network, units: &[i64]) -> Result<Vec<i64>>
+    ensures { IfOk result (λ flows. AreOfObservations network.now flows.items) }
 {
     let mut flows = Vec::new(alloc);
     for flow in units {
@@ -53,5 +52,5 @@ pub fn flows_of(alloc: Global, network: &Network, units: &[i64]) -> Result<Flows
     if flows.len() != network.observations().len() {
         return Err(anyhow!("the count of flows"));
     }
-    Ok(Flows::new(flows))
+    Ok(flows)
 }

@@ -1,14 +1,13 @@
 ghost use Rattle.std.specs.Prelude.{◌<◌, ◌≤◌, All, unsigned_abs};
-ghost use Rattle.th_certificate.specs.Texts.{AreOfObservations};
 ghost use Rattle.th_network.specs.Limits.{height_limit};
-ghost use Rattle.th_network.specs.Networks.{AreAtPoints};
+ghost use Rattle.th_network.specs.Networks.{AreAtPoints, AreOfObservations};
 
 use crate::certificates::{OF_NOTHING, OF_PAIR, changed};
 use crate::surveys::{NOTHING, PAIR, Survey, observations_of, tables_of};
 use std::alloc::Global;
 use std::process::Abort;
 use th_certificate::write_certificate;
-use th_circulation::{Flows, Heights, Settled, Spans};
+use th_circulation::{Settled, Spans};
 use th_network::Network;
 use th_tables::{Benchmarks, Weights};
 
@@ -53,21 +52,21 @@ fn network_of<'a>(
 }
 
 /// Heights in range, one for each point.
-fn heights_at(rt: &impl Abort, alloc: Global, network: &Network, units: &[i64]) -> Heights
-    ensures { AreAtPoints network.now result }
+fn heights_at(rt: &impl Abort, alloc: Global, network: &Network, units: &[i64]) -> Vec<i64>
+    ensures { AreAtPoints network.now result.items }
 {
     let heights = heights_of(rt, alloc, units);
     assert_eq!(rt; heights.len(), network.points().len());
-    Heights::new(heights)
+    heights
 }
 
 /// Flows in range, one for each observation.
-fn flows_at(rt: &impl Abort, alloc: Global, network: &Network, units: &[i64]) -> Flows
-    ensures { AreOfObservations network.now result }
+fn flows_at(rt: &impl Abort, alloc: Global, network: &Network, units: &[i64]) -> Vec<i64>
+    ensures { AreOfObservations network.now result.items }
 {
     let flows = flows_of(rt, alloc, units);
     assert_eq!(rt; flows.len(), network.observations().len());
-    Flows::new(flows)
+    flows
 }
 
 /// Heights that are in range.

@@ -70,10 +70,10 @@ fn settle_network<R: Print>(rt: &R, alloc: Global, network: &Network) -> io::Res
 
 /// Prints the heights and the flows.
 fn print_heights<R: Print>(rt: &R, settled: &Settled) -> io::Result<()> {
-    for height in settled.heights.as_slice() {
+    for height in &settled.heights {
         println!(rt; "height {height}")?;
     }
-    for flow in settled.flows.as_slice() {
+    for flow in &settled.flows {
         println!(rt; "flow {flow}")?;
     }
     Ok(())

@@ -9,7 +9,7 @@ use Rattle.gsi_word.specs.Names.{name_of}
 use Rattle.th_csv.specs.Records.{Fields, records_of}
 use Rattle.th_csv.specs.Texts.{HasField, IsUnmarked, csv_text}
 use Rattle.th_csv.proofs.RoundTripLemmas.{records_of_csv_text, unmarked_text}
-use Rattle.th_network.specs.Networks.{AreInRange, Survey, points_of}
+use Rattle.th_network.specs.Networks.{AreInRange, AreOfObservations, Survey, points_of}
 use Rattle.th_certificate.specs.Certified.{HeightRows}
 use Rattle.th_network.specs.Limits.{height_limit, max_observations, max_points}
 use Rattle.th_certificate.specs.Faults.{too_long}
@@ -17,7 +17,7 @@ use Rattle.th_certificate.specs.Numbers.{count_in}
 use Rattle.th_certificate.specs.Reading.{after, certificate_after, certificate_in, certificate_of}
 use Rattle.th_certificate.specs.Limits.{max_certificate, max_flows}
 use Rattle.th_certificate.specs.Statements.{begun, counted, empty_draft}
-use Rattle.th_certificate.specs.Texts.{AreOfObservations, IsCertifiable, cost_of, cost_row, end_rows, flow_row, header_row, height_row, heights_at_points, rows_of_version_1, rows_of_version_2, text_of_version_1, text_of_version_2, version_row}
+use Rattle.th_certificate.specs.Texts.{IsCertifiable, cost_of, cost_row, end_rows, flow_row, header_row, height_row, heights_at_points, rows_of_version_1, rows_of_version_2, text_of_version_1, text_of_version_2, version_row}
 use Rattle.th_certificate.specs.declared.statements.Statement.TheVariants.{Height, Low, High}
 use Rattle.th_certificate.proofs.ReadNumbers.{cost_in-decimal, count_in-decimal}
 use Rattle.th_certificate.proofs.ReadRows.{IsReadable, cost_read, flowing, flows_read, heights_read}

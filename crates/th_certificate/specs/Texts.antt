@@ -1,5 +1,5 @@
 -- The text of a certificate, in each of its versions.
-use Rattle.std.specs.Prelude.{◌≡◌, ◌≤◌, ℕ, ℤ, List, Some, [], ◌∷◌, ◌++◌, All, codes, decimal, length, map, unsigned_abs}
+use Rattle.std.specs.Prelude.{◌≡◌, ℕ, ℤ, List, Some, [], ◌∷◌, ◌++◌, All, codes, decimal, length, map}
 use Rattle.std.specs.Fmt.{signed_decimal}
 use Rattle.std.specs.List.{enumerate_from}
 use Rattle.gsi_word.specs.Names.{name_of}
@@ -12,7 +12,6 @@ use Rattle.th_network.specs.Faults.{IsNetwork}
 use Rattle.th_network.specs.Heights.{cost}
 use Rattle.th_network.specs.Networks.{Survey, points_of}
 use Rattle.th_certificate.specs.Certified.{HeightRows, rows_at}
-use Rattle.th_tables.specs.Limits.{max_weight}
 
 -- the row of a name and its height in metres, under the letter of its kind
 abbrev pub height_row : List ℕ → List ℕ × ℤ → Fields
@@ -66,11 +65,6 @@ text_of_version_1 survey heights flows = csv_text (rows_of_version_1 survey heig
 
 abbrev pub text_of_version_2 : Survey → (List ℕ → ℤ) → (List ℕ → ℤ) → (List ℕ → ℤ) → List ℤ → List ℕ
 text_of_version_2 survey heights low high flows = csv_text (rows_of_version_2 survey heights low high flows)
-
--- a flow for each observation, at most 1,000 in size
-pub record AreOfObservations (survey : Survey) (flows : List ℤ) : Type 0 where
-  pub each : length flows ≡ length survey.observations
-  pub in_range : All (λ flow. unsigned_abs flow ≤ max_weight) flows
 
 -- what holds of each network: it has no fault, the observations and the weights are in their ranges, and each point has a name in reduced form
 pub record IsCertifiable (survey : Survey) : Type 0 where

@@ -2,14 +2,14 @@
 
 ghost use Rattle.std.specs.Prelude.{◌≡◌, ◌≤◌, ◌↔◌, ℕ, ℤ, List, Err, None, Ok, Some, length};
 ghost use Rattle.th_csv.specs.Records.{Fields, records_of};
-ghost use Rattle.th_network.specs.Networks.{AreInRange, Survey};
+ghost use Rattle.th_network.specs.Networks.{AreInRange, AreOfObservations, Survey};
 ghost use Rattle.th_certificate.specs.Certified.{Certified};
 ghost use Rattle.th_certificate.specs.FirstFaults.{IsFault, IsFaultless, IsFirstFault};
 ghost use Rattle.th_certificate.specs.Reading.{certificate_in, certificate_of};
 ghost use Rattle.th_certificate.specs.Limits.{max_certificate};
 ghost use Rattle.th_certificate.specs.Rows.{IsCertificate};
 ghost use Rattle.th_certificate.specs.declared.faults.CertFault.{CertFault};
-ghost use Rattle.th_certificate.specs.Texts.{AreOfObservations, IsCertifiable, cost_of, heights_at_points, text_of_version_1, text_of_version_2};
+ghost use Rattle.th_certificate.specs.Texts.{IsCertifiable, cost_of, heights_at_points, text_of_version_1, text_of_version_2};
 
 /// Bytes are read as a certificate exactly where they are not too many and their records are its
 /// rows: the header, the version with the count of flows, the heights, in version 2 the lowest and

@@ -4,9 +4,9 @@ ghost use Rattle.gsi_word.specs.Names.{name_of};
 ghost use Rattle.th_csv.specs.Texts.{csv_text};
 ghost use Rattle.th_network.specs.Faults.{IsNetwork};
 ghost use Rattle.th_network.specs.Heights.{heights_at};
-ghost use Rattle.th_network.specs.Networks.{AreAtPoints, points_of};
+ghost use Rattle.th_network.specs.Networks.{AreAtPoints, AreOfObservations, points_of};
 ghost use Rattle.th_tables.specs.Rows.{AreWeights};
-ghost use Rattle.th_certificate.specs.Texts.{AreOfObservations, IsCertifiable, cost_row, flow_row, header_row, height_row, heights_at_points, text_of_version_2, version_row};
+ghost use Rattle.th_certificate.specs.Texts.{IsCertifiable, cost_row, flow_row, header_row, height_row, heights_at_points, text_of_version_2, version_row};
 
 use crate::costs::cost_of;
 use gsi_word::Name;
@@ -24,15 +24,15 @@ pub fn write_certificate(
     settled: &Settled,
     spans: &Spans,
 ) -> Result<Vec<u8>, AllocError>
-    requires heights { AreAtPoints network.now settled.now.heights }
-    requires low { AreAtPoints network.now spans.now.low }
-    requires high { AreAtPoints network.now spans.now.high }
-    requires flows { AreOfObservations network.now settled.now.flows }
+    requires heights { AreAtPoints network.now settled.now.heights.items }
+    requires low { AreAtPoints network.now spans.now.low.items }
+    requires high { AreAtPoints network.now spans.now.high.items }
+    requires flows { AreOfObservations network.now settled.now.flows.items }
     ensures text { IfOk result (λ text. text.items ≡ text_of_version_2 network.now
-        (heights_at (points_of network.now) settled.now.heights)
-        (heights_at (points_of network.now) spans.now.low)
-        (heights_at (points_of network.now) spans.now.high)
-        settled.now.flows) }
+        (heights_at (points_of network.now) settled.now.heights.items)
+        (heights_at (points_of network.now) spans.now.low.items)
+        (heights_at (points_of network.now) spans.now.high.items)
+        settled.now.flows.items) }
     ensures certifiable { OnOk result (AreWeights network.now.weights → IsCertifiable network.now) }
 {
     certificate_text(

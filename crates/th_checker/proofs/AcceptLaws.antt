@@ -8,13 +8,13 @@ use Rattle.th_book.specs.Observed.{Observed}
 use Rattle.th_tables.specs.Rows.{AreBenchmarks, BenchmarkRows}
 use Rattle.th_network.specs.Circulation.{Circulation, Shows}
 use Rattle.th_network.specs.Heights.{IsHeights, cost}
-use Rattle.th_network.specs.Networks.{Survey, points_of}
+use Rattle.th_network.specs.Networks.{AreOfObservations, Survey, points_of}
 use Rattle.th_points.specs.Points.{ends, points}
 use Rattle.th_points.proofs.PointLemmas.{among_distinct, ends_are_points, is_among}
 use Rattle.th_certificate.specs.Certified.{Certified, stated_height}
 use Rattle.th_certificate.specs.Reading.{certificate_of}
 use Rattle.th_certificate.specs.declared.faults.CertFault.{CertFault}
-use Rattle.th_certificate.specs.Texts.{AreOfObservations, IsCertifiable, cost_of, heights_at_points, text_of_version_1, text_of_version_2}
+use Rattle.th_certificate.specs.Texts.{IsCertifiable, cost_of, heights_at_points, text_of_version_1, text_of_version_2}
 use Rattle.th_certificate.proofs.PointLemmas.{stated_height-rows_at}
 use Rattle.th_certificate.proofs.RoundTrip.{read_version_1, read_version_2}
 use Rattle.th_checker.specs.Accepted.{AreShownRows, IsShown}

@@ -1,11 +1,11 @@
 -- What two spans and a circulation that shows them answer.
-use Rattle.std.proofs.Common.{◌≡◌, ℕ, ℤ, List, sym, subst}
+use Rattle.std.proofs.Common.{ℕ, ℤ, List}
 use Rattle.th_book.specs.Observed.{Observed}
 use Rattle.th_network.specs.Circulation.{Circulation, Shows}
 use Rattle.th_network.specs.Heights.{IsHeights, LeastFine}
-use Rattle.th_network.specs.Networks.{Survey}
+use Rattle.th_network.specs.Networks.{Survey, at_points_of}
 use Rattle.th_tables.specs.Rows.{BenchmarkRows, WeightRows}
-use Rattle.th_circulation.specs.Best.{IsBest, at_points_of}
+use Rattle.th_circulation.specs.Best.{IsBest}
 use Rattle.th_circulation.specs.Settled.{AreSpans, IsSettled}
 
 -- heights that a circulation shows are least in every unit
@@ -31,11 +31,3 @@ are_best survey heights low high flows least settled spans =
       low_least = least survey.observations survey.benchmarks survey.weights (at_points_of survey low) flows spans.is_low.best.kept circulation spans.shows_low;
       high_least = least survey.observations survey.benchmarks survey.weights (at_points_of survey high) flows spans.is_high.best.kept circulation spans.shows_high;
     }
-
--- the same, of lists that are equal
-pub best_retold : (survey : Survey) (low low' high high' flows flows' : List ℤ) → low' ≡ low → high' ≡ high → flows' ≡ flows
-    → IsBest survey (record { low = low; high = high; flows = flows }) → IsBest survey (record { low = low'; high = high'; flows = flows' })
-best_retold survey low low' high high' flows flows' l h f are =
-    subst (λ (ls : List ℤ). IsBest survey (record { low = ls; high = high'; flows = flows' })) (sym l)
-    (subst (λ (hs : List ℤ). IsBest survey (record { low = low; high = hs; flows = flows' })) (sym h)
-    (subst (λ (fs : List ℤ). IsBest survey (record { low = low; high = high; flows = fs })) (sym f) are))

@@ -14,12 +14,11 @@ use Rattle.th_points.specs.Places.{place_of}
 use Rattle.th_network.specs.Circulation.{Circulation, Shows}
 use Rattle.th_network.specs.Heights.{IsHeights, heights_at, residual}
 use Rattle.th_network.specs.Links.{link_difference, link_of}
-use Rattle.th_network.specs.Networks.{AreAtPoints, Survey, arcs_of, points_of, weights_of}
+use Rattle.th_network.specs.Networks.{AreAtPoints, AreOfObservations, Survey, arcs_of, points_of, weights_of}
 use Rattle.th_network.specs.Vertices.{vertex_of}
 use Rattle.th_network.specs.declared.links.Link.{Link}
 use Rattle.th_points.proofs.PointLemmas.{EndsAmong, ends_are_points, is_among}
 use Rattle.th_points.proofs.PlaceLemmas.{at_place_of, benchmark_is_point}
-use Rattle.th_circulation.specs.Best.{AreOfObservations}
 use Rattle.th_circulation.specs.Settled.{IsSettled}
 use Rattle.th_circulation.specs.Inside.Flows.{AreBounded, IsFlow, ShowsLinks, residuals}
 use Rattle.th_circulation.specs.Inside.Phases.{differences_in}

@@ -1,19 +1,9 @@
 -- What the best heights of a survey are, and what shows it.
-use Rattle.std.specs.Prelude.{◌≡◌, ◌≤◌, ℕ, ℤ, List, All, length, unsigned_abs}
+use Rattle.std.specs.Prelude.{ℤ, List}
 use Rattle.th_network.specs.Circulation.{Circulation, Shows}
-use Rattle.th_network.specs.Heights.{LeastFine, heights_at}
-use Rattle.th_network.specs.Networks.{AreAtPoints, Survey, points_of}
-use Rattle.th_tables.specs.Limits.{max_weight}
+use Rattle.th_network.specs.Heights.{LeastFine}
+use Rattle.th_network.specs.Networks.{AreAtPoints, AreOfObservations, Survey, at_points_of}
 use Rattle.th_circulation.specs.Extremes.{High, Low}
-
--- the map of heights that are listed in point order
-abbrev pub at_points_of : Survey → List ℤ → List ℕ → ℤ
-at_points_of survey heights = heights_at (points_of survey) heights
-
--- a flow for each observation, at most the greatest weight in size
-pub record AreOfObservations (survey : Survey) (flows : List ℤ) : Type 0 where
-  pub each : length flows ≡ length survey.observations
-  pub in_range : All (λ flow. unsigned_abs flow ≤ max_weight) flows
 
 -- lowest and highest heights in point order, and a flow for each observation
 pub record Best : Type 0 where

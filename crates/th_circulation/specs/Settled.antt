@@ -2,8 +2,7 @@
 use Rattle.std.specs.Prelude.{ℕ, ℤ, List}
 use Rattle.th_network.specs.Circulation.{Circulation, Shows}
 use Rattle.th_network.specs.Heights.{IsHeights}
-use Rattle.th_network.specs.Networks.{AreAtPoints, Survey}
-use Rattle.th_circulation.specs.Best.{AreOfObservations, at_points_of}
+use Rattle.th_network.specs.Networks.{AreAtPoints, AreOfObservations, Survey, at_points_of}
 use Rattle.th_circulation.specs.Extremes.{High, Low}
 
 -- Heights keep the benchmarks, and flows are a circulation that shows them: so the heights cost least.

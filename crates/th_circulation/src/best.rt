@@ -65,8 +65,8 @@ pub fn best_heights(alloc: Global, network: &Network) -> Result<BestHeights, All
     let settled = settle(alloc, network, &mut LabelSearch::new(), &mut Steps::new())?;
     let spans = spans(alloc, network, &settled)?;
     Ok(BestHeights {
-        low: spans.low.into_vec(),
-        high: spans.high.into_vec(),
-        flows: settled.flows.into_vec(),
+        low: spans.low,
+        high: spans.high,
+        flows: settled.flows,
     })
 }

@@ -40,7 +40,7 @@ mod best;
 pub mod laws;
 
 pub use best::{BestHeights, best_heights};
-pub use settled::{Flows, Heights, Settled, Spans};
+pub use settled::{Settled, Spans};
 pub use settling::settle;
 pub use spanning::spans;
 pub use steps::Steps;

@@ -7,7 +7,7 @@ ghost use Rattle.th_tables.specs.Limits.{max_weight};
 
 use crate::graphs::Graph;
 use crate::placed::place;
-use crate::settled::{Flows, Heights, Settled};
+use crate::settled::Settled;
 use crate::steps::Steps;
 use crate::workspaces::Workspace;
 use std::alloc::{AllocError, Global};
@@ -30,7 +30,8 @@ pub fn settle<S: Search>(
 ) -> Result<Settled, AllocError>
     requires calls { S.calls search.old ≤ max_counted }
     requires steps { steps.old ≤ max_counted }
-    ensures settled { IfOk result (λ settled. IsSettled network.now settled.heights settled.flows) }
+    ensures settled { IfOk result (λ settled. IsSettled network.now
+        settled.heights.items settled.flows.items) }
     ensures counts { IsCounted S.calls S.refusals S.cycles (most_steps network.now) result
         search.old search.new steps.old steps.new }
 {
@@ -41,8 +42,8 @@ pub fn settle<S: Search>(
     work.settle(alloc, &graph, search, steps)?;
     place(network, &work.heights, &mut heights);
     Ok(Settled {
-        heights: Heights::new(heights),
-        flows: Flows::new(work.flows),
+        heights,
+        flows: work.flows,
     })
 }
 

@@ -3,16 +3,15 @@ ghost use Rattle.th_circulation.specs.Inside.Bounds.{farthest, raised_bound};
 ghost use Rattle.th_circulation.specs.Inside.Distances.{AreTight, opposite};
 ghost use Rattle.th_circulation.specs.Inside.Graphs.{AreWithin};
 ghost use Rattle.th_circulation.specs.Inside.Spans.{AreAbove, AreBelow};
-ghost use Rattle.th_circulation.specs.Best.{at_points_of};
 ghost use Rattle.th_circulation.specs.Settled.{AreShown, AreSpans};
-ghost use Rattle.th_network.specs.Networks.{points_of, vertices_of};
+ghost use Rattle.th_network.specs.Networks.{at_points_of, points_of, vertices_of};
 ghost use Rattle.th_search.specs.Potentials.{value_at};
 
 use crate::distances::TightArcs;
 use crate::heights::raise;
 use crate::placed::place;
 use crate::residuals::{residual_arcs, turned};
-use crate::settled::{Heights, Settled, Spans};
+use crate::settled::{Settled, Spans};
 use std::alloc::{AllocError, Global};
 use th_network::Network;
 use th_search::Arc;
@@ -25,16 +24,17 @@ use th_search::Arc;
 /// the shortest walk of residual arcs from them is long. The highest is as far above them as the
 /// shortest walk back is long.
 pub fn spans(alloc: Global, network: &Network, settled: &Settled) -> Result<Spans, AllocError>
-    requires { AreShown network.now settled.now.flows
-        (at_points_of network.now settled.now.heights) }
-    ensures { IfOk result (λ spans. AreSpans network.now settled.now.flows spans.low spans.high) }
+    requires { AreShown network.now settled.now.flows.items
+        (at_points_of network.now settled.now.heights.items) }
+    ensures { IfOk result (λ spans.
+        AreSpans network.now settled.now.flows.items spans.low.items spans.high.items) }
 {
     let points = network.points();
     let lowest_listed = vec![in alloc; 0i64; points.len()]?;
     let highest_listed = vec![in alloc; 0i64; points.len()]?;
-    let arcs = residual_arcs(alloc, network, settled.flows.as_slice())?;
+    let arcs = residual_arcs(alloc, network, &settled.flows)?;
     let back = turned(alloc, &arcs)?;
-    let rises = rises_of(alloc, network, settled.heights.as_slice())?;
+    let rises = rises_of(alloc, network, &settled.heights)?;
     let low = lowest(alloc, network, &arcs, &rises, lowest_listed)?;
     let falls = falls_of(alloc, &rises)?;
     let high = highest(alloc, network, &back, &falls, highest_listed)?;
@@ -68,10 +68,10 @@ fn lowest(
     arcs: &[Arc],
     levels: &[i64],
     mut listed: Vec<i64>,
-) -> Result<Heights, AllocError>
+) -> Result<Vec<i64>, AllocError>
     requires tight { AreTight (vertices_of network.now) arcs.now }
     requires each { length listed.items ≡ length (points_of network.now) }
-    ensures { IfOk result (λ heights. AreBelow network.now arcs.now heights) }
+    ensures { IfOk result (λ heights. AreBelow network.now arcs.now heights.items) }
 {
     let vertices = network.vertices();
     let distances = TightArcs {
@@ -82,7 +82,7 @@ fn lowest(
     .distances(alloc)?;
     let heights = opposites(alloc, &distances, vertices)?;
     place(network, &heights, &mut listed);
-    Ok(Heights::new(listed))
+    Ok(listed)
 }
 
 /// The distances with the other sign.
@@ -104,10 +104,10 @@ fn highest(
     arcs: &[Arc],
     levels: &[i64],
     mut listed: Vec<i64>,
-) -> Result<Heights, AllocError>
+) -> Result<Vec<i64>, AllocError>
     requires tight { AreTight (vertices_of network.now) arcs.now }
     requires each { length listed.items ≡ length (points_of network.now) }
-    ensures { IfOk result (λ heights. AreAbove network.now arcs.now heights) }
+    ensures { IfOk result (λ heights. AreAbove network.now arcs.now heights.items) }
 {
     let vertices = network.vertices();
     let distances = TightArcs {
@@ -117,5 +117,5 @@ fn highest(
     }
     .distances(alloc)?;
     place(network, &distances, &mut listed);
-    Ok(Heights::new(listed))
+    Ok(listed)
 }

@@ -6,6 +6,7 @@ use Rattle.th_points.specs.Points.{points}
 use Rattle.th_units.specs.Limits.{max_len}
 use Rattle.th_points.specs.Ends.{ends_of}
 use Rattle.th_network.specs.Faults.{IsNetwork}
+use Rattle.th_network.specs.Heights.{heights_at}
 use Rattle.th_network.specs.Vertices.{vertex_count}
 use Rattle.th_network.specs.Limits.{height_limit}
 use Rattle.th_network.specs.Links.{largest_link_difference, link_of}
@@ -45,6 +46,15 @@ arcs_of survey = map (link_of survey.observations survey.benchmarks) survey.obse
 pub record AreAtPoints (survey : Survey) (heights : List ℤ) : Type 0 where
   pub each : length heights ≡ length (points_of survey)
   pub in_range : All (λ height. unsigned_abs height < height_limit) heights
+
+-- the map of heights that are listed in point order
+abbrev pub at_points_of : Survey → List ℤ → List ℕ → ℤ
+at_points_of survey heights = heights_at (points_of survey) heights
+
+-- a flow for each observation of a survey, in their order, at most the greatest weight in size
+pub record AreOfObservations (survey : Survey) (flows : List ℤ) : Type 0 where
+  pub each : length flows ≡ length survey.observations
+  pub in_range : All (λ flow. unsigned_abs flow ≤ max_weight) flows
 
 -- a map of heights that are below 10^17 units in size at the points of a survey
 abbrev pub AreInRange : Survey → (List ℕ → ℤ) → Type 0

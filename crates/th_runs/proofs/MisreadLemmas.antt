@@ -3,17 +3,18 @@ use Rattle.std.proofs.Common.{◌≡◌, inl, inr, ℕ, ℤ, zero, suc, [], ◌�
 use Rattle.std.specs.List.{AllByRecursion, IsDistinct, enumerate_from, flat_map}
 use Rattle.std.proofs.lemmas.List.Elements.{All-from_recursion, recursion_from_All}
 use Rattle.th_book.specs.Observed.{Observed}
+use Rattle.th_circulation.specs.Best.{Best, IsBest}
 use Rattle.th_circulation.specs.Extremes.{Low}
 use Rattle.th_circulation.specs.Misreadings.{AreMisread}
 use Rattle.th_network.specs.Circulation.{Circulation, Shows}
 use Rattle.th_network.specs.Heights.{heights_at}
-use Rattle.th_network.specs.Networks.{AreAtPoints, Survey, points_of}
+use Rattle.th_network.specs.Networks.{AreAtPoints, Survey, at_points_of, points_of}
 use Rattle.th_network.specs.Walks.{IsTied, Leads}
 use Rattle.th_points.specs.Points.{distinct, ends, points}
 use Rattle.th_report.specs.Gsi.{text_of_point}
 use Rattle.th_report.specs.Heights.{heights_header, heights_text, printed_height, printed_heights}
 use Rattle.th_tables.specs.Rows.{BenchmarkRows, WeightRows}
-use Rattle.th_runs.specs.Adjusted.{Answer, AreOutputs, IsAnswer, OutTexts, at_points_of}
+use Rattle.th_runs.specs.Adjusted.{AreOutputs, OutTexts}
 use Rattle.th_runs.specs.Inputs.{MakesNetwork}
 use Rattle.th_runs.proofs.LawLemmas.{same_heights}
 
@@ -40,9 +41,9 @@ misread_low :
     → ((observations : List Observed) (benchmarks : BenchmarkRows) (weights : WeightRows) (first second : List ℕ → ℤ)
     → Low observations benchmarks weights first → Low observations benchmarks weights second → All (λ point. first point ≡ second point) (points observations benchmarks))
     → ((observations : List Observed) (benchmarks : BenchmarkRows) → IsDistinct bytes_eq (points observations benchmarks))
-    → (survey : Survey) (misread : List Observed) (first second : Answer) → IsAnswer survey first
+    → (survey : Survey) (misread : List Observed) (first second : Best) → IsBest survey first
     → AreMisread (at_points_of survey first.low) survey.observations misread
-    → IsAnswer (record survey { observations = misread }) second → second.low ≡ first.low
+    → IsBest (record survey { observations = misread }) second → second.low ≡ first.low
 misread_low keeps one_low once survey misread first second one each other =
     let there : Survey = record survey { observations = misread } in
     let same : points_of there ≡ points_of survey = points_same (at_points_of survey first.low) survey.observations misread survey.benchmarks each in

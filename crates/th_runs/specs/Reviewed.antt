@@ -2,19 +2,19 @@
 use Rattle.std.specs.Prelude.{◌≡◌, ℕ, ℤ, List, [], Option, IfSome}
 use Rattle.std.specs.List.{AllZip}
 use Rattle.th_book.specs.Lines.{ParsedLine}
+use Rattle.th_circulation.specs.Best.{Best, IsBest}
 use Rattle.th_devices.specs.declared.devices.Sink.{Ghosts as SinkKind}
 use Rattle.th_entries.specs.Reviews.{Reviews}
 use Rattle.th_entries.specs.Several.{numbered}
 use Rattle.th_entries.specs.Spellings.{spellings_of}
 use Rattle.th_entries.specs.declared.reviews.BookReview.{BookReview}
-use Rattle.th_network.specs.Networks.{Survey}
+use Rattle.th_network.specs.Networks.{Survey, at_points_of}
 use Rattle.th_reliability.specs.Numbers.{AreControls, AreStrengths}
 use Rattle.th_reliability.specs.SharedMistakes.{IsSharedMistake}
 use Rattle.th_reliability.specs.Sights.{in_sights}
 use Rattle.th_entries.specs.declared.spellings.Spelling.{Spelling}
 use Rattle.th_review.specs.Entries.{entries_of, sights_of}
 use Rattle.th_review.specs.Texts.{AreReviewTexts, Found, ReviewOutTexts}
-use Rattle.th_runs.specs.Adjusted.{Answer, IsAnswer, at_points_of}
 use Rattle.th_runs.specs.Writes.{IsWrittenFor}
 use Rattle.th_runs.specs.declared.outputs.ReviewOuts.{ReviewOuts}
 use Rattle.th_runs.specs.declared.refusals.Output.TheVariants as output
@@ -61,8 +61,8 @@ pub record AreFound (survey : Survey) (books : List BookReview) (found : Found) 
 
 -- The texts are the review of a survey and of its books, for this limit of blunders in units of 10 nm: the heights are best, and what they print was found.
 pub record AreReviewed (survey : Survey) (books : List BookReview) (spellings : List Spelling) (limit : ℤ) (texts : ReviewOutTexts) : Type 0 where
-  pub answer : Answer
-  pub answers : IsAnswer survey answer
+  pub answer : Best
+  pub answers : IsBest survey answer
   pub found : Found
   pub finds : AreFound survey books found
   pub printed : AreReviewTexts survey (at_points_of survey answer.low) (at_points_of survey answer.high) found books spellings limit texts

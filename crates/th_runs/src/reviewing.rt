@@ -17,12 +17,12 @@ ghost use Rattle.th_runs.specs.Reviewed.{AreFound, AreInPlace, AreReviewed, AreR
 ghost use Rattle.th_runs.specs.Outcomes.{SurveyOutcome};
 ghost use Rattle.th_tables.specs.Rows.{AreWeights};
 
-use crate::adjusting::adjust;
 use crate::outputs::{ReviewOuts, write_review_outs};
 use crate::readers::ReviewReader;
 use crate::refusals::Refusal;
 use crate::surveys::{Inputs, Tables, network_of, read_inputs};
 use std::alloc::{AllocError, Global};
+use th_circulation::best_heights;
 use th_devices::{Sink, Source};
 use th_entries::laws::entry_of_several_books_has_one_station;
 use th_entries::{BookReview, Entry, Spelling};
@@ -115,10 +115,10 @@ fn texts_of_network(
     ensures texts { IfOk result (λ texts. AreReviewed network.now reviews.now spellings.now limit (bytes_of texts)) }
     ensures refused { IfErr result (λ own. own ≡ Refusal.NoMemory) }
 {
-    let adjusted = adjust(alloc, network)?;
+    let best = best_heights(alloc, network)?;
     let findings = findings_of(alloc, network, reviews)?;
-    let low = adjusted.spans.low.as_slice();
-    let high = adjusted.spans.high.as_slice();
+    let low = best.low();
+    let high = best.high();
     Ok(review_texts(
         alloc, network, low, high, &findings, reviews, spellings, limit,
     )?)

@@ -1,4 +1,4 @@
-use Rattle.std.proofs.Common.{◌≤◌, ℕ, ℤ, List, All, length, ap, sym, ◌∙◌, subst, arith}
+use Rattle.std.proofs.Common.{◌≤◌, ℕ, ℤ, List, All, length, ap, sym, subst, arith}
 use Rattle.th_search.specs.Potentials.{value_at}
 use Rattle.th_tables.specs.Limits.{max_weight}
 use Rattle.th_circulation.specs.Inside.Placed.{ArePlaced}
@@ -18,8 +18,8 @@ returns-clause-settled g c =
     let long = c.deref_mut.ensures.len in
     let many = c.in_ok-heights.ensures.len in
     let names = ap (λ (ns : List (List ℕ)). length ns) c.points.ensures.points in
-    let is = c.new-2.ensures ∙ written c.in_ok-heights.heights.len c.place.new.listed c.in_ok-heights.heights.items (omega arith) (omega arith) in
+    let is = written c.in_ok-heights.heights.len c.place.new.listed c.in_ok-heights.heights.items (omega arith) (omega arith) in
     let placed = subst (λ (hs : List ℤ). ArePlaced survey.observations survey.benchmarks (value_at hs) c.place.new.listed) c.deref-2.ensures.value c.place.ensures.placed in
     let light = subst (All (λ (weight : ℕ). weight ≤ max_weight)) c.in_ok-weights.ensures.weights c.in_ok-weights.ensures.light in
     let settled = is_settled survey graph.result.links.now graph.result.weights.now c.place.new.listed work.flows.items (value_at work.heights.items) graph.ensures.links graph.ensures.weights light done.flow done.shown.shown placed (record { each = omega arith; in_range = c.place.ensures.in_range }) in
-    subst (λ (hs : List ℤ). IsSettled survey hs c.new-3.result) (sym is) (subst (IsSettled survey c.place.new.listed) (sym c.new-3.ensures) settled)
+    subst (λ (hs : List ℤ). IsSettled survey hs work.flows.items) (sym is) settled
