@@ -21,7 +21,7 @@ fn named(rt: &(impl AllocGlobal + Abort), name: &str) -> String {
 
 /// A sink for the file of this name.
 fn sink<'a, R: Files>(rt: &(impl AllocGlobal + Abort), files: &'a R, name: &str) -> FileSink<'a, R>
-    ensures { result.counts.calls ≡ 0 }
+    ensures { result.device.counts.calls ≡ 0 }
 {
     FileSink::new(rt.alloc(), files, name)
         .ok()

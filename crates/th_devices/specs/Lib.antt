@@ -4,5 +4,3 @@ pub mod Devices
 pub mod Files
 pub mod Memory
 pub mod Transfer
-pub mod Origins
-pub mod MemoryFolders

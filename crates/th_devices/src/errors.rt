@@ -1,9 +1,10 @@
 //! Standard error as a sink. It does not report its bytes.
-ghost use Rattle.std.specs.Prelude.{◌≡◌, ◌<◌, false, None, IfOk, length};
-ghost use Rattle.th_devices.specs.Limits.{call_limit};
-ghost use Rattle.th_devices.specs.Spots.{errors};
+ghost use Rattle.std.specs.Prelude.{◌≡◌, ◌<◌, false, IfOk, length};
+ghost use Rattle.th_devices.specs.Devices.{IsMade, untold};
+ghost use Rattle.th_devices.specs.Spots.{errors as errors_spot};
 
 use crate::devices::{Counts, Failed, Sink};
+use std::marker::Model;
 use std::str;
 
 /// Standard error. A write takes all of its bytes, and fails if they are not UTF-8.
@@ -14,12 +15,23 @@ pub struct StandardError<'a, R: Eprint> {
     counts: Counts,
 }
 
+impl<'a, R: Eprint> Model for StandardError<'a, R> {
+    ghost use Rattle.th_devices.specs.Devices.{UntoldState};
+    ghost use Rattle.th_devices.specs.Spots.{errors as errors_spot};
+
+    ghost Value = { UntoldState };
+
+    ghost view = { λ sink. record {
+      spot = errors_spot;
+      is_finished = sink.finished;
+      counts = sink.counts;
+    } };
+}
+
 impl<'a, R: Eprint> StandardError<'a, R> {
     /// Standard error.
     pub fn new(errors: &'a R) -> StandardError<'a, R>
-        ensures unfinished { result.finished ≡ false }
-        ensures calls { result.counts.calls ≡ 0 }
-        ensures failures { result.counts.failures ≡ 0 }
+        ensures { IsMade false errors_spot (untold result) }
     {
         StandardError {
             errors,
@@ -39,15 +51,7 @@ impl<'a, R: Eprint> StandardError<'a, R> {
 }
 
 impl<'a, R: Eprint> Sink for StandardError<'a, R> {
-    ghost spot = { λ _. errors };
-
-    ghost held = { λ _. None };
-
-    ghost is_finished = { λ sink. sink.finished };
-
-    ghost calls = { λ sink. sink.counts.calls };
-
-    ghost failures = { λ sink. sink.counts.failures };
+    ghost state = { untold };
 
     fn begin(&mut self) -> Result<(), Failed> {
         let begun = Ok(());
@@ -69,6 +73,4 @@ impl<'a, R: Eprint> Sink for StandardError<'a, R> {
         self.counts.count(&finished);
         finished
     }
-
-    ghost failures_are_calls = { λ sink. sink.counts.failures_are_calls };
 }

@@ -1,12 +1,14 @@
 //! Real files as sinks. The bytes go to a file beside the named one, which takes the name when it
 //! is finished. So the name has either the whole text or what it had before. These sinks do not
 //! report their bytes.
-ghost use Rattle.std.specs.Prelude.{◌≡◌, ◌<◌, ◌≤◌, ◌↔◌, ◌⊎◌, ◌++◌, true, false, codes, is_some, None, Ok, IfOk, OnOk, OnErr, IsErr, length, option_and_then};
-ghost use Rattle.std.specs.Io.KnownBytes.{Keeps, WriteAppends};
-ghost use Rattle.th_devices.specs.Files.{IsFileBegun, IsFileFinish, IsFileWrite};
+ghost use Rattle.std.specs.Prelude.{◌≡◌, ◌<◌, ◌≤◌, ◌||◌, true, false, is_ok, is_some, None, IfOk, OnOk, IsErr, length, option_and_then};
+ghost use Rattle.std.specs.Io.KnownBytes.{Keeps};
+ghost use Rattle.th_devices.specs.Devices.{IsBegun, IsFinish, IsMade, IsWrite, Takes, untold};
+ghost use Rattle.th_devices.specs.Files.{TakesBytes};
 ghost use Rattle.th_devices.specs.Limits.{call_limit};
 ghost use Rattle.th_devices.specs.Spots.{file};
 
+use crate::bytes::taken_of;
 use crate::devices::{Counts, Failed, Sink};
 use std::alloc::{AllocError, Global};
 use std::fs::{File, OpenFile, OpenOptions};
@@ -16,7 +18,7 @@ use std::rt::Files;
 use std::{fs, io};
 
 /// What follows the name of a file in the name of the one that is written beside it.
-pub(crate) const UNFINISHED: &str = ".unfinished";
+pub const UNFINISHED: &str = ".unfinished";
 
 /// Where the bytes of a file go.
 #[derive(Clone, Copy, Debug, PartialEq, Eq)]
@@ -43,32 +45,33 @@ pub struct FileSink<'a, R: Files> {
 }
 
 impl<'a, R: Files> Model for FileSink<'a, R> {
-    ghost use Rattle.std.specs.Prelude.{is_some, option_and_then, string_bytes};
+    ghost use Rattle.std.specs.Prelude.{◌≡◌, ◌++◌, codes, is_some, option_and_then, string_bytes};
     ghost use Rattle.th_devices.specs.Files.{FileSinkState};
+    ghost use Rattle.th_devices.specs.Spots.{file as file_spot};
 
     ghost Value = { FileSinkState };
 
     ghost view = { λ sink. record {
-      name = string_bytes sink.name;
-      unfinished = string_bytes sink.unfinished;
+      device = record {
+        spot = file_spot (string_bytes sink.name);
+        is_finished = sink.finished;
+        counts = sink.counts;
+      };
       opened = is_some sink.file;
       contents = option_and_then R.File.contents sink.file;
       placed = sink.placed;
-      finished = sink.finished;
-      counts = sink.counts;
     } };
+
+    ghost invariant = { λ sink.
+        string_bytes sink.unfinished ≡ string_bytes sink.name ++ codes ".unfinished" };
 }
 
 impl<'a, R: Files> FileSink<'a, R> {
     /// The file of this name, not touched yet.
     pub fn new(alloc: Global, files: &'a R, name: &str) -> Result<FileSink<'a, R>, AllocError>
-        ensures name { IfOk result (λ sink. sink.name ≡ name.now) }
-        ensures unfinished { IfOk result (λ sink. sink.unfinished ≡ name.now ++ codes ".unfinished") }
+        ensures made { IfOk result (λ sink. IsMade false (file name.now) (untold sink.device)) }
         ensures unopened { IfOk result (λ sink. sink.opened ≡ false) }
         ensures unplaced { IfOk result (λ sink. sink.placed ≡ false) }
-        ensures not_finished { IfOk result (λ sink. sink.finished ≡ false) }
-        ensures calls { IfOk result (λ sink. sink.counts.calls ≡ 0) }
-        ensures failures { IfOk result (λ sink. sink.counts.failures ≡ 0) }
     {
         let mut unfinished = String::from_str(alloc, name)?;
         unfinished.push_str(UNFINISHED)?;
@@ -86,11 +89,7 @@ impl<'a, R: Files> FileSink<'a, R> {
 
     /// Closes the file, and removes what was written beside it unless that took its name.
     pub fn discard(&mut self)
-        ensures closed { self.new.opened ≡ false }
-        ensures name { self.new.name ≡ self.old.name }
-        ensures unfinished { self.new.unfinished ≡ self.old.unfinished }
-        ensures placed { self.new.placed ≡ self.old.placed }
-        ensures counts { self.new.counts ≡ self.old.counts }
+        ensures { self.new ≡ record self.old { opened = false; contents = None } }
     {
         let is_left = self.file.is_some() && !self.placed;
         self.file = None;
@@ -101,13 +100,8 @@ impl<'a, R: Files> FileSink<'a, R> {
 
     /// Brings what was written to the disk, and gives it its name.
     fn place(&mut self) -> Result<(), Failed>
-        ensures placed { self.old.placed ≡ true → IsErr result }
-        ensures unopened { self.old.opened ≡ false → IsErr result }
-        ensures opened { self.new.opened ≡ self.old.opened }
-        ensures name { self.new.name ≡ self.old.name }
-        ensures unfinished { self.new.unfinished ≡ self.old.unfinished }
-        ensures same { self.new.placed ≡ self.old.placed }
-        ensures counts { self.new.counts ≡ self.old.counts }
+        ensures takes { OnOk result (TakesBytes self.old) }
+        ensures same { self.new ≡ record self.old { contents = self.new.contents } }
         ensures bytes { Keeps self.old.contents self.new.contents }
     {
         if self.placed {
@@ -153,29 +147,12 @@ fn new_file<R: Files>(files: &R, name: &str) -> io::Result<R::File> {
     File::create_new(files, name)
 }
 
-/// How many bytes a write took that the system answered so: one that took none of bytes that were
-/// there failed.
-pub(crate) fn taken_of(answer: io::Result<usize>, bytes: &[u8]) -> Result<usize, Failed>
-    requires { IfOk answer (λ count. count ≤ length bytes.now) }
-    ensures within { IfOk result (λ count. count ≤ length bytes.now) }
-    ensures some { IfOk result (λ count. 0 < length bytes.now → 0 < count) }
-    ensures same { IfOk result (λ count. answer ≡ Ok count) }
-    ensures failed { IsErr result ↔ (IsErr answer ⊎ ((answer ≡ Ok 0) × (0 < length bytes.now))) }
-{
-    match answer {
-        Ok(count) if count > 0 || bytes.is_empty() => Ok(count),
-        Ok(_) | Err(_) => Err(Failed),
-    }
-}
-
 /// Writes to the file that `begin` opened.
 fn write_opened<F: Write>(file: &mut Option<F>, bytes: &[u8]) -> Result<usize, Failed>
-    ensures within { IfOk result (λ count. count ≤ length bytes.now) }
-    ensures some { IfOk result (λ count. 0 < length bytes.now → 0 < count) }
     ensures unopened { file.old ≡ None → IsErr result }
     ensures opened { is_some file.new ≡ is_some file.old }
-    ensures bytes { WriteAppends (option_and_then F.contents file.old)
-        (option_and_then F.contents file.new) result bytes.now }
+    ensures bytes { Takes (option_and_then F.contents file.old)
+        (option_and_then F.contents file.new) bytes.now result }
 {
     match file {
         Some(open) => taken_of(open.write(bytes), bytes),
@@ -184,7 +161,7 @@ fn write_opened<F: Write>(file: &mut Option<F>, bytes: &[u8]) -> Result<usize, F
 }
 
 /// Brings what was written to the file.
-pub(crate) fn flush_opened<F: Write>(file: &mut Option<F>) -> Result<(), Failed>
+fn flush_opened<F: Write>(file: &mut Option<F>) -> Result<(), Failed>
     ensures unopened { file.old ≡ None → IsErr result }
     ensures opened { is_some file.new ≡ is_some file.old }
     ensures bytes { Keeps (option_and_then F.contents file.old) (option_and_then F.contents file.new) }
@@ -204,24 +181,13 @@ fn sync_opened<F: OpenFile>(file: &Option<F>) -> Result<(), Failed> {
 }
 
 impl<'a, R: Files> Sink for FileSink<'a, R> {
-    ghost spot = { λ sink. file sink.name };
-
-    ghost held = { λ _. None };
-
-    ghost is_finished = { λ sink. sink.finished };
-
-    ghost calls = { λ sink. sink.counts.calls };
-
-    ghost failures = { λ sink. sink.counts.failures };
+    ghost state = { λ sink. untold sink.device };
 
     fn begin(&mut self) -> Result<(), Failed>
-        requires { self.old.counts.calls < call_limit }
-        ensures begun { IsFileBegun self.old self.new result }
-        ensures opened { OnOk result (self.new.opened ≡ true) }
-        ensures unopened { OnErr result (self.new.opened ≡ false) }
+        requires { self.old.device.counts.calls < call_limit }
+        ensures begun { IsBegun (untold self.old.device) (untold self.new.device) result }
+        ensures opened { self.new.opened ≡ is_ok result }
         ensures unplaced { self.new.placed ≡ false }
-        ensures name { self.new.name ≡ self.old.name }
-        ensures unfinished { self.new.unfinished ≡ self.old.unfinished }
     {
         self.discard();
         let answer = match begin_file(self.files, self.name.as_str(), self.unfinished.as_str()) {
@@ -239,15 +205,12 @@ impl<'a, R: Files> Sink for FileSink<'a, R> {
     }
 
     fn write(&mut self, bytes: &[u8]) -> Result<usize, Failed>
-        requires { self.old.counts.calls < call_limit }
-        ensures write { IsFileWrite self.old self.new bytes.now result }
-        ensures unopened { self.old.opened ≡ false → IsErr result }
-        ensures placed { self.old.placed ≡ true → IsErr result }
+        requires { self.old.device.counts.calls < call_limit }
+        ensures write { IsWrite (untold self.old.device) (untold self.new.device) bytes.now result }
+        ensures takes { OnOk result (TakesBytes self.old) }
+        ensures bytes { Takes self.old.contents self.new.contents bytes.now result }
         ensures opened { self.new.opened ≡ self.old.opened }
-        ensures still { self.new.placed ≡ self.old.placed }
-        ensures name { self.new.name ≡ self.old.name }
-        ensures unfinished { self.new.unfinished ≡ self.old.unfinished }
-        ensures bytes { WriteAppends self.old.contents self.new.contents result bytes.now }
+        ensures placed { self.new.placed ≡ self.old.placed }
     {
         let answer = if self.placed {
             Err(Failed)
@@ -260,16 +223,12 @@ impl<'a, R: Files> Sink for FileSink<'a, R> {
     }
 
     fn finish(&mut self) -> Result<(), Failed>
-        requires { self.old.counts.calls < call_limit }
-        ensures finish { IsFileFinish self.old self.new result }
-        ensures unopened { self.old.opened ≡ false → IsErr result }
-        ensures again { self.old.placed ≡ true → IsErr result }
-        ensures placed { OnOk result (self.new.placed ≡ true) }
-        ensures unplaced { OnErr result (self.new.placed ≡ self.old.placed) }
-        ensures opened { self.new.opened ≡ self.old.opened }
-        ensures name { self.new.name ≡ self.old.name }
-        ensures unfinished { self.new.unfinished ≡ self.old.unfinished }
+        requires { self.old.device.counts.calls < call_limit }
+        ensures finish { IsFinish (untold self.old.device) (untold self.new.device) result }
+        ensures takes { OnOk result (TakesBytes self.old) }
         ensures bytes { Keeps self.old.contents self.new.contents }
+        ensures opened { self.new.opened ≡ self.old.opened }
+        ensures placed { self.new.placed ≡ (self.old.placed || is_ok result) }
     {
         let answer = self.place();
         self.finished = answer.is_ok();
@@ -277,6 +236,4 @@ impl<'a, R: Files> Sink for FileSink<'a, R> {
         self.counts.count(&answer);
         answer
     }
-
-    ghost failures_are_calls = { λ sink. sink.counts.failures_are_calls };
 }

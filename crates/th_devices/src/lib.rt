@@ -6,12 +6,10 @@
 //! report their bytes, so clauses on bytes hold only for devices that do.
 #![tactic(auto)]
 
-// Limits, and the calls of devices.
+// Limits, the calls of devices, and the bytes that they pass on.
+mod bytes;
 mod devices;
 mod limits;
-
-// Folders, which give devices and take them back.
-mod folders;
 
 // Devices.
 mod choices;
@@ -19,11 +17,8 @@ mod errors;
 mod file_sinks;
 mod files;
 mod memory;
+mod memory_sources;
 mod streams;
-
-// Folders of such devices.
-mod host_folders;
-mod memory_folders;
 
 // Whole texts.
 mod transfer;
@@ -34,12 +29,10 @@ pub mod laws;
 pub use choices::{OneOf, Untold};
 pub use devices::{Counts, Failed, Sink, Source};
 pub use errors::StandardError;
-pub use file_sinks::FileSink;
+pub use file_sinks::{FileSink, UNFINISHED};
 pub use files::FileSource;
-pub use folders::{Folder, Origin, Target};
-pub use host_folders::HostFolder;
 pub use limits::{CALL_LIMIT, CALLS_BEFORE};
 pub use memory::{TextSink, TextSource};
-pub use memory_folders::{MemoryFolder, MemorySink, MemorySource};
+pub use memory_sources::MemorySource;
 pub use streams::{StandardInput, StandardOutput};
 pub use transfer::{ReadFault, read_all, write_all};

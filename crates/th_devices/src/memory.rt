@@ -1,12 +1,12 @@
 //! Devices in memory, for tests: they give or take a few bytes a call, and fail at a chosen call.
-ghost use Rattle.std.specs.Prelude.{◌≡◌, ◌+◌, ◌<◌, ◌≤◌, ◌↔◌, ◌++◌, ℕ, false, is_ok, List, Option, Some, IsErr, IsTrue, IfOk, OnOk, OnErr, length, min, take, drop, ◌-◌, ◌⊎◌, []};
-ghost use Rattle.std.specs.Io.KnownBytes.{Appends, Consumes, IsAtEnd, Keeps};
-ghost use Rattle.th_devices.specs.Memory.{FindsNoRoom, IsSetAs, IsTextBegun, IsTextFinish, IsTextRead, IsTextWrite};
+ghost use Rattle.std.specs.Prelude.{◌≡◌, ◌+◌, ◌<◌, ◌≤◌, ◌↔◌, ◌-◌, ◌⊎◌, [], true, IsErr, IsTrue, IfOk, OnErr, Some, length, min};
+ghost use Rattle.th_devices.specs.Devices.{IsBegun, IsFinish, IsMade, IsRead, IsWrite};
+ghost use Rattle.th_devices.specs.Memory.{FindsNoRoom, text_sink, text_source};
 ghost use Rattle.th_devices.specs.Limits.{call_limit};
 ghost use Rattle.th_devices.specs.Spots.{nowhere};
 
+use crate::bytes::copy_front;
 use crate::devices::{Counts, Failed, Sink, Source};
-use crate::transfer::copy_front;
 use std::alloc::{AllocError, Global};
 use std::marker::Model;
 
@@ -44,7 +44,6 @@ impl<'a> TextSource<'a> {
         ensures piece { result.piece ≡ piece }
         ensures fail_at { result.fail_at ≡ fail_at }
         ensures calls { result.counts.calls ≡ 0 }
-        ensures failures { result.counts.failures ≡ 0 }
     {
         TextSource {
             rest: bytes,
@@ -64,15 +63,11 @@ fn is_due(fail_at: Option<u128>, counts: &Counts) -> bool
 }
 
 impl<'a> Source for TextSource<'a> {
-    ghost left = { λ source. Some source.left };
-
-    ghost calls = { λ source. source.counts.calls };
-
-    ghost failures = { λ source. source.counts.failures };
+    ghost state = { text_source };
 
     fn read(&mut self, into: &mut [u8]) -> Result<usize, Failed>
         requires { self.old.counts.calls < call_limit }
-        ensures read { IsTextRead self.old self.new into.old into.new result }
+        ensures read { IsRead (text_source self.old) (text_source self.new) into.old into.new result }
         ensures fails_there { IsErr result ↔ (self.old.fail_at ≡ Some self.new.counts.calls) }
         ensures piece { IfOk result (λ count.
             count ≡ min (min self.old.piece (length self.old.left)) (length into.old)) }
@@ -89,8 +84,6 @@ impl<'a> Source for TextSource<'a> {
         self.counts.count(&answer);
         answer
     }
-
-    ghost failures_are_calls = { λ source. source.counts.failures_are_calls };
 }
 
 /// A sink that keeps what is written to it in memory.
@@ -112,9 +105,7 @@ impl Model for TextSink {
 
     ghost view = { λ sink. record {
       held = sink.held.items;
-      room = sink.room;
-      piece = sink.piece;
-      fail_at = sink.fail_at;
+      settings = record { room = sink.room; piece = sink.piece; fail_at = sink.fail_at };
       finished = sink.finished;
       counts = sink.counts;
     } };
@@ -134,12 +125,9 @@ impl TextSink {
     ) -> Result<TextSink, AllocError>
         requires { 1 ≤ piece }
         ensures held { IfOk result (λ sink. sink.held ≡ []) }
-        ensures room { IfOk result (λ sink. sink.room ≡ room) }
-        ensures piece { IfOk result (λ sink. sink.piece ≡ piece) }
-        ensures fail_at { IfOk result (λ sink. sink.fail_at ≡ fail_at) }
-        ensures unfinished { IfOk result (λ sink. sink.finished ≡ false) }
-        ensures calls { IfOk result (λ sink. sink.counts.calls ≡ 0) }
-        ensures failures { IfOk result (λ sink. sink.counts.failures ≡ 0) }
+        ensures settings { IfOk result (λ sink.
+            sink.settings ≡ record { room = room; piece = piece; fail_at = fail_at }) }
+        ensures made { IfOk result (λ sink. IsMade true nowhere (text_sink sink)) }
     {
         Ok(TextSink {
             held: Vec::with_capacity(alloc, room)?,
@@ -152,7 +140,7 @@ impl TextSink {
     }
 
     /// A sink that holds these bytes, and was not called yet. It has no room for more.
-    pub(crate) fn holding(alloc: Global, text: &[u8]) -> Result<TextSink, AllocError>
+    pub fn holding(alloc: Global, text: &[u8]) -> Result<TextSink, AllocError>
         ensures held { IfOk result (λ sink. sink.held ≡ text.now) }
     {
         Ok(TextSink {
@@ -166,11 +154,9 @@ impl TextSink {
     }
 
     /// A sink without room, which takes no memory.
-    pub(crate) fn without_room(alloc: Global) -> TextSink
+    pub fn without_room(alloc: Global) -> TextSink
         ensures held { result.held ≡ [] }
-        ensures unfinished { result.finished ≡ false }
-        ensures calls { result.counts.calls ≡ 0 }
-        ensures failures { result.counts.failures ≡ 0 }
+        ensures made { IsMade true nowhere (text_sink result) }
     {
         TextSink {
             held: Vec::new(alloc),
@@ -182,15 +168,15 @@ impl TextSink {
         }
     }
 
-    /// It was called.
-    pub(crate) fn is_called(&self) -> bool
+    /// Whether it was called.
+    pub fn is_called(&self) -> bool
         ensures { IsTrue result ↔ (0 < self.now.counts.calls) }
     {
         self.counts.calls > 0
     }
 
-    /// It was finished, and neither begun nor written since.
-    pub(crate) fn is_finished(&self) -> bool
+    /// Whether it was finished, and neither begun nor written since.
+    pub fn is_finished(&self) -> bool
         ensures { result ≡ self.now.finished }
     {
         self.finished
@@ -205,22 +191,14 @@ impl TextSink {
 }
 
 impl Sink for TextSink {
-    ghost spot = { λ _. nowhere };
-
-    ghost held = { λ sink. Some sink.held };
-
-    ghost is_finished = { λ sink. sink.finished };
-
-    ghost calls = { λ sink. sink.counts.calls };
-
-    ghost failures = { λ sink. sink.counts.failures };
+    ghost state = { text_sink };
 
     fn begin(&mut self) -> Result<(), Failed>
         requires { self.old.counts.calls < call_limit }
-        ensures begun { IsTextBegun self.old self.new result }
+        ensures begun { IsBegun (text_sink self.old) (text_sink self.new) result }
         ensures failed { OnErr result (self.new.held ≡ self.old.held) }
-        ensures fails_there { IsErr result ↔ (self.old.fail_at ≡ Some self.new.counts.calls) }
-        ensures settings { IsSetAs self.old self.new }
+        ensures fails_there { IsErr result ↔ (self.old.settings.fail_at ≡ Some self.new.counts.calls) }
+        ensures settings { self.new.settings ≡ self.old.settings }
     {
         let answer = if is_due(self.fail_at, &self.counts) {
             Err(Failed)
@@ -235,12 +213,12 @@ impl Sink for TextSink {
 
     fn write(&mut self, bytes: &[u8]) -> Result<usize, Failed>
         requires { self.old.counts.calls < call_limit }
-        ensures write { IsTextWrite self.old self.new bytes.now result }
-        ensures fails_there { IsErr result ↔ ((self.old.fail_at ≡ Some self.new.counts.calls)
-            ⊎ FindsNoRoom self.old bytes.now) }
-        ensures piece { IfOk result (λ count. count
-            ≡ min (min self.old.piece (length bytes.now)) (self.old.room - length self.old.held)) }
-        ensures settings { IsSetAs self.old self.new }
+        ensures write { IsWrite (text_sink self.old) (text_sink self.new) bytes.now result }
+        ensures fails_there { IsErr result
+            ↔ ((self.old.settings.fail_at ≡ Some self.new.counts.calls) ⊎ FindsNoRoom self.old bytes.now) }
+        ensures piece { IfOk result (λ count. let set = self.old.settings in count
+            ≡ min (min set.piece (length bytes.now)) (set.room - length self.old.held)) }
+        ensures settings { self.new.settings ≡ self.old.settings }
     {
         let room = self.room - self.held.len();
         let has_room = bytes.is_empty() || room > 0;
@@ -258,9 +236,9 @@ impl Sink for TextSink {
 
     fn finish(&mut self) -> Result<(), Failed>
         requires { self.old.counts.calls < call_limit }
-        ensures finish { IsTextFinish self.old self.new result }
-        ensures fails_there { IsErr result ↔ (self.old.fail_at ≡ Some self.new.counts.calls) }
-        ensures settings { IsSetAs self.old self.new }
+        ensures finish { IsFinish (text_sink self.old) (text_sink self.new) result }
+        ensures fails_there { IsErr result ↔ (self.old.settings.fail_at ≡ Some self.new.counts.calls) }
+        ensures settings { self.new.settings ≡ self.old.settings }
     {
         let answer = if is_due(self.fail_at, &self.counts) {
             Err(Failed)
@@ -271,6 +249,4 @@ impl Sink for TextSink {
         self.counts.count(&answer);
         answer
     }
-
-    ghost failures_are_calls = { λ sink. sink.counts.failures_are_calls };
 }

@@ -1,85 +1,14 @@
 //! A folder in memory, for tests. It reports all of its bytes.
-ghost use Rattle.std.specs.Prelude.{◌≡◌, ◌<◌, ◌≤◌, ◌↔◌, ℕ, true, false, List, Option, Some, None, IfOk, IfSome, OnOk, OnErr, drop, length, option_map, string_bytes, take, vec_len};
-ghost use Rattle.std.specs.Io.KnownBytes.{Consumes, IsAtEnd};
-ghost use Rattle.th_devices.specs.Devices.{bytes_given};
-ghost use Rattle.th_devices.specs.Limits.{call_limit};
-ghost use Rattle.th_devices.specs.MemoryFolders.{files_in, found_in, left_of, memory_failed, memory_held};
+ghost use Rattle.std.specs.Prelude.{◌≡◌, ◌≤◌, ℕ, true, List, Some, None, IfOk, OnOk, option_map, string_bytes};
+ghost use Rattle.th_devices.specs.Memory.{left_of};
 ghost use Rattle.th_devices.specs.Spots.{errors, file, output};
+ghost use Rattle.th_folders.specs.MemoryFolders.{files_in, found_in, memory_failed, memory_held};
 
-use crate::devices::{Counts, Failed, Sink, Source};
 use crate::folders::{Folder, Origin, Target};
-use crate::memory::TextSink;
-use crate::transfer::copy_front;
 use std::alloc::{AllocError, Global};
 use std::marker::Model;
 use std::mem;
-
-/// A source over bytes of its own; or over no file, so that each read fails.
-#[derive(Drop)]
-pub struct MemorySource {
-    text: Option<Vec<u8>>,
-    done: usize,
-    piece: usize,
-    counts: Counts,
-}
-
-impl Model for MemorySource {
-    ghost use Rattle.std.specs.Prelude.{◌≤◌, IfSome, vec_len};
-    ghost use Rattle.th_devices.specs.MemoryFolders.{MemorySourceState, left_of};
-
-    ghost Value = { MemorySourceState };
-
-    ghost view = { λ source. record {
-      left = left_of source.text source.done;
-      counts = source.counts;
-    } };
-
-    ghost invariant = { λ source. (1 ≤ source.piece)
-        × IfSome source.text (λ text. source.done ≤ vec_len text) };
-}
-
-impl Source for MemorySource {
-    ghost left = { λ source. source.left };
-
-    ghost calls = { λ source. source.counts.calls };
-
-    ghost failures = { λ source. source.counts.failures };
-
-    fn read(&mut self, into: &mut [u8]) -> Result<usize, Failed> {
-        let answer = give(&self.text, &mut self.done, self.piece, into);
-        self.counts.count(&answer);
-        answer
-    }
-
-    ghost failures_are_calls = { λ source. source.counts.failures_are_calls };
-}
-
-/// Gives bytes of a text, where there is one, from the one on that comes next.
-fn give(
-    text: &Option<Vec<u8>>,
-    done: &mut usize,
-    piece: usize,
-    into: &mut [u8],
-) -> Result<usize, Failed>
-    requires piece { 1 ≤ piece }
-    requires inside { IfSome text.now (λ own. done.old ≤ vec_len own) }
-    ensures inside { IfSome text.now (λ own. done.new ≤ vec_len own) }
-    ensures within { IfOk result (λ count. count ≤ length into.old) }
-    ensures beyond { drop (bytes_given result) into.new ≡ drop (bytes_given result) into.old }
-    ensures taken { IfOk result (λ count. Consumes (left_of text.now done.old)
-        (left_of text.now done.new) (take count into.new)) }
-    ensures end { IfOk result (λ count. count ≡ 0 → 0 < length into.old
-        → IsAtEnd (left_of text.now done.old)) }
-    ensures failed { OnErr result (done.new ≡ done.old) }
-{
-    let Some(text) = text else {
-        return Err(Failed);
-    };
-    let rest = &text.as_slice()[*done..];
-    let count = copy_front(rest, piece, into);
-    *done += count;
-    Ok(count)
-}
+use th_devices::{Failed, MemorySource, Sink, TextSink};
 
 /// The files of a folder in memory, the last that was closed first.
 #[cycle(files)]
@@ -112,17 +41,9 @@ pub enum MemorySink {
 }
 
 impl Sink for MemorySink {
-    ghost use Rattle.th_devices.specs.MemoryFolders.{sink_of, spot_of};
+    ghost use Rattle.th_folders.specs.MemoryFolders.{memory_sink};
 
-    ghost spot = { spot_of };
-
-    ghost held = { λ own. Some (sink_of own).held };
-
-    ghost is_finished = { λ own. (sink_of own).finished };
-
-    ghost calls = { λ own. (sink_of own).counts.calls };
-
-    ghost failures = { λ own. (sink_of own).counts.failures };
+    ghost state = { memory_sink };
 
     fn begin(&mut self) -> Result<(), Failed> {
         match self {
@@ -147,8 +68,6 @@ impl Sink for MemorySink {
             MemorySink::Errors(sink) => sink.finish(),
         }
     }
-
-    ghost failures_are_calls = { λ own. (sink_of own).counts.failures_are_calls };
 }
 
 /// A folder in memory. Each sink has the same room and takes at most `piece` bytes a write, and each
@@ -167,7 +86,7 @@ pub struct MemoryFolder {
 
 impl Model for MemoryFolder {
     ghost use Rattle.std.specs.Prelude.{◌≤◌, ◌≡◌, false};
-    ghost use Rattle.th_devices.specs.MemoryFolders.{MemoryFolderState, files_in};
+    ghost use Rattle.th_folders.specs.MemoryFolders.{MemoryFolderState, files_in};
 
     ghost Value = { MemoryFolderState };
 
@@ -297,12 +216,7 @@ impl Folder for MemoryFolder {
             Origin::File(name) => copied(alloc, self.file(name))?,
             Origin::Input => Some(Vec::from_slice(alloc, self.input.as_slice())?),
         };
-        Ok(MemorySource {
-            text,
-            done: 0,
-            piece: self.piece,
-            counts: Counts::new(),
-        })
+        Ok(MemorySource::new(text, self.piece))
     }
 
     fn sink(&mut self, alloc: Global, target: Target<'_>) -> Result<Self::Out, AllocError> {
@@ -339,8 +253,8 @@ impl Folder for MemoryFolder {
         }
     }
 
-    fn would_change(&self, output: &str, input: &str) -> bool {
-        output == input
+    fn would_change(&self, _alloc: Global, output: &str, input: &str) -> Result<bool, AllocError> {
+        Ok(output == input)
     }
 
     ghost tells_or_not = { λ folder spot e. cc e };

@@ -1,24 +1,15 @@
 -- A folder in memory: its files, the last that was closed first, and its standard streams.
-use Rattle.std.specs.Prelude.{ℕ, Bool, false, List, [], ◌∷◌, Option, Some, None, Vec, drop, if◌then◌else◌, nat_lt, option_map, string_bytes}
+use Rattle.std.specs.Prelude.{ℕ, Bool, false, List, [], ◌∷◌, Option, Some, None, if◌then◌else◌, nat_lt, option_map, string_bytes}
 use Rattle.std.specs.Option.{option_map_or}
 use Rattle.std.specs.Str.{bytes_eq}
+use Rattle.th_devices.specs.Devices.{SinkState}
 use Rattle.th_devices.specs.Memory.{TextSinkState}
 use Rattle.th_devices.specs.Spots.{Spot, errors, file, input, nowhere, output}
-use Rattle.th_devices.specs.declared.devices.Counts.{Counts}
-use Rattle.th_devices.specs.declared.memory_folders.MemorySink.{MemorySink}
-use Rattle.th_devices.specs.declared.memory_folders.MemorySink.TheVariants as sink
-use Rattle.th_devices.specs.declared.memory_folders.Files.{End, Files, More'}
+use Rattle.th_folders.specs.declared.memory_folders.MemorySink.{MemorySink}
+use Rattle.th_folders.specs.declared.memory_folders.MemorySink.TheVariants as sink
+use Rattle.th_folders.specs.declared.memory_folders.Files.{End, Files, More'}
 
--- a source of a folder in memory: the bytes that are left, none of a file that is not there, and the counts
-pub record MemorySourceState : Type 0 where
-  pub left : Option (List ℕ)
-  pub counts : Counts
-
--- what is left of a text, where there is one, of which so many bytes were given
-abbrev pub left_of : {A : Type 0} → Option (Vec ℕ A) → ℕ → Option (List ℕ)
-left_of text done = option_map (λ own. drop done own.items) text
-
--- where a sink is, and what it holds
+-- where a sink is, what it holds, and the sink
 abbrev pub spot_of : MemorySink → Spot
 spot_of (sink.File shelf) = file (string_bytes shelf.value.name)
 spot_of (sink.Output own) = output
@@ -28,6 +19,10 @@ abbrev pub sink_of : MemorySink → TextSinkState
 sink_of (sink.File shelf) = shelf.value.sink
 sink_of (sink.Output own) = own
 sink_of (sink.Errors own) = own
+
+abbrev pub memory_sink : MemorySink → SinkState
+memory_sink own =
+    record { spot = spot_of own; held = Some (sink_of own).held; is_finished = (sink_of own).finished; counts = (sink_of own).counts }
 
 -- names of files, each with its sink
 abbrev pub Named : Type 0

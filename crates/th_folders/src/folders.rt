@@ -3,11 +3,12 @@
 //! A contract of a program over a folder mentions the folder before and after, and none of the
 //! devices that it gave.
 ghost use Rattle.std.specs.Prelude.{◌≡◌, ◌↔◌, Bool, List, None, Option, ℕ, IfOk, IsTrue, false, true};
-ghost use Rattle.th_devices.specs.Origins.{spot_of_origin, spot_of_target};
-ghost use Rattle.th_devices.specs.Spots.{IsClosed, IsMade, IsOpened, Spot, errors};
+ghost use Rattle.th_devices.specs.Devices.{IsMade, IsOpened};
+ghost use Rattle.th_folders.specs.Folders.{IsClosed, spot_of_origin, spot_of_target};
+ghost use Rattle.th_devices.specs.Spots.{Spot, errors};
 
-use crate::devices::{Sink, Source};
 use std::alloc::{AllocError, Global};
+use th_devices::{Sink, Source};
 
 /// Where bytes are read from.
 #[derive(Clone, Copy, Debug)]
@@ -46,34 +47,32 @@ pub trait Folder {
     ghost has_failed: { Self → Spot → Bool };
 
     /// Whether writing the file `output` would change the file `input`: they are one file under two
-    /// names, or the first is written in place of the second.
-    fn would_change(&self, output: &str, input: &str) -> bool
-        ensures { tells ≡ true → (IsTrue result ↔ (output.now ≡ input.now)) };
+    /// names, or one of them is written in place of the other.
+    fn would_change(&self, alloc: Global, output: &str, input: &str) -> Result<bool, AllocError>
+        ensures { IfOk result (λ would. tells ≡ true → (IsTrue would ↔ (output.now ≡ input.now))) };
 
     /// A source of the bytes there. Nothing is opened yet.
     fn source(&mut self, alloc: Global, origin: Origin<'_>) -> Result<Self::In, AllocError>
         ensures same { self.new ≡ self.old }
-        ensures opened { IfOk result (IsOpened held Self.In.left Self.In.calls Self.In.failures
-            (spot_of_origin origin.entry) self.old) };
+        ensures opened { IfOk result (λ source. IsOpened
+            (held self.old (spot_of_origin origin.entry)) (Self.In.state source)) };
 
     /// A sink for the bytes there. Nothing is changed yet.
     fn sink(&mut self, alloc: Global, target: Target<'_>) -> Result<Self::Out, AllocError>
         ensures same { self.new ≡ self.old }
-        ensures made { IfOk result (IsMade tells Self.Out.spot Self.Out.held Self.Out.is_finished
-            Self.Out.calls Self.Out.failures (spot_of_target target.entry)) };
+        ensures made { IfOk result (λ sink. IsMade tells (spot_of_target target.entry)
+            (Self.Out.state sink)) };
 
     /// A sink for standard error. It allocates nothing, so that a program that is out of memory can
     /// report it.
     fn standard_error(&mut self) -> Self::Out
         ensures same { self.new ≡ self.old }
-        ensures made { IsMade tells Self.Out.spot Self.Out.held Self.Out.is_finished Self.Out.calls
-            Self.Out.failures errors result };
+        ensures made { IsMade tells errors (Self.Out.state result) };
 
     /// Takes a sink back. If it was finished, its bytes are at its spot. If it was not, its file is
     /// as it was.
     fn close(&mut self, sink: Self::Out)
-        ensures { IsClosed tells held has_failed Self.Out.spot Self.Out.held Self.Out.is_finished
-            Self.Out.calls Self.Out.failures sink self.old self.new };
+        ensures { IsClosed tells held has_failed (Self.Out.state sink) self.old self.new };
 
     // A folder that does not report the bytes that are written reports none.
     ghost tells_or_not: { (folder : Self) (spot : Spot) → tells ≡ false → held folder spot ≡ None };

@@ -2,16 +2,14 @@
 ghost use Rattle.std.proofs.Common.{refl};
 ghost use Rattle.std.specs.Prelude.{◌≡◌, false, true, None};
 
-use crate::choices::{OneOf, Untold};
-use crate::errors::StandardError;
-use crate::file_sinks::{FileSink, UNFINISHED};
-use crate::files::FileSource;
 use crate::folders::{Folder, Origin, Target};
-use crate::streams::{StandardInput, StandardOutput};
 use std::alloc::{AllocError, Global};
 use std::fs;
 use std::os::unix::fs::MetadataExt;
 use std::rt::Files;
+use th_devices::{
+    FileSink, FileSource, OneOf, StandardError, StandardInput, StandardOutput, UNFINISHED, Untold,
+};
 
 /// The files and standard streams of the system. It does not report their bytes.
 #[derive(Drop)]
@@ -64,9 +62,13 @@ impl<'a, R: Files + Input + Print + Eprint> Folder for HostFolder<'a, R> {
         }
     }
 
-    fn would_change(&self, output: &str, input: &str) -> bool {
-        let finished = input.strip_suffix(UNFINISHED).unwrap_or(input);
-        is_same_file(self.rt, output, input) || is_same_file(self.rt, output, finished)
+    fn would_change(&self, alloc: Global, output: &str, input: &str) -> Result<bool, AllocError> {
+        if is_same_file(self.rt, output, input) {
+            return Ok(true);
+        }
+        let mut beside = String::from_str(alloc, output)?;
+        beside.push_str(UNFINISHED)?;
+        Ok(is_same_file(self.rt, beside.as_str(), input))
     }
 
     ghost tells_or_not = { λ _ _ _. refl };
