@@ -154,7 +154,7 @@ fn adjust_failing<R: AllocGlobal + Abort>(
 }
 
 /// What a sink holds of its text where this call of it fails.
-pub fn held_before(text: &[u8], call: u8) -> &[u8] {
+fn held_before(text: &[u8], call: u8) -> &[u8] {
     let written = usize::from(call).saturating_sub(2).saturating_mul(20);
     if call == 1 {
         HELD_BEFORE
@@ -163,20 +163,12 @@ pub fn held_before(text: &[u8], call: u8) -> &[u8] {
     }
 }
 
-/// Looks at what an adjustment leaves where a call fails: outputs before the one that failed are
-/// whole, that one has a beginning, and those behind it, or all where a read failed, are untouched.
-fn are_left<R: Abort>(rt: &R, outs: &Sinks, whole: &Sinks, failing: Device, call: u8) {
+/// Looks at what a run leaves where a call fails: each output, what it holds, and its text. Outputs
+/// before the one that failed are whole, that one has a beginning, and those behind it, or all where
+/// a read failed, are untouched.
+pub fn are_left<R: Abort>(rt: &R, outputs: [(Device, &[u8], &[u8]); 4], failing: Device, call: u8) {
     let mut is_whole = matches!(refusal_of(failing), Refusal::Write(_));
-    for (output, held, text) in [
-        (Device::Heights, outs.heights.bytes(), whole.heights.bytes()),
-        (
-            Device::Certificate,
-            outs.certificate.bytes(),
-            whole.certificate.bytes(),
-        ),
-        (Device::Report, outs.report.bytes(), whole.report.bytes()),
-        (Device::Gsi, outs.gsi.bytes(), whole.gsi.bytes()),
-    ] {
+    for (output, held, text) in outputs {
         if failing == output {
             assert!(rt; held == held_before(text, call), "{failing:?} call {call}");
             is_whole = false;
@@ -207,7 +199,17 @@ pub fn refuse_in_adjustment<R: AllocGlobal + Abort>(
 ) -> Sinks {
     let (answer, outs) = adjust_where(rt, failing, call);
     assert_eq!(rt; answer, Err(refusal_of(failing)), "call {call}");
-    are_left(rt, &outs, whole, failing, call);
+    let outputs = [
+        (Device::Heights, outs.heights.bytes(), whole.heights.bytes()),
+        (
+            Device::Certificate,
+            outs.certificate.bytes(),
+            whole.certificate.bytes(),
+        ),
+        (Device::Report, outs.report.bytes(), whole.report.bytes()),
+        (Device::Gsi, outs.gsi.bytes(), whole.gsi.bytes()),
+    ];
+    are_left(rt, outputs, failing, call);
     outs
 }
 

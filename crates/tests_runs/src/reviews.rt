@@ -2,8 +2,8 @@
 //! refused in turn.
 ghost use Rattle.std.specs.Prelude.{◌≡◌, ◌≤◌};
 
-use crate::devices::{Device, WEIGHTS, failing_sink, failing_source, held_before, refusal_of};
-use crate::projects::{A_AT_100, HELD_BEFORE, LIMIT, ONE_SIGHT, TWO_SIGHTS, Texts, source};
+use crate::devices::{Device, WEIGHTS, are_left, failing_sink, failing_source, refusal_of};
+use crate::projects::{A_AT_100, LIMIT, ONE_SIGHT, TWO_SIGHTS, Texts, source};
 use std::process::Abort;
 use th_devices::{TextSink, TextSource};
 use th_runs::{Refusal, ReviewOuts, run_review};
@@ -317,22 +317,22 @@ fn review_where<R: AllocGlobal + Abort>(
     (answer, outs)
 }
 
-/// Reviews where a call fails, which has to be answered as such. Outputs before the one that failed are
-/// whole, that one has a beginning, and those behind it, or all where a read failed, are untouched.
+/// Reviews where a call fails, which has to be answered as such.
 fn refuse<R: AllocGlobal + Abort>(rt: &R, failing: Device, call: u8) {
     let (answer, outs) = review_where(rt, failing, call);
     assert_eq!(rt; answer, Err(refusal_of(failing)), "call {call}");
-    let mut is_whole = matches!(refusal_of(failing), Refusal::Write(_));
-    for (output, text) in OUTPUTS.into_iter().zip(ONE_SIGHT_WRITTEN) {
-        let held = held_by(&outs, output);
-        if failing == output {
-            assert!(rt; held == held_before(text, call), "{failing:?} call {call}");
-            is_whole = false;
-        } else {
-            let wanted = if is_whole { text } else { HELD_BEFORE };
-            assert!(rt; held == wanted, "{failing:?} call {call}: {output:?}");
-        }
-    }
+    let [points, observations, entries, review] = ONE_SIGHT_WRITTEN;
+    let outputs = [
+        (Device::Points, outs.points.bytes(), points),
+        (
+            Device::Observations,
+            outs.observations.bytes(),
+            observations,
+        ),
+        (Device::Entries, outs.entries.bytes(), entries),
+        (Device::Review, outs.review.bytes(), review),
+    ];
+    are_left(rt, outputs, failing, call);
 }
 
 #[test]

@@ -3,7 +3,6 @@ use Rattle.std.specs.Prelude.{◌≡◌, ℕ, ℤ, List, [], Option, IfSome}
 use Rattle.std.specs.List.{AllZip}
 use Rattle.th_book.specs.Lines.{ParsedLine}
 use Rattle.th_circulation.specs.Best.{Best, IsBest}
-use Rattle.th_devices.specs.declared.devices.Sink.{Ghosts as SinkKind}
 use Rattle.th_entries.specs.Reviews.{Reviews}
 use Rattle.th_entries.specs.Several.{numbered}
 use Rattle.th_entries.specs.Spellings.{spellings_of}
@@ -15,26 +14,20 @@ use Rattle.th_reliability.specs.Sights.{in_sights}
 use Rattle.th_entries.specs.declared.spellings.Spelling.{Spelling}
 use Rattle.th_review.specs.Entries.{entries_of, sights_of}
 use Rattle.th_review.specs.Texts.{AreReviewTexts, Found, ReviewOutTexts}
-use Rattle.th_runs.specs.Writes.{IsWrittenFor}
+use Rattle.th_runs.specs.Writes.{Four}
 use Rattle.th_runs.specs.declared.outputs.ReviewOuts.{ReviewOuts}
+use Rattle.th_runs.specs.declared.refusals.Output.{Output}
 use Rattle.th_runs.specs.declared.refusals.Output.TheVariants as output
-use Rattle.th_runs.specs.declared.refusals.Refusal.{Refusal}
 
--- how the four sinks of a review are written in a run with this refusal, or with none
-pub record AreWritten {P O E R : Type 0} (of_points : SinkKind P) (of_observations : SinkKind O) (of_entries : SinkKind E) (of_review : SinkKind R) (answer : Option Refusal)
-    (texts : ReviewOutTexts) (old new : ReviewOuts P O E R) : Type 0 where
-  pub points : IsWrittenFor of_points output.Points answer texts.points old.points new.points
-  pub observations : IsWrittenFor of_observations output.Observations answer texts.observations old.observations new.observations
-  pub entries : IsWrittenFor of_entries output.Entries answer texts.entries old.entries new.entries
-  pub review : IsWrittenFor of_review output.Review answer texts.review old.review new.review
+-- the sinks of a review, their outputs, and their texts, in the order in which they are written
+abbrev pub sinks_of : {P O E R : Type 0} → ReviewOuts P O E R → P × O × E × R
+sinks_of outs = (outs.points, outs.observations, outs.entries, outs.review)
 
--- the bytes of each of these sinks are where they were
-pub record AreInPlace {P O E R : Type 0} (of_points : SinkKind P) (of_observations : SinkKind O) (of_entries : SinkKind E) (of_review : SinkKind R)
-    (old new : ReviewOuts P O E R) : Type 0 where
-  pub points : of_points.spot new.points ≡ of_points.spot old.points
-  pub observations : of_observations.spot new.observations ≡ of_observations.spot old.observations
-  pub entries : of_entries.spot new.entries ≡ of_entries.spot old.entries
-  pub review : of_review.spot new.review ≡ of_review.spot old.review
+abbrev pub outputs : Four Output
+outputs = record { first = output.Points; second = output.Observations; third = output.Entries; fourth = output.Review }
+
+abbrev pub in_order : ReviewOutTexts → Four (List ℕ)
+in_order texts = record { first = texts.points; second = texts.observations; third = texts.entries; fourth = texts.review }
 
 -- for each source the text that it gave: the one that it told, if it told one
 abbrev pub AreTold : List (Option (List ℕ)) → List (List ℕ) → Type 0

@@ -1,11 +1,11 @@
 //! A run that checks a certificate.
-ghost use Rattle.std.specs.Prelude.{◌≡◌, ◌≤◌, All, IfErr, IfOk, IfSome, is_some, length};
-ghost use Rattle.th_devices.specs.Limits.{calls_before};
+ghost use Rattle.std.specs.Prelude.{◌≡◌, IfErr, IfOk, is_some, length};
+ghost use Rattle.th_devices.specs.Devices.{IsReady};
 ghost use Rattle.th_runs.specs.Checked.{IsVerdictOn, claim_owed_by_sources, verdict_line, verdict_on};
-ghost use Rattle.th_runs.specs.Inputs.{AnswersOwed, MakesNetwork, surveyed};
+ghost use Rattle.th_runs.specs.Inputs.{AnswersOwed, MakesNetwork};
 ghost use Rattle.th_runs.specs.Inside.Judged.{IsJudged};
 ghost use Rattle.th_runs.specs.Inside.Refused.{IsOfNetwork};
-ghost use Rattle.th_runs.specs.Reads.{AreRead, Checking, IsNamed, IsReadFor, IsWithin, network_place, refused};
+ghost use Rattle.th_runs.specs.Reads.{AreRead, AreReady, Checking, IsNamed, IsReadFor, IsWithin, network_place, refused};
 ghost use Rattle.th_runs.specs.Outcomes.{SurveyOutcome};
 ghost use Rattle.th_runs.specs.Writes.{IsWrittenFor};
 
@@ -13,10 +13,9 @@ use crate::inputs::certificate_from;
 use crate::outputs::write_out;
 use crate::readers::ObservationReader;
 use crate::refusals::{Input, Output, Refusal};
-use crate::surveys::{Inputs, Tables, network_of, read_inputs};
+use crate::surveys::{Inputs, network_of, read_inputs};
 use std::alloc::{AllocError, Global};
 use std::marker::Model;
-use th_book::Observation;
 use th_certificate::Certificate;
 use th_checker::laws::yes_implies_least;
 use th_checker::{Verdict, check};
@@ -38,27 +37,23 @@ pub fn run_check<B: Source, T: Source, W: Source, C: Source, K: Sink>(
     certificate: &mut C,
     out: &mut K,
 ) -> Result<Verdict, Refusal>
-    requires few_books { length books.old ≤ 16 }
-    requires books_calls { All (λ book. B.calls book ≤ calls_before) books.old }
-    requires benchmarks_calls { T.calls benchmarks.old ≤ calls_before }
-    requires weights_calls { IfSome weights.old (λ own. W.calls own ≤ calls_before) }
-    requires certificate_calls { C.calls certificate.old ≤ calls_before }
-    requires out_calls { K.calls out.old ≤ calls_before }
+    requires ready { AreReady B.state T.state W.state books.old benchmarks.old weights.old }
+    requires certificate { IsReady (C.state certificate.old).counts }
+    requires out { IsReady (K.state out.old).counts }
 
     // What the answer means.
     ensures outcome { SurveyOutcome (λ claim. claim.survey)
-        (claim_owed_by_sources B.Source T.Source W.Source C.Source books.old books.new
+        (claim_owed_by_sources B.state T.state W.state C.state books.old books.new
         benchmarks.old benchmarks.new weights.old weights.new certificate.old certificate.new)
-        (λ claim. IfOk result (IsVerdictOn claim) × IsWrittenFor K.Sink Output.Verdict
+        (λ claim. IfOk result (IsVerdictOn claim) × IsWrittenFor K.state Output.Verdict
         (refused result) (verdict_line (verdict_on claim)) out.old out.new)
         result out.old out.new }
     ensures named { IfErr result (IsNamed (length books.old) (is_some weights.old) Checking) }
-    ensures spot { K.spot out.new ≡ K.spot out.old }
 
     // How the sources are read.
-    ensures sources { AreRead B.Source T.Source W.Source (refused result) books.old books.new
+    ensures sources { AreRead B.state T.state W.state (refused result) books.old books.new
         benchmarks.old benchmarks.new weights.old weights.new }
-    ensures certificate { IsReadFor C.Source Input.Certificate (refused result)
+    ensures certificate { IsReadFor C.state Input.Certificate (refused result)
         certificate.old certificate.new }
 {
     let stated = read_stated(alloc, books, benchmarks, weights, certificate)?;
@@ -90,19 +85,16 @@ fn read_stated<B: Source, T: Source, W: Source, C: Source>(
     weights: &mut Option<W>,
     certificate: &mut C,
 ) -> Result<Stated, Refusal>
-    requires books_calls { All (λ book. B.calls book ≤ calls_before) books.old }
-    requires few_books { length books.old ≤ 16 }
-    requires benchmarks_calls { T.calls benchmarks.old ≤ calls_before }
-    requires weights_calls { IfSome weights.old (λ own. W.calls own ≤ calls_before) }
-    requires certificate_calls { C.calls certificate.old ≤ calls_before }
-    ensures answer { AnswersOwed (claim_owed_by_sources B.Source T.Source W.Source C.Source
+    requires ready { AreReady B.state T.state W.state books.old benchmarks.old weights.old }
+    requires certificate { IsReady (C.state certificate.old).counts }
+    ensures answer { AnswersOwed (claim_owed_by_sources B.state T.state W.state C.state
         books.old books.new benchmarks.old benchmarks.new weights.old weights.new
         certificate.old certificate.new) result }
     ensures at { IfErr result (IsWithin 1 network_place) }
     ensures named { IfErr result (IsNamed (length books.old) (is_some weights.old) Checking) }
-    ensures sources { AreRead B.Source T.Source W.Source (refused result) books.old books.new
+    ensures sources { AreRead B.state T.state W.state (refused result) books.old books.new
         benchmarks.old benchmarks.new weights.old weights.new }
-    ensures certificate { IsReadFor C.Source Input.Certificate (refused result)
+    ensures certificate { IsReadFor C.state Input.Certificate (refused result)
         certificate.old certificate.new }
 {
     let inputs = read_inputs(alloc, &mut ObservationReader, books, benchmarks, weights)?;
@@ -125,54 +117,41 @@ fn judge(alloc: Global, stated: Stated) -> Result<Judged, Refusal>
     ensures { IsOfNetwork stated.survey (IsJudged stated) result }
 {
     let Stated {
-        inputs: Inputs {
-            observations,
-            tables,
-        },
+        inputs,
         certificate,
     } = stated;
-    judge_survey(alloc, observations, &tables, &certificate)
+    judge_inputs(alloc, inputs, &certificate)
 }
 
-/// The verdict on a certificate for observations and tables, or the first fault of their network.
-fn judge_survey(
-    alloc: Global,
-    observations: Vec<Observation>,
-    tables: &Tables,
-    certificate: &Certificate,
-) -> Result<Judged, Refusal>
-    ensures { IsOfNetwork (surveyed observations.items tables.now.benchmarks tables.now.weights)
-        (IsJudged (record {
-          survey = surveyed observations.items tables.now.benchmarks tables.now.weights;
-          certificate = certificate.now;
-        })) result }
+/// The verdict on a certificate for these inputs, or the first fault of their network.
+fn judge_inputs(alloc: Global, inputs: Inputs, certificate: &Certificate) -> Result<Judged, Refusal>
+    ensures { IsOfNetwork inputs
+        (IsJudged (record { survey = inputs; certificate = certificate.now })) result }
 {
+    let Inputs {
+        observations,
+        tables,
+    } = inputs;
     let network = network_of(alloc, observations, &tables.benchmarks, &tables.weights)?;
-    match judge_network(alloc, &network, tables, certificate) {
-        Ok(judged) => Ok(judged),
-        Err(_) => Err(Refusal::NoMemory),
-    }
+    Ok(judge_network(alloc, &network, certificate)?)
 }
 
 /// The verdict on a certificate for a network.
 fn judge_network(
     alloc: Global,
     network: &Network,
-    tables: &Tables,
     certificate: &Certificate,
 ) -> Result<Judged, AllocError>
     requires { MakesNetwork network.now }
-    ensures { IfOk result (IsJudged (record {
-      survey = surveyed network.now.observations tables.now.benchmarks tables.now.weights;
-      certificate = certificate.now;
-    })) }
+    ensures { IfOk result
+        (IsJudged (record { survey = network.now; certificate = certificate.now })) }
 {
     yes_implies_least();
     let verdict = check(
         alloc,
         network.observations(),
-        &tables.benchmarks,
-        &tables.weights,
+        network.benchmarks(),
+        network.weight_table(),
         certificate,
     )?;
     let line = line_of(alloc, &verdict)?;

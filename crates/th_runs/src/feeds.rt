@@ -1,10 +1,10 @@
 //! A book that is read in pieces, and what takes them.
-ghost use Rattle.std.specs.Prelude.{◌≡◌, ◌++◌, ◌+◌, ◌-◌, ◌<◌, ◌≤◌, ℕ, List, IfSome, IfErr, OnOk, [], length, take};
+ghost use Rattle.std.specs.Prelude.{◌≡◌, ◌++◌, ◌+◌, ℕ, List, IfSome, IfErr, OnOk, [], length, take};
 ghost use Rattle.th_book.specs.Limits.{max_book};
 ghost use Rattle.th_runs.specs.Inside.Readers.{AreTaken};
 ghost use Rattle.th_runs.specs.Inputs.{MeetsRefusal, given, owed_for_book};
 ghost use Rattle.th_runs.specs.Reads.{IsOfBook, IsReadFor, refused};
-ghost use Rattle.th_devices.specs.Limits.{calls_before};
+ghost use Rattle.th_devices.specs.Devices.{IsReady};
 
 use crate::inputs::limit_of;
 use crate::refusals::{Input, Refusal};
@@ -76,13 +76,13 @@ pub(crate) fn feed_from<S: Source, F: Feed>(
     book: &mut S,
     feed: &mut F,
 ) -> Result<(), Refusal>
-    requires { S.calls book.old ≤ calls_before }
+    requires { IsReady (S.state book.old).counts }
     ensures fed { OnOk result ((front : List ℕ) × AreTaken F.has_taken front feed.old feed.new
-        × IfSome (S.left book.old) (λ text. front ≡ take (max_book + 1) text)) }
+        × IfSome (S.state book.old).left (λ text. front ≡ take (max_book + 1) text)) }
     ensures refused { IfErr result (MeetsRefusal
-        (owed_for_book number (given S.Source book.old book.new))) }
+        (owed_for_book number (given S.state book.old book.new))) }
     ensures named { IfErr result (IsOfBook number) }
-    ensures book { IsReadFor S.Source (Input.Book number) (refused result) book.old book.new }
+    ensures book { IsReadFor S.state (Input.Book number) (refused result) book.old book.new }
 {
     let input = Input::Book(number);
     let most = limit_of(input) as usize + 1;

@@ -1,6 +1,6 @@
 //! A run that lists the observations of one book.
-ghost use Rattle.std.specs.Prelude.{◌≡◌, ◌≤◌, IfErr, Ok};
-ghost use Rattle.th_devices.specs.Limits.{calls_before};
+ghost use Rattle.std.specs.Prelude.{IfErr, Ok};
+ghost use Rattle.th_devices.specs.Devices.{IsReady};
 ghost use Rattle.th_report.specs.Lists.{list_text};
 ghost use Rattle.th_runs.specs.Inputs.{Meets, MeetsRefusal, given, owed_for_book};
 ghost use Rattle.th_runs.specs.Reads.{IsOfList, IsReadFor, refused};
@@ -19,20 +19,19 @@ use th_report::list_text;
 /// The book is read to its end, or to one byte more than it may have, before its faults are
 /// reported. The list is made in memory before the output is begun.
 pub fn run_list<S: Source, K: Sink>(alloc: Global, book: &mut S, out: &mut K) -> Result<(), Refusal>
-    requires book_calls { S.calls book.old ≤ calls_before }
-    requires out_calls { K.calls out.old ≤ calls_before }
+    requires book { IsReady (S.state book.old).counts }
+    requires out { IsReady (K.state out.old).counts }
 
     // What the answer means.
     ensures outcome { Outcome
-        (MeetsRefusal (owed_for_book 1 (given S.Source book.old book.new)))
-        (λ own. Meets (owed_for_book 1 (given S.Source book.old book.new)) (Ok own))
-        (λ own. IsWrittenFor K.Sink Output.List (refused result) (list_text own) out.old out.new)
+        (MeetsRefusal (owed_for_book 1 (given S.state book.old book.new)))
+        (λ own. Meets (owed_for_book 1 (given S.state book.old book.new)) (Ok own))
+        (λ own. IsWrittenFor K.state Output.List (refused result) (list_text own) out.old out.new)
         result out.old out.new }
     ensures named { IfErr result IsOfList }
-    ensures spot { K.spot out.new ≡ K.spot out.old }
 
     // How the book is read.
-    ensures book { IsReadFor S.Source (Input.Book 1) (refused result) book.old book.new }
+    ensures book { IsReadFor S.state (Input.Book 1) (refused result) book.old book.new }
 {
     let observations = ObservationReader.read(alloc, 1, book)?;
     let text = list_text(alloc, observations.as_slice())?;

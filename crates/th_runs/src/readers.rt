@@ -1,11 +1,11 @@
 //! What a run reads of its books.
-ghost use Rattle.std.specs.Prelude.{◌≡◌, ◌≢◌, ◌≤◌, [], ℕ, List, Option, IfErr, IfOk, Ok, OnOk};
+ghost use Rattle.std.specs.Prelude.{◌≡◌, ◌≢◌, [], ℕ, List, Option, IfErr, IfOk, Ok, OnOk};
 ghost use Rattle.th_book.specs.Observed.{Observed};
 ghost use Rattle.th_entries.specs.Seen.{AreSeenInBooks};
 ghost use Rattle.th_runs.specs.Inside.Readers.{IsAdded};
 ghost use Rattle.th_runs.specs.Inputs.{Meets, MeetsRefusal, given, owed_for_book};
 ghost use Rattle.th_runs.specs.Reads.{IsOfBook, IsReadFor, refused};
-ghost use Rattle.th_devices.specs.Limits.{calls_before};
+ghost use Rattle.th_devices.specs.Devices.{IsReady};
 
 use crate::feeds::{ReviewedFeed, feed_from};
 use crate::refusals::{Input, Refusal};
@@ -30,15 +30,15 @@ pub(crate) trait BookReader {
         number: u32,
         book: &mut S,
     ) -> Result<Vec<Observation>, Refusal>
-        requires { S.calls book.old ≤ calls_before }
+        requires { IsReady (S.state book.old).counts }
         ensures ok { IfOk result (λ observations.
-            Meets (owed_for_book number (given S.Source book.old book.new)) (Ok observations.items)) }
+            Meets (owed_for_book number (given S.state book.old book.new)) (Ok observations.items)) }
         ensures read { IfOk result (λ observations.
-            has_read number (S.left book.old) observations.items self.old self.new) }
+            has_read number (S.state book.old).left observations.items self.old self.new) }
         ensures refused { IfErr result (MeetsRefusal
-            (owed_for_book number (given S.Source book.old book.new))) }
+            (owed_for_book number (given S.state book.old book.new))) }
         ensures named { IfErr result (IsOfBook number) }
-        ensures book { IsReadFor S.Source (Input.Book number) (refused result) book.old book.new };
+        ensures book { IsReadFor S.state (Input.Book number) (refused result) book.old book.new };
 }
 
 /// Reads the observations of books alone.

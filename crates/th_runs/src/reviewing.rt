@@ -1,7 +1,6 @@
 //! A run that reviews the height network of books: what a mistake in it would do.
-ghost use Rattle.std.specs.Prelude.{◌≡◌, ◌≤◌, All, IfErr, IfOk, IfSome, List, [], is_some, length, map};
+ghost use Rattle.std.specs.Prelude.{◌≡◌, ◌≤◌, All, IfErr, IfOk, List, [], is_some, length, map};
 ghost use Rattle.std.specs.List.{AllZip};
-ghost use Rattle.th_devices.specs.Limits.{calls_before};
 ghost use Rattle.th_entries.specs.Stations.{HasOneStation};
 ghost use Rattle.th_entries.specs.declared.reviews.BookReview.{BookReview};
 ghost use Rattle.th_entries.specs.declared.spellings.Spelling.{Spelling};
@@ -10,11 +9,12 @@ ghost use Rattle.th_reliability.specs.SharedMistakes.{IsSharedMistake};
 ghost use Rattle.th_reliability.specs.Sights.{in_sights};
 ghost use Rattle.th_review.specs.Entries.{entries_of, sights_of};
 ghost use Rattle.th_review.specs.Texts.{ReviewOutTexts, bytes_of, found_in};
-ghost use Rattle.th_runs.specs.Inputs.{MakesNetwork, owed_by_sources, surveyed};
+ghost use Rattle.th_runs.specs.Inputs.{MakesNetwork, owed_by_sources, surveyed, told_by};
 ghost use Rattle.th_runs.specs.Inside.Refused.{IsOfNetwork};
-ghost use Rattle.th_runs.specs.Reads.{AreRead, IsNamed, Reviewing, refused};
-ghost use Rattle.th_runs.specs.Reviewed.{AreFound, AreInPlace, AreReviewed, AreReviewsOf, AreWritten};
+ghost use Rattle.th_runs.specs.Reads.{AreRead, AreReady, IsNamed, Reviewing, refused};
+ghost use Rattle.th_runs.specs.Reviewed.{AreFound, AreReviewed, AreReviewsOf, in_order, outputs, sinks_of};
 ghost use Rattle.th_runs.specs.Outcomes.{SurveyOutcome};
+ghost use Rattle.th_runs.specs.Writes.{AreWritable, AreWritten};
 ghost use Rattle.th_tables.specs.Rows.{AreWeights};
 
 use crate::outputs::{ReviewOuts, write_review_outs};
@@ -47,28 +47,22 @@ pub fn run_review<B: Source, T: Source, W: Source, P: Sink, O: Sink, E: Sink, R:
     limit: i64,
     outs: &mut ReviewOuts<P, O, E, R>,
 ) -> Result<(), Refusal>
-    requires few_books { length books.old ≤ 16 }
-    requires books_calls { All (λ book. B.calls book ≤ calls_before) books.old }
-    requires benchmarks_calls { T.calls benchmarks.old ≤ calls_before }
-    requires weights_calls { IfSome weights.old (λ own. W.calls own ≤ calls_before) }
-    requires points_calls { P.calls outs.old.points ≤ calls_before }
-    requires observations_calls { O.calls outs.old.observations ≤ calls_before }
-    requires entries_calls { E.calls outs.old.entries ≤ calls_before }
-    requires review_calls { R.calls outs.old.review ≤ calls_before }
+    requires ready { AreReady B.state T.state W.state books.old benchmarks.old weights.old }
+    requires outs { AreWritable P.state O.state E.state R.state (sinks_of outs.old) }
 
     // What the answer means.
-    ensures outcome { SurveyOutcome (λ survey. survey) (owed_by_sources B.Source T.Source W.Source
+    ensures outcome { SurveyOutcome (λ survey. survey) (owed_by_sources B.state T.state W.state
         books.old books.new benchmarks.old benchmarks.new weights.old weights.new)
         (λ survey. (reviews : List BookReview) × (spellings : List Spelling)
-        × (texts : ReviewOutTexts) × AreReviewsOf 1 (map B.left books.old) reviews spellings
+        × (texts : ReviewOutTexts) × AreReviewsOf 1 (told_by B.state books.old) reviews spellings
         × AreReviewed survey reviews spellings limit texts
-        × AreWritten P.Sink O.Sink E.Sink R.Sink (refused result) texts outs.old outs.new)
+        × AreWritten P.state O.state E.state R.state outputs (refused result) (in_order texts)
+        (sinks_of outs.old) (sinks_of outs.new))
         result outs.old outs.new }
     ensures named { IfErr result (IsNamed (length books.old) (is_some weights.old) Reviewing) }
-    ensures places { AreInPlace P.Sink O.Sink E.Sink R.Sink outs.old outs.new }
 
     // How the sources are read.
-    ensures sources { AreRead B.Source T.Source W.Source (refused result) books.old books.new
+    ensures sources { AreRead B.state T.state W.state (refused result) books.old books.new
         benchmarks.old benchmarks.new weights.old weights.new }
 {
     entry_of_several_books_has_one_station();

@@ -12,12 +12,12 @@ returns-in-Ok-clause-ok g c =
     let fed = c.in_ok-feed_from.ensures.fed in
     let took = fed.1 (c.args.number, fed.0) (c.new-feed.ensures.owes fed.0) in
     meets_front (input.Book c.args.number) (refusal.Book c.args.number) (book_answer c.args.number) (max_book + 1) _ _ _ fed.0 (Ok c.in-Ok.observations.items)
-    (omega (arith, c.in_ok-feed_from.ensures.book.failed)) (book_answer-take c.args.number) fed.2 (sym took ∙ c.in-Ok.ensures.ok)
+    (omega (arith, c.in_ok-feed_from.ensures.book.read.failed)) (book_answer-take c.args.number) fed.2 (sym took ∙ c.in-Ok.ensures.ok)
 
 pub returns-in-Err-clause-refused : goal.returns-in-Err-clause-refused
 returns-in-Err-clause-refused g c =
     let fed = c.in_ok-feed_from.ensures.fed in
     let took = fed.1 (c.args.number, fed.0) (c.new-feed.ensures.owes fed.0) in
     meets_fault (input.Book c.args.number) (refusal.Book c.args.number) (book_answer c.args.number) (max_book + 1) _ _ _ fed.0 c.in-Err.fault c.refusal_of.result
-    (omega (arith, c.in_ok-feed_from.ensures.book.failed)) (book_answer-take c.args.number) fed.2
+    (omega (arith, c.in_ok-feed_from.ensures.book.read.failed)) (book_answer-take c.args.number) fed.2
     (book_fault (refusal.Book c.args.number) _ _ _ c.refusal_of.ensures.memory c.refusal_of.ensures.book (λ other. sym took ∙ c.in-Err.ensures.fault other))

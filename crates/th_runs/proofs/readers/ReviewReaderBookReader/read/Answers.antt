@@ -16,7 +16,7 @@ returns-in_ok-add-in-Ok-clause-ok g c =
     let fed = c.in_ok-feed_from.ensures.fed in
     let took = fed.1 (c.replace-names.result, c.args.number, fed.0) (c.new-2.ensures.owes fed.0, c.new-3.ensures fed.0) in
     meets_front (input.Book c.args.number) (refusal.Book c.args.number) (book_answer c.args.number) (max_book + 1) _ _ _ fed.0 (Ok c.in-Ok.observations.items)
-    (omega (arith, c.in_ok-feed_from.ensures.book.failed)) (book_answer-take c.args.number) fed.2 (sym took.0 ∙ c.in-Ok.ensures.ok)
+    (omega (arith, c.in_ok-feed_from.ensures.book.read.failed)) (book_answer-take c.args.number) fed.2 (sym took.0 ∙ c.in-Ok.ensures.ok)
 
 pub returns-in_ok-add-in-Ok-clause-read : goal.returns-in_ok-add-in-Ok-clause-read
 returns-in_ok-add-in-Ok-clause-read g c =
@@ -27,7 +27,7 @@ returns-in_ok-add-in-Ok-clause-read g c =
     record {
       text = fed.0;
       review = added.review;
-      is_told = front_told c.args.number (g.S.Source.left c.args.book.now) fed.0 c.in-Ok.observations.items answered fed.2;
+      is_told = front_told c.args.number ((g.S.Source.state c.args.book.now).left) fed.0 c.in-Ok.observations.items answered fed.2;
       answered = answered;
       reviewed = added.reviewed c.replace-names.result c.args.number fed.0 took.1 (c.in-Ok.observations.items, answered);
       joined = added.joined;
@@ -40,5 +40,5 @@ returns-in-Err-clause-refused g c =
     let fed = c.in_ok-feed_from.ensures.fed in
     let took = fed.1 (c.replace-names.result, c.args.number, fed.0) (c.new-2.ensures.owes fed.0, c.new-3.ensures fed.0) in
     meets_fault (input.Book c.args.number) (refusal.Book c.args.number) (book_answer c.args.number) (max_book + 1) _ _ _ fed.0 c.in-Err.fault c.refusal_of.result
-    (omega (arith, c.in_ok-feed_from.ensures.book.failed)) (book_answer-take c.args.number) fed.2
+    (omega (arith, c.in_ok-feed_from.ensures.book.read.failed)) (book_answer-take c.args.number) fed.2
     (book_fault (refusal.Book c.args.number) _ _ _ c.refusal_of.ensures.memory c.refusal_of.ensures.book (λ other. sym took.0 ∙ c.in-Err.ensures.fault other))
