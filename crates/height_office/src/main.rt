@@ -8,7 +8,7 @@ use std::io::IsTerminal;
 use std::process::ExitCode;
 use std::rt::Env;
 use std::{env, io};
-use th_devices::HostFolder;
+use th_folders::HostFolder;
 use th_program::run_arguments;
 
 /// What is reported if the book to list is typed at a terminal.

@@ -1,7 +1,7 @@
 //! Reviews: what they leave in the four files, and what remains where they are refused.
 use crate::folders::{ROOM, file, project, put, run, same, shown};
 use std::process::Abort;
-use th_devices::MemoryFolder;
+use th_folders::MemoryFolder;
 
 /// A book with three sights over two setups. Its benchmark `X` and the pair of its weights are never
 /// observed. The texts are those of a program that shares no code with this one.

@@ -1,20 +1,20 @@
 -- What a check over a folder comes to.
-use Rattle.std.proofs.Common.{◌≡◌, ℕ, Bool, true, List, Some, Ok, Err, IfErr, IfOk, sym, subst}
-use Rattle.std.specs.Prelude.{IsSomeAnd, Result}
+use Rattle.std.proofs.Common.{◌≡◌, ℕ, Bool, true, List, Ok, Err, IfOk, sym, subst}
+use Rattle.std.specs.Prelude.{Result}
 use Rattle.th_checker.specs.declared.verdicts.Verdict.{Verdict}
 use Rattle.th_checker.specs.declared.verdicts.Verdict.TheVariants as verdict
+use Rattle.th_devices.specs.Devices.{IsMade, SinkState}
 use Rattle.th_devices.specs.Spots.{output}
-use Rattle.th_devices.specs.declared.devices.Sink.{Ghosts as SinkKind}
 use Rattle.th_plans.specs.Asked.{Files}
 use Rattle.th_program.specs.Done.{Holds, IsChecked}
 use Rattle.th_program.specs.Owed.{Told, claim_owed}
 use Rattle.th_program.proofs.OutputLemmas.{holds-whole}
 use Rattle.th_runs.specs.Checked.{IsRight, IsVerdictOn, verdict_line, verdict_on}
-use Rattle.th_runs.specs.Inputs.{Claim, IsOwed, Meets, Owed}
+use Rattle.th_runs.specs.Inputs.{Claim, Meets, Owed}
 use Rattle.th_runs.specs.Outcomes.{Accepted}
 use Rattle.th_runs.specs.Reads.{refused}
 use Rattle.th_runs.specs.Refusals.{status_of_verdict}
-use Rattle.th_runs.specs.Writes.{IsWritten, IsWrittenFor, UnlessWrite}
+use Rattle.th_runs.specs.Writes.{IsWritten, IsWrittenFor}
 use Rattle.th_runs.specs.declared.refusals.Output.TheVariants as out
 use Rattle.th_runs.specs.declared.refusals.Refusal.{Refusal}
 
@@ -25,14 +25,14 @@ right claim (verdict.No reason) is zero = absurd (cc zero)
 
 -- a check that was done
 pub checked : {K : Type 0} (tells : Bool) (before after : Told) (files : Files) (certificate : List ℕ)
-    (kind : SinkKind K) (old new : K) (given_owed : Owed Claim)
+    (state_of : K → SinkState) (old new : K) (given_owed : Owed Claim)
     (result : Result Verdict Refusal) → given_owed ≡ claim_owed before (refused result) files certificate
-    → (tells ≡ true → IsSomeAnd (kind.held old) (λ _. Unit {0})) → kind.spot new ≡ output → (kind.is_finished new ≡ true → after (kind.spot new) ≡ kind.held new)
+    → IsMade tells output (state_of old) → ((state_of new).is_finished ≡ true → after (state_of new).spot ≡ (state_of new).held)
     → (IsWritten result → ((claim : Claim) × Accepted (λ (own : Claim). own.survey) given_owed claim × (IfOk result (IsVerdictOn claim)
-    × IsWrittenFor kind out.Verdict (refused result) (verdict_line (verdict_on claim)) old new)))
+    × IsWrittenFor state_of out.Verdict (refused result) (verdict_line (verdict_on claim)) old new)))
     → IfOk result (IsChecked tells before after files certificate)
-checked tells before after files certificate kind old new given_owed (Err own) owed told there closed written = tt
-checked tells before after files certificate kind old new given_owed (Ok own) owed told there closed written =
+checked tells before after files certificate state_of old new given_owed (Err own) owed made closed written = tt
+checked tells before after files certificate state_of old new given_owed (Ok own) owed made closed written =
     let (claim, accepted, (answers, of_line)) = written tt in
     record {
       claim = claim;
@@ -40,15 +40,6 @@ checked tells before after files certificate kind old new given_owed (Ok own) ow
       network = accepted.network;
       answered = answers.answered;
       line = subst (λ (known : Verdict). Holds tells after output (verdict_line known)) (sym answers.answered)
-          (holds-whole tells after kind (verdict_line (verdict_on claim)) _ old new told there closed of_line.stands);
+          (holds-whole tells after (verdict_line (verdict_on claim)) _ (state_of old) (state_of new) made of_line.called.spot closed of_line.stands);
       right = right claim own answers;
     }
-
--- a refusal before the output was begun is owed
-pub refused-claim : {X : Type 0} (before : Told) (files : Files) (certificate : List ℕ) (given_owed : Owed Claim) (result : Result X Refusal)
-    → given_owed ≡ claim_owed before (refused result) files certificate
-    → IfErr result (λ own. UnlessWrite own (IsOwed (λ claim. claim.survey) given_owed own))
-    → IfErr result (λ own. UnlessWrite own (IsOwed (λ claim. claim.survey) (claim_owed before (Some own) files certificate) own))
-refused-claim before files certificate given_owed (Ok x) owed is = tt
-refused-claim before files certificate given_owed (Err own) owed is =
-    subst (λ (known : Owed Claim). UnlessWrite own (IsOwed (λ claim. claim.survey) known own)) owed is

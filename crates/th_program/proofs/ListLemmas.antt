@@ -1,9 +1,9 @@
 -- What a list over a folder comes to.
 use Rattle.std.proofs.Common.{◌≡◌, Bool, true, List, Ok, Err, IfErr, subst}
-use Rattle.std.specs.Prelude.{IsSomeAnd, OnOk, Result}
+use Rattle.std.specs.Prelude.{OnOk, Result}
 use Rattle.th_book.specs.Observed.{Observed}
+use Rattle.th_devices.specs.Devices.{IsMade, SinkState}
 use Rattle.th_devices.specs.Spots.{Spot, output}
-use Rattle.th_devices.specs.declared.devices.Sink.{Ghosts as SinkKind}
 use Rattle.th_program.specs.Done.{IsListed, IsRefusedList}
 use Rattle.th_program.specs.Owed.{Told, book_owed}
 use Rattle.th_program.proofs.OutputLemmas.{holds-whole}
@@ -16,19 +16,19 @@ use Rattle.th_runs.specs.declared.refusals.Refusal.{Refusal}
 
 -- a list that was written
 pub listed : {X K : Type 0} (tells : Bool) (before after : Told) (book : Spot)
-    (kind : SinkKind K) (old new : K) (given_owed : Owed (List Observed))
+    (state_of : K → SinkState) (old new : K) (given_owed : Owed (List Observed))
     (result : Result X Refusal) → given_owed ≡ book_owed before (refused result) book
-    → (tells ≡ true → IsSomeAnd (kind.held old) (λ _. Unit {0})) → kind.spot new ≡ output → (kind.is_finished new ≡ true → after (kind.spot new) ≡ kind.held new)
+    → IsMade tells output (state_of old) → ((state_of new).is_finished ≡ true → after (state_of new).spot ≡ (state_of new).held)
     → (IsWritten result → ((observations : List Observed) × Meets given_owed (Ok observations)
-    × IsWrittenFor kind out.List (refused result) (list_text observations) old new))
+    × IsWrittenFor state_of out.List (refused result) (list_text observations) old new))
     → OnOk result (IsListed tells before after book)
-listed tells before after book kind old new given_owed (Err own) owed told there closed written = tt
-listed tells before after book kind old new given_owed (Ok x) owed told there closed written =
+listed tells before after book state_of old new given_owed (Err own) owed made closed written = tt
+listed tells before after book state_of old new given_owed (Ok x) owed made closed written =
     let (observations, meets, of_list) = written tt in
     record {
       observations = observations;
       given = subst (λ (known : Owed (List Observed)). Meets known (Ok observations)) owed meets;
-      listed = holds-whole tells after kind (list_text observations) _ old new told there closed of_list.stands;
+      listed = holds-whole tells after (list_text observations) _ (state_of old) (state_of new) made of_list.called.spot closed of_list.stands;
     }
 
 -- a list that was refused

@@ -1,5 +1,5 @@
 -- Outputs that would change an input, or would not.
-use Rattle.std.proofs.Common.{◌≡◌, ◌≢◌, ◌<◌, ◌+◌, ◌∙◌, ◌⊎◌, ℕ, Bool, true, List, Some, Ok, Err, Result, IfOk, length, get_or, map, ap, inl, inr, string_bytes, subst, sym, arith}
+use Rattle.std.proofs.Common.{◌≡◌, ◌≢◌, ◌<◌, ◌+◌, ◌++◌, ◌∙◌, ◌⊎◌, ℕ, Bool, true, List, Some, Ok, Err, Result, IfOk, length, get_or, map, ap, inl, inr, string_bytes, subst, sym, arith}
 use Rattle.std.specs.Borrow.{Bor}
 use Rattle.std.specs.Prelude.{option_map, slice_get}
 use Rattle.std.proofs.lemmas.Bool.{cases_lt}
@@ -9,8 +9,10 @@ use Rattle.th_devices.specs.Spots.{file}
 use Rattle.th_plans.specs.Asked.{Files}
 use Rattle.th_plans.specs.declared.plans.Plan.{Plan}
 use Rattle.th_program.specs.Done.{IsInputOf, IsOutputOf}
+use Rattle.th_program.specs.Inside.Opened.{Each}
 use Rattle.th_program.specs.Inside.Stops.{IsApart, IsStop, IsStopOf}
 use Rattle.th_program.specs.Owed.{HasName}
+use Rattle.th_program.specs.declared.opening.Four.{Four}
 use Rattle.th_program.specs.declared.overwrites.Stop.{Stop}
 use Rattle.th_program.specs.declared.overwrites.Stop.TheVariants as stop
 use Rattle.th_runs.specs.declared.refusals.Input.{Input}
@@ -81,9 +83,10 @@ stop_of tells asked from IsOutput written read (stop.Overwrite own) is = record 
 stop_of tells asked from IsOutput written read stop.NoMemory is = tt
 
 -- where an answer says that none of four outputs is an input, no input is among them
-pub all_apart : {X E : Type 0} (answer : Result X E) (tells : Bool) (from : Files) (first second third fourth : List ℕ) → IfOk answer (λ _. IsApart tells from first)
-    → IfOk answer (λ _. IsApart tells from second) → IfOk answer (λ _. IsApart tells from third) → IfOk answer (λ _. IsApart tells from fourth)
+pub all_apart : {X E : Type 0} (answer : Result X E) (tells : Bool) (from : Files) (prefix : List ℕ) (endings : Four (Bor (List ℕ)))
+    → IfOk answer (λ _. Each (λ ending. IsApart tells from (prefix ++ ending.now)) endings)
     → IfOk answer (λ _. tells ≡ true → (which : Input) (name : List ℕ) → HasName from which name
-    → (file name ≡ file first) ⊎ (file name ≡ file second) ⊎ (file name ≡ file third) ⊎ (file name ≡ file fourth) → ⊥)
-all_apart (Ok x) tells from first second third fourth one two three four = none_read tells from first second third fourth one two three four
-all_apart (Err e) tells from first second third fourth one two three four = tt
+    → (file name ≡ file (prefix ++ endings.first.now)) ⊎ (file name ≡ file (prefix ++ endings.second.now)) ⊎ (file name ≡ file (prefix ++ endings.third.now))
+    ⊎ (file name ≡ file (prefix ++ endings.fourth.now)) → ⊥)
+all_apart (Ok x) tells from prefix endings are = none_read tells from _ _ _ _ are.first are.second are.third are.fourth
+all_apart (Err e) tells from prefix endings are = tt

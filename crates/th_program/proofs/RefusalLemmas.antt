@@ -1,23 +1,32 @@
 -- What the refusal of a run over a folder comes to.
-use Rattle.std.proofs.Common.{◌≡◌, Some, Ok, Err, IfErr, subst}
-use Rattle.std.specs.Prelude.{Option, Result}
+use Rattle.std.proofs.Common.{◌≡◌, None, Some, Ok, Err, IfErr, is_some, length}
+use Rattle.std.specs.Prelude.{OnOk, Option, Result}
 use Rattle.th_network.specs.Networks.{Survey}
 use Rattle.th_plans.specs.Asked.{Files}
-use Rattle.th_program.specs.Done.{IsRefusedFor}
-use Rattle.th_program.specs.Owed.{Told, survey_owed}
+use Rattle.th_program.specs.Done.{IsRefusedFor, IsWrite}
 use Rattle.th_runs.specs.Inputs.{IsOwed, Owed}
-use Rattle.th_runs.specs.Reads.{Run, refused}
-use Rattle.th_runs.specs.Writes.{UnlessWrite}
+use Rattle.th_runs.specs.Reads.{IsNamed, Run, refused}
+use Rattle.th_runs.specs.Writes.{IsWritten, UnlessWrite}
 use Rattle.th_runs.specs.declared.refusals.Refusal.{Refusal}
 use Rattle.th_runs.specs.declared.refusals.Refusal.TheVariants as refusal
 
--- a refusal before outputs were begun is owed
-pub refused-owed : {X : Type 0} (before : Told) (files : Files) (given_owed : Owed Survey) (result : Result X Refusal)
-    → given_owed ≡ survey_owed before (refused result) files
-    → IfErr result (λ own. UnlessWrite own (IsOwed (λ survey. survey) given_owed own))
-    → IfErr result (λ own. UnlessWrite own (IsOwed (λ survey. survey) (survey_owed before (Some own) files) own))
-refused-owed before files given_owed (Ok x) owed is = tt
-refused-owed before files given_owed (Err own) owed is = subst (λ (known : Owed Survey). UnlessWrite own (IsOwed (λ survey. survey) known own)) owed is
+-- what a run has once its outputs are begun it has where it is done
+pub on-done : {X : Type 0} (result : Result X Refusal) (AreLeft : Option Refusal → Type 0) → (IsWritten result → AreLeft (refused result)) → OnOk result (AreLeft None)
+on-done (Ok x) AreLeft left = left tt
+on-done (Err own) AreLeft left = tt
+
+-- the refusal of a run over the named files
+pub refused-for : {X Y : Type 0} (run : Run) (from : Files) (survey_of : Y → Survey) (owed_at : Option Refusal → Owed Y) (AreLeft : Option Refusal → Type 0)
+    (result : Result X Refusal) → IfErr result (IsNamed (length from.books) (is_some from.weights) run)
+    → IfErr result (λ own. UnlessWrite own (IsOwed survey_of (owed_at (refused result)) own)) → (IsWritten result → AreLeft (refused result))
+    → IfErr result (λ own. IsRefusedFor run from survey_of (owed_at (Some own)) AreLeft own)
+refused-for run from survey_of owed_at AreLeft (Ok x) named owes left = tt
+refused-for {X} run from survey_of owed_at AreLeft (Err own) named owes left =
+    record { named = named; owes = owes; left = λ write. left (begun own write) }
+  where
+    begun : (real : Refusal) → IsWrite real → IsWritten {X = X} (Err real)
+    begun (refusal.Write which) write = tt
+    begun other write = absurd write
 
 -- what follows where no output was begun
 pub unless-map : (own : Refusal) (A B : Type 0) → (A → B) → UnlessWrite own A → UnlessWrite own B

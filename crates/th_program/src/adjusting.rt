@@ -1,15 +1,12 @@
 //! Adjusting the network of files of a folder.
-ghost use Rattle.std.specs.Prelude.{◌≡◌, ◌≢◌, IfErr, Some, is_some, length};
-ghost use Rattle.th_program.specs.Done.{IsAdjusted, certificate_spot, gsi_spot, heights_spot, report_spot};
-ghost use Rattle.th_program.specs.Owed.{survey_owed};
+ghost use Rattle.std.specs.Prelude.{◌≡◌, IfErr, None, OnOk};
+ghost use Rattle.th_program.specs.Done.{IsAdjustOutput, IsAdjusted, IsRefusedAdjust};
 ghost use Rattle.th_plans.specs.Plans.{files};
-ghost use Rattle.th_runs.specs.Inputs.{IsOwed};
-ghost use Rattle.th_runs.specs.Reads.{Adjusting, IsNamed, refused};
-ghost use Rattle.th_runs.specs.Writes.{IsWritten, UnlessWrite};
+ghost use Rattle.th_runs.specs.Writes.{UnlessWrite};
 
 use crate::opening::{Four, close_sinks, sinks_of, sources_of};
 use std::alloc::Global;
-use th_devices::Folder;
+use th_folders::Folder;
 use th_plans::{Inputs, Limit};
 use th_runs::{Outs, Refusal, run_adjust};
 
@@ -33,17 +30,12 @@ pub(crate) fn adjust<F: Folder>(
     limit: Limit,
     prefix: &str,
 ) -> Result<(), Refusal>
-    ensures adjusted { IsWritten result → IsAdjusted F.tells (F.held folder.old)
-        (F.held folder.new) (files inputs.now) limit prefix.now (refused result) }
-    ensures refused { IfErr result (λ own. UnlessWrite own (IsOwed (λ survey. survey)
-        (survey_owed (F.held folder.old) (Some own) (files inputs.now)) own)) }
-    ensures named { IfErr result (IsNamed (length (files inputs.now).books)
-        (is_some (files inputs.now).weights) Adjusting) }
+    ensures adjusted { OnOk result (IsAdjusted F.tells (F.held folder.old) (F.held folder.new)
+        (files inputs.now) limit prefix.now None) }
+    ensures refused { IfErr result (IsRefusedAdjust F.tells (F.held folder.old)
+        (F.held folder.new) (files inputs.now) limit prefix.now) }
     ensures untouched { IfErr result (λ own. UnlessWrite own (folder.new ≡ folder.old)) }
-    ensures others { (spot : _) → spot ≢ heights_spot prefix.now
-        → spot ≢ certificate_spot prefix.now
-        → spot ≢ report_spot prefix.now
-        → spot ≢ gsi_spot prefix.now
+    ensures others { (spot : _) → (IsAdjustOutput prefix.now spot → ⊥)
         → F.held folder.new spot ≡ F.held folder.old spot }
 {
     let mut sources = sources_of(alloc, folder, inputs)?;

@@ -12,7 +12,8 @@ use std::alloc::Global;
 use std::convert::AsStr;
 use std::io;
 use std::io::ErrorKind;
-use th_devices::{Folder, Target, write_all};
+use th_devices::write_all;
+use th_folders::{Folder, Target};
 use th_plans::{PlanFault, plan};
 use th_runs::{NO_MEMORY, Refusal, USAGE};
 

@@ -1,17 +1,14 @@
 //! Checking a certificate of a folder.
-ghost use Rattle.std.specs.Prelude.{◌≡◌, ◌≢◌, IfErr, IfOk, Some, is_some, length};
+ghost use Rattle.std.specs.Prelude.{◌≡◌, ◌≢◌, IfErr, IfOk};
 ghost use Rattle.th_devices.specs.Spots.{output};
 ghost use Rattle.th_plans.specs.Plans.{files};
-ghost use Rattle.th_program.specs.Done.{IsChecked};
-ghost use Rattle.th_program.specs.Owed.{claim_owed};
-ghost use Rattle.th_runs.specs.Inputs.{IsOwed};
-ghost use Rattle.th_runs.specs.Reads.{Checking, IsNamed};
+ghost use Rattle.th_program.specs.Done.{IsChecked, IsRefusedCheck};
 ghost use Rattle.th_runs.specs.Writes.{UnlessWrite};
 
 use crate::opening::sources_of;
 use std::alloc::Global;
 use th_checker::Verdict;
-use th_devices::{Folder, Origin, Target};
+use th_folders::{Folder, Origin, Target};
 use th_plans::Inputs;
 use th_runs::{Refusal, run_check};
 
@@ -24,10 +21,8 @@ pub fn check<F: Folder>(
 ) -> Result<Verdict, Refusal>
     ensures checked { IfOk result (IsChecked F.tells (F.held folder.old) (F.held folder.new)
         (files inputs.now) certificate.now) }
-    ensures refused { IfErr result (λ own. UnlessWrite own (IsOwed (λ claim. claim.survey)
-        (claim_owed (F.held folder.old) (Some own) (files inputs.now) certificate.now) own)) }
-    ensures named { IfErr result (IsNamed (length (files inputs.now).books)
-        (is_some (files inputs.now).weights) Checking) }
+    ensures refused { IfErr result (IsRefusedCheck (F.held folder.old) (files inputs.now)
+        certificate.now) }
     ensures untouched { IfErr result (λ own. UnlessWrite own (folder.new ≡ folder.old)) }
     ensures others { (spot : _) → spot ≢ output → F.held folder.new spot ≡ F.held folder.old spot }
 {

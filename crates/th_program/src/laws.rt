@@ -13,7 +13,7 @@ ghost use Rattle.th_runs.specs.Checked.{IsRight};
 ghost use Rattle.th_runs.specs.Inputs.{Claim, Meets};
 ghost use Rattle.th_runs.specs.declared.refusals.Input.{Input};
 
-use th_devices::Folder;
+use th_folders::Folder;
 use th_runs::laws::{
     accepted_inputs_are_refused_for_memory_alone, printed_certificate_is_accepted,
 };

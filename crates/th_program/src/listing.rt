@@ -1,12 +1,12 @@
 //! Listing a book of a folder.
 ghost use Rattle.std.specs.Prelude.{◌≡◌, ◌≢◌, OnOk, IfErr};
-ghost use Rattle.th_devices.specs.Origins.{spot_of_origin};
+ghost use Rattle.th_folders.specs.Folders.{spot_of_origin};
 ghost use Rattle.th_devices.specs.Spots.{output};
 ghost use Rattle.th_program.specs.Done.{IsListed, IsRefusedList};
 ghost use Rattle.th_runs.specs.Writes.{UnlessWrite};
 
 use std::alloc::Global;
-use th_devices::{Folder, Origin, Target};
+use th_folders::{Folder, Origin, Target};
 use th_runs::{Refusal, run_list};
 
 /// Lists the book there on standard output.

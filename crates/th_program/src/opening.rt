@@ -1,12 +1,13 @@
 //! The sources and sinks of a run, as a folder gives them.
 ghost use Rattle.std.specs.Prelude.{◌≢◌, ◌≤◌, ◌≡◌, ◌++◌, IfOk, length, map, option_map};
-ghost use Rattle.th_devices.specs.Spots.{IsMade, file};
+ghost use Rattle.th_devices.specs.Devices.{IsMade};
+ghost use Rattle.th_devices.specs.Spots.{file};
 ghost use Rattle.th_plans.specs.Limits.{max_books};
 ghost use Rattle.th_plans.specs.Plans.{files};
-ghost use Rattle.th_program.specs.Inside.Opened.{AreApart, AreFiles, AreOpened, EachIsOpened, IsOpenedIfAny, IsTaken, IsUntouched};
+ghost use Rattle.th_program.specs.Inside.Opened.{AreApart, AreOpened, Each, EachIsOpened, EachPair, IsOpenedIfAny, IsTaken, IsUntouched};
 
 use std::alloc::{AllocError, Global};
-use th_devices::{Folder, Origin, Target};
+use th_folders::{Folder, Origin, Target};
 use th_plans::Inputs;
 
 /// The sources that `adjust`, `review` and `check` read.
@@ -24,8 +25,8 @@ pub(crate) fn sources_of<F: Folder>(
     inputs: &Inputs<'_>,
 ) -> Result<Sources<F::In>, AllocError>
     ensures same { folder.new ≡ folder.old }
-    ensures opened { IfOk result (λ sources. AreOpened F.held F.In.left F.In.calls F.In.failures
-        folder.old (files inputs.now) sources.books.items sources.benchmarks sources.weights) }
+    ensures opened { IfOk result (λ sources. AreOpened F.In.state (F.held folder.old)
+        (files inputs.now) sources.books.items sources.benchmarks sources.weights) }
     ensures few_books { IfOk result (λ sources. length sources.books.items ≤ max_books) }
 {
     Ok(Sources {
@@ -42,8 +43,8 @@ fn books_of<F: Folder>(
     names: &[&str],
 ) -> Result<Vec<F::In>, AllocError>
     ensures same { folder.new ≡ folder.old }
-    ensures opened { IfOk result (λ sources. EachIsOpened F.held F.In.left F.In.calls
-        F.In.failures folder.old (map (λ name. name.now) names.now) sources.items) }
+    ensures opened { IfOk result (λ sources. EachIsOpened F.In.state (F.held folder.old)
+        (map (λ name. name.now) names.now) sources.items) }
 {
     let mut sources = Vec::new(alloc);
     for name in names {
@@ -59,8 +60,8 @@ fn source_if_any<F: Folder>(
     name: Option<&str>,
 ) -> Result<Option<F::In>, AllocError>
     ensures same { folder.new ≡ folder.old }
-    ensures opened { IfOk result (IsOpenedIfAny F.held F.In.left F.In.calls F.In.failures
-        folder.old (option_map (λ own. own.now) name.entry)) }
+    ensures opened { IfOk result (IsOpenedIfAny F.In.state (F.held folder.old)
+        (option_map (λ own. own.now) name.entry)) }
 {
     match name {
         Some(name) => Ok(Some(folder.source(alloc, Origin::File(name))?)),
@@ -85,14 +86,8 @@ pub(crate) fn sinks_of<F: Folder>(
     endings: &Four<&str>,
 ) -> Result<Four<F::Out>, AllocError>
     ensures same { folder.new ≡ folder.old }
-    ensures first { IfOk result (λ sinks. IsMade F.tells F.Out.spot F.Out.held F.Out.is_finished
-        F.Out.calls F.Out.failures (file (prefix.now ++ endings.now.first.now)) sinks.first) }
-    ensures second { IfOk result (λ sinks. IsMade F.tells F.Out.spot F.Out.held F.Out.is_finished
-        F.Out.calls F.Out.failures (file (prefix.now ++ endings.now.second.now)) sinks.second) }
-    ensures third { IfOk result (λ sinks. IsMade F.tells F.Out.spot F.Out.held F.Out.is_finished
-        F.Out.calls F.Out.failures (file (prefix.now ++ endings.now.third.now)) sinks.third) }
-    ensures fourth { IfOk result (λ sinks. IsMade F.tells F.Out.spot F.Out.held F.Out.is_finished
-        F.Out.calls F.Out.failures (file (prefix.now ++ endings.now.fourth.now)) sinks.fourth) }
+    ensures made { IfOk result (EachPair (λ ending sink. IsMade F.tells
+        (file (prefix.now ++ ending.now)) (F.Out.state sink)) endings.now) }
 {
     Ok(Four {
         first: sink_of(alloc, folder, prefix, endings.first)?,
@@ -110,8 +105,8 @@ fn sink_of<F: Folder>(
     ending: &str,
 ) -> Result<F::Out, AllocError>
     ensures same { folder.new ≡ folder.old }
-    ensures made { IfOk result (IsMade F.tells F.Out.spot F.Out.held F.Out.is_finished
-        F.Out.calls F.Out.failures (file (prefix.now ++ ending.now))) }
+    ensures made { IfOk result (λ sink. IsMade F.tells (file (prefix.now ++ ending.now))
+        (F.Out.state sink)) }
 {
     let mut name = String::from_str(alloc, prefix)?;
     name.push_str(ending)?;
@@ -120,27 +115,12 @@ fn sink_of<F: Folder>(
 
 /// Gives four sinks back.
 pub(crate) fn close_sinks<F: Folder>(folder: &mut F, sinks: Four<F::Out>)
-    requires apart { AreApart (F.Out.spot sinks.first) (F.Out.spot sinks.second)
-        (F.Out.spot sinks.third) (F.Out.spot sinks.fourth) }
-    requires files { AreFiles (F.Out.spot sinks.first) (F.Out.spot sinks.second)
-        (F.Out.spot sinks.third) (F.Out.spot sinks.fourth) }
-    ensures first { IsTaken F.Out.spot F.Out.held F.Out.is_finished F.Out.calls
-        (F.held folder.old) (F.held folder.new) sinks.first }
-    ensures second { IsTaken F.Out.spot F.Out.held F.Out.is_finished F.Out.calls
-        (F.held folder.old) (F.held folder.new) sinks.second }
-    ensures third { IsTaken F.Out.spot F.Out.held F.Out.is_finished F.Out.calls
-        (F.held folder.old) (F.held folder.new) sinks.third }
-    ensures fourth { IsTaken F.Out.spot F.Out.held F.Out.is_finished F.Out.calls
-        (F.held folder.old) (F.held folder.new) sinks.fourth }
-    ensures untouched { IsUntouched F.Out.is_finished F.Out.calls sinks.first
-        → IsUntouched F.Out.is_finished F.Out.calls sinks.second
-        → IsUntouched F.Out.is_finished F.Out.calls sinks.third
-        → IsUntouched F.Out.is_finished F.Out.calls sinks.fourth
+    requires { AreApart F.Out.state sinks }
+    ensures taken { Each (λ sink. IsTaken (F.held folder.old) (F.held folder.new)
+        (F.Out.state sink)) sinks }
+    ensures untouched { Each (λ sink. IsUntouched (F.Out.state sink)) sinks
         → folder.new ≡ folder.old }
-    ensures others { (spot : _) → spot ≢ F.Out.spot sinks.first
-        → spot ≢ F.Out.spot sinks.second
-        → spot ≢ F.Out.spot sinks.third
-        → spot ≢ F.Out.spot sinks.fourth
+    ensures others { (spot : _) → Each (λ sink. spot ≢ (F.Out.state sink).spot) sinks
         → F.held folder.new spot ≡ F.held folder.old spot }
 {
     let Four {

@@ -1,8 +1,9 @@
 //! Outputs that would overwrite an input. Nothing is read or written here.
-ghost use Rattle.std.specs.Prelude.{◌≡◌, ◌≤◌, ◌⊎◌, ◌++◌, IfErr, IfOk, IfSome, None, length, map, true};
+ghost use Rattle.std.specs.Prelude.{◌≡◌, ◌≤◌, ◌++◌, IfErr, IfOk, IfSome, None, length, map, true};
 ghost use Rattle.th_plans.specs.Limits.{max_books};
 ghost use Rattle.th_plans.specs.Plans.{files};
 ghost use Rattle.th_program.specs.Done.{KeepsInputs};
+ghost use Rattle.th_program.specs.Inside.Opened.{Each, OneOfFour};
 ghost use Rattle.th_program.specs.Inside.Stops.{IsApart, IsNoBook, IsStop, IsStopOf};
 ghost use Rattle.th_program.specs.Owed.{HasName, IsBook};
 
@@ -10,7 +11,7 @@ use crate::opening::Four;
 use crate::{adjusting, reviewing};
 use std::alloc::{AllocError, Global};
 use std::fmt;
-use th_devices::Folder;
+use th_folders::Folder;
 use th_plans::{Inputs, Plan};
 use th_runs::Input;
 
@@ -87,13 +88,10 @@ fn keep_all<'a, F: Folder>(
     prefix: &str,
     endings: &Four<&str>,
 ) -> Result<(), Stop<'a>>
-    ensures first { IfOk result (λ _. IsApart F.tells (files inputs.now) (prefix.now ++ endings.now.first.now)) }
-    ensures second { IfOk result (λ _. IsApart F.tells (files inputs.now) (prefix.now ++ endings.now.second.now)) }
-    ensures third { IfOk result (λ _. IsApart F.tells (files inputs.now) (prefix.now ++ endings.now.third.now)) }
-    ensures fourth { IfOk result (λ _. IsApart F.tells (files inputs.now) (prefix.now ++ endings.now.fourth.now)) }
+    ensures apart { IfOk result (λ _. Each (λ ending.
+        IsApart F.tells (files inputs.now) (prefix.now ++ ending.now)) endings.now) }
     ensures stopped { IfErr result (IsStop F.tells (files inputs.now) (λ output.
-        (output ≡ prefix.now ++ endings.now.first.now) ⊎ (output ≡ prefix.now ++ endings.now.second.now)
-        ⊎ (output ≡ prefix.now ++ endings.now.third.now) ⊎ (output ≡ prefix.now ++ endings.now.fourth.now))) }
+        OneOfFour (λ ending. output ≡ prefix.now ++ ending.now) endings.now)) }
 {
     keep(alloc, folder, inputs, prefix, endings.first)?;
     keep(alloc, folder, inputs, prefix, endings.second)?;
@@ -115,7 +113,7 @@ fn keep<'a, F: Folder>(
 {
     let mut output = String::from_str(alloc, prefix)?;
     output.push_str(ending)?;
-    match changed_by(folder, output.as_str(), inputs) {
+    match changed_by(alloc, folder, output.as_str(), inputs)? {
         Some((input, name)) => Err(Stop::Overwrite(Overwrite {
             output,
             input,
@@ -127,44 +125,51 @@ fn keep<'a, F: Folder>(
 
 /// The first input that writing the file of this name would change.
 fn changed_by<'a, F: Folder>(
+    alloc: Global,
     folder: &F,
     output: &str,
     inputs: &Inputs<'a>,
-) -> Option<(Input, &'a str)>
-    ensures none { result ≡ None → IsApart F.tells (files inputs.now) output.now }
-    ensures some { IfSome result (λ own. HasName (files inputs.now) own.0 own.1.now
-        × (F.tells ≡ true → output.now ≡ own.1.now)) }
+) -> Result<Option<(Input, &'a str)>, AllocError>
+    ensures none { IfOk result (λ changed. changed ≡ None
+        → IsApart F.tells (files inputs.now) output.now) }
+    ensures some { IfOk result (λ changed. IfSome changed (λ own.
+        HasName (files inputs.now) own.0 own.1.now × (F.tells ≡ true → output.now ≡ own.1.now))) }
 {
-    if let Some((number, name)) = changed_book(folder, output, inputs.books.names()) {
-        return Some((Input::Book(number), name));
+    if let Some((number, name)) = changed_book(alloc, folder, output, inputs.books.names())? {
+        return Ok(Some((Input::Book(number), name)));
     }
-    if folder.would_change(output, inputs.benchmarks) {
-        return Some((Input::Benchmarks, inputs.benchmarks));
+    if folder.would_change(alloc, output, inputs.benchmarks)? {
+        return Ok(Some((Input::Benchmarks, inputs.benchmarks)));
     }
-    match inputs.weights {
-        Some(name) if folder.would_change(output, name) => Some((Input::Weights, name)),
-        _ => None,
+    if let Some(name) = inputs.weights {
+        if folder.would_change(alloc, output, name)? {
+            return Ok(Some((Input::Weights, name)));
+        }
     }
+    Ok(None)
 }
 
 /// The first of the books of these names, counted from 1, that writing the file of this name would
 /// change.
 fn changed_book<'a, F: Folder>(
+    alloc: Global,
     folder: &F,
     output: &str,
     names: &[&'a str],
-) -> Option<(u32, &'a str)>
+) -> Result<Option<(u32, &'a str)>, AllocError>
     requires { length names.now ≤ max_books }
-    ensures none { result ≡ None → IsNoBook F.tells (map (λ name. name.now) names.now) output.now }
-    ensures some { IfSome result (λ own. IsBook (map (λ name. name.now) names.now) own.0 own.1.now
-        × (F.tells ≡ true → output.now ≡ own.1.now)) }
+    ensures none { IfOk result (λ changed. changed ≡ None
+        → IsNoBook F.tells (map (λ name. name.now) names.now) output.now) }
+    ensures some { IfOk result (λ changed. IfSome changed (λ own.
+        IsBook (map (λ name. name.now) names.now) own.0 own.1.now
+        × (F.tells ≡ true → output.now ≡ own.1.now))) }
 {
     let mut number = 1;
     for name in names {
-        if folder.would_change(output, *name) {
-            return Some((number, *name));
+        if folder.would_change(alloc, output, *name)? {
+            return Ok(Some((number, *name)));
         }
         number += 1;
     }
-    None
+    Ok(None)
 }

@@ -10,7 +10,7 @@ use crate::overwrites::{Stop, keep_inputs};
 use crate::refusals::{refuse, refuse_overwrite};
 use crate::reviewing::review;
 use std::alloc::Global;
-use th_devices::{Folder, Origin};
+use th_folders::{Folder, Origin};
 use th_plans::Plan;
 use th_runs::{DONE, Refusal, status_of_verdict};
 

@@ -6,7 +6,8 @@ ghost use Rattle.th_runs.specs.Refusals.{status_of};
 
 use crate::overwrites::Overwrite;
 use std::alloc::Global;
-use th_devices::{Folder, write_all};
+use th_devices::write_all;
+use th_folders::Folder;
 use th_runs::{Refusal, USAGE, status_of};
 
 /// Reports a refusal in one line on standard error, and returns the exit status.

@@ -1,15 +1,12 @@
 //! Reviewing the network of files of a folder.
-ghost use Rattle.std.specs.Prelude.{◌≡◌, ◌≢◌, IfErr, Some, is_some, length};
-ghost use Rattle.th_program.specs.Done.{IsReviewed, entries_spot, observations_spot, points_spot, review_spot};
-ghost use Rattle.th_program.specs.Owed.{survey_owed};
+ghost use Rattle.std.specs.Prelude.{◌≡◌, IfErr, None, OnOk};
+ghost use Rattle.th_program.specs.Done.{IsRefusedReview, IsReviewOutput, IsReviewed};
 ghost use Rattle.th_plans.specs.Plans.{files};
-ghost use Rattle.th_runs.specs.Inputs.{IsOwed};
-ghost use Rattle.th_runs.specs.Reads.{IsNamed, Reviewing, refused};
-ghost use Rattle.th_runs.specs.Writes.{IsWritten, UnlessWrite};
+ghost use Rattle.th_runs.specs.Writes.{UnlessWrite};
 
 use crate::opening::{Four, close_sinks, sinks_of, sources_of};
 use std::alloc::Global;
-use th_devices::Folder;
+use th_folders::Folder;
 use th_plans::{Inputs, Limit};
 use th_runs::{Refusal, ReviewOuts, run_review};
 
@@ -33,17 +30,12 @@ pub(crate) fn review<F: Folder>(
     limit: Limit,
     prefix: &str,
 ) -> Result<(), Refusal>
-    ensures reviewed { IsWritten result → IsReviewed F.tells (F.held folder.old)
-        (F.held folder.new) (files inputs.now) limit prefix.now (refused result) }
-    ensures refused { IfErr result (λ own. UnlessWrite own (IsOwed (λ survey. survey)
-        (survey_owed (F.held folder.old) (Some own) (files inputs.now)) own)) }
-    ensures named { IfErr result (IsNamed (length (files inputs.now).books)
-        (is_some (files inputs.now).weights) Reviewing) }
+    ensures reviewed { OnOk result (IsReviewed F.tells (F.held folder.old) (F.held folder.new)
+        (files inputs.now) limit prefix.now None) }
+    ensures refused { IfErr result (IsRefusedReview F.tells (F.held folder.old)
+        (F.held folder.new) (files inputs.now) limit prefix.now) }
     ensures untouched { IfErr result (λ own. UnlessWrite own (folder.new ≡ folder.old)) }
-    ensures others { (spot : _) → spot ≢ points_spot prefix.now
-        → spot ≢ observations_spot prefix.now
-        → spot ≢ entries_spot prefix.now
-        → spot ≢ review_spot prefix.now
+    ensures others { (spot : _) → (IsReviewOutput prefix.now spot → ⊥)
         → F.held folder.new spot ≡ F.held folder.old spot }
 {
     let mut sources = sources_of(alloc, folder, inputs)?;

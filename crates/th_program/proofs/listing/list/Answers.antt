@@ -10,17 +10,16 @@ use Rattle.th_program.proofs.listing.list.Goals as goal
 pub returns-clause-listed : goal.returns-clause-listed
 returns-clause-listed g c =
     let run = c.run_list-answer in
-    let owed = ap (owed_for_book 1) (given-there g.F.Folder.held g.F.In.Source c.args.folder.now (input.Book 1) (refused run.result) _ _ _
-    c.in_ok-book.ensures.opened run.ensures.book.failed) in
+    let owed = ap (owed_for_book 1) (given-there g.F.In.Source.state (g.F.Folder.held c.args.folder.now) (input.Book 1) (refused run.result) _ _ _
+    c.in_ok-book.ensures.opened run.ensures.book.read.failed) in
     listed g.F.Folder.tells (g.F.Folder.held c.args.folder.now) (g.F.Folder.held c.close.new.self) _
-    g.F.Out.Sink _ _ _ run.result owed
-    c.in_ok-out.ensures.made.told (run.ensures.spot ∙ c.in_ok-out.ensures.made.there) c.close.ensures.finished run.ensures.outcome.written
+    g.F.Out.Sink.state _ _ _ run.result owed c.in_ok-out.ensures.made c.close.ensures.finished run.ensures.outcome.written
 
 pub returns-clause-refused : goal.returns-clause-refused
 returns-clause-refused g c =
     let run = c.run_list-answer in
-    let owed = ap (owed_for_book 1) (given-there g.F.Folder.held g.F.In.Source c.args.folder.now (input.Book 1) (refused run.result) _ _ _
-    c.in_ok-book.ensures.opened run.ensures.book.failed) in
+    let owed = ap (owed_for_book 1) (given-there g.F.In.Source.state (g.F.Folder.held c.args.folder.now) (input.Book 1) (refused run.result) _ _ _
+    c.in_ok-book.ensures.opened run.ensures.book.read.failed) in
     refused-list (g.F.Folder.held c.args.folder.now) _ _ run.result owed run.ensures.named run.ensures.outcome.refused
 
 pub returns-clause-untouched : goal.returns-clause-untouched

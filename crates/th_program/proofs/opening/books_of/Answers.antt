@@ -1,7 +1,8 @@
 use Rattle.std.proofs.Common.{◌≡◌, ◌∙◌, ◌+◌, ◌++◌, ◌∷◌, ℕ, List, [], ap, get_or, map, subst, take, rules}
 use Rattle.std.specs.Borrow.{Bor}
 use Rattle.std.proofs.lemmas.List.{get_or_default, map-append, take_more}
-use Rattle.th_devices.specs.Spots.{IsOpened, file}
+use Rattle.th_devices.specs.Devices.{IsOpened}
+use Rattle.th_devices.specs.Spots.{file}
 use Rattle.th_program.proofs.OpenedLemmas.{opened-more}
 use Rattle.th_program.proofs.opening.books_of.Goals as goal
 
@@ -14,7 +15,7 @@ loop-name-preserved g c =
     let shown : map (λ (name : Bor (List ℕ)). name.now) (take (i + 1) names) ≡ map (λ (name : Bor (List ℕ)). name.now) (take i names) ++ (get_or names i none).now ∷ [] =
     ap (map (λ (name : Bor (List ℕ)). name.now)) (take_more names i none c.loop-name-test.true)
     ∙ map-append (λ (name : Bor (List ℕ)). name.now) (take i names) (get_or names i none ∷ []) in
-    let opened = subst (λ (name : List ℕ). IsOpened g.F.Folder.held g.F.In.Source.left g.F.In.Source.calls g.F.In.Source.failures (file name) c.loop-name.folder c.in_ok-source.field-0) one
+    let opened = subst (λ (name : List ℕ). IsOpened (g.F.Folder.held c.loop-name.folder (file name)) (g.F.In.Source.state c.in_ok-source.field-0)) one
     c.in_ok-source.ensures.opened in
-    let more = opened-more _ g.F.In.Source _ _ _ _ _ c.loop-name.invariant.1 (rw c.loop-name.invariant.0 at opened) in
+    let more = opened-more g.F.In.Source.state (g.F.Folder.held c.args.folder.now) _ c.loop-name.sources.items _ _ c.loop-name.invariant.1 (rw c.loop-name.invariant.0 at opened) in
     (search rules, rw shown (rw c.in_ok-push.ensures.items more))

@@ -13,7 +13,7 @@ returns-in-Adjust-clause-apart g c =
     let prefix : List ℕ = c.in-Adjust.prefix.now in
     let ensures = c.keep_all.ensures in
     subst (λ (own : Plan). IfOk c.keep_all.result (λ _. g.F.Folder.tells ≡ true → KeepsInputs own)) (sym c.in-Adjust.is)
-    (all_apart c.keep_all.result g.F.Folder.tells (files c.in-Adjust.inputs) (prefix ++ codes ".heights.csv") (prefix ++ codes ".certificate.csv") (prefix ++ codes ".report.txt") (prefix ++ codes ".heights.gsi") ensures.first ensures.second ensures.third ensures.fourth)
+    (all_apart c.keep_all.result g.F.Folder.tells (files c.in-Adjust.inputs) prefix _ ensures.apart)
 
 pub returns-in-Adjust-clause-stopped : goal.returns-in-Adjust-clause-stopped
 returns-in-Adjust-clause-stopped g c =
@@ -30,7 +30,7 @@ returns-in-Review-clause-apart g c =
     let prefix : List ℕ = c.in-Review.prefix.now in
     let ensures = c.keep_all-in-Review.ensures in
     subst (λ (own : Plan). IfOk c.keep_all-in-Review.result (λ _. g.F.Folder.tells ≡ true → KeepsInputs own)) (sym c.in-Review.is)
-    (all_apart c.keep_all-in-Review.result g.F.Folder.tells (files c.in-Review.inputs) (prefix ++ codes ".points.csv") (prefix ++ codes ".observations.csv") (prefix ++ codes ".entries.csv") (prefix ++ codes ".review.txt") ensures.first ensures.second ensures.third ensures.fourth)
+    (all_apart c.keep_all-in-Review.result g.F.Folder.tells (files c.in-Review.inputs) prefix _ ensures.apart)
 
 pub returns-in-Review-clause-stopped : goal.returns-in-Review-clause-stopped
 returns-in-Review-clause-stopped g c =
