@@ -8,6 +8,6 @@ max_line = 1600
 abbrev pub max_words : ℕ
 max_words = 64
 
--- the most bytes that are kept of a line that comes in pieces: one more than a line of a book has, so that one that is too long is seen to be
+-- the most bytes that are kept of a line that comes in pieces: one more than a line may have, so that a line that is too long is detected
 abbrev pub max_kept : ℕ
 max_kept = max_line + 1

@@ -19,6 +19,6 @@ is_zero byte = byte == 48
 abbrev pub is_space : ℕ → Bool
 is_space byte = byte == 32
 
--- what a name's data may begin with and the name does not
+-- a zero or a space: what a name's data may begin with, but the name itself does not
 abbrev pub is_padding : ℕ → Bool
 is_padding byte = is_zero byte || is_space byte

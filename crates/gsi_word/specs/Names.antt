@@ -12,13 +12,12 @@ without_leading bytes = drop (prefix_len is_padding bytes) bytes
 abbrev pub without_trailing : List ℕ → List ℕ
 without_trailing bytes = take (length bytes - suffix_len is_space bytes) bytes
 
--- the reduced form of some data, before it is asked whether it is empty or too long
+-- the reduced form of some data, before any check whether it is empty or too long
 abbrev pub reduced : List ℕ → List ℕ
 reduced bytes = without_trailing (without_leading bytes)
 
--- The name of some data is its reduced form, or `0` where only zeros and spaces were there, at least one zero.
--- There is none where there is no byte or only spaces, a byte that is not printable, or more than sixteen bytes are left,
--- however many there were.
+-- The name that some data write: their reduced form, or `0` if they are only zeros and spaces with at least one zero. There is no name if
+-- the data are empty or only spaces, if a byte is not printable, or if more than sixteen bytes are left after reduction.
 abbrev pub name_of : List ℕ → Option (List ℕ)
 name_of bytes =
     let name = reduced bytes in
@@ -27,10 +26,10 @@ name_of bytes =
     else (if nat_lt max_name (length name) then None
     else Some name))
 
--- whether two names have the same bytes, `a` and `A` being two: what `==` of names computes, and a map with names as keys goes by
+-- whether two names have the same bytes, so `a` and `A` differ: what `==` on names computes, and what a map keyed by names compares by
 abbrev pub same_name : List ℕ → List ℕ → Bool
 same_name = pointwise nat_eq
 
--- the same of two pairs of names
+-- whether two pairs have the same first name and the same second name
 abbrev pub same_pair : List ℕ × List ℕ → List ℕ × List ℕ → Bool
 same_pair pair other = same_name pair.0 other.0 && same_name pair.1 other.1

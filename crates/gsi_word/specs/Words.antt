@@ -20,15 +20,15 @@ pub record Parts : Type 0 where
 abbrev pub parts : ℕ → List ℕ → Bool → List ℕ → Parts
 parts index info negative body = record { index = index; info = info; negative = negative; body = body }
 
--- the parts of a word of the code
+-- the parts of a `Word`
 abbrev pub parts_of : Word → Parts
 parts_of word = record { index = word.index; info = word.info; negative = word.negative; body = word.body.now }
 
--- the word that fills an array before words are read: index 0, four dots, a plus and eight zeros
+-- the placeholder that fills an array before words are read: index 0, four dots, a plus and eight zeros
 abbrev pub filler : Parts
 filler = record { index = 0; info = replicate 4 46; negative = false; body = replicate 8 48 }
 
--- a result whose value is seen by a function
+-- a result with a function applied to its value; a fault is unchanged
 abbrev pub result_map : {A B E : Type 0} → (A → B) → Result A E → Result B E
 result_map see result = result_map_both see (λ fault. fault) result
 
@@ -37,12 +37,12 @@ abbrev pub data_len : Width → ℕ
 data_len Eight = 8
 data_len Sixteen = 16
 
--- How many bytes a spelling has: two of the index, four of information, the sign, and the data. The star before a block of
--- GSI-16 and the space after a word, which the manual counts as its last position, are the block's.
+-- The length of a word's spelling in bytes: two for the index, four for the information, one for the sign, and the data. The star before
+-- a GSI-16 block, and the space after a word that the manual counts as the word's last position, belong to the block.
 abbrev pub spelling_len : Width → ℕ
 spelling_len width = 7 + data_len width
 
--- The bytes are a word's spelling, place by place, and nothing after it. Positions are counted from 1, places of bytes from 0.
+-- The bytes are exactly the word's spelling, with nothing after it. The manual's positions count from 1, places of bytes from 0.
 pub record Spells (word : Parts) (bytes : List ℕ) (width : Width) : Type 0 where
   pub length : length bytes ≡ spelling_len width
   pub index_digits : list_all is_digit (take 2 bytes) ≡ true
@@ -63,11 +63,11 @@ abbrev pub spelling_of : Parts → List ℕ
 spelling_of word =
     (48 + word.index / 10) ∷ (48 + word.index % 10) ∷ word.info ++ (if word.negative then 45 else 43) ∷ word.body
 
--- a word as it stands in its block: its spelling, and the space that closes it
+-- a word as its block contains it: its spelling, and the space that closes it
 abbrev pub closed : Parts → List ℕ
 closed word = spelling_of word ++ 32 ∷ []
 
--- the parts that stand in a spelling's places
+-- the parts of a word, taken from their places in a spelling
 abbrev pub parts_in : List ℕ → Parts
 parts_in bytes = record {
   index = number (take 2 bytes);
@@ -76,8 +76,8 @@ parts_in bytes = record {
   body = drop 7 bytes;
 }
 
--- The word that the front of the bytes spells in a width that is given, whatever stands after the spelling. Where there is none,
--- it is first said that there are too few bytes, whatever they are, then which part is the first with a byte not allowed there.
+-- The word that the first bytes spell in a given width; what follows the spelling does not matter. Too few bytes
+-- are reported first, whatever they are; then the first part that has a byte not allowed there.
 abbrev pub word_at : Width → List ℕ → Result Parts WordFault
 word_at width bytes =
     let spelling = take (spelling_len width) bytes in
@@ -88,7 +88,7 @@ word_at width bytes =
     else (if not (list_all is_data (drop 7 spelling)) then Err BadData
     else Ok (parts_in spelling)))))
 
--- how a fault is said
+-- the text of a fault
 abbrev pub fault_text : WordFault → List ℕ
 fault_text Short = codes "short"
 fault_text BadIndex = codes "bad index"

@@ -11,14 +11,15 @@ use Rattle.th_book.specs.declared.faults.BookFault.{BookFault}
 use Rattle.th_book.specs.declared.faults.BookKind.TheVariants.{BookTooLong}
 use Rattle.th_book.specs.Indexes.{height_difference, reflector_height, instrument_height}
 
--- a length, or a name, that is there in a book without a fault
+-- a length or a name that a book without a fault always has; 0 or the empty name if it is missing
 abbrev pub known : Option ℤ → ℤ
 known length = unwrap_or length (pos 0)
 
 abbrev pub known_name : Option (List ℕ) → List ℕ
 known_name name = unwrap_or name []
 
--- the difference of height from station to target: word 33 runs from the instrument's tilting axis to the reflector
+-- the height difference from station to target: word 33, which runs from the instrument's tilting
+-- axis to the reflector, plus the instrument height, less the reflector height
 abbrev pub difference : Option ℤ → Option ℤ → Option ℤ → ℤ
 difference sighted instrument reflector = known sighted +ℤ known instrument -ℤ known reflector
 
@@ -37,7 +38,7 @@ abbrev pub observations_of : ℕ → List ParsedLine → List Observed
 observations_of book parsed =
     map (observed_at book parsed) (filter (λ place. is_sight (words_at parsed place)) (range_with_len 0 (length parsed)))
 
--- what a book gives: the fault that counts, or else the observations
+-- the result of a book: its first fault, or else its observations
 abbrev pub answer : Option BookFault → List Observed → Result (List Observed) BookFault
 answer (Some fault) observations = Err fault
 answer None observations = Ok observations
@@ -45,15 +46,15 @@ answer None observations = Ok observations
 abbrev pub answer_of : ℕ → List ParsedLine → Result (List Observed) BookFault
 answer_of book parsed = answer (first_fault parsed) (observations_of book parsed)
 
--- what the lines of a book give
+-- the result of a book's lines
 abbrev pub lines_answer : ℕ → List (List ℕ) → Result (List Observed) BookFault
 lines_answer book lines = answer_of book (map block_at lines)
 
--- the fault of a book that is too long
+-- the fault of a book that is too long; it names line 0
 abbrev pub too_long : BookFault
 too_long = record { line = 0; kind = BookTooLong }
 
--- what the bytes of a book give; a book that is too long is that before all else
+-- the result of a book's bytes; a book that is too long is refused before anything else is checked
 abbrev pub book_answer : ℕ → List ℕ → Result (List Observed) BookFault
 book_answer book bytes =
     if nat_lt max_book (length bytes) then Err too_long else lines_answer book (lines_of bytes)

@@ -7,28 +7,28 @@ use Rattle.th_book.specs.Due.{BookState, EndsWithSight, due}
 use Rattle.th_book.specs.declared.faults.BookFault.{BookFault}
 use Rattle.th_book.specs.declared.faults.BookKind.TheVariants.{NoMemory}
 
--- What a `BookFeed` holds: the book of the lines that are complete, what is known of the line that has begun, how many bytes came (of a book that is
--- too long, no more than that they are too many), and the want of memory that it met, if it met one.
+-- The state of a `BookFeed`: the book of the complete lines, the state of the line that has begun, how many bytes came, and the
+-- allocation failure that it met, if any. For a book that is too long, the number of bytes says only that they are too many.
 pub record FeedState : Type 0 where
   pub book : BookState
   pub lines : LineState
   pub bytes : ℕ
   pub wanting : Option BookFault
 
--- What is still to come from a feed that holds this, if these bytes follow and nothing behind them: the observations of the whole book or its fault.
--- That the book is too long comes before all else.
+-- What is still to come from a feed in this state, if these bytes follow and nothing after them: the observations of
+-- the whole book, or its fault. A book that is too long is refused before anything else is checked.
 abbrev pub feed_due : FeedState → List ℕ → Result (List Observed) BookFault
 feed_due feed later =
     if nat_lt max_book (feed.bytes + length later) then Err too_long else due feed.book (lines_due feed.lines later)
 
--- a piece was taken: what was due with it before it is due now, whatever bytes follow, and memory was not wanting
+-- a piece was taken: what was due with it in front is due now, whatever bytes follow, and no allocation failed
 pub record IsFed (old new : FeedState) (piece : List ℕ) : Type 0 where
   pub keeps : (later : List ℕ) → feed_due new later ≡ feed_due old (piece ++ later)
   pub before : old.wanting ≡ None
   pub after : new.wanting ≡ None
 
--- Memory was wanting for the observation of a line that ended in a piece, for which there was no room: what was due with the front of the piece, up
--- to the end of this line, is due from the book with this line and those behind it.
+-- An allocation failed for the observation of a line that ended in a piece, for which there was no capacity. What was due with
+-- the front of the piece, up to the end of this line, is due from the book with this line and those after it.
 pub record IsWantingIn (old_book : BookState) (old_lines : LineState) (book : BookState) (lines : LineState) (piece : List ℕ) (fault : BookFault) : Type 0 where
   pub line : List ℕ
   pub front : List ℕ
@@ -39,7 +39,7 @@ pub record IsWantingIn (old_book : BookState) (old_lines : LineState) (book : Bo
   pub full : book.room ≤ length book.observations
   pub kind : fault.kind ≡ NoMemory
 
--- memory was wanting for a piece: it was before, and then nothing changes, or it is wanting now
+-- after an earlier allocation failure nothing changes; otherwise an allocation failed in this piece, and the failure is recorded
 abbrev pub StopsUnless : Option BookFault → FeedState → FeedState → List ℕ → Type 0
 StopsUnless (Some fault) old new piece = new ≡ old
 StopsUnless None old new piece = (fault : BookFault) × IsWantingIn old.book old.lines new.book new.lines piece fault × (new.wanting ≡ Some fault)
@@ -47,7 +47,8 @@ StopsUnless None old new piece = (fault : BookFault) × IsWantingIn old.book old
 abbrev pub StopsAt : FeedState → FeedState → List ℕ → Type 0
 StopsAt old new piece = StopsUnless old.wanting old new piece
 
--- What each feed keeps. No more lines were counted, and are still due, than bytes came; and what was met is a want of memory.
+-- What every feed keeps. Unless an allocation failed or the book is too long, the lines counted and
+-- still due are at most as many as its bytes. A recorded failure is always `NoMemory`.
 pub record IsWithin (feed : FeedState) : Type 0 where
   pub counted : feed.wanting ≡ None → feed.bytes ≤ max_book → (later : List ℕ) → feed.book.lines + length (lines_due feed.lines later) ≤ feed.bytes + length later
   pub lasting : IfSome feed.wanting (λ fault. fault.kind ≡ NoMemory)

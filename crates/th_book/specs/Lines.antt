@@ -9,21 +9,21 @@ use Rattle.gsi_block.specs.Blocks.{BlockParts}
 use Rattle.gsi_block.specs.declared.faults.BlockFault.{BlockFault}
 use Rattle.th_book.specs.Indexes.{height_difference, station_easting, station_northing, station_height}
 
--- what a line says: nothing, a block, or why it is neither
+-- a parsed line: blank, a block, or the fault for which it is neither
 abbrev pub ParsedLine : Type 0
 ParsedLine = Result (Option BlockParts) BlockFault
 
--- the words of a line's block; a blank line has none, nor has one that is no block
+-- the words of a line's block; none if the line is blank or not a block
 abbrev pub words_in : ParsedLine → List Parts
 words_in (Ok (Some block)) = block.words
 words_in (Ok None) = []
 words_in (Err fault) = []
 
--- a word counts for an index where it has it and its position 3 is a dot
+-- a word counts for an index if it has that index and its position 3 is a dot
 abbrev pub counts_for : ℕ → Parts → Bool
 counts_for index word = option_map_or (λ own. own == index) (two_digit word) false
 
--- a block holds an index where a word of it counts for it
+-- a block holds an index if one of its words counts for it
 abbrev pub holds : ℕ → List Parts → Bool
 holds index words = list_any (counts_for index) words
 
@@ -31,7 +31,7 @@ holds index words = list_any (counts_for index) words
 abbrev pub is_sight : List Parts → Bool
 is_sight words = holds height_difference words
 
--- a setup is a block with a coordinate of the station, and no sight
+-- a setup is a block with a coordinate of the station that is not a sight
 abbrev pub is_setup : List Parts → Bool
 is_setup words = not (is_sight words) && (holds station_easting words || (holds station_northing words || holds station_height words))
 
@@ -40,6 +40,6 @@ abbrev pub point_name : List Parts → Option (List ℕ)
 point_name [] = None
 point_name (word ∷ words) = name_of word.body
 
--- the length of the first word that counts for an index
+-- the length of the first word that counts for an index; none if there is no such word or its length has a fault
 abbrev pub length_in : ℕ → List Parts → Option ℤ
 length_in index words = option_and_then (λ word. result_ok (length_of word)) (find (counts_for index) words)

@@ -5,7 +5,7 @@ use Rattle.th_book.specs.declared.faults.BookFault.{BookFault}
 use Rattle.th_book.specs.declared.faults.BookKind.{BookKind}
 use Rattle.th_book.specs.declared.faults.BookKind.TheVariants.{Block, RepeatedWord, NoPointNumber, BadName, BadNumber, BadUnit, TooLarge, SightBeforeSetup, NoInstrumentHeight, NoReflectorHeight, SightToItself, BookTooLong, NoMemory}
 
--- how a kind of fault is said
+-- the text of a kind of fault
 abbrev pub kind_text : BookKind → List ℕ
 kind_text (Block fault) = codes "B1 " ++ block_fault_text fault
 kind_text RepeatedWord = codes "B2 repeated word"
@@ -21,6 +21,6 @@ kind_text SightToItself = codes "B11 sight to itself"
 kind_text BookTooLong = codes "B12 book too long"
 kind_text NoMemory = codes "out of memory"
 
--- how a fault is said, with its line
+-- the text of a fault, with its line
 abbrev pub fault_text : BookFault → List ℕ
 fault_text fault = codes "line " ++ decimal fault.line ++ codes ": " ++ kind_text fault.kind

@@ -12,7 +12,7 @@ row_text fields = csv.row_text csv.default_writer fields
 abbrev pub csv_text : List Fields → List ℕ
 csv_text rows = flat_map row_text rows
 
--- what was written: the text, and whether memory was refused
+-- what was written: the text, and whether an allocation failed
 pub record Written : Type 0 where
   pub text : List ℕ
   pub refused : Bool
@@ -21,6 +21,6 @@ pub record Written : Type 0 where
 abbrev pub HasField : Fields → Type 0
 HasField row = 0 < length row
 
--- a text with no byte order mark at its beginning
+-- a text that does not begin with a byte order mark
 abbrev pub IsUnmarked : List ℕ → Type 0
 IsUnmarked text = strip_bom text ≡ text

@@ -14,12 +14,12 @@ abbrev pub index_of : HeightKind → ℕ
 index_of Reflector = reflector_height
 index_of Instrument = instrument_height
 
--- the sight at a place uses the height of a line: no later line holds that index, from the setup's on and up to the sight's own
+-- the sight at a place uses the height of a line: the last line that holds the index, from the sight's setup to the sight itself
 abbrev pub uses : ℕ → List ParsedLine → ℕ → ℕ → Bool
 uses index parsed line place =
     is_sight (words_at parsed place) && option_map_or (λ own. own == line) (last_with index parsed place) false
 
--- the entry of a line that a sight uses, where the last such sight is at a place
+-- the entry of a line, given the place of the last sight that uses it; its lines count from 1
 abbrev pub entry_until : ℕ → List ParsedLine → HeightKind → ℕ → ℕ → Entry
 entry_until book parsed kind line last = record {
   book = book;
@@ -36,7 +36,7 @@ abbrev pub entry_at : ℕ → List ParsedLine → HeightKind → ℕ → Option 
 entry_at book parsed kind line =
     option_map (entry_until book parsed kind line) (last_below (uses (index_of kind) parsed line) (length parsed))
 
--- the entries of a line, that of the reflector first
+-- the entries of a line, the reflector height first
 abbrev pub entries_at : ℕ → List ParsedLine → ℕ → List Entry
 entries_at book parsed line =
     option_to_list (entry_at book parsed Reflector line) ++ option_to_list (entry_at book parsed Instrument line)

@@ -7,15 +7,15 @@ use Rattle.th_entries.specs.declared.feeds.ReviewFeed.{ReviewFeed}
 use Rattle.th_entries.specs.declared.seen.SeenNames.{SeenNames}
 use Rattle.th_entries.specs.declared.tallies.Tally.{Tally}
 
--- So many lines of a text were read after books with these names: all that is known is what these say, and the others are still to come with the
--- bytes that are left.
+-- The first `place` lines of a text were read, after books with these names: the tally holds exactly what
+-- these lines say, and the other lines are still to come with the bytes that are left.
 pub record IsReadTo (names : SeenNames) (number : ℕ) (text rest : List ℕ) (tally : Tally) (lines : LineState) : Type 0 where
   pub place : ℕ
   pub within : place ≤ length (parsed_of text)
   pub known : IsTallied names number (parsed_of text) place tally
   pub left : map block_at (lines_due lines rest) ≡ drop place (parsed_of text)
 
--- a book, if it has no fault, was read up to the bytes that are left
+-- unless the book has a fault, it was read up to the bytes that are left
 abbrev pub IsReadUpTo : SeenNames → ℕ → List ℕ → List ℕ → Tally → LineState → Type 0
 IsReadUpTo names number text rest tally lines = IsFaultless number text → IsReadTo names number text rest tally lines
 

@@ -19,7 +19,7 @@ is_block (Ok (Some block)) = true
 is_block (Ok None) = false
 is_block (Err fault) = false
 
--- how many lines there are, and how many of these are blocks, setups and sights
+-- the numbers of lines, blocks, setups and sights
 abbrev pub counts_of : List ParsedLine → BookCount
 counts_of parsed = record {
   lines = length parsed;
@@ -28,21 +28,21 @@ counts_of parsed = record {
   sights = count_below (λ place. is_sight (words_at parsed place)) (length parsed);
 }
 
--- a block looks like a setup where it begins with a point and holds an instrument height, and is neither a sight nor a setup
+-- a block looks like a setup if it begins with a point and holds an instrument height, but is neither a sight nor a setup
 abbrev pub resembles_setup : List Parts → Bool
 resembles_setup words =
     begins_with_point words && (holds instrument_height words && (not (is_sight words) && not (is_setup words)))
 
--- the line at a place looks like a setup of another point than the current station
+-- the line at a place looks like a setup, and its point is not the current station, if there is one
 abbrev pub is_lookalike : List ParsedLine → ℕ → Bool
 is_lookalike parsed place =
     resembles_setup (words_at parsed place) && not (are_one (station_at parsed place) (point_name (words_at parsed place)))
 
--- the lines, from 1, that look like a setup and are none
+-- the lines, counted from 1, that look like a setup but are none
 abbrev pub lookalikes_of : List ParsedLine → List ℕ
 lookalikes_of parsed = all_below (λ place. if is_lookalike parsed place then (place + 1) ∷ [] else []) (length parsed)
 
--- what the lines of a book say, one by one
+-- the parsed lines of a book
 abbrev pub parsed_of : List ℕ → List ParsedLine
 parsed_of bytes = map block_at (lines_of bytes)
 
@@ -50,7 +50,7 @@ parsed_of bytes = map block_at (lines_of bytes)
 abbrev pub IsFaultless : ℕ → List ℕ → Type 0
 IsFaultless book bytes = (observations : List Observed) × (book_answer book bytes ≡ Ok observations)
 
--- a review is that of a book whose lines say this
+-- `review` is the review of a book with these parsed lines
 pub record Reviews (book : ℕ) (parsed : List ParsedLine) (review : BookReview) : Type 0 where
   pub counts : review.counts ≡ counts_of parsed
   pub entries : review.entries.items ≡ entries_of book parsed

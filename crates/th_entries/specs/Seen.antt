@@ -10,25 +10,25 @@ use Rattle.th_entries.specs.declared.seen.SeenNames.{SeenNames}
 use Rattle.th_entries.specs.declared.seen.Spelled.{Spelled}
 use Rattle.th_entries.specs.declared.seen.Spelled.TheVariants.{Alike, Otherwise}
 
--- how mentions spell a name, if one is of it
+-- how mentions spell a name: in more than one way, or always like the first mention, whose data are kept; none if no mention is of it
 abbrev pub spelled_in : List Mention → List ℕ → Option Spelled
 spelled_in mentions name =
     option_map (λ first. if list_any (is_of name) (differing mentions) then Otherwise else Alike (record { items = first.bytes })) (find (is_of name) mentions)
 
--- how a name is spelled so far, in a map whose names are in the order of their bytes
+-- how a name is spelled so far; the map orders names by their bytes
 abbrev pub spelled_at : SeenNames → List ℕ → Option Spelled
 spelled_at names name = get (slice_cmp nat_cmp) names.spelled name
 
--- all that is known of names is what these mentions say
+-- the names hold exactly what these mentions say
 pub record AreSeenIn (mentions : List Mention) (names : SeenNames) : Type 0 where
   pub found : names.found.items ≡ spellings_in mentions
   pub spelled : (name : List ℕ) → spelled_at names name ≡ spelled_in mentions name
 
--- all that is known of names is what these books say, which have no fault
+-- the names hold exactly what these books mention
 abbrev pub AreSeenInBooks : List (ℕ × List ParsedLine) → SeenNames → Type 0
 AreSeenInBooks books names = AreSeenIn (mentions_of books) names
 
--- one more book was read, whatever books were read before
+-- one more book was read, after any books read before
 abbrev pub AddsBook : ℕ → List ParsedLine → SeenNames → SeenNames → Type 0
 AddsBook number parsed old new =
     (before : List (ℕ × List ParsedLine)) → AreSeenInBooks before old → AreSeenInBooks (before ++ (number, parsed) ∷ []) new

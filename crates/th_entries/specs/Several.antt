@@ -1,4 +1,4 @@
--- Several books, which are numbered one after another.
+-- Several books, numbered consecutively.
 use Rattle.std.specs.Prelude.{◌≡◌, ℕ, ◌+◌, List, [], ◌∷◌, ◌++◌, Ok, flat_map}
 use Rattle.th_book.specs.Observed.{Observed}
 use Rattle.th_book.specs.Lines.{ParsedLine}
@@ -7,12 +7,12 @@ use Rattle.th_entries.specs.Entries.{entries_of}
 use Rattle.th_entries.specs.Reviews.{parsed_of}
 use Rattle.th_entries.specs.declared.entries.Entry.{Entry}
 
--- the books with these texts, numbered from one on: each with its number and what its lines say
+-- the books with these texts, numbered from `number` on: each number with the book's parsed lines
 abbrev pub numbered : ℕ → List (List ℕ) → List (ℕ × List ParsedLine)
 numbered number [] = []
 numbered number (text ∷ texts) = (number, parsed_of text) ∷ numbered (number + 1) texts
 
--- none of the books with these texts, numbered from one on, has a fault, and all observations are those of the books before and theirs
+-- none of the books with these texts, numbered from `number` on, has a fault, and `all` are the observations `before` followed by theirs
 abbrev pub AreObserved : ℕ → List Observed → List (List ℕ) → List Observed → Type 0
 AreObserved number before [] all = all ≡ before
 AreObserved number before (text ∷ texts) all =

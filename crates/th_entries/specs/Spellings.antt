@@ -13,7 +13,7 @@ pub record Mention : Type 0 where
   pub here : Spelling
   pub bytes : List ℕ
 
--- what a setup mentions, its station, and a sight, its target
+-- what some words mention: a setup its station, a sight its target, other words nothing
 abbrev pub mention_in : ℕ → ℕ → List Parts → Option Mention
 mention_in book line [] = None
 mention_in book line (word ∷ words) =
@@ -21,24 +21,24 @@ mention_in book line (word ∷ words) =
     then option_map (λ name. record { here = record { book = book; line = line; name = name }; bytes = word.body }) (name_of word.body)
     else None
 
--- what the line at a place mentions
+-- the mention of the line at a place, if it has one
 abbrev pub mentions_at : ℕ → List ParsedLine → ℕ → List Mention
 mentions_at book parsed place = option_to_list (mention_in book (place + 1) (words_at parsed place))
 
--- what books mention, in the order of books and lines
+-- the mentions of books, in the order of books and lines
 abbrev pub mentions_of : List (ℕ × List ParsedLine) → List Mention
 mentions_of books = flat_map (λ book. all_below (mentions_at book.0 book.1) (length book.1)) books
 
--- a mention is of a name
+-- a mention is of this name
 abbrev pub is_of : List ℕ → Mention → Bool
 is_of name mention = same_name name mention.here.name
 
--- a mention spells its name in other data than the first mention of that name
+-- a mention spells its name with other data than the first mention of that name
 abbrev pub differs : List Mention → Mention → Bool
 differs mentions mention =
     option_map_or (λ first. not (bytes_eq first.bytes mention.bytes)) (find (is_of mention.here.name) mentions) false
 
--- the mentions that do
+-- the mentions that differ from the first mention of their name
 abbrev pub differing : List Mention → List Mention
 differing mentions = filter (differs mentions) mentions
 
@@ -47,10 +47,10 @@ abbrev pub firsts : List Mention → List Mention
 firsts [] = []
 firsts (mention ∷ mentions) = mention ∷ filter (λ later. not (is_of mention.here.name later)) (firsts mentions)
 
--- where each name is first spelled in another way than before
+-- for each name that is spelled in more than one way, its first mention that differs from the first one
 abbrev pub spellings_in : List Mention → List Spelling
 spellings_in mentions = map (λ mention. mention.here) (firsts (differing mentions))
 
--- the same of books with their numbers
+-- the same for books with their numbers
 abbrev pub spellings_of : List (ℕ × List ParsedLine) → List Spelling
 spellings_of books = spellings_in (mentions_of books)

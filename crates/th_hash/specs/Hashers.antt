@@ -1,4 +1,4 @@
--- What a hasher of names does: what the hasher in it does.
+-- A hasher of names does what the hasher inside it does.
 use Rattle.std.specs.Prelude.{ℕ, List}
 use Rattle.std.specs.Hash.DefaultHasher as sip
 use Rattle.std.specs.Hash.FoldHasher as folding

@@ -1,4 +1,4 @@
--- The hashers with which a seed begins.
+-- The initial hashers, without a seed and with one.
 use Rattle.std.specs.Prelude.{ℕ, Bool, true, false, List}
 use Rattle.std.specs.Hash.DefaultHasher as sip
 use Rattle.std.specs.Hash.FoldHasher as folding
@@ -10,7 +10,7 @@ use Rattle.th_hash.specs.declared.hashers.NameHasher.TheVariants.{Fast, Seeded}
 abbrev pub fast : NameHasher
 fast = Fast folding.initial
 
--- the hasher that has hashed the SHA-256 digest of some content
+-- the hasher that has already hashed the SHA-256 digest of some content
 abbrev pub seeded : List ℕ → NameHasher
 seeded content = Seeded (sip.write sip.initial (sha256 content))
 

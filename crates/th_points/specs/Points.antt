@@ -2,7 +2,7 @@ use Rattle.std.specs.Prelude.{ℕ, List, [], ◌∷◌, ◌++◌, map, filter, f
 use Rattle.th_book.specs.Observed.{Observed}
 use Rattle.th_tables.specs.Rows.{BenchmarkRows}
 
--- each name once, where it stands first
+-- each name once, at its first occurrence
 abbrev pub distinct : List (List ℕ) → List (List ℕ)
 distinct [] = []
 distinct (name ∷ names) = name ∷ filter (λ later. not (bytes_eq name later)) (distinct names)
@@ -11,6 +11,6 @@ distinct (name ∷ names) = name ∷ filter (λ later. not (bytes_eq name later)
 abbrev pub ends : List Observed → List (List ℕ)
 ends observations = flat_map (λ o. o.station ∷ o.target ∷ []) observations
 
--- the points of a network: the ends in order of first sight, then the benchmarks that are no end, in table order
+-- the points of a network: the ends in the order of their first occurrence, then the benchmarks that are no end, in table order
 unfoldable pub points : List Observed → BenchmarkRows → List (List ℕ)
 points observations benchmarks = distinct (ends observations ++ map (λ row. row.0) benchmarks)

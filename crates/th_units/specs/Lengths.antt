@@ -15,11 +15,11 @@ is_digit byte = nat_le 48 byte && nat_le byte 57
 abbrev pub are_digits : List ℕ → Bool
 are_digits bytes = nat_lt 0 (length bytes) && list_all is_digit bytes
 
--- the number that digits write, the first one counting most, with any number of zeros before it
+-- the number that decimal digits write, the most significant first; leading zeros are allowed
 abbrev pub number : List ℕ → ℕ
 number digits = digits_value 10 digits
 
--- the number that one to nine digits write, zeros in front counted among the nine
+-- the number that one to nine digits write, leading zeros included in the nine; none for any other bytes
 abbrev pub short_number : List ℕ → Option ℕ
 short_number bytes = if are_digits bytes && nat_le (length bytes) 9 then Some (number bytes) else None
 
@@ -27,8 +27,8 @@ short_number bytes = if are_digits bytes && nat_le (length bytes) 9 then Some (n
 abbrev pub signed : Bool → ℕ → ℤ
 signed negative size = if negative then neg_ℤ (pos size) else pos size
 
--- Sign times number times step. First the bytes have to be digits, then the size, not the count of digits, has to be at most
--- `max_len`.
+-- The length that a sign and digits write in a unit: sign times number times step. First the bytes
+-- must be digits; then the size, not the count of digits, must be at most `max_len`.
 abbrev pub length_of : Bool → List ℕ → Unit → Result ℤ LenFault
 length_of negative digits unit =
     if are_digits digits

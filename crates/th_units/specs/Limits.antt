@@ -1,2 +1,2 @@
--- the size that no length of a book exceeds
+-- the largest size of a length in a book
 pub use Rattle.th_limits.specs.Limits.{max_len}

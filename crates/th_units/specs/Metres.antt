@@ -7,7 +7,7 @@ use Rattle.th_units.specs.Lengths.{are_digits, number, signed}
 use Rattle.th_units.specs.declared.faults.LenFault.{LenFault}
 use Rattle.th_units.specs.declared.faults.LenFault.TheVariants.{NotDigits, TooLarge}
 
--- the last digits of a number, so many of them, with zeros before a shorter number
+-- the last `count` decimal digits of a number, with leading zeros if it has fewer
 unfoldable pub last_digits : ℕ → ℕ → List ℕ
 last_digits zero n = []
 last_digits (suc count) n = last_digits count (n / 10) ++ (48 + n % 10) ∷ []
@@ -32,18 +32,18 @@ has_minus text = slice_index text 0 == 45
 abbrev pub has_sign : List ℕ → Bool
 has_sign text = (slice_index text 0 == 43) || has_minus text
 
--- a text without the sign that it may begin with: a second sign stays
+-- a text without its leading sign, if it has one; a second sign is kept
 abbrev pub without_sign : List ℕ → List ℕ
 without_sign text = drop (if has_sign text then 1 else 0) text
 
 abbrev pub is_dot : ℕ → Bool
 is_dot byte = byte == 46
 
--- what stands before the first dot, or all of a text without a dot
+-- the bytes before the first dot, or the whole text if it has no dot
 abbrev pub whole : List ℕ → List ℕ
 whole text = before_first is_dot text
 
--- what stands after the first dot, if there is one, later dots with it
+-- the bytes after the first dot, including any later dots; none if there is no dot
 abbrev pub decimals : List ℕ → Option (List ℕ)
 decimals text = if is_some (position is_dot text) then Some (after_first is_dot text) else None
 
@@ -55,18 +55,18 @@ are_decimals bytes = are_digits bytes && nat_le (length bytes) 8
 abbrev pub is_in_metres : List ℕ → Bool
 is_in_metres text = are_digits (whole text) && option_map_or are_decimals (decimals text) true
 
--- the size that whole metres and decimals write, in units of 10 nm: the one decimal `5` is half a metre
+-- the size, in units of 10 nm, of the digits before and after the dot: the single decimal `5` is half a metre
 abbrev pub units_of : List ℕ → List ℕ → ℕ
 units_of whole decimals = number whole * metre + number decimals * 10 ^ (8 - length decimals)
 
--- The size that a text in metres without a sign writes. Another form is no number; only then more than nine digits before the
--- dot, zeros among them counted, are too large.
+-- The size, in units of 10 nm, of a text in metres without a sign. A text of any other form is `NotDigits`.
+-- Otherwise more than nine digits before the dot, leading zeros included, are `TooLarge`.
 abbrev pub size_value : List ℕ → Result ℕ LenFault
 size_value text =
     if not (is_in_metres text) then Err NotDigits
     else (if nat_lt 9 (length (whole text)) then Err TooLarge
     else Ok (units_of (whole text) (unwrap_or (decimals text) [])))
 
--- the number of a text in metres, in units of 10 nm: the size that stands after at most one sign; minus zero is zero
+-- the length that a text in metres writes, in units of 10 nm: an optional sign and then a size; minus zero is zero
 abbrev pub value : List ℕ → Result ℤ LenFault
 value text = result_map_both (signed (has_minus text)) (λ fault. fault) (size_value (without_sign text))

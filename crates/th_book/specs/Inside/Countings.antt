@@ -1,4 +1,4 @@
--- What is counted of a block's words.
+-- What one pass over a block's words collects.
 use Rattle.std.specs.Prelude.{ℕ, ℤ, ◌&&◌, ◌||◌, not, Bool, List, Option, Some, None, Result, find, if◌then◌else◌, is_some, option_map}
 use Rattle.std.specs.Option.{option_or}
 use Rattle.std.specs.Result.{result_ok}
@@ -13,15 +13,15 @@ use Rattle.th_book.specs.declared.faults.BookKind.{BookKind}
 use Rattle.th_book.specs.declared.faults.BookKind.TheVariants as book_kind
 use Rattle.th_book.specs.Indexes.{height_difference, station_easting, station_northing, station_height, reflector_height, instrument_height}
 
--- the first word that counts for an index, by its length where it can be read
+-- the length of the first word that counts for an index: none if no word does, and an inner none if that length has a fault
 abbrev pub first_length : ℕ → List Parts → Option (Option ℤ)
 first_length index words = option_map (λ word. result_ok (length_of word)) (find (counts_for index) words)
 
--- the length of a word is refused for this fault
+-- a word's length is refused with this fault
 abbrev pub is_refused_for : LengthFault → Parts → Bool
 is_refused_for fault word = is_refused fault (length_of word)
 
--- what the counting words of a block say
+-- what the counting words of a block amount to
 abbrev pub counted_in : List Parts → Counted
 counted_in words = record {
   sighted = first_length height_difference words;
@@ -36,11 +36,11 @@ counted_in words = record {
   too_large = some_length (is_refused_for TooLarge) words;
 }
 
--- a word's length is kept where it counts and none was kept before
+-- the first length so far: a counting word's length is kept only if none was kept before
 abbrev pub first_kept : Bool → Option (Option ℤ) → Parts → Option (Option ℤ)
 first_kept counts kept word = if counts then option_or kept (Some (result_ok (length_of word))) else kept
 
--- a word counts for an index that was held before
+-- a word counts for an index for which an earlier word counted
 abbrev pub repeats : Parts → Counted → Bool
 repeats word counted =
     (counts_for height_difference word && is_some counted.sighted)
@@ -50,7 +50,7 @@ repeats word counted =
     || ((counts_for reflector_height word && is_some counted.reflector)
     || (counts_for instrument_height word && is_some counted.instrument)))))
 
--- a height difference was counted, or a coordinate of the station and no height difference
+-- what was counted is a sight if there was a height difference, and a setup if there was a coordinate of the station and no height difference
 abbrev pub counts_sight : Counted → Bool
 counts_sight counted = is_some counted.sighted
 
@@ -65,7 +65,7 @@ counted_fault counted =
     else (if counted.too_large then Some book_kind.TooLarge
     else None))
 
--- what is counted after the length of one more word was asked
+-- what is counted after one more length was checked
 abbrev pub with_defect : Result ℤ LengthFault → Counted → Counted
 with_defect length counted = record counted {
   bad_number = counted.bad_number || is_refused BadNumber length;

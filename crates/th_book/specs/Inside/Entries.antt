@@ -4,7 +4,7 @@ use Rattle.std.specs.Option.{option_or}
 use Rattle.th_book.specs.declared.entries.Entered.{Entered}
 use Rattle.th_book.specs.declared.setups.Setup.{Setup}
 
--- a setup with the heights of an entry
+-- a setup, updated with the heights of an entry
 abbrev pub with_entry : Entered → Setup → Setup
 with_entry entry setup = record setup {
   instrument = option_or entry.instrument setup.instrument;
@@ -15,6 +15,6 @@ with_entry entry setup = record setup {
 abbrev pub setup_at : List ℕ → Setup
 setup_at station = record { station = station; instrument = None; reflector = None }
 
--- the running setup after an entry: the one that it begins, or the one before, with its heights
+-- the running setup after an entry: the one that it begins, or else the previous one, updated with its heights
 abbrev pub setup_by : Entered → Option Setup → Option Setup
 setup_by entry running = option_map (with_entry entry) (option_or (option_map setup_at entry.station) running)

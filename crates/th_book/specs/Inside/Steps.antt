@@ -1,4 +1,4 @@
--- What a block leaves.
+-- The step that a block takes in its book.
 use Rattle.std.specs.Prelude.{◌≡◌, ℕ, ℤ, ◌+◌, ◌++◌, ◌&&◌, Bool, false, true, List, Option, Some, None, if◌then◌else◌, is_some, option_and_then, option_map, option_to_list}
 use Rattle.gsi_word.specs.Words.{Parts}
 use Rattle.th_book.specs.Observed.{Observed}
@@ -13,7 +13,7 @@ use Rattle.th_book.specs.declared.setups.Sight.{Sight}
 use Rattle.th_book.specs.declared.steps.Step.{Step}
 use Rattle.th_book.specs.declared.faults.BookKind.{BookKind}
 
--- what stands for a sight in a setup that has the sight's own heights
+-- what a sight has in a setup that already includes the sight's own heights
 abbrev pub standing_of : Option Setup → Standing
 standing_of None = record { setup = false; instrument = false; reflector = false; station = None }
 standing_of (Some setup) = record {
@@ -23,7 +23,7 @@ standing_of (Some setup) = record {
   station = Some setup.station;
 }
 
--- the observation of a target in a setup that has the sight's own heights
+-- the observation of a target in a setup that already includes the sight's own heights
 abbrev pub observed_from : Option Setup → List ℕ → ℤ → ℕ → ℕ → Observed
 observed_from setup target sighted book line = record {
   station = known_name (option_map (λ own. own.station) setup);
@@ -33,7 +33,7 @@ observed_from setup target sighted book line = record {
   line = line;
 }
 
--- the observation that a sight gives in a book's line
+-- a sight as the observation of a line in a book
 abbrev pub stamped : ℕ → ℕ → Sight → Observed
 stamped book line sight = record {
   station = sight.station;
@@ -43,11 +43,11 @@ stamped book line sight = record {
   line = line;
 }
 
--- the first kind of fault of a sight of a target
+-- the first kind of fault of a sight to a target
 abbrev pub sight_fault : Option Setup → List ℕ → Option BookKind
 sight_fault setup target = first_applying (sight_faults (standing_of setup) (Some target))
 
--- this is the sight of a target
+-- `sight` gives the observation of this target, whatever the book and the line
 pub record IsSeen (running : Option Setup) (target : List ℕ) (sighted : ℤ) (sight : Sight) : Type 0 where
   pub seen : (book line : ℕ) → stamped book line sight ≡ observed_from running target sighted book line
 
@@ -55,11 +55,11 @@ pub record IsSeen (running : Option Setup) (target : List ℕ) (sighted : ℤ) (
 abbrev pub is_seen : Entered → Bool
 is_seen entry = is_some entry.target && is_some entry.sighted
 
--- the first kind of fault of an entry in a setup that has its heights
+-- the first kind of fault of an entry's sight, in a setup that already includes the entry's heights; none if it has no sight
 abbrev pub entry_fault : Option Setup → Entered → Option BookKind
 entry_fault setup entry = if is_seen entry then sight_fault setup (known_name entry.target) else None
 
--- this is the sight of an entry, where it has one
+-- `sight` is the sight of an entry, or none if it has none
 pub record AreSeen (setup : Option Setup) (entry : Entered) (sight : Option Sight) : Type 0 where
   pub seen : (book line : ℕ) → option_map (stamped book line) sight ≡ (if is_seen entry then Some (observed_from setup (known_name entry.target) (known entry.sighted) book line) else None)
 
@@ -71,12 +71,12 @@ block_fault running words = first_applying (block_faults (standing_in running wo
 abbrev pub line_fault : Option Setup → ParsedLine → Option BookKind
 line_fault running parsed = kind_of (standing_in running (words_in parsed)) parsed
 
--- this is what words without a fault leave: an entry that makes the running setup after them, and the sight where they are one
+-- the step of words without a fault: its entry leads to the running setup after them, and its sight is theirs if they are one
 pub record IsLeft (running : Option Setup) (words : List Parts) (step : Step) : Type 0 where
   pub setup : setup_by step.entry running ≡ setup_after running words
   pub sight : (book line : ℕ) → option_map (stamped book line) step.sight ≡ observation_in book line running words
 
--- what a book holds after a line without a fault, with the room that there is then
+-- the state of a book after a line without a fault, with a given capacity
 abbrev pub state_with : BookState → Step → ℕ → BookState
 state_with state step room = record state {
   lines = state.lines + 1;
@@ -85,6 +85,6 @@ state_with state step room = record state {
   room = room;
 }
 
--- what a book holds after a line with a fault
+-- the state of a book after a line with a fault
 abbrev pub state_refusing : BookState → BookKind → BookState
 state_refusing state kind = record state { lines = state.lines + 1; fault = Some (fault_in state.lines kind) }

@@ -1,4 +1,4 @@
--- what a reader of `csv` over memory has left, and where it stands
+-- What a reader of `csv` over memory has left, and its state.
 use Rattle.std.specs.Prelude.{◌≡◌, ℕ, ◌+◌, Bool, true, false, List, [], ◌∷◌, length, Option, Some, None, IsSome}
 use Rattle.std.specs.Borrow.{Bor}
 use Rattle.csv.specs.Machine.{ends_at_end}
@@ -14,11 +14,11 @@ use Rattle.th_csv.specs.declared.reading.Progress.TheVariants.{Reading, Ended, R
 abbrev pub BytesReader : Type 0
 BytesReader = Reader (Bor (List ℕ))
 
--- the bytes that a reader has left, if it has not failed
+-- the bytes that a reader has left; none if it has failed
 abbrev pub bytes_left : BytesReader → Option (List ℕ)
 bytes_left reader = source_of (λ s. Some s.now) reader
 
--- the records of these bytes from a state
+-- the records that a reader in this state finds in these bytes
 abbrev pub records_from_state : State → Option (List ℕ) → List Fields
 records_from_state state None = []
 records_from_state state (Some bytes) = records_from default_config (length bytes + 1) state bytes
@@ -27,7 +27,7 @@ records_from_state state (Some bytes) = records_from default_config (length byte
 abbrev pub records_left : BytesReader → List Fields
 records_left reader = records_from_state (reader_state reader) (bytes_left reader)
 
--- a reader that stands between two records, and gives each as it is, whatever its length
+-- a reader between two records, which gives each record as it is, with any number of fields
 pub record IsReading (reader : BytesReader) : Type 0 where
   pub ready : Ready reader
   pub untrimmed : reader_trim reader ≡ trim.None
@@ -36,24 +36,24 @@ pub record IsReading (reader : BytesReader) : Type 0 where
   pub going : IsSome (bytes_left reader)
   pub between : ends_at_end (reader_state reader) ≡ false
 
--- a read found a record, the first of those that were left, and the reader stands behind it; or there was none left
+-- a read found the first of the records that were left, and the reader is now after it; or no record was left
 abbrev pub ReadsFront : BytesReader → BytesReader → Bool → Fields → Type 0
 ReadsFront old new true fields = IsReading new × (records_left old ≡ fields ∷ records_left new)
 ReadsFront old new false fields = records_left old ≡ []
 
--- the records that are left at this progress
+-- the records still to come at this progress
 abbrev pub records_due : Progress → BytesReader → List Fields
 records_due Reading reader = records_left reader
 records_due Ended reader = []
 records_due Refused reader = []
 
--- memory was refused
+-- an allocation failed
 abbrev pub is_refused : Progress → Bool
 is_refused Reading = false
 is_refused Ended = false
 is_refused Refused = true
 
--- a reader that is still reading stands between two records
+-- a reader that is still reading is between two records
 abbrev pub StandsRight : Progress → BytesReader → Type 0
 StandsRight Reading reader = IsReading reader
 StandsRight Ended reader = Unit {0}

@@ -1,11 +1,11 @@
--- How the lines of a piece come to a tally.
+-- How a tally takes the lines of a piece.
 use Rattle.std.specs.Prelude.{ℕ, List, ◌++◌}
 use Rattle.gsi_block.specs.Pieces.{LineState}
 use Rattle.th_entries.specs.Feeds.{IsReadUpTo}
 use Rattle.th_entries.specs.declared.seen.SeenNames.{SeenNames}
 use Rattle.th_entries.specs.declared.tallies.Tally.{Tally}
 
--- Whatever book was read up to a piece is read up to the rest of it
+-- Any book that was read up to `piece` is now read up to `rest`, whatever bytes follow.
 abbrev pub AreTaken : Tally → LineState → List ℕ → Tally → LineState → List ℕ → Type 0
 AreTaken old_tally old_lines piece tally lines rest =
     (names : SeenNames) (number : ℕ) (text later : List ℕ) →

@@ -1,4 +1,4 @@
--- How the names that a block mentions are seen.
+-- How the names that a block mentions are recorded.
 use Rattle.std.specs.Prelude.{ℕ, ◌++◌, List, [], ◌∷◌, Option, None, option_map, option_to_list}
 use Rattle.std.specs.Option.{option_or}
 use Rattle.gsi_word.specs.Words.{Parts}
@@ -7,11 +7,11 @@ use Rattle.th_entries.specs.Spellings.{Mention}
 use Rattle.th_entries.specs.Seen.{AreSeenIn}
 use Rattle.th_entries.specs.declared.seen.SeenNames.{SeenNames}
 
--- a mention, if there is one, was taken after whatever mentions were taken before
+-- a mention, if there is one, was recorded after any mentions recorded before
 abbrev pub IsSeenNext : Option Mention → SeenNames → SeenNames → Type 0
 IsSeenNext mention old new = (before : List Mention) → AreSeenIn before old → AreSeenIn (before ++ option_to_list mention) new
 
--- what a block mentions, by what it enters
+-- the mention of a block, given what the block enters: its target or else its station
 abbrev pub mention_by : ℕ → ℕ → Entered → List Parts → Option Mention
 mention_by book line entered [] = None
 mention_by book line entered (word ∷ words) =

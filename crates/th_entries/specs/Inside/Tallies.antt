@@ -25,15 +25,15 @@ use Rattle.th_entries.specs.declared.reviews.BookCount.{BookCount}
 use Rattle.th_entries.specs.declared.seen.SeenNames.{SeenNames}
 use Rattle.th_entries.specs.declared.tallies.Tally.{Tally}
 
--- one more, as far as 32 bits count
+-- one more, but at most 2^32 - 1
 abbrev pub one_more : ℕ → ℕ
 one_more count = min (count + 1) (2 ^ 32 - 1)
 
--- one more line was counted
+-- the counts with one more line
 abbrev pub with_line : BookCount → BookCount
 with_line counts = record counts { lines = one_more counts.lines }
 
--- a block was counted, by what it enters
+-- the counts with one more block, given what it enters
 abbrev pub with_block : Entered → BookCount → BookCount
 with_block entered counts = record {
   lines = counts.lines;
@@ -42,13 +42,13 @@ with_block entered counts = record {
   sights = if is_some entered.target then one_more counts.sights else counts.sights;
 }
 
--- a block looks like a setup of another point than the station
+-- a block looks like a setup, and its point is not the station, if there is one
 abbrev pub looks : List Parts → Entered → Option (List ℕ) → Bool
 looks words entered station =
     (begins_with_point words && (is_some entered.instrument && (not (is_some entered.target) && not (is_some entered.station))))
     && not (are_one station (point_name words))
 
--- a line, where it looks like a setup
+-- a line's number if the line looks like a setup, else nothing
 abbrev pub line_if : Bool → ℕ → List ℕ
 line_if looks line = if looks then line ∷ [] else []
 
@@ -56,7 +56,7 @@ line_if looks line = if looks then line ∷ [] else []
 abbrev pub entering : Tally → Entering
 entering tally = record { running = tally.running; entries = tally.entries.items }
 
--- nothing is known yet but the names of the books before
+-- a new tally: it holds only the names of earlier books
 pub record IsEmpty (names : SeenNames) (number : ℕ) (tally : Tally) : Type 0 where
   pub seen : tally.names ≡ names
   pub book : tally.book ≡ number
@@ -64,7 +64,7 @@ pub record IsEmpty (names : SeenNames) (number : ℕ) (tally : Tally) : Type 0 w
   pub entered : entering tally ≡ record { running = record { station = None; reflector = None; instrument = None }; entries = [] }
   pub lookalikes : tally.lookalikes.items ≡ []
 
--- a block without a fault was taken, whose line was counted
+-- a block without a fault was taken, after its line was counted
 pub record HasBlock (words : List Parts) (old new : Tally) : Type 0 where
   pub seen : IsSeenNext (mention_by old.book old.counts.lines (entered_by words) words) old.names new.names
   pub book : new.book ≡ old.book
@@ -72,15 +72,15 @@ pub record HasBlock (words : List Parts) (old new : Tally) : Type 0 where
   pub entered : entering new ≡ entering_after old.book old.counts.lines (entered_by words) (entering old)
   pub lookalikes : new.lookalikes.items ≡ old.lookalikes.items ++ line_if (looks words (entered_by words) old.running.station) old.counts.lines
 
--- the line of the last height of an index since the setup that runs at a place
+-- the place of the last height with an index before place `n`, since the setup that runs there
 abbrev pub open_at : ℕ → List ParsedLine → ℕ → Option ℕ
 open_at index parsed n = option_and_then (λ setup. last_below (holds_from parsed index setup) n) (setup_of parsed n)
 
--- a line enters a height in a setup
+-- a line enters a height, and a setup has begun
 abbrev pub opens : List ParsedLine → HeightKind → ℕ → Bool
 opens parsed kind line = holds (index_of kind) (words_at parsed line) && is_some (setup_of parsed (suc line))
 
--- the entry of a line, as far as sights below a bound use it
+-- the entry of a line, counting only sights before a bound; `last` is 0 if none of them uses it
 abbrev pub candidate : ℕ → List ParsedLine → HeightKind → ℕ → ℕ → Entry
 candidate book parsed kind bound line = record {
   book = book;
@@ -95,12 +95,12 @@ candidate book parsed kind bound line = record {
 abbrev pub candidate_at : ℕ → List ParsedLine → HeightKind → ℕ → ℕ → List Entry
 candidate_at book parsed kind bound line = if opens parsed kind line then candidate book parsed kind bound line ∷ [] else []
 
--- the entries of a line, that of each kind as far as its bound
+-- the entries of a line, each kind with its own bound on the sights
 abbrev pub both_at : ℕ → List ParsedLine → ℕ → ℕ → ℕ → List Entry
 both_at book parsed reflector instrument line =
     candidate_at book parsed Reflector reflector line ++ candidate_at book parsed Instrument instrument line
 
--- the entries that come before that of a kind in a line, whatever they count
+-- the entries that come before that of a kind in its line; only their number matters
 abbrev pub ahead : List ParsedLine → HeightKind → ℕ → List Entry
 ahead parsed Reflector line = []
 ahead parsed Instrument line = candidate_at 0 parsed Reflector 0 line
@@ -108,7 +108,7 @@ ahead parsed Instrument line = candidate_at 0 parsed Reflector 0 line
 abbrev pub place_in : List ParsedLine → HeightKind → ℕ → ℕ
 place_in parsed kind line = length (all_below (both_at 0 parsed 0 0) line ++ ahead parsed kind line)
 
--- the running setup and the entries are those at a place
+-- the running setup and the entries are those after the lines before place `n`
 pub record IsEntering (book : ℕ) (parsed : List ParsedLine) (n : ℕ) (state : Entering) : Type 0 where
   pub station : state.running.station ≡ station_at parsed n
   pub begun : is_some (station_at parsed n) ≡ is_some (setup_of parsed n)
@@ -116,7 +116,7 @@ pub record IsEntering (book : ℕ) (parsed : List ParsedLine) (n : ℕ) (state :
   pub instrument : state.running.instrument ≡ option_map (place_in parsed Instrument) (open_at instrument_height parsed n)
   pub entries : state.entries ≡ all_below (both_at book parsed n n) n
 
--- the counts are those of the lines before a place
+-- the counts of the lines before place `n`
 abbrev pub counts_below : List ParsedLine → ℕ → BookCount
 counts_below parsed n = record {
   lines = n;
@@ -125,16 +125,16 @@ counts_below parsed n = record {
   sights = count_below (λ place. is_sight (words_at parsed place)) n;
 }
 
--- the lines that look like setups before a place
+-- the lines before place `n` that look like setups, counted from 1
 abbrev pub lookalikes_below : List ParsedLine → ℕ → List ℕ
 lookalikes_below parsed n = all_below (λ place. line_if (is_lookalike parsed place) (place + 1)) n
 
--- what the lines before a place mention was taken after whatever was mentioned before the book
+-- what the lines before place `n` mention was recorded, after anything mentioned before the book
 abbrev pub AreSeenBelow : ℕ → List ParsedLine → ℕ → SeenNames → SeenNames → Type 0
 AreSeenBelow number parsed n old new =
     (before : List Mention) → AreSeenIn before old → AreSeenIn (before ++ all_below (mentions_at number parsed) n) new
 
--- all that is known is what the lines before a place say, and the names of the books before
+-- the tally holds exactly what the lines before place `n` say, and the names of earlier books
 pub record IsTallied (names : SeenNames) (number : ℕ) (parsed : List ParsedLine) (n : ℕ) (tally : Tally) : Type 0 where
   pub seen : AreSeenBelow number parsed n names tally.names
   pub book : tally.book ≡ number
