@@ -3,7 +3,7 @@ use Rattle.th_book.specs.Observed.{Observed}
 use Rattle.th_network.specs.Heights.{residual}
 use Rattle.th_network.specs.Limits.{height_limit}
 
--- the size that each residual stays below, with room to spare: an observed difference and two heights are less
+-- a bound, with a margin, that every residual stays below in size: an observed difference and two heights sum to less
 abbrev pub residual_limit : ℕ
 residual_limit = 10 * height_limit
 

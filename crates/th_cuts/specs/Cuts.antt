@@ -9,7 +9,7 @@ separates inside u v = if inside u then (if inside v then false else true) else 
 abbrev pub crosses : (ℕ → Bool) → Edge → Bool
 crosses inside edge = separates inside edge.tail edge.head
 
--- what the edges that cross weigh
+-- the total weight of the edges that cross
 abbrev pub cut_weight : (ℕ → Bool) → List Edge → ℕ
 cut_weight inside edges = sum_by (λ edge. if crosses inside edge then edge.weight else 0) edges
 
@@ -17,7 +17,7 @@ cut_weight inside edges = sum_by (λ edge. if crosses inside edge then edge.weig
 abbrev pub on_side : List Bool → ℕ → Bool
 on_side side vertex = slice_index_or side vertex false
 
--- what the cuts that separate two vertices weigh at least, and one of them does weigh
+-- some cut that separates two vertices has this weight, and no such cut weighs less
 pub record IsLeastCut (edges : List Edge) (u v value : ℕ) : Type 0 where
   pub reached : (inside : ℕ → Bool) × (separates inside u v ≡ true) × (cut_weight inside edges ≡ value)
   pub least : (inside : ℕ → Bool) → separates inside u v ≡ true → value ≤ cut_weight inside edges

@@ -1,4 +1,4 @@
--- What a review notes of a survey, of its tables and of its books.
+-- The notes of a review on a survey, on its tables and on its books.
 use Rattle.std.specs.Prelude.{ℕ, ℤ, ◌-◌, ◌==◌, ◌||◌, ◌++◌, Bool, List, Option, Some, None, if◌then◌else◌, map, option_map}
 use Rattle.std.specs.List.{enumerate_from, filter_map, flat_map, list_any}
 use Rattle.gsi_word.specs.Names.{same_name, same_pair}
@@ -13,29 +13,29 @@ use Rattle.th_notes.specs.Repeats.{by_book, first_same, observations_in}
 use Rattle.th_notes.specs.declared.notes.Note.{Note}
 use Rattle.th_notes.specs.declared.notes.Note.TheVariants.{NoSight, SameObservations, Lookalike, UnusedWeight, TurnedWeight, UnseenBenchmark, Respelled}
 
--- the note of a numbered book without a sight
+-- the note on a numbered book, if it has no sight
 abbrev pub sight_note : ℕ × BookCount → Option Note
 sight_note (book, count) = if count.sights == 0 then Some (NoSight book count.blocks) else None
 
--- the notes of the books without a sight
+-- the notes on the books without a sight
 abbrev pub sight_notes : List BookCount → List Note
 sight_notes books = filter_map sight_note (enumerate_from 1 books)
 
--- the note of a numbered book with a sight that has the same observations as an earlier one
+-- the note on a numbered book with a sight, if it has the same observations as an earlier one
 abbrev pub same_note : List Observed → ℕ × BookCount → Option Note
 same_note observations (book, count) =
     if count.sights == 0 then None
     else option_map (λ earlier. SameObservations book earlier) (first_same (by_book observations (book - 1)) (observations_in observations book))
 
--- the notes of the books with the same observations as an earlier one
+-- the notes on the books with the same observations as an earlier one
 abbrev pub same_notes : List Observed → List BookCount → List Note
 same_notes observations books = filter_map (same_note observations) (enumerate_from 1 books)
 
--- the notes of the lines of a numbered book that look like a setup and are none
+-- the notes on the lines of a numbered book that look like a setup and are none
 abbrev pub book_lookalikes : ℕ × BookReview → List Note
 book_lookalikes (book, review) = map (λ line. Lookalike book line) review.lookalikes.items
 
--- the notes of the lines of all books that look like a setup and are none
+-- the notes on the lines of all books that look like a setup and are none
 abbrev pub lookalike_notes : List BookReview → List Note
 lookalike_notes reviews = flat_map book_lookalikes (enumerate_from 1 reviews)
 
@@ -43,18 +43,18 @@ lookalike_notes reviews = flat_map book_lookalikes (enumerate_from 1 reviews)
 abbrev pub was_observed : List Observed → List ℕ × List ℕ → Bool
 was_observed observations ends = list_any (λ o. same_pair (o.station, o.target) ends) observations
 
--- the note of a row of the table of weights, if its pair was never observed: whether the pair was, and whether it was the other way round
+-- the note on a row of the weights, unless its pair was `observed`; it says if the pair was observed the other way round (`turned`)
 abbrev pub pair_note : ℕ → List ℕ × List ℕ → Bool → Bool → Option Note
 pair_note row (station, target) observed turned =
     if observed then None
     else (if turned then Some (TurnedWeight row station target)
     else Some (UnusedWeight row station target))
 
--- the same, by the observations
+-- the note on a row of the weights, given the observations
 abbrev pub weight_note : List Observed → ℕ × ((List ℕ × List ℕ) × ℕ) → Option Note
 weight_note observations (row, (ends, weight)) = pair_note row ends (was_observed observations ends) (was_observed observations (ends.1, ends.0))
 
--- the notes of the table of weights, whose rows are records from 2 on
+-- the notes on the table of weights, whose first row is record 2
 abbrev pub weight_notes : List Observed → WeightRows → List Note
 weight_notes observations weights = filter_map (weight_note observations) (enumerate_from 2 weights)
 
@@ -62,23 +62,23 @@ weight_notes observations weights = filter_map (weight_note observations) (enume
 abbrev pub was_seen : List Observed → List ℕ → Bool
 was_seen observations name = list_any (λ o. same_name o.station name || same_name o.target name) observations
 
--- the note of a row of the table of benchmarks, if it was never observed: whether it was
+-- the note on a row of the benchmarks, unless it was `seen` in an observation
 abbrev pub name_note : ℕ → List ℕ → Bool → Option Note
 name_note row name seen = if seen then None else Some (UnseenBenchmark row name)
 
--- the same, by the observations
+-- the note on a row of the benchmarks, given the observations
 abbrev pub benchmark_note : List Observed → ℕ × (List ℕ × ℤ) → Option Note
 benchmark_note observations (row, (name, height)) = name_note row name (was_seen observations name)
 
--- the notes of the table of benchmarks
+-- the notes on the table of benchmarks, whose first row is record 2
 abbrev pub benchmark_notes : List Observed → BenchmarkRows → List Note
 benchmark_notes observations benchmarks = filter_map (benchmark_note observations) (enumerate_from 2 benchmarks)
 
--- the notes of names that are spelled in another way than before
+-- the notes on names that are spelled in another way than before
 abbrev pub spelling_notes : List Spelling → List Note
 spelling_notes spellings = map (λ spelling. Respelled spelling.book spelling.line spelling.name) spellings
 
--- all notes of a review: of the books, of the tables, and of the names
+-- all notes of a review: on the books, then on the weights, the benchmarks and the names
 abbrev pub notes_of : Survey → List BookReview → List Spelling → List Note
 notes_of survey reviews spellings =
     sight_notes (counts_of_books reviews)

@@ -1,4 +1,4 @@
--- The notes of a review.
+-- The texts of a review's notes.
 use Rattle.std.specs.Prelude.{ℕ, List, ◌++◌, codes, decimal, length}
 use Rattle.std.specs.List.{flat_map}
 use Rattle.th_report.specs.Columns.{line_end}
@@ -14,18 +14,18 @@ book_place book line = codes "book " ++ decimal book ++ codes " line " ++ decima
 unfoldable pub name_place : ℕ → ℕ → List ℕ → List ℕ
 name_place book line name = book_place book line ++ codes ": " ++ name
 
--- the table of weights, and that of benchmarks
+-- the beginning of a note on a row of the weights, and on a row of the benchmarks
 unfoldable pub in_weights : List ℕ
 in_weights = codes "weights record "
 
 unfoldable pub in_benchmarks : List ℕ
 in_benchmarks = codes "benchmarks record "
 
--- the pair of a row of the table of weights
+-- a row of the table of weights, with its pair
 unfoldable pub pair_text : ℕ → List ℕ → List ℕ → List ℕ
 pair_text row station target = in_weights ++ decimal row ++ codes ": " ++ station ++ codes " to " ++ target
 
--- the name of a row of the table of benchmarks
+-- a row of the table of benchmarks, with its name
 unfoldable pub benchmark_text : ℕ → List ℕ → List ℕ
 benchmark_text row name = in_benchmarks ++ decimal row ++ codes ": " ++ name
 
@@ -45,7 +45,7 @@ lookalike_text book line = book_place book line ++ codes ": looks like a setup, 
 unfoldable pub unused_text : ℕ → List ℕ → List ℕ → List ℕ
 unused_text row station target = pair_text row station target ++ codes " was never observed"
 
--- a row of the table of weights whose pair was observed the other way round alone
+-- a row of the table of weights whose pair was only observed the other way round
 unfoldable pub turned_text : ℕ → List ℕ → List ℕ → List ℕ
 turned_text row station target = unused_text row station target ++ codes ", but " ++ target ++ codes " to " ++ station ++ codes " was"
 
@@ -71,6 +71,6 @@ note_text (Respelled book line name) = respelled_text book line name
 unfoldable pub note_line : Note → List ℕ
 note_line note = note_text note ++ line_end
 
--- how many notes there are, and their lines
+-- the number of notes, and then their lines
 unfoldable pub note_lines : List Note → List ℕ
 note_lines notes = label_line (codes "notes") (decimal (length notes)) ++ flat_map note_line notes

@@ -10,7 +10,7 @@ use Rattle.th_book.specs.Observed.{Observed}
 abbrev pub observations_in : List Observed → ℕ → List Observed
 observations_in observations book = filter (λ o. o.book == book) observations
 
--- the observations of so many books, book by book, from book 1 on
+-- the observations of books 1 to `count`, book by book
 abbrev pub by_book : List Observed → ℕ → List (List Observed)
 by_book observations count = map (observations_in observations) (range_with_len 1 count)
 
@@ -18,10 +18,10 @@ by_book observations count = map (observations_in observations) (range_with_len 
 abbrev pub says_same : Observed → Observed → Bool
 says_same o other = same_name o.station other.station && (same_name o.target other.target && int_eq o.difference other.difference)
 
--- whether there are as many observations, and the same in the same order
+-- whether two lists have the same number of observations, and the same ones in the same order
 abbrev pub are_same : List Observed → List Observed → Bool
 are_same = pointwise says_same
 
--- the first of some books, numbered from 1, that has the same observations as another
+-- the number, counted from 1, of the first of some books that has the same observations as this one
 abbrev pub first_same : List (List Observed) → List Observed → Option ℕ
 first_same books own = position_from (λ earlier. are_same earlier own) 1 books

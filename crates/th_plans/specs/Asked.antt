@@ -7,25 +7,25 @@ use Rattle.clap.specs.Words.{Row, Text, all_of, first_of, one_of}
 use Rattle.th_plans.specs.Limits.{max_blunder, max_books, units_in_micrometre}
 use Rattle.th_plans.specs.Prefixes.{names_files}
 
--- the names of the files that `adjust`, `review` and `check` read: the books in order, the benchmarks, and the weights where a file of them is named
+-- the names of the files that `adjust`, `review` and `check` read: the books in order, the benchmarks, and the weights if a file of them is named
 pub record Files : Type 0 where
   pub books : List Text
   pub benchmarks : Text
   pub weights : Option Text
 
--- what a command line asks for: to list a book; to adjust or to review, with a limit of blunders in units of 10 nm and the prefix of the outputs; to check a
--- certificate
+-- what a command line requests: to list a book; to adjust or to review, with a limit of blunders
+-- in units of 10 nm and the prefix of the outputs; or to check a certificate
 pub data Asked : Type 0 where
   list : Text → Asked
   adjust : Files → ℤ → Text → Asked
   review : Files → ℤ → Text → Asked
   check : Files → Text → Asked
 
--- as many books as a command takes
+-- the names of the books, if there are as many as a command takes: 1 to 16
 abbrev pub books_of : List Text → Option (List Text)
 books_of names = if nat_le 1 (length names) && nat_le (length names) max_books then Some names else None
 
--- a limit that a command takes
+-- a limit of blunders in units of 10 nm, given in micrometres; none above the largest that a command takes
 abbrev pub limit_of : ℕ → Option ℤ
 limit_of micrometres = if nat_le micrometres max_blunder then Some (pos (units_in_micrometre * micrometres)) else None
 
@@ -35,7 +35,7 @@ number_in text =
     let digits = without_leading_plus text in
     if is_numeral digits then Some (digits_value 10 digits) else None
 
--- what `clap` found for a command's arguments: the files,
+-- the files in what `clap` found for a command's arguments
 abbrev pub files_in : List Row → Option Files
 files_in rows =
     option_and_then (λ names. option_and_then (λ books. option_map (λ benchmarks. record {
@@ -44,28 +44,28 @@ files_in rows =
       weights = first_of (codes "weights") rows;
     }) (first_of (codes "benchmarks") rows)) (books_of names)) (all_of (codes "book") rows)
 
--- the limit of blunders,
+-- the limit of blunders in what `clap` found
 abbrev pub limit_in : List Row → Option ℤ
 limit_in rows = option_and_then limit_of (option_and_then number_in (one_of (codes "blunder") rows))
 
--- the prefix of the outputs, which must name files,
+-- the prefix of the outputs in what `clap` found, if it names files
 abbrev pub prefix_in : List Row → Option Text
 prefix_in rows = option_and_then (λ prefix. if names_files prefix then Some prefix else None) (first_of (codes "out") rows)
 
--- the options of `adjust` and `review`: the files, the limit of blunders, and the prefix,
+-- the options of `adjust` and `review` in what `clap` found: the files, the limit of blunders, and the prefix
 abbrev pub options_in : List Row → Option (Files × ℤ × Text)
 options_in rows =
     option_and_then (λ files. option_and_then (λ limit. option_map (λ prefix. (files, limit, prefix)) (prefix_in rows)) (limit_in rows)) (files_in rows)
 
--- whether there is a prefix that names no files,
+-- whether `clap` found a prefix that names no files
 abbrev pub has_bad_prefix : List Row → Bool
 has_bad_prefix rows = option_map_or (λ prefix. not (names_files prefix)) (first_of (codes "out") rows) false
 
--- and how many books there are
+-- how many books `clap` found
 abbrev pub book_count : List Row → ℕ
 book_count rows = length (unwrap_or (all_of (codes "book") rows) [])
 
--- what the arguments of each command ask for
+-- what the arguments of each command request
 abbrev pub list_asked : List Row → Option Asked
 list_asked rows = option_map list (first_of (codes "book") rows)
 
@@ -78,7 +78,7 @@ review_asked rows = option_map (λ own. review own.0 own.1 own.2) (options_in ro
 abbrev pub check_asked : List Row → Option Asked
 check_asked rows = option_and_then (λ files. option_map (check files) (first_of (codes "certificate") rows)) (files_in rows)
 
--- what a command of this name asks for
+-- what the command of this name requests
 abbrev pub command_asked : Text → List Row → Option Asked
 command_asked name rows =
     if bytes_eq name (codes "list") then list_asked rows
@@ -87,6 +87,6 @@ command_asked name rows =
     else if bytes_eq name (codes "check") then check_asked rows
     else None
 
--- what a command asks for, with what `clap` found for its arguments
+-- what a command requests, given what `clap` found for its arguments
 abbrev pub asked_by : Option (Text × List Row) → Option Asked
 asked_by = option_and_then (λ found. command_asked found.0 found.1)

@@ -1,7 +1,7 @@
 use Rattle.std.specs.Prelude.{ℕ}
 pub use Rattle.th_limits.specs.Limits.{max_books}
 
--- the largest limit of blunders that a command takes, in micrometres
+-- the largest limit of blunders that a command takes, in micrometres: 1 km
 abbrev pub max_blunder : ℕ
 max_blunder = 1000000000
 

@@ -27,7 +27,7 @@ books_rule = record book_rule {
   range = Some (record { start_inclusive = 1; end_inclusive = usize_max });
 }
 
--- an option `--NAME VALUE`, and one that must be there
+-- an option `--NAME VALUE`, and one that is required
 abbrev pub option_rule : Text → Rule
 option_rule name = record (new_rule name) {
   long = Some name;
@@ -37,7 +37,7 @@ option_rule name = record (new_rule name) {
 abbrev pub needed_rule : Text → Rule
 needed_rule name = record (option_rule name) { required = true }
 
--- `--blunder MICROMETRES`, a whole number within its limit, 20000 where it is not given
+-- `--blunder MICROMETRES`, a whole number from 0 to `max_blunder`, 20000 by default
 abbrev pub blunder_rule : Rule
 blunder_rule = record (option_rule (codes "blunder")) {
   defaults = codes "20000" ∷ [];
@@ -67,34 +67,34 @@ check_command =
     with_rule (with_rule (with_rule (with_rule (new_app (codes "check")) (needed_rule (codes "benchmarks")))
     (option_rule (codes "weights"))) (needed_rule (codes "certificate"))) books_rule
 
--- the program with a version, which needs a command
+-- the program, with a version and a required command
 abbrev pub bare_program : App
 bare_program =
     let bare = new_app (codes "height_office") in
     record bare { top = record bare.top { has_version = true; subcommand_required = true } }
 
--- the command line, as `clap` describes one: `list`, `adjust`, `review` or `check` must follow
+-- the command line, as `clap` describes one: `list`, `adjust`, `review` or `check` is required
 abbrev pub command_line : App
 command_line =
     with_subcommand (with_subcommand (with_subcommand (with_subcommand bare_program list_command.top) adjust_command.top) review_command.top) check_command.top
 
--- `clap` takes the words: it has no fault to state for them
+-- `clap` accepts the arguments: it reports no fault
 abbrev pub AreTaken : List Text → Type 0
 AreTaken words = fault_of command_line words ≡ []
 
--- what the words ask for, as `clap` reads them by the command line
+-- what the arguments request, as `clap` parses them
 abbrev pub asked : List Text → Option Asked
 asked words = asked_by (subcommand_of command_line words)
 
--- how many books the words name
+-- how many books the arguments name
 abbrev pub books_named : List Text → ℕ
 books_named words = option_map_or (λ found. book_count found.1) (subcommand_of command_line words) 0
 
--- whether the words have a prefix that names no files
+-- whether the arguments have a prefix that names no files
 abbrev pub name_no_files : List Text → Bool
 name_no_files words = option_map_or (λ found. has_bad_prefix found.1) (subcommand_of command_line words) false
 
--- the files that inputs name
+-- the names of the files in some inputs
 abbrev pub files : Inputs → Files
 files inputs = record {
   books = names_in inputs.books;
@@ -102,7 +102,7 @@ files inputs = record {
   weights = option_map (λ name. name.now) inputs.weights;
 }
 
--- what a plan says that was asked for; none where it is to list standard input
+-- what a plan does, as a request; none if it is to list standard input
 abbrev pub said_by : Plan → Option Asked
 said_by plan.Standard = None
 said_by (plan.List book) = Some (list book.now)
@@ -110,14 +110,14 @@ said_by (plan.Adjust inputs limit prefix) = Some (adjust (files inputs) limit pr
 said_by (plan.Review inputs limit prefix) = Some (review (files inputs) limit prefix.now)
 said_by (plan.Check inputs certificate) = Some (check (files inputs) certificate.now)
 
--- the plan is what the words of a command line ask for. With no word after the program's name, or not even that one, it is to list standard input. `-` is a
--- file's name like any other, and so is the empty name, which no file has
+-- The plan is what the arguments request. With no argument after the program's name, or without even that name, it is to
+-- list standard input. `-` is a file's name like any other, and so is the empty name, which no file has.
 abbrev pub IsPlanOf : List Text → Plan → Type 0
 IsPlanOf words plan.Standard = length words ≤ 1
 IsPlanOf words other = (1 < length words) × AreTaken words × (asked words ≡ said_by other)
 
--- a fault of the words, of which there are more than the program's name: one that `clap` states for them, or `clap` takes them and they ask for nothing, with too
--- many books, else with a prefix that names no files, or without either. Any such words may be out of memory instead
+-- A fault of the arguments, if there are any after the program's name. Either `clap` reports it; or `clap` accepts them and they request nothing, with
+-- too many books, or else with a prefix that names no files, or with neither. Any such arguments may give out of memory instead.
 abbrev pub IsFaultOf : List Text → PlanFault → Type 0
 IsFaultOf words (Line error) = (1 < length words) × (kind_of error ≢ OutOfMemory) × (IsAmong (kind_of error) (fault_of command_line words)
     ⊎ (AreTaken words × (asked words ≡ None) × (books_named words ≤ max_books) × (name_no_files words ≡ false)))
@@ -125,6 +125,7 @@ IsFaultOf words TooManyBooks = (1 < length words) × AreTaken words × (asked wo
 IsFaultOf words NamesNoFiles = (1 < length words) × AreTaken words × (asked words ≡ None) × (books_named words ≤ max_books) × (name_no_files words ≡ true)
 IsFaultOf words NoMemory = 1 < length words
 
--- the words are wrong, or ask for help: there are more than the program's name, and `clap` does not take them, or they ask for nothing that the program does
+-- The arguments are wrong, or they request help: there are any after the program's name, and
+-- `clap` does not accept them, or they request nothing that the program does.
 abbrev pub AreWrong : List Text → Type 0
 AreWrong words = (1 < length words) × ((fault_of command_line words ≢ []) ⊎ (asked words ≡ None))

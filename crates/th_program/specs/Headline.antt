@@ -1,4 +1,4 @@
--- What the headline speaks of: arguments that ask for something, inputs that are accepted, and what may still keep a run from its end.
+-- The terms of the headline: arguments that request something, inputs that are accepted, and what may still stop a run.
 use Rattle.std.specs.Prelude.{◌≡◌, ◌<◌, ◌⊎◌, ℕ, List, Some, None, Ok, length}
 use Rattle.th_network.specs.Networks.{Survey}
 use Rattle.th_plans.specs.Asked.{Asked, Files}
@@ -9,11 +9,11 @@ use Rattle.th_program.specs.Done.{IsAdjustOutput}
 use Rattle.th_program.specs.Owed.{HasName, Told, survey_owed}
 use Rattle.th_runs.specs.declared.refusals.Input.{Input}
 
--- the words of a command line, the program's name first, ask for this
+-- the arguments, the program's name first, request this
 abbrev pub AskFor : List (List ℕ) → Asked → Type 0
 AskFor words wanted = (1 < length words) × AreTaken words × (asked words ≡ Some wanted)
 
--- the named inputs are accepted: no fault is in them, and the survey that they give makes a network
+-- the named inputs are accepted: none has a fault, and their survey makes a network
 pub record IsAccepted (told : Told) (from : Files) (survey : Survey) : Type 0 where
   pub given : survey_owed told None from ≡ Some (Ok survey)
   pub network : MakesNetwork survey
@@ -22,6 +22,6 @@ pub record IsAccepted (told : Told) (from : Files) (survey : Survey) : Type 0 wh
 abbrev pub SparesInputs : Files → List ℕ → Type 0
 SparesInputs from prefix = (which : Input) (name : List ℕ) → HasName from which name → IsAdjustOutput prefix (file name) → ⊥
 
--- the status of a run that was out of memory, or whose device failed
+-- the status of a run that was out of memory, 4, or whose device failed, 5
 abbrev pub IsUnlucky : ℕ → Type 0
 IsUnlucky status = (status ≡ 4) ⊎ (status ≡ 5)

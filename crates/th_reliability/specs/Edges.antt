@@ -6,12 +6,12 @@ use Rattle.th_points.specs.Points.{points}
 use Rattle.th_network.specs.Vertices.{vertex_of}
 use Rattle.th_cuts.specs.declared.edges.Edge.{Edge}
 
--- the edge of an observation in a graph over the vertices of a network: it joins the vertices of its ends, and weighs what the observation weighs
+-- the edge of an observation in the graph over a network's vertices: it joins the vertices of the ends, and has the observation's weight
 abbrev pub edge_of : List Observed → BenchmarkRows → WeightRows → Observed → Edge
 edge_of observations benchmarks weights o =
     record { tail = vertex_of observations benchmarks o.station; head = vertex_of observations benchmarks o.target; weight = weight_of weights o.station o.target }
 
--- for each observation its edge
+-- the edge of each observation, in order
 abbrev pub edges_of : List Observed → BenchmarkRows → WeightRows → List Edge
 edges_of observations benchmarks weights = map (edge_of observations benchmarks weights) observations
 

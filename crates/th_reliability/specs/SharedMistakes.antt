@@ -13,29 +13,30 @@ own survey group inside = own_cut survey.observations survey.weights group insid
 abbrev pub rest : Survey → (Observed → Bool) → (List ℕ → Bool) → ℕ
 rest survey group inside = rest_cut survey.observations survey.weights group inside
 
--- what a mistake that a group shares does, as far as the sets of one kind go: it shows where the others outweigh the group in each such set, drags where the group outweighs the others in one, and ties where it does in none and weighs as much in one
+-- What a mistake that a group shares does, over the sets of one kind. It shows if the others outweigh the group in every set, and drags if the
+-- group outweighs the others in some set. It ties if the group never outweighs the others but weighs the same in some set.
 abbrev pub IsMistakeOver : ((List ℕ → Bool) → Type 0) → Survey → (Observed → Bool) → SharedMistake → Type 0
 IsMistakeOver Kind survey group Shows = (inside : List ℕ → Bool) → Kind inside → own survey group inside < rest survey group inside
 IsMistakeOver Kind survey group Ties =
     ((inside : List ℕ → Bool) → Kind inside → own survey group inside ≤ rest survey group inside) × ((inside : List ℕ → Bool) × Kind inside × (own survey group inside ≡ rest survey group inside))
 IsMistakeOver Kind survey group Drags = (inside : List ℕ → Bool) × Kind inside × (rest survey group inside < own survey group inside)
 
--- a free set that holds a point
+-- a free set that contains a point
 pub record IsFreeWithPoint (survey : Survey) (inside : List ℕ → Bool) : Type 0 where
   pub free : IsFreeSet survey.benchmarks inside
   pub point : (name : List ℕ) × Contains (points_of survey) name × (inside name ≡ true)
 
--- what a mistake that a group shares does, over all free sets that hold a point
+-- what a mistake that a group shares does, over all free sets that contain a point
 abbrev pub IsSharedMistake : Survey → (Observed → Bool) → SharedMistake → Type 0
 IsSharedMistake survey group mistake = IsMistakeOver (IsFreeWithPoint survey) survey group mistake
 
--- what a mistake does that is shared by a group with this control and weight
+-- what a mistake that a group with this control and weight shares does: it shows if the control is above the weight, ties if both are equal, and else drags
 abbrev pub shared_mistake_of : ℕ → ℕ → SharedMistake
 shared_mistake_of control weight =
     if nat_lt weight control then Shows
     else (if control == weight then Ties else Drags)
 
--- what a mistake does in a group of one observation, with its control and weight: it shows where there is no control
+-- what a mistake does in a group of one observation with this control and weight: it shows if there is no control
 abbrev pub single_mistake_of : Option ℕ → ℕ → SharedMistake
 single_mistake_of None weight = Shows
 single_mistake_of (Some control) weight = shared_mistake_of control weight

@@ -2,7 +2,7 @@ use Rattle.std.specs.Prelude.{◌≡◌, ℕ, Bool, true, ◌&&◌, ◌==◌, na
 use Rattle.th_book.specs.Observed.{Observed}
 use Rattle.th_reliability.specs.declared.sights.Sights.{Sights}
 
--- the observation is one of the sights: it is from their book, and its line from the first of them to the last
+-- an observation is one of the sights: it is from their book, and its line is from the first to the last of theirs
 abbrev pub in_sights : Sights → Observed → Bool
 in_sights sights o = o.book == sights.book && (nat_le sights.first o.line && nat_le o.line sights.last)
 

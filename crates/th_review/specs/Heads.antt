@@ -16,7 +16,7 @@ use Rattle.th_review.specs.declared.rows.EntryRow.{EntryRow}
 unfoldable pub title_line : List ℕ
 title_line = codes "HEIGHT NETWORK REVIEW" ++ line_end
 
--- how many points are free
+-- the number of free points: those that are no benchmark
 abbrev pub free_count : Survey → ℕ
 free_count survey = length (points_of survey) - benchmark_count survey
 
@@ -75,11 +75,11 @@ lesser None other = other
 lesser (Some strength) None = Some strength
 lesser (Some strength) (Some other) = Some (min strength other)
 
--- the least strength of some points, none where no point has one
+-- the least strength of some points; none if no point has one
 abbrev pub weakest : List PointRow → Option ℕ
 weakest points = fold (λ least row. lesser least row.strength) None points
 
--- the title, and what was reviewed in numbers
+-- the title, and the numbers of the review
 unfoldable pub head_lines : Survey → List PointRow → List ObservationRow → List EntryRow → List ℕ
 head_lines survey points observations entries =
     title_line ++ survey_lines survey ++ mistake_lines observations ++ entry_count_lines entries

@@ -31,12 +31,12 @@ unfoldable pub book_lines : List BookCount → List ℕ
 book_lines books =
     book_columns (codes "BK") (codes "LINES") (codes "BLOCKS") (codes "SETUPS") (codes "SIGHTS") ++ flat_map book_line (enumerate_from 1 books)
 
--- the columns of points: a name, a height, the highest less the lowest best height, a strength, what it withstands, and a mark
+-- the columns of points: name, height, highest less lowest best height, strength, the weight that it withstands, and mark
 unfoldable pub point_columns : List ℕ → List ℕ → List ℕ → List ℕ → List ℕ → List ℕ → List ℕ
 point_columns name height spread strength withstands mark =
     left_in 16 name ++ gap ++ right_in 20 height ++ gap ++ right_in 20 spread ++ gap ++ right_in 8 strength ++ gap ++ right_in 10 withstands ++ mark ++ line_end
 
--- the weight of blunders that a point of this strength withstands
+-- the most weight of blunders that a point of this strength withstands: less than half of the strength
 abbrev pub withstood : ℕ → ℕ
 withstood strength = (strength - 1) / 2
 
@@ -54,7 +54,7 @@ point_lines points =
 unfoldable pub checked_columns : List ℕ → List ℕ → List ℕ → List ℕ → List ℕ
 checked_columns weight residual control mark = right_in 4 weight ++ gap ++ right_in 20 residual ++ gap ++ right_in 8 control ++ mark ++ line_end
 
--- the names of the columns of observations
+-- the header of the table of observations
 unfoldable pub observation_header : List ℕ
 observation_header =
     place_columns (codes "NO") (codes "BK") (codes "LINE")
@@ -71,7 +71,7 @@ marked_line mark row =
 unfoldable pub largest_line : ℤ → ObservationRow → List ℕ
 largest_line limit row = marked_line (blunder_mark (is_blunder limit row.residual)) row
 
--- the table of the largest residuals, below how many they are and the limit of blunders
+-- the table of the largest residuals, after their number and the limit of blunders
 unfoldable pub largest_lines : ℤ → List ObservationRow → List ℕ
 largest_lines limit observations =
     label_line (codes "largest") (decimal (length (largest observations)))
@@ -86,11 +86,11 @@ observation_line row = marked_line (mistake_mark row.mistake) row
 unfoldable pub observation_lines : List ObservationRow → List ℕ
 observation_lines observations = observation_header ++ flat_map observation_line observations
 
--- the columns of entries that say which it is: a book, a line, an index of a word, and a station
+-- the columns of entries that identify one: book, line, word index, and station
 unfoldable pub entry_places : List ℕ → List ℕ → List ℕ → List ℕ → List ℕ
 entry_places book line word station = right_in 2 book ++ gap ++ right_in 8 line ++ gap ++ right_in 4 word ++ gap ++ left_in 16 station ++ gap
 
--- the other columns of entries: a length, a count of sights, a weight, and a mark
+-- the other columns of entries: length, number of sights, weight, and mark
 unfoldable pub entry_values : List ℕ → List ℕ → List ℕ → List ℕ → List ℕ
 entry_values length sights weight mark = right_in 20 length ++ gap ++ right_in 6 sights ++ gap ++ right_in 8 weight ++ mark ++ line_end
 
@@ -107,14 +107,14 @@ entry_lines entries =
     ++ entry_values (codes "LENGTH") (codes "SIGHTS") (codes "WEIGHT") []
     ++ flat_map entry_line entries
 
--- what is said before the table of points: the head, the books and the largest residuals, an empty line after each
+-- the part before the table of points: the head, the books and the largest residuals, with an empty line after each
 unfoldable pub front_part : Survey → List PointRow → List ObservationRow → List EntryRow → List BookCount → ℤ → List ℕ
 front_part survey points observations entries books limit =
     head_lines survey points observations entries ++ line_end
     ++ book_lines books ++ line_end
     ++ largest_lines limit observations ++ line_end
 
--- the tables of all points, observations and entries, an empty line after each
+-- the tables of all points, observations and entries, with an empty line after each
 unfoldable pub table_part : List PointRow → List ObservationRow → List EntryRow → List ℕ
 table_part points observations entries =
     point_lines points ++ line_end

@@ -1,4 +1,4 @@
--- What the texts of a review say of each point, observation and entry.
+-- What the texts of a review state for each point, observation and entry.
 use Rattle.std.specs.Prelude.{ℕ, ℤ, ◌-ℤ◌, ◌==◌, Bool, false, List, Option, None, Some, map}
 use Rattle.std.specs.List.{enumerate_from, zip}
 use Rattle.th_book.specs.Observed.{Observed}
@@ -15,30 +15,30 @@ use Rattle.th_review.specs.declared.rows.PointRow.{PointRow}
 use Rattle.th_review.specs.declared.rows.ObservationRow.{ObservationRow}
 use Rattle.th_review.specs.declared.rows.EntryRow.{EntryRow}
 
--- whether one observation alone holds a point: its strength is 1 where all weights are 1
+-- whether one observation alone holds a point: the point's strength is 1 if all weights are 1
 abbrev pub is_held_by_one : Option ℕ → Bool
 is_held_by_one None = false
 is_held_by_one (Some unit_strength) = unit_strength == 1
 
--- the row of a point, by its name, the lowest and the highest of its best heights, its strength, and its strength where all weights are 1
+-- the row of a point, given its name, its lowest and highest best height, its strength, and its strength if all weights are 1
 abbrev pub point_row_of : List ℕ → ℤ → ℤ → Option ℕ → Option ℕ → PointRow
 point_row_of name low high strength unit_strength =
     record { name = name; low = low; high = high; spread = high -ℤ low; strength = strength; alone = is_held_by_one unit_strength }
 
--- the same, with maps of heights
+-- the row of a point, given maps of the lowest and highest best heights
 abbrev pub point_row : (List ℕ → ℤ) → (List ℕ → ℤ) → List ℕ × (Option ℕ × Option ℕ) → PointRow
 point_row low high (name, (strength, unit_strength)) = point_row_of name (low name) (high name) strength unit_strength
 
--- the rows of the points, in point order, in which the strengths are listed too
+-- the rows of the points, in point order, as are the strengths
 abbrev pub point_rows : Survey → (List ℕ → ℤ) → (List ℕ → ℤ) → List (Option ℕ) → List (Option ℕ) → List PointRow
 point_rows survey low high strengths unit_strengths = map (point_row low high) (zip (points_of survey) (zip strengths unit_strengths))
 
--- the row of an observation, by its number, its weight, its residual and its control
+-- the row of an observation, given its number, weight, residual and control
 abbrev pub observation_row_of : ℕ → Observed → ℕ → ℤ → Option ℕ → ObservationRow
 observation_row_of number o weight residual control =
     record { number = number; observation = o; weight = weight; residual = residual; control = control; mistake = mistake_of control weight }
 
--- the same, with a table of weights
+-- the row of an observation, given the table of weights
 abbrev pub observation_row : WeightRows → ℕ × (Observed × (ℤ × Option ℕ)) → ObservationRow
 observation_row weights (number, (o, (residual, control))) = observation_row_of number o (weight_of weights o.station o.target) residual control
 
@@ -46,7 +46,7 @@ observation_row weights (number, (o, (residual, control))) = observation_row_of 
 abbrev pub rows_of : Survey → List ℤ → List (Option ℕ) → List ObservationRow
 rows_of survey residuals controls = map (observation_row survey.weights) (enumerate_from 1 (zip survey.observations (zip residuals controls)))
 
--- the rows of the observations, in order, with their residuals at the lowest best heights and their controls, which are listed in order too
+-- the rows of the observations, with their residuals at the lowest best heights and their controls; observations and controls are in the same order
 abbrev pub observation_rows : Survey → (List ℕ → ℤ) → List (Option ℕ) → List ObservationRow
 observation_rows survey low controls = rows_of survey (residuals survey.observations low) controls
 
@@ -54,10 +54,10 @@ observation_rows survey low controls = rows_of survey (residuals survey.observat
 abbrev pub entry_weight : Survey → Entry → ℕ
 entry_weight survey entry = weight_in survey.observations survey.weights (in_sights (sights_of entry))
 
--- the row of an entry with what a mistake in it would do
+-- the row of an entry, given what a mistake in it would do
 abbrev pub entry_row : Survey → Entry × SharedMistake → EntryRow
 entry_row survey (entry, mistake) = record { entry = entry; weight = entry_weight survey entry; mistake = mistake }
 
--- the rows of entries, in their order, in which the mistakes are listed too
+-- the rows of entries, in their order, as are the mistakes
 abbrev pub entry_rows : Survey → List Entry → List SharedMistake → List EntryRow
 entry_rows survey entries mistakes = map (entry_row survey) (zip entries mistakes)

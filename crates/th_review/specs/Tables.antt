@@ -16,7 +16,7 @@ number_field (Some number) = decimal number
 abbrev pub points_header : Fields
 points_header = codes "point" ∷ codes "height" ∷ codes "low" ∷ codes "high" ∷ codes "strength" ∷ []
 
--- the fields of a point: its name, its height, which is the lowest best one, the lowest and the highest best height, and its strength
+-- the fields of a point: name, height, which is the lowest best one, lowest and highest best height, and strength
 abbrev pub point_record : PointRow → Fields
 point_record row = row.name ∷ metres row.low ∷ metres row.low ∷ metres row.high ∷ number_field row.strength ∷ []
 

@@ -1,4 +1,4 @@
--- The texts of a review as functions of a survey and of what was found of it.
+-- The texts of a review as functions of a survey and of what was found about it.
 use Rattle.std.specs.Prelude.{◌≡◌, ℕ, ℤ, List, Option}
 use Rattle.th_network.specs.Networks.{Survey}
 use Rattle.th_entries.specs.declared.reviews.BookReview.{BookReview}
@@ -13,7 +13,8 @@ use Rattle.th_review.specs.Tables.{entries_text, observations_text, points_text}
 use Rattle.th_review.specs.declared.texts.Findings.{Findings}
 use Rattle.th_review.specs.declared.texts.ReviewTexts.{ReviewTexts}
 
--- what was found of a survey: for each point its strength, and its strength where all weights are 1; for each observation its control; for each entry what a mistake in it would do
+-- what was found about a survey: for each point its strength, and its strength if all weights are 1;
+-- for each observation its control; for each entry what a mistake in it would do
 pub record Found : Type 0 where
   pub strengths : List (Option ℕ)
   pub unit_strengths : List (Option ℕ)
@@ -43,7 +44,8 @@ bytes_of texts = record {
   review = texts.review.items;
 }
 
--- the texts of a review: of a survey with its lowest and highest best heights and what was found of it, of books, of names that are spelled in more than one way, and of the limit of blunders
+-- the texts of a review, given a survey with its lowest and highest best heights and what was found about it,
+-- the books, the names that are spelled in more than one way, and the limit of blunders
 pub record AreReviewTexts (survey : Survey) (low high : List ℕ → ℤ) (found : Found) (books : List BookReview) (spellings : List Spelling) (limit : ℤ) (texts : ReviewOutTexts) : Type 0 where
   pub points : texts.points ≡ points_text (point_rows survey low high found.strengths found.unit_strengths)
   pub observations : texts.observations ≡ observations_text (observation_rows survey low found.controls)

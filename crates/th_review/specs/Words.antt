@@ -25,7 +25,7 @@ abbrev pub kind_word : HeightKind → List ℕ
 kind_word Reflector = codes "87"
 kind_word Instrument = codes "88"
 
--- the mark of an observation: two spaces and a sign, and none where a mistake shows
+-- the mark of an observation: two spaces and a sign, or nothing if a mistake shows
 abbrev pub mistake_mark : Mistake → List ℕ
 mistake_mark mistake.Shows = []
 mistake_mark mistake.Ties = codes "  ="
@@ -38,7 +38,7 @@ shared_mistake_mark shared.Shows = []
 shared_mistake_mark shared.Ties = codes "  ="
 shared_mistake_mark shared.Drags = codes "  <"
 
--- the mark of a point: whether one observation alone holds it, and whether its best heights differ
+-- the mark of a point, given whether one observation alone holds it and whether its best heights differ
 abbrev pub point_mark : Bool → Bool → List ℕ
 point_mark true true = codes "  1="
 point_mark true false = codes "  1"

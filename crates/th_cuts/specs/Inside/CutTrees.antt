@@ -6,23 +6,23 @@ use Rattle.th_cuts.specs.declared.neighbours.Neighbour.{Neighbour}
 use Rattle.th_cuts.specs.Cuts.{cut_weight, on_side, separates}
 use Rattle.th_cuts.specs.Inside.Neighbours.{AreNeighbours}
 
--- the edges are between the vertices, and together not too heavy
+-- the edges are between the vertices, and their weights sum to at most `max_total_weight`
 pub record AreEdges (vertices : ℕ) (edges : List Edge) : Type 0 where
   pub ends : All (λ edge. (edge.tail < vertices) × (edge.head < vertices)) edges
   pub light : sum_by (λ edge. edge.weight) edges ≤ max_total_weight
 
--- a least cut between a vertex and one before it
+-- a least cut between a vertex and an earlier one, its parent
 pub record IsBranch (vertices : ℕ) (edges : List Edge) (vertex : ℕ) (branch : Branch) : Type 0 where
   pub before : branch.parent < vertex
   pub each : length branch.cut.side.items ≡ vertices
   pub weighs : cut_weight (on_side branch.cut.side.items) edges ≡ branch.cut.value
   pub least : (inside : ℕ → Bool) → separates inside vertex branch.parent ≡ true → branch.cut.value ≤ cut_weight inside edges
 
--- a branch for each vertex from 1 on
+-- branch `k`, counted from 0, is that of vertex `k + 1`
 abbrev pub AreBranches : ℕ → List Edge → List Branch → Type 0
 AreBranches vertices edges branches = (k : ℕ) (d : Branch) → k < length branches → IsBranch vertices edges (k + 1) (slice_index_or branches k d)
 
--- the branches of a graph, and what a further cut needs
+-- a branch for each vertex of a graph but vertex 0, and the neighbours that a further cut needs
 pub record IsGrown (vertices : ℕ) (edges : List Edge) (starts : List ℕ) (ways : List Neighbour) (list : List Branch) : Type 0 where
   pub graph : AreEdges vertices edges
   pub neighbours : AreNeighbours vertices (length edges) starts ways

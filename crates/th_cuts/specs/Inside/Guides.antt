@@ -1,7 +1,7 @@
 use Rattle.std.specs.Prelude.{◌≡◌, ℕ, ◌<◌, List, All, length, slice_index_or}
 use Rattle.th_cuts.specs.declared.guides.Guide.{Guide}
 
--- a level and a way to be tried for each vertex, and some of the vertices
+-- a level and a cursor, the next way to try, for each vertex, and a queue of vertices
 pub record IsGuide (vertices : ℕ) (guide : Guide) : Type 0 where
   pub each_level : length guide.levels.items ≡ vertices
   pub each_cursor : length guide.cursors.items ≡ vertices

@@ -2,7 +2,7 @@ use Rattle.std.specs.Prelude.{◌≡◌, ℕ, ◌+◌, ◌<◌, ◌≤◌, Bool,
 use Rattle.th_cuts.specs.declared.edges.Edge.{Edge}
 use Rattle.th_cuts.specs.Cuts.{crosses, cut_weight}
 
--- what an edge weighs in a cut
+-- the weight of an edge in a cut: 0 if it does not cross
 abbrev pub weight_in : (ℕ → Bool) → Edge → ℕ
 weight_in inside edge = if crosses inside edge then edge.weight else 0
 
@@ -10,13 +10,13 @@ weight_in inside edge = if crosses inside edge then edge.weight else 0
 abbrev pub AreAmong : ℕ → List Edge → Type 0
 AreAmong vertices edges = All (λ edge. (edge.tail < vertices) × (edge.head < vertices)) edges
 
--- edges that weigh in each cut what others and one more do, and in all no more
+-- `edges` weigh as much in every cut as `others` and one more edge together, and in total no more
 pub record IsAdded (edge : Edge) (others edges : List Edge) : Type 0 where
   pub cuts : (inside : ℕ → Bool) → cut_weight inside edges ≡ cut_weight inside others + weight_in inside edge
   pub lighter : sum_by (λ edge. edge.weight) edges ≤ sum_by (λ edge. edge.weight) others + edge.weight
   pub among : (vertices : ℕ) → edge.tail < vertices → edge.head < vertices → AreAmong vertices others → AreAmong vertices edges
 
--- edges that weigh in each cut what others do, and in all no more
+-- `edges` weigh as much in every cut as `others`, and in total no more
 pub record IsMerged (others edges : List Edge) : Type 0 where
   pub cuts : (inside : ℕ → Bool) → cut_weight inside edges ≡ cut_weight inside others
   pub lighter : sum_by (λ edge. edge.weight) edges ≤ sum_by (λ edge. edge.weight) others

@@ -1,4 +1,4 @@
--- Outputs that are no inputs, and what stops a plan.
+-- Outputs that are not inputs, and what stops a plan.
 use Rattle.std.specs.Prelude.{◌≡◌, ◌≢◌, ℕ, Bool, true, List, Some, slice_get, string_bytes}
 use Rattle.th_plans.specs.Asked.{Files}
 use Rattle.th_plans.specs.declared.plans.Plan.{Plan}
@@ -8,11 +8,11 @@ use Rattle.th_program.specs.declared.overwrites.Stop.{Stop}
 use Rattle.th_program.specs.declared.overwrites.Stop.TheVariants as stop
 use Rattle.th_runs.specs.declared.refusals.Input.{Input}
 
--- the file of this name is none of these books, as far as the folder tells
+-- the file of this name is none of these books, if the folder reports its bytes
 abbrev pub IsNoBook : Bool → List (List ℕ) → List ℕ → Type 0
 IsNoBook tells names output = tells ≡ true → (place : ℕ) (name : List ℕ) → slice_get names place ≡ Some name → output ≢ name
 
--- the file of this name is no input, as far as the folder tells
+-- the file of this name is no input, if the folder reports its bytes
 abbrev pub IsApart : Bool → Files → List ℕ → Type 0
 IsApart tells from output = tells ≡ true → (which : Input) (name : List ℕ) → HasName from which name → output ≢ name
 

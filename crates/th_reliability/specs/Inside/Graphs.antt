@@ -4,7 +4,7 @@ use Rattle.th_network.specs.Limits.{max_points}
 use Rattle.th_network.specs.Networks.{Survey, vertices_of}
 use Rattle.th_reliability.specs.Edges.{edges_of}
 
--- the graph has the vertices of a survey, not too many of them, and the cuts of its edges
+-- a graph with the vertices of a survey, at most `max_points + 1` of them, whose cuts weigh the same as those of the survey's edges
 pub record IsGraphOf (survey : Survey) (graph : Weighted) : Type 0 where
   pub vertices : graph.vertices ≡ vertices_of survey
   pub few : graph.vertices ≤ max_points + 1

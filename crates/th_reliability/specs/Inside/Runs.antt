@@ -8,7 +8,7 @@ use Rattle.th_reliability.specs.declared.sights.Sights.{Sights}
 abbrev pub is_before : ℕ → ℕ → Observed → Bool
 is_before book line o = nat_lt o.book book || ((o.book == book) && nat_lt o.line line)
 
--- an observation does not come behind another: its book is no later one, and its line no later one of the same book
+-- an observation is not after another: its book is no later one, and in the same book its line is no later one
 abbrev pub IsNoLater : Observed → Observed → Type 0
 IsNoLater o other = (o.book ≤ other.book) × (o.book ≡ other.book → o.line ≤ other.line)
 
@@ -16,7 +16,7 @@ IsNoLater o other = (o.book ≤ other.book) × (o.book ≡ other.book → o.line
 abbrev pub AreInOrder : List Observed → Type 0
 AreInOrder observations = (k : ℕ) (d : Observed) → k + 1 < length observations → IsNoLater (slice_index_or observations k d) (slice_index_or observations (k + 1) d)
 
--- from its first place up to its second, which are counted from 0, a run has all of the sights
+-- a run contains all of the sights; it goes from its first place up to its second, without the second, and places count from 0
 pub record HoldsSights (observations : List Observed) (sights : Sights) (run : ℕ × ℕ) : Type 0 where
   pub ordered : run.0 ≤ run.1
   pub within : run.1 ≤ length observations
