@@ -1,4 +1,4 @@
--- Which fault a certificate has, by what its first faulty record is and by the records above that record.
+-- The fault of a certificate, decided by its first faulty record and the records above that one.
 use Rattle.std.specs.Prelude.{◌≡◌, ◌⊎◌, ◌≤◌, ◌<◌, ℕ, ◌+◌, ◌&&◌, ◌||◌, ◌==◌, not, Bool, true, false, List, [], ◌∷◌, length, slice_get, take, Option, Some, None, if◌then◌else◌, bytes_eq, codes, nat_le, nat_lt, unwrap_or}
 use Rattle.std.specs.List.{count_by, list_all, list_any}
 use Rattle.std.specs.Option.{option_map_or}
@@ -28,19 +28,19 @@ key_of row = unwrap_or (slice_get row 1) []
 abbrev pub number_of : Fields → List ℕ
 number_of row = unwrap_or (slice_get row 2) []
 
--- a row of a kind
+-- the row has the letter of this kind
 abbrev pub is_of : List ℕ → Fields → Bool
 is_of letter row = bytes_eq (letter_of row) letter
 
--- how many rows of a kind there are
+-- how many rows are of this kind
 abbrev pub count_of : List ℕ → List Fields → ℕ
 count_of letter rows = count_by (is_of letter) rows
 
--- whether there is no row of these letters
+-- whether no row has one of these letters
 abbrev pub lacks : List ℕ → List Fields → Bool
 lacks letters rows = list_all (λ letter. count_of (letter ∷ []) rows == 0) letters
 
--- the row of a version, 1 or 2, which counts the flows
+-- a version row: its key is 1 or 2, and its number counts the flows
 abbrev pub is_version_row : Fields → Bool
 is_version_row row = is_of (codes "V") row && (bytes_eq (key_of row) (codes "1") || bytes_eq (key_of row) (codes "2"))
 
@@ -50,12 +50,12 @@ is_of_version_2 version_row = bytes_eq (key_of version_row) (codes "2")
 abbrev pub flow_count : Fields → ℕ
 flow_count version_row = number (number_of version_row)
 
--- a height, the lowest or the highest height of a name
+-- a row for a height, a lowest height or a highest height of a name
 abbrev pub is_height_row : Fields → Bool
 is_height_row row = is_of (codes "H") row || (is_of (codes "L") row || is_of (codes "U") row)
 
--- Whether a row may stand below a version row and the rows above it. Kinds stand in the order H, L, U, F, Z; only version 2 has L and U; there are as
--- many F as the version row counts, and then one Z, whose key is `cost`.
+-- Whether a row may come below a version row and the rows above it. The kinds come in the order H, L, U, F, Z; only version 2
+-- has L and U; there are as many F rows as the version row counts, and then one Z row, whose key is `cost`.
 abbrev pub may_stand : Fields → List Fields → Fields → Bool
 may_stand version_row above row =
     if is_of (codes "H") row then lacks (codes "LUFZ") above
@@ -68,31 +68,31 @@ may_stand version_row above row =
 abbrev pub gives_name : List ℕ → Fields → Bool
 gives_name name row = option_map_or (bytes_eq name) (name_of (key_of row)) false
 
--- whether no row above has the kind of a row and this name
+-- whether no row above has the same kind and this name
 abbrev pub is_new : List Fields → Fields → List ℕ → Bool
 is_new above row name = not (list_any (λ other. is_of (letter_of row) other && gives_name name other) above)
 
--- a height belongs to a name, which is new in its kind; other rows have no name
+-- a row for a height has a name that is new in its kind; other rows need no name
 abbrev pub is_named : List Fields → Fields → Bool
 is_named above row = if is_height_row row then option_map_or (is_new above row) (name_of (key_of row)) false else true
 
--- The numbers of a row have their form: a height is in metres; the key of a flow writes its number, counted from 1, and the flow is digits after at most
--- one sign; a cost is digits.
+-- The numbers of a row have their form: a height is in metres; the key of a flow writes its number,
+-- counted from 1, and the flow is digits after an optional sign; a cost is digits.
 abbrev pub has_form : List Fields → Fields → Bool
 has_form above row =
     if is_height_row row then is_in_metres (without_sign (number_of row))
     else (if is_of (codes "F") row then writes (key_of row) (count_of (codes "F") above + 1) && are_digits (without_sign (number_of row))
     else are_digits (number_of row))
 
--- they have no more digits than are read, zeros in front counted: those before the dot of a height, those of a flow and its number, and those of a cost
+-- the numbers of a row have no more digits than are read, leading zeros included: those before the dot of a height, of a flow and its number, or of a cost
 abbrev pub is_short : Fields → Bool
 is_short row =
     if is_height_row row then nat_le (length (whole (without_sign (number_of row)))) max_digits
     else (if is_of (codes "F") row then nat_le (length (key_of row)) max_digits && nat_le (length (without_sign (number_of row))) max_digits
     else nat_le (length (number_of row)) max_cost_digits)
 
--- Which fault a record has: of what is demanded of it, in this order, the first that it does not meet. It has three fields; it may stand there; it has a
--- name that is new, if it is of a height; its numbers have their form; and they are not too large.
+-- The fault of a record: the first of these requirements that it does not meet. It has three fields; it may come at this place;
+-- if it is for a height, it has a name that is new; its numbers have their form; and they are not too large.
 abbrev pub first_unmet : Bool → Bool → Bool → Bool → Bool → Option CertKind
 first_unmet false stands named formed small = Some FieldCount
 first_unmet true false named formed small = Some BadKind
@@ -101,17 +101,17 @@ first_unmet true true true false small = Some BadNumber
 first_unmet true true true true false = Some TooLarge
 first_unmet true true true true true = None
 
--- the fault of the record below the header, if it has one: it is the version row, with digits for a count that is not too large
+-- the fault of record 2, if it has one: it must be a version row, whose count is digits and not too large
 abbrev pub version_kind : Fields → Option CertKind
 version_kind row =
     first_unmet (has_three_fields row) (is_version_row row) true (are_digits (number_of row))
     (nat_le (length (number_of row)) max_digits && nat_le (flow_count row) max_flows)
 
--- that of a record below the version row and the rows above it
+-- the fault of a record below the version row and the rows above it, if it has one
 abbrev pub row_kind : Fields → List Fields → Fields → Option CertKind
 row_kind version_row above row = first_unmet (has_three_fields row) (may_stand version_row above row) (is_named above row) (has_form above row) (is_short row)
 
--- that of a record below all records above it, or of one that is missing there: the first record is the header, and the last one is the cost
+-- the fault of a record below all records above it, or of a missing one; the first record must be the header, and the last one the cost
 abbrev pub kind_under : List Fields → Option Fields → Option CertKind
 kind_under [] (Some row) = if is_header row then None else Some BadHeader
 kind_under [] None = Some BadHeader
@@ -120,7 +120,7 @@ kind_under (header ∷ []) None = Some Truncated
 kind_under (header ∷ version_row ∷ above) (Some row) = row_kind version_row above row
 kind_under (header ∷ version_row ∷ above) None = if lacks (codes "Z") above then Some Truncated else None
 
--- that of the record at a place, counted from 0
+-- the fault of the record at a place, counted from 0
 abbrev pub kind_at : List Fields → ℕ → Option CertKind
 kind_at records place = kind_under (take place records) (slice_get records place)
 
@@ -131,7 +131,7 @@ pub record IsFirstFault (records : List Fields) (fault : CertFault) : Type 0 whe
   pub kind : kind_at records place ≡ Some fault.kind
   pub earlier : (before : ℕ) → before < place → kind_at records before ≡ None
 
--- the fault of bytes: they are too many, or else their first faulty record has it
+-- the fault of these bytes: they are too many, or else it is that of the first faulty record
 abbrev pub IsFault : List ℕ → CertFault → Type 0
 IsFault bytes fault = ((max_certificate < length bytes) × (fault ≡ too_long)) ⊎ ((length bytes ≤ max_certificate) × IsFirstFault (records_of bytes) fault)
 

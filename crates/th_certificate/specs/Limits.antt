@@ -10,14 +10,14 @@ max_certificate = 8388608
 abbrev pub max_flows : ℕ
 max_flows = max_observations
 
--- the most digits of a count, of the number of a flow and of a flow, zeros in front among them; and of a height before its dot
+-- the most digits of a count, of a flow, of a flow's number, and of a height before its dot; leading zeros included
 abbrev pub max_digits : ℕ
 max_digits = 9
 
--- the most digits of a cost, zeros in front among them
+-- the most digits of a cost, leading zeros included
 abbrev pub max_cost_digits : ℕ
 max_cost_digits = 30
 
--- the size that no residual exceeds: an observed difference, and two heights
+-- the largest size of a residual: an observed difference and two heights
 abbrev pub most_residual : ℕ
 most_residual = largest_difference + 2 * height_limit

@@ -1,4 +1,4 @@
--- The numbers of a certificate. Digits are counted as they stand, zeros in front among them.
+-- The numbers of a certificate. Leading zeros count as digits.
 use Rattle.std.specs.Prelude.{ℕ, ℤ, ◌&&◌, ◌==◌, Bool, List, length, Result, Ok, Err, if◌then◌else◌, nat_le}
 use Rattle.th_certificate.specs.Limits.{max_cost_digits, max_digits, max_flows}
 use Rattle.th_units.specs.Lengths.{are_digits, number, signed}
@@ -8,13 +8,13 @@ use Rattle.th_units.specs.declared.faults.LenFault.TheVariants.{NotDigits, TooLa
 use Rattle.th_certificate.specs.declared.faults.CertKind.{CertKind}
 use Rattle.th_certificate.specs.declared.faults.CertKind.TheVariants.{BadNumber, TooLarge}
 
--- a length in metres that is read, or what is wrong with its text
+-- a length in metres that was read, or the fault of its text
 abbrev pub height_from : Result ℤ LenFault → Result ℤ CertKind
 height_from (Ok height) = Ok height
 height_from (Err NotDigits) = Err BadNumber
 height_from (Err LongMetres) = Err TooLarge
 
--- the height of a field in metres
+-- the height in a field, in metres
 abbrev pub height_in : List ℕ → Result ℤ CertKind
 height_in field = height_from (value field)
 
@@ -23,12 +23,12 @@ abbrev pub count_in : List ℕ → Result ℕ CertKind
 count_in field =
     if are_digits field then (if nat_le (length field) max_digits && nat_le (number field) max_flows then Ok (number field) else Err TooLarge) else Err BadNumber
 
--- whether a field has the digits of just this number, however many zeros before it
+-- whether a field writes this number, with any number of leading zeros
 abbrev pub writes : List ℕ → ℕ → Bool
 writes field n = are_digits field && (number field == n)
 
--- The flow in a field, with the number before it in another: that number has to be this one; a flow is an optional sign and digits. More than nine digits
--- of either are too large.
+-- The flow in a field, and its number in the field before it. The number must be `place`; the flow
+-- is an optional sign and digits. More than nine digits of either are too large.
 abbrev pub flow_in : ℕ → List ℕ → List ℕ → Result ℤ CertKind
 flow_in place key field =
     if writes key place && are_digits (without_sign field)

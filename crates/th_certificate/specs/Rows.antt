@@ -1,4 +1,4 @@
--- The rows of a certificate, and what each says.
+-- The rows of a certificate, and what each states.
 use Rattle.std.specs.Prelude.{◌≡◌, ℕ, ℤ, List, [], ◌∷◌, ◌++◌, Option, Some, None, Ok, bytes_eq, codes, length}
 use Rattle.std.specs.List.{AllZip, IsDistinct, enumerate_from}
 use Rattle.std.specs.Map.{keys_of}
@@ -9,7 +9,7 @@ use Rattle.th_certificate.specs.Numbers.{cost_in, count_in, flow_in, height_in}
 use Rattle.th_certificate.specs.Statements.{version_in}
 use Rattle.th_certificate.specs.Texts.{header_row}
 
--- the row of a version, whose key is 1 or 2, and of a count of flows
+-- a version row: its key is the version, 1 or 2, and its number counts the flows
 pub record IsVersionRow (row : Fields) (version count : ℕ) : Type 0 where
   pub key : List ℕ
   pub number : List ℕ
@@ -17,7 +17,7 @@ pub record IsVersionRow (row : Fields) (version count : ℕ) : Type 0 where
   pub says : version_in key ≡ Some version
   pub counts : count_in number ≡ Ok count
 
--- the row of a name and its height, under the letter of its kind
+-- a row with a name and its height, under the letter of its kind
 pub record IsHeightRow (letter : List ℕ) (row : Fields) (said : List ℕ × ℤ) : Type 0 where
   pub key : List ℕ
   pub number : List ℕ
@@ -25,34 +25,35 @@ pub record IsHeightRow (letter : List ℕ) (row : Fields) (said : List ℕ × �
   pub name : name_of key ≡ Some said.0
   pub height : height_in number ≡ Ok said.1
 
--- the row of a flow's number and the flow
+-- a row with a flow's number and the flow
 pub record IsFlowRow (row : Fields) (said : ℕ × ℤ) : Type 0 where
   pub key : List ℕ
   pub number : List ℕ
   pub fields : row ≡ codes "F" ∷ key ∷ number ∷ []
   pub flow : flow_in said.0 key number ≡ Ok said.1
 
--- the row of the cost
+-- the row with the cost
 pub record IsCostRow (row : Fields) (cost : ℕ) : Type 0 where
   pub number : List ℕ
   pub fields : row ≡ codes "Z" ∷ codes "cost" ∷ number ∷ []
   pub costs : cost_in number ≡ Ok cost
 
--- rows say these heights one after the other, and no name twice
+-- rows that state these heights one after the other, no name twice
 pub record SayHeights (letter : List ℕ) (rows : List Fields) (heights : HeightRows) : Type 0 where
   pub each : AllZip (IsHeightRow letter) rows heights
   pub distinct : IsDistinct bytes_eq (keys_of heights)
 
--- the same of the lowest or the highest heights, which version 2 has; version 1 has no row of them
+-- the same for the lowest or the highest heights, which version 2 has; version 1 has no such rows
 abbrev pub SaySpans : ℕ → List ℕ → List Fields → Option HeightRows → Type 0
 SaySpans version letter rows (Some heights) = (version ≡ 2) × SayHeights letter rows heights
 SaySpans version letter rows None = (version ≡ 1) × (rows ≡ [])
 
--- rows say these flows one after the other, numbered from 1
+-- rows that state these flows one after the other, numbered from 1
 abbrev pub SayFlows : List Fields → List ℤ → Type 0
 SayFlows rows flows = AllZip IsFlowRow rows (enumerate_from 1 flows)
 
--- records are the rows of a certificate, in this order: the header; the version and the count of the flows; the heights; the lowest; the highest; the flows; the cost
+-- the records are the rows of a certificate, in this order: the header; the version and the
+-- count of the flows; the heights; the lowest; the highest; the flows; the cost
 pub record IsCertificate (records : List Fields) (it : Certified) : Type 0 where
   pub version_row : Fields
   pub height_rows : List Fields

@@ -40,17 +40,17 @@ cost_row cost = codes "Z" ∷ codes "cost" ∷ decimal cost ∷ []
 abbrev pub end_rows : List ℤ → ℕ → List Fields
 end_rows flows cost = map flow_row (enumerate_from 1 flows) ++ cost_row cost ∷ []
 
--- what heights cost over a survey
+-- the cost of heights over a survey
 abbrev pub cost_of : Survey → (List ℕ → ℤ) → ℕ
 cost_of survey heights = cost survey.observations survey.weights heights
 
--- the rows of version 1: heights at the points, flows, and what the heights cost
+-- the rows of version 1: heights at the points, flows, and the cost of the heights
 abbrev pub rows_of_version_1 : Survey → (List ℕ → ℤ) → List ℤ → List Fields
 rows_of_version_1 survey heights flows =
     header_row ∷ version_row (codes "1") (length survey.observations)
     ∷ (map (height_row (codes "H")) (heights_at_points survey heights) ++ end_rows flows (cost_of survey heights))
 
--- the rows of version 2, which has lowest and highest best heights too
+-- the rows of version 2, which also has the lowest and the highest best heights
 abbrev pub rows_of_version_2 : Survey → (List ℕ → ℤ) → (List ℕ → ℤ) → (List ℕ → ℤ) → List ℤ → List Fields
 rows_of_version_2 survey heights low high flows =
     header_row ∷ version_row (codes "2") (length survey.observations)
@@ -59,14 +59,14 @@ rows_of_version_2 survey heights low high flows =
     ++ (map (height_row (codes "U")) (heights_at_points survey high)
     ++ end_rows flows (cost_of survey heights))))
 
--- the texts
+-- the texts of version 1 and of version 2
 abbrev pub text_of_version_1 : Survey → (List ℕ → ℤ) → List ℤ → List ℕ
 text_of_version_1 survey heights flows = csv_text (rows_of_version_1 survey heights flows)
 
 abbrev pub text_of_version_2 : Survey → (List ℕ → ℤ) → (List ℕ → ℤ) → (List ℕ → ℤ) → List ℤ → List ℕ
 text_of_version_2 survey heights low high flows = csv_text (rows_of_version_2 survey heights low high flows)
 
--- what holds of each network: it has no fault, the observations and the weights are in their ranges, and each point has a name in reduced form
+-- what every network has: no fault, observations and weights in their ranges, and names in reduced form
 pub record IsCertifiable (survey : Survey) : Type 0 where
   pub network : IsNetwork survey.observations survey.benchmarks
   pub between : All IsBetweenPoints survey.observations

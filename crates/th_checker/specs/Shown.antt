@@ -3,7 +3,7 @@ use Rattle.th_network.specs.Circulation.{Circulation, Shows}
 use Rattle.th_network.specs.Heights.{IsHeights}
 use Rattle.th_network.specs.Networks.{AreInRange, Survey}
 
--- heights below 10^17 in size that keep the benchmarks of a survey, and that a circulation shows
+-- heights below 10^17 units in size at the points, which keep the benchmarks of a survey, and which a circulation shows
 pub record Shown (survey : Survey) (heights : List ℕ → ℤ) (flows : List ℤ) : Type 0 where
   pub in_range : AreInRange survey heights
   pub kept : IsHeights survey.benchmarks heights

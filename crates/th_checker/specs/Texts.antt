@@ -1,4 +1,4 @@
--- How a verdict is said.
+-- The texts of verdicts.
 use Rattle.std.specs.Prelude.{List, ℕ, ◌++◌, codes}
 use Rattle.std.specs.Fmt.{decimal}
 use Rattle.th_checker.specs.declared.verdicts.Reason.{Reason}
@@ -6,7 +6,7 @@ use Rattle.th_checker.specs.declared.verdicts.Reason.TheVariants.{PointsDiffer, 
 use Rattle.th_checker.specs.declared.verdicts.Verdict.{Verdict}
 use Rattle.th_checker.specs.declared.verdicts.Verdict.TheVariants.{Yes, No}
 
--- how a reason is said
+-- the text of a reason
 abbrev pub reason_text : Reason → List ℕ
 reason_text PointsDiffer = codes "points differ"
 reason_text BenchmarkMoved = codes "benchmark moved"
@@ -18,7 +18,7 @@ reason_text WrongCost = codes "wrong cost"
 reason_text (LowNotSlack number) = codes "low not slack at " ++ decimal number
 reason_text (HighNotSlack number) = codes "high not slack at " ++ decimal number
 
--- how a verdict is said
+-- the text of a verdict
 abbrev pub verdict_text : Verdict → List ℕ
 verdict_text Yes = codes "yes"
 verdict_text (No reason) = codes "no: " ++ reason_text reason

@@ -14,7 +14,7 @@ use Rattle.th_checker.specs.declared.verdicts.Reason.TheVariants.{PointsDiffer, 
 use Rattle.th_checker.specs.declared.verdicts.Verdict.{Verdict}
 use Rattle.th_checker.specs.declared.verdicts.Verdict.TheVariants.{Yes, No}
 
--- whether the names of some rows are just these points
+-- whether the names of some rows are exactly these points
 abbrev pub names_are : List (List ℕ) → HeightRows → Bool
 names_are names rows = list_all (λ name. list_any (bytes_eq name) (keys_of rows)) names && list_all (λ row. list_any (bytes_eq row.0) names) rows
 
@@ -22,12 +22,12 @@ names_are names rows = list_all (λ name. list_any (bytes_eq name) (keys_of rows
 abbrev pub keeps : BenchmarkRows → HeightRows → Bool
 keeps benchmarks rows = list_all (λ benchmark. int_eq (stated_height rows benchmark.0) benchmark.1) benchmarks
 
--- the same of rows that may be there
+-- a test of optional rows, which passes if there are none
 abbrev pub if_there : (HeightRows → Bool) → Option HeightRows → Bool
 if_there test (Some rows) = test rows
 if_there test None = true
 
--- the same of all maps of a certificate
+-- a test of all maps of a certificate
 abbrev pub of_all_maps : (HeightRows → Bool) → Certified → Bool
 of_all_maps test certificate = test certificate.heights && (if_there test certificate.low && if_there test certificate.high)
 
@@ -35,7 +35,7 @@ of_all_maps test certificate = test certificate.heights && (if_there test certif
 abbrev pub first_too_large : List Observed → WeightRows → List ℤ → Option ℕ
 first_too_large observations weights flows = position_from (λ pair. nat_lt (weight_of weights pair.0.station pair.0.target) (unsigned_abs pair.1)) 1 (zip observations flows)
 
--- the first point that is no benchmark where not as much arrives as leaves
+-- the first point that is no benchmark where arriving and leaving flows differ
 abbrev pub first_unbalanced : List Observed → BenchmarkRows → List ℤ → Option (List ℕ)
 first_unbalanced observations benchmarks flows =
     find (λ point. is_none (height_of benchmarks point) && not (int_eq (arriving observations flows point) (leaving observations flows point))) (points observations benchmarks)
@@ -44,25 +44,25 @@ first_unbalanced observations benchmarks flows =
 abbrev pub is_slack : WeightRows → (List ℕ → ℤ) → Observed → ℤ → Bool
 is_slack weights heights o flow = int_eq (flow *ℤ residual o heights) (pos (weight_of weights o.station o.target * unsigned_abs (residual o heights)))
 
--- the number, from 1, of the first observation that is not slack
+-- the number, from 1, of the first observation that is not slack at these heights
 abbrev pub first_not_slack : List Observed → WeightRows → List ℤ → (List ℕ → ℤ) → Option ℕ
 first_not_slack observations weights flows heights = position_from (λ pair. not (is_slack weights heights pair.0 pair.1)) 1 (zip observations flows)
 
--- the same of rows that may be there
+-- the same for optional rows; none if there are no rows
 abbrev pub not_slack_in : List Observed → WeightRows → List ℤ → Option HeightRows → Option ℕ
 not_slack_in observations weights flows (Some rows) = first_not_slack observations weights flows (stated_height rows)
 not_slack_in observations weights flows None = None
 
--- a reason where the test fails, and else what comes after
+-- a reason if the test fails, else the later verdict
 abbrev pub unless : Bool → Reason → Verdict → Verdict
 unless holds reason later = if holds then later else No reason
 
--- a reason with what is found, and else what comes after
+-- a reason with what was found, else the later verdict
 abbrev pub if_found : {A : Type 0} → Option A → (A → Reason) → Verdict → Verdict
 if_found (Some it) make later = No (make it)
 if_found None make later = later
 
--- the reasons of flows that are in balance: slackness of the heights, the cost, and slackness of the lowest and of the highest heights
+-- the verdict on flows that are in balance: slackness of the heights, the cost, and slackness of the lowest and of the highest heights
 abbrev pub slack_verdict : List Observed → WeightRows → Certified → Verdict
 slack_verdict observations weights certificate =
     if_found (first_not_slack observations weights certificate.flows (stated_height certificate.heights)) NotSlack
@@ -71,21 +71,21 @@ slack_verdict observations weights certificate =
     (if_found (not_slack_in observations weights certificate.flows certificate.high) HighNotSlack
     Yes)))
 
--- the reasons of flows, one for each observation: their size, their balance, and then slackness
+-- the verdict on flows, one for each observation: their size, their balance, and then slackness
 abbrev pub flow_verdict : List Observed → BenchmarkRows → WeightRows → Certified → Verdict
 flow_verdict observations benchmarks weights certificate =
     if_found (first_too_large observations weights certificate.flows) FlowTooLarge
     (if_found (first_unbalanced observations benchmarks certificate.flows) Unbalanced
     (slack_verdict observations weights certificate))
 
--- the reasons of maps whose names are the points: the benchmarks, the count of flows, and then the flows
+-- the verdict on maps whose names are the points: the benchmarks, the count of flows, and then the flows
 abbrev pub map_verdict : List Observed → BenchmarkRows → WeightRows → Certified → Verdict
 map_verdict observations benchmarks weights certificate =
     unless (of_all_maps (keeps benchmarks) certificate) BenchmarkMoved
     (unless (length certificate.flows == length observations) FlowCount
     (flow_verdict observations benchmarks weights certificate))
 
--- the first reason that applies, in this order, and else yes
+-- the verdict on a certificate: the first reason that applies, in this order, else yes
 abbrev pub verdict_of : List Observed → BenchmarkRows → WeightRows → Certified → Verdict
 verdict_of observations benchmarks weights certificate =
     unless (of_all_maps (names_are (points observations benchmarks)) certificate) PointsDiffer (map_verdict observations benchmarks weights certificate)

@@ -1,4 +1,4 @@
--- What the best heights of a survey are, and what shows it.
+-- The best heights of a survey, and the circulation that shows them.
 use Rattle.std.specs.Prelude.{ℤ, List}
 use Rattle.th_network.specs.Circulation.{Circulation, Shows}
 use Rattle.th_network.specs.Heights.{LeastFine}
@@ -11,8 +11,8 @@ pub record Best : Type 0 where
   pub high : List ℤ
   pub flows : List ℤ
 
--- The heights are the lowest and the highest of all that cost least, one for each point and below 10^17 units in size, and the flows are a circulation that
--- shows both. So no heights that keep the benchmarks cost less than either, in whole units or in any finer one.
+-- The heights are the lowest and the highest of all that cost least, one for each point and below 10^17 units in size. The flows are a
+-- circulation that shows both, so no heights that keep the benchmarks cost less than either, in whole units or in any finer unit.
 pub record IsBest (survey : Survey) (best : Best) : Type 0 where
   pub low : Low survey.observations survey.benchmarks survey.weights (at_points_of survey best.low)
   pub high : High survey.observations survey.benchmarks survey.weights (at_points_of survey best.high)

@@ -1,5 +1,5 @@
 pub mod Bounds
--- what private functions say to one another
+-- what private functions promise one another
 pub mod Flows
 pub mod Cycles
 pub mod Placed

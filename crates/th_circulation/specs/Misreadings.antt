@@ -3,7 +3,7 @@ use Rattle.std.specs.List.{AllZip}
 use Rattle.th_book.specs.Observed.{Observed}
 use Rattle.th_network.specs.Heights.{residual}
 
--- an observation between the same points that errs as before, or further to the same side; one that fits the heights fits them as before
+-- an observation between the same points that errs as before, or further to the same side; one that fits the heights stays as it is
 pub record ErrsFurther (heights : List ℕ → ℤ) (o misread : Observed) : Type 0 where
   pub station : misread.station ≡ o.station
   pub target : misread.target ≡ o.target

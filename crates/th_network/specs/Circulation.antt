@@ -5,7 +5,7 @@ use Rattle.th_tables.specs.Rows.{BenchmarkRows, WeightRows, height_of, weight_of
 use Rattle.th_points.specs.Points.{points}
 use Rattle.th_network.specs.Heights.{residual}
 
--- the sum of what f gives at each element
+-- the sum of `f` over a list
 abbrev pub total_by : {X : Type 0} → (X → ℤ) → List X → ℤ
 total_by f xs = fold (λ total x. total +ℤ f x) (pos 0) xs
 

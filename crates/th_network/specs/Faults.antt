@@ -12,7 +12,7 @@ abbrev pub IsFirstUntied : List Observed → BenchmarkRows → List ℕ → Type
 IsFirstUntied observations benchmarks name =
     (k : ℕ) × (slice_get (points observations benchmarks) k ≡ Some name) × All (IsTied observations benchmarks) (take k (points observations benchmarks)) × (¬ IsTied observations benchmarks name)
 
--- the fault of a network: of those that apply, the first in this order; want of memory is none of them
+-- the fault of a network: the first one that applies, in this order; running out of memory is no fault of a network
 abbrev pub HasFault : List Observed → BenchmarkRows → NetFault → Type 0
 HasFault observations benchmarks TooManyObservations = max_observations < length observations
 HasFault observations benchmarks TooManyPoints = (length observations ≤ max_observations) × (max_points < length (points observations benchmarks))
@@ -20,7 +20,7 @@ HasFault observations benchmarks (NoBenchmark name) =
     (length observations ≤ max_observations) × (length (points observations benchmarks) ≤ max_points) × IsFirstUntied observations benchmarks name
 HasFault observations benchmarks NoMemory = ⊥
 
--- a network without fault
+-- a network without a fault
 pub record IsNetwork (observations : List Observed) (benchmarks : BenchmarkRows) : Type 0 where
   pub few_observations : length observations ≤ max_observations
   pub few_points : length (points observations benchmarks) ≤ max_points

@@ -3,7 +3,7 @@ use Rattle.th_book.specs.Observed.{Observed}
 use Rattle.th_points.specs.Places.{place_of}
 use Rattle.th_tables.specs.Rows.{BenchmarkRows, WeightRows, height_of, weight_of}
 
--- the map of heights that are listed in the order of these names: zero at a name that is not among them
+-- the map of heights that are listed in the order of these names; zero at any other name
 abbrev pub heights_at : List (List ℕ) → List ℤ → List ℕ → ℤ
 heights_at names heights name = slice_index_or heights (place_of names name) (pos 0)
 
@@ -19,20 +19,20 @@ residual o heights = o.difference -ℤ (heights o.target -ℤ heights o.station)
 abbrev pub cost : List Observed → WeightRows → (List ℕ → ℤ) → ℕ
 cost observations weights heights = sum_by (λ o. weight_of weights o.station o.target * unsigned_abs (residual o heights)) observations
 
--- the heights keep each benchmark, and none that do cost less
+-- the heights keep each benchmark, and no heights that keep each benchmark cost less
 pub record Least (observations : List Observed) (benchmarks : BenchmarkRows) (weights : WeightRows) (heights : List ℕ → ℤ) : Type 0 where
   pub kept : IsHeights benchmarks heights
   pub least : (others : List ℕ → ℤ) → IsHeights benchmarks others → cost observations weights heights ≤ cost observations weights others
 
--- heights counted in a unit k times finer keep each benchmark
+-- heights in a unit k times finer that keep each benchmark
 abbrev pub IsFineHeights : ℕ → BenchmarkRows → (List ℕ → ℤ) → Type 0
 IsFineHeights k benchmarks fine = (name : List ℕ) (height : ℤ) → height_of benchmarks name ≡ Some height → fine name ≡ pos k *ℤ height
 
--- what they cost, also in that finer unit
+-- the cost of such heights, in the finer unit
 abbrev pub fine_cost : ℕ → List Observed → WeightRows → (List ℕ → ℤ) → ℕ
 fine_cost k observations weights fine = sum_by (λ o. weight_of weights o.station o.target * unsigned_abs (pos k *ℤ o.difference -ℤ (fine o.target -ℤ fine o.station))) observations
 
--- the heights keep each benchmark, and none that do cost less, in whole units or in any finer one
+-- the heights keep each benchmark, and no heights that keep each benchmark cost less, in whole units or in any finer unit
 pub record LeastFine (observations : List Observed) (benchmarks : BenchmarkRows) (weights : WeightRows) (heights : List ℕ → ℤ) : Type 0 where
   pub kept : IsHeights benchmarks heights
   pub least : (k : ℕ) (fine : List ℕ → ℤ) → 0 < k → IsFineHeights k benchmarks fine → k * cost observations weights heights ≤ fine_cost k observations weights fine

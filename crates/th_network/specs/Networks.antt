@@ -12,21 +12,21 @@ use Rattle.th_network.specs.Limits.{height_limit}
 use Rattle.th_network.specs.Links.{largest_link_difference, link_of}
 use Rattle.th_network.specs.declared.links.Link.{Link}
 
--- what a network is made of: observations, and the rows of the tables of benchmarks and of weights
+-- the inputs of a network: observations, and the rows of the tables of benchmarks and of weights
 pub record Survey : Type 0 where
   pub observations : List Observed
   pub benchmarks : BenchmarkRows
   pub weights : WeightRows
 
--- these observations, over the rows of these tables
+-- the survey of these observations and of the rows of these tables
 abbrev pub surveyed : List Observed → BenchmarkRows → WeightRows → Survey
 surveyed observations benchmarks weights = record { observations = observations; benchmarks = benchmarks; weights = weights }
 
--- the points of a survey, in order of first sight
+-- the points of a survey, in the order of their first occurrence
 abbrev pub points_of : Survey → List (List ℕ)
 points_of survey = points survey.observations survey.benchmarks
 
--- for each point its height, where it is a benchmark
+-- for each point its height, if it is a benchmark
 abbrev pub heights_of : Survey → List (Option ℤ)
 heights_of survey = map (height_of survey.benchmarks) (points_of survey)
 
@@ -64,7 +64,8 @@ AreInRange survey heights = All (λ name. unsigned_abs (heights name) < height_l
 abbrev pub IsWeight : ℕ → Type 0
 IsWeight weight = (1 ≤ weight) × (weight ≤ max_weight)
 
--- a survey makes a network, with these points, their heights, the places of the ends among them, the weights of observations, so many vertices, and these arcs
+-- A survey makes a network: these are its points, the heights of those that are benchmarks, the places of the
+-- ends among the points, the weights of the observations, the number of vertices, and the arcs.
 pub record IsBuilt (survey : Survey) (names : List (List ℕ)) (heights : List (Option ℤ)) (ends : List (ℕ × ℕ)) (weights : List ℕ) (count : ℕ) (arcs : List Link) : Type 0 where
   pub network : IsNetwork survey.observations survey.benchmarks
   pub between : All IsBetweenPoints survey.observations

@@ -2,7 +2,7 @@ use Rattle.std.specs.Prelude.{ℕ, List, ◌++◌, codes}
 use Rattle.th_network.specs.declared.faults.NetFault.{NetFault}
 use Rattle.th_network.specs.declared.faults.NetFault.TheVariants.{TooManyObservations, TooManyPoints, NoBenchmark, NoMemory}
 
--- how a fault is said
+-- the text of a fault
 abbrev pub fault_text : NetFault → List ℕ
 fault_text TooManyObservations = codes "N1 too many observations"
 fault_text TooManyPoints = codes "N2 too many points"

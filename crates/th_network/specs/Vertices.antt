@@ -12,7 +12,7 @@ is_free benchmarks name = is_none (height_of benchmarks name)
 abbrev pub free_before : BenchmarkRows → List (List ℕ) → ℕ → ℕ
 free_before benchmarks names place = count_by (is_free benchmarks) (take place names)
 
--- the vertex of the name at a place: 0 for a benchmark, and else one more than the number of names before it that are no benchmark
+-- the vertex of the name at a place: 0 for a benchmark, else one more than the number of earlier names that are no benchmark
 abbrev pub vertex_at : BenchmarkRows → List (List ℕ) → ℕ → List ℕ → ℕ
 vertex_at benchmarks names place name = if is_free benchmarks name then free_before benchmarks names place + 1 else 0
 
@@ -22,6 +22,6 @@ vertex_of observations benchmarks name =
     let names = points observations benchmarks in
     vertex_at benchmarks names (place_of names name) name
 
--- how many vertices a network has: one more than it has points that are no benchmark
+-- how many vertices a network has: one more than the number of its points that are no benchmark
 abbrev pub vertex_count : List Observed → BenchmarkRows → ℕ
 vertex_count observations benchmarks = count_by (is_free benchmarks) (points observations benchmarks) + 1

@@ -3,7 +3,7 @@ use Rattle.th_book.specs.Observed.{Observed}
 use Rattle.th_tables.specs.Rows.{BenchmarkRows, height_of}
 use Rattle.th_points.specs.Points.{points}
 
--- the chain leads from one name to another: each of its observations, taken in either direction, goes on from where the one before it ended
+-- the chain leads from one name to another: each of its observations, in either direction, begins where the one before it ended
 abbrev pub Leads : List Observed → List ℕ → List ℕ → Type 0
 Leads [] start goal = start ≡ goal
 Leads (o ∷ chain) start goal = ((start ≡ o.station) × Leads chain o.target goal) ⊎ ((start ≡ o.target) × Leads chain o.station goal)

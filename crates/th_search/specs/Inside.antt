@@ -1,4 +1,4 @@
--- what private functions say to one another
+-- what private functions promise one another
 pub mod Bounds
 pub mod Entries
 pub mod Labels

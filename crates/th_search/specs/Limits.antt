@@ -10,10 +10,10 @@ max_vertices = max_points + 1
 abbrev pub max_arcs : ℕ
 max_arcs = 2 * max_observations
 
--- the greatest size of a cost: twice the largest difference of a link, 10^13
+-- the largest size of a cost: twice the largest difference of a link, 10^13
 abbrev pub max_cost : ℕ
 max_cost = 2 * largest_link_difference
 
--- the size that no potential exceeds: an arc of the greatest cost for each vertex but one
+-- the largest size of a potential: an arc of the largest cost for each vertex but one
 abbrev pub farthest : ℕ
 farthest = max_points * max_cost

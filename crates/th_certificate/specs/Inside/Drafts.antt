@@ -7,7 +7,7 @@ use Rattle.th_certificate.specs.Statements.{Draft}
 use Rattle.th_certificate.specs.declared.statements.Statement.{Statement}
 use Rattle.th_certificate.specs.declared.statements.Statement.TheVariants.{Height, Low, High, Flow, Cost}
 
--- a version that is read; flows in their range, as many as were counted at most; and a cost in its range
+-- a draft has a known version, flows in their range, at most as many as were counted, and if it has a cost, one in its range
 pub record IsDraft (draft : Draft) : Type 0 where
   pub known : (1 ≤ draft.version) × (draft.version ≤ 2)
   pub few : draft.count ≤ max_flows
@@ -15,12 +15,12 @@ pub record IsDraft (draft : Draft) : Type 0 where
   pub flows : AreFlows draft.flows
   pub cost : IfSome draft.cost (λ cost. cost < cost_limit)
 
--- a row of a new name, with a height in its range
+-- a row with a new name and a height in its range
 pub record IsNewRow (rows : HeightRows) (name : List ℕ) (height : ℤ) : Type 0 where
   pub new : lookup (bytes_eq name) rows ≡ None
   pub in_range : unsigned_abs height < height_limit
 
--- the statement may follow: its name is new, there is room for its flow, and its number is in its range
+-- the statement may follow a draft: its name is new, there is room for its flow, and its number is in its range
 abbrev pub Follows : Draft → Statement → Type 0
 Follows draft (Height name height) = IsNewRow draft.heights name height
 Follows draft (Low name height) = IsNewRow draft.low name height

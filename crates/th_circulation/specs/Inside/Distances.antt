@@ -6,11 +6,11 @@ use Rattle.th_search.specs.Limits.{max_vertices}
 use Rattle.th_circulation.specs.Inside.Bounds.{farthest}
 use Rattle.th_circulation.specs.Inside.Graphs.{AreWithin}
 
--- along the arc the numbers of vertices rise by no more than its cost
+-- along the arc, the numbers of the vertices rise by at most its cost
 abbrev pub IsKept : (ℕ → ℤ) → Arc → Type 0
 IsKept numbers arc = numbers arc.head ≤ℤ (numbers arc.tail +ℤ arc.cost)
 
--- numbers of vertices: 0 at vertex 0, and along no arc do they rise by more than its cost
+-- numbers of vertices that keep the costs: 0 at vertex 0, and along no arc do they rise by more than its cost
 pub record KeepCosts (arcs : List Arc) (numbers : ℕ → ℤ) : Type 0 where
   pub start : numbers 0 ≡ pos 0
   pub along : All (IsKept numbers) arcs
@@ -19,7 +19,7 @@ pub record KeepCosts (arcs : List Arc) (numbers : ℕ → ℤ) : Type 0 where
 abbrev pub opposite : (ℕ → ℤ) → ℕ → ℤ
 opposite numbers vertex = pos 0 -ℤ numbers vertex
 
--- arcs between so many vertices; some numbers keep their costs, and none that do are larger in size than the farthest
+-- arcs between this many vertices; some numbers keep their costs, and all numbers that do are at most `farthest` in size
 pub record AreTight (vertices : ℕ) (arcs : List Arc) : Type 0 where
   pub some : 1 ≤ vertices
   pub few : vertices ≤ max_vertices
@@ -27,22 +27,22 @@ pub record AreTight (vertices : ℕ) (arcs : List Arc) : Type 0 where
   pub known : ¬ ((numbers : ℕ → ℤ) → ¬ KeepCosts arcs numbers)
   pub near : (numbers : ℕ → ℤ) → KeepCosts arcs numbers → (vertex : ℕ) → vertex < vertices → unsigned_abs (numbers vertex) ≤ farthest
 
--- a label for each vertex, which no numbers that keep the costs exceed
+-- a label for each vertex, which is at least its number in all numbers that keep the costs
 pub record AreLabels (vertices : ℕ) (arcs : List Arc) (labels : List ℤ) : Type 0 where
   pub within : AreWithin vertices farthest labels
   pub start : value_at labels 0 ≤ℤ pos 0
   pub above : (numbers : ℕ → ℤ) → KeepCosts arcs numbers → (vertex : ℕ) → vertex < vertices → numbers vertex ≤ℤ value_at labels vertex
 
--- distances from vertex 0: the greatest numbers that keep the costs
+-- distances from vertex 0: the largest numbers that keep the costs
 pub record AreDistances (vertices : ℕ) (arcs : List Arc) (distances : List ℤ) : Type 0 where
   pub within : AreWithin vertices farthest distances
   pub keep : KeepCosts arcs (value_at distances)
   pub greatest : (numbers : ℕ → ℤ) → KeepCosts arcs numbers → (vertex : ℕ) → vertex < vertices → numbers vertex ≤ℤ value_at distances vertex
 
--- how far the labels can still fall
+-- how far the labels can still fall in total
 abbrev pub room : List ℤ → ℕ
 room labels = sum_by (λ label. unsigned_abs (label +ℤ pos farthest)) labels
 
--- the place that a step comes to, from the front or from the back
+-- the place of a step among `size` places, from the front or from the back
 abbrev pub place_at : Bool → ℕ → ℕ → ℕ
 place_at backwards size step = if backwards then size - 1 - step else step

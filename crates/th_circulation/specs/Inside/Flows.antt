@@ -3,7 +3,7 @@ use Rattle.std.specs.List.{AllZip}
 use Rattle.th_network.specs.Circulation.{total_by}
 use Rattle.th_network.specs.declared.links.Link.{Link}
 
--- what flows gain: the sum of each flow times its difference
+-- the gain of flows: the sum of each flow times its difference
 abbrev pub gain : List ℤ → List ℤ → ℤ
 gain flows diffs = total_by (λ pair. pair.0 *ℤ pair.1) (zip flows diffs)
 
@@ -41,6 +41,6 @@ cost weights rests = sum_by (λ pair. pair.0 * unsigned_abs pair.1) (zip weights
 abbrev pub ShowsLinks : List ℕ → List ℤ → List ℤ → Type 0
 ShowsLinks weights flows rests = AllZip (λ pair rest. pair.1 *ℤ rest ≡ pos (pair.0 * unsigned_abs rest)) (zip weights flows) rests
 
--- each next difference is twice the last one, or one more
+-- each next difference is twice the one before it, or one more
 abbrev pub Next : List ℤ → List ℤ → Type 0
 Next diffs next = AllZip (λ diff finer. ((pos 2 *ℤ diff) ≤ℤ finer) × (finer ≤ℤ (pos 2 *ℤ diff +ℤ pos 1))) diffs next

@@ -5,7 +5,7 @@ use Rattle.th_network.specs.Links.{largest_link_difference}
 use Rattle.th_search.specs.Limits.{max_vertices}
 use Rattle.th_tables.specs.Limits.{max_weight}
 
--- so many vertices, at least one; links between them, and a weight for each; all within the limits of a network
+-- a graph within the limits of a network: at least one vertex, links between the vertices, and a weight for each link
 pub record IsGraph (vertices : ℕ) (links : List Link) (weights : List ℕ) : Type 0 where
   pub some : 1 ≤ vertices
   pub few_vertices : vertices ≤ max_vertices
@@ -15,7 +15,7 @@ pub record IsGraph (vertices : ℕ) (links : List Link) (weights : List ℕ) : T
   pub near : All (λ link. unsigned_abs link.diff ≤ largest_link_difference) links
   pub light : All (λ weight. weight ≤ max_weight) weights
 
--- so many numbers, none larger in size than this
+-- `count` numbers, none larger in size than `most`
 pub record AreWithin (count most : ℕ) (numbers : List ℤ) : Type 0 where
   pub each : length numbers ≡ count
   pub small : All (λ number. unsigned_abs number ≤ most) numbers

@@ -12,28 +12,28 @@ use Rattle.th_circulation.specs.declared.graphs.Graph.{Graph}
 use Rattle.th_circulation.specs.declared.listings.Listing.{Listing}
 use Rattle.th_circulation.specs.declared.slots.Slot.{Slot}
 
--- the arc that a slot stands for, at a cost that these heights reduce
+-- the arc of a slot, with its reduced cost at these heights
 abbrev pub arc_of : List Link → List ℤ → (ℕ → ℤ) → Slot → Arc
 arc_of links diffs heights slot =
     let link = link_at links slot in
     let rest = residual heights link (slice_index_or diffs slot.place (pos 0)) in
     record { tail = start_of slot link; head = finish_of slot link; cost = if slot.is_forward then (pos 0 -ℤ rest) else rest }
 
--- the arcs are those of the slots, each of which is of a link and has room
+-- the arcs are those of the slots, each of which has a link and room
 pub record AreResidual (links : List Link) (weights : List ℕ) (diffs : List ℤ) (heights : ℕ → ℤ) (flows : List ℤ) (arcs : List Arc) (slots : List Slot) : Type 0 where
   pub is : arcs ≡ map (arc_of links diffs heights) slots
   pub within : All (λ slot. slot.place < length links) slots
   pub room : All (HasRoom weights 1 flows) slots
 
--- each slot that has room is among them, of the links before a place
+-- every slot of the links before a place that has room is among these
 abbrev pub HasAllBefore : List ℕ → List ℤ → List Slot → ℕ → Type 0
 HasAllBefore weights flows slots place = (slot : Slot) → slot.place < place → HasRoom weights 1 flows slot → Contains slots slot
 
--- the slot of this number
+-- the slot with this number, counted from 0
 abbrev pub slot_at : List Slot → ℕ → Slot
 slot_at slots number = slice_index_or slots number (record { place = 0; is_forward = false })
 
--- the slots of these numbers
+-- the slots with these numbers
 abbrev pub slots_at : List Slot → List ℕ → List Slot
 slots_at slots numbers = map (slot_at slots) numbers
 
@@ -43,16 +43,16 @@ pub record AreListable (graph : Graph) (diffs heights flows : List ℤ) : Type 0
   pub near_heights : AreWithin graph.vertices height_bound heights
   pub bounded : AreBounded graph.weights.now flows
 
--- the listing has residual arcs of the graph, at costs that the heights reduce
+-- the listing has residual arcs of the graph, with their reduced costs at these heights
 abbrev pub Lists : Graph → List ℤ → List ℤ → List ℤ → Listing → Type 0
 Lists graph diffs heights flows listing = AreResidual graph.links.now graph.weights.now diffs (value_at heights) flows listing.arcs.items listing.slots.items
 
--- the listing has room for all residual arcs of a graph
+-- the listing has capacity for all residual arcs of a graph
 pub record Fits (graph : Graph) (listing : Listing) : Type 0 where
   pub arcs : 2 * length graph.links.now ≤ vec_capacity listing.arcs
   pub slots : 2 * length graph.links.now ≤ vec_capacity listing.slots
 
--- and no less room than before
+-- the listing has no less capacity than before
 pub record KeepsRoom (old new : Listing) : Type 0 where
   pub arcs : vec_capacity old.arcs ≤ vec_capacity new.arcs
   pub slots : vec_capacity old.slots ≤ vec_capacity new.slots

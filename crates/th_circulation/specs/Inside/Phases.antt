@@ -2,7 +2,7 @@ use Rattle.std.specs.Prelude.{ℕ, ℤ, List, map}
 use Rattle.std.specs.Int.{int_shr}
 use Rattle.th_network.specs.declared.links.Link.{Link}
 
--- the greatest whole number not above a difference that is halved as often as the phase says
+-- a difference in a phase: halved as often as the number of the phase, and rounded down
 abbrev pub difference_in : ℕ → ℤ → ℤ
 difference_in phase diff = int_shr diff phase
 

@@ -21,6 +21,6 @@ residual_arcs (link ∷ links) [] flows = []
 residual_arcs (link ∷ links) (weight ∷ weights) [] = []
 residual_arcs (link ∷ links) (weight ∷ weights) (flow ∷ flows) = residual_arcs_of link weight flow ++ residual_arcs links weights flows
 
--- an arc the other way round, at its cost
+-- an arc in the other direction, at the same cost
 abbrev pub turned : Arc → Arc
 turned arc = record { tail = arc.head; head = arc.tail; cost = arc.cost }

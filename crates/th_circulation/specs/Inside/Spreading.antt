@@ -1,6 +1,6 @@
 use Rattle.std.specs.Prelude.{◌≡◌, ℕ, ◌<◌, ℤ, List, Option, All, IfSome, length}
 
--- an arc for each vertex and after each arc, where there is one, among so many arcs
+-- the first arc of each vertex, and the arc that follows each arc, if there is one; all are among this many arcs
 pub record AreTails (vertices arcs : ℕ) (firsts followings : List (Option ℕ)) : Type 0 where
   pub each_vertex : length firsts ≡ vertices
   pub each_arc : length followings ≡ arcs

@@ -11,28 +11,28 @@ use Rattle.th_circulation.specs.Inside.Phases.{differences_in}
 use Rattle.th_circulation.specs.declared.graphs.Graph.{Graph}
 use Rattle.th_circulation.specs.declared.workspaces.Workspace.{Workspace}
 
--- what is kept between two phases: a flow, and heights as far as potentials raise them
+-- the state between two phases: a flow, and heights within the bound of raised ones
 pub record IsRested (graph : Graph) (work : Workspace) : Type 0 where
   pub differences : length work.differences.items ≡ length graph.links.now
   pub heights : AreWithin graph.vertices raised_bound work.heights.items
   pub flow : IsFlow graph.links.now graph.weights.now work.flows.items
   pub fits : Fits graph work.listing
 
--- what is kept within a phase: also differences and heights from which costs can be reduced
+-- the state within a phase: a flow, and differences and heights for which reduced costs can be listed
 pub record IsReady (graph : Graph) (work : Workspace) : Type 0 where
   pub differences : AreWithin (length graph.links.now) largest_link_difference work.differences.items
   pub heights : AreWithin graph.vertices height_bound work.heights.items
   pub flow : IsFlow graph.links.now graph.weights.now work.flows.items
   pub fits : Fits graph work.listing
 
--- what a phase does in so many steps: each gains something for its differences
+-- what a phase does in this many steps: each of them gains at least 1 for the phase's differences
 pub record GoesOn (graph : Graph) (old new : Workspace) (steps : ℕ) : Type 0 where
   pub differences : new.differences.items ≡ old.differences.items
   pub flow : IsFlow graph.links.now graph.weights.now new.flows.items
   pub fits : Fits graph new.listing
   pub gained : (gain old.flows.items old.differences.items +ℤ pos steps) ≤ℤ gain new.flows.items old.differences.items
 
--- the flows show the heights, as far as potentials raise them, for these differences
+-- the flows show the heights, which are within the bound of raised ones, for these differences
 pub record AreShownFor (graph : Graph) (diffs : List ℤ) (work : Workspace) : Type 0 where
   pub heights : AreWithin graph.vertices raised_bound work.heights.items
   pub shown : ShowsLinks graph.weights.now work.flows.items (residuals graph.links.now diffs (value_at work.heights.items))
@@ -46,13 +46,13 @@ pub record IsDone (graph : Graph) (work : Workspace) : Type 0 where
 abbrev pub IsNear : List Link → List ℕ → List ℤ → List ℤ → Type 0
 IsNear links weights diffs flows = (others : List ℤ) → IsFlow links weights others → gain others diffs ≤ℤ (gain flows diffs +ℤ pos (2 * sum weights))
 
--- how many calls named no cycle, of those up to one that named one where the answer is true
+-- how many calls named no cycle: none if the answer is true, which says that a call named one, else 1
 abbrev pub others_in : {E : Type 0} → Result Bool E → ℕ
 others_in (Ok named) = if named then 0 else 1
 others_in (Err refused) = 1
 
--- From one state of a search and of the steps to a later one, where a part of a settling has this result. Each cycle that the search named is one step, and of its
--- other calls there were so many, or at most so many after a refusal.
+-- The counts of a search and of the steps, from one state to a later one, if a part of settling has this result. Each cycle
+-- that the search named is one step, and there are `others` more calls, or at most that many after an error.
 pub record Counts {X A E : Type 0} (calls refusals cycles : X → ℕ) (others : ℕ) (result : Result A E) (search later : X) (steps more : ℕ) : Type 0 where
   pub more_steps : steps ≤ more
   pub one_step_each : cycles later + steps ≡ cycles search + more

@@ -10,13 +10,13 @@ IsMarked marked place = slice_get marked place ≡ Some true
 abbrev pub unmarked_count : List Bool → ℕ
 unmarked_count marked = sum_by (λ mark. if mark then 0 else 1) marked
 
--- the places that have a height are marked, and they wait
+-- the places that have a height, and no others, are marked and wait
 pub record IsSeeded (heights : List (Option ℤ)) (marked : List Bool) (waiting : List ℕ) : Type 0 where
   pub marks : marked ≡ map is_some heights
   pub all_wait : (place : ℕ) → IsMarked marked place → Contains waiting place
   pub no_other : (place : ℕ) → Contains waiting place → IsMarked marked place
 
--- more places may be marked; those that are, wait; and each mark takes one from the places without
+-- marks and waiting places only grow: each newly marked place waits, each newly waiting place is marked, and as many new places wait as are marked
 pub record Spreads (marked : List Bool) (waiting : List ℕ) (marked' : List Bool) (waiting' : List ℕ) : Type 0 where
   pub size : length marked' ≡ length marked
   pub kept : (place : ℕ) → IsMarked marked place → IsMarked marked' place
@@ -25,12 +25,12 @@ pub record Spreads (marked : List Bool) (waiting : List ℕ) (marked' : List Boo
   pub no_other : (place : ℕ) → Contains waiting' place → Contains waiting place ⊎ IsMarked marked' place
   pub work : unmarked_count marked' + length waiting' ≡ unmarked_count marked + length waiting
 
--- these places are marked, and no others but those that were
+-- these places are marked, and no others but those marked before
 pub record AreAdded (places : List ℕ) (marked marked' : List Bool) : Type 0 where
   pub all : (place : ℕ) → Contains places place → IsMarked marked' place
   pub no_other : (place : ℕ) → IsMarked marked' place → IsMarked marked place ⊎ Contains places place
 
--- these places are marked, no others are, and those that were not marked wait
+-- these places are marked, no others but those marked before, and those marked now wait
 pub record MarksAll (places : List ℕ) (old new : Marks) : Type 0 where
   pub added : AreAdded places old.marked.items new.marked.items
   pub spreads : Spreads old.marked.items old.waiting.items new.marked.items new.waiting.items

@@ -4,7 +4,7 @@ use Rattle.th_search.specs.Potentials.{value_at}
 use Rattle.th_search.specs.declared.arcs.Arc.{Arc}
 use Rattle.th_search.specs.declared.levels.Level.{Level}
 
--- a row of the table: for each vertex a cost, and the last arc of the walk that costs so, where it is new in this row
+-- a row of the table: for each vertex a cost, and the last arc of a walk with this cost if the cost is new in this row
 pub record Row : Type 0 where
   pub costs : List ℤ
   pub last : List (Option ℕ)
@@ -15,22 +15,22 @@ row_of level = record { costs = level.costs.items; last = level.last.items }
 abbrev pub rows_of : List Level → List Row
 rows_of levels = map row_of levels
 
--- the row of this number, counted from 0; one without vertices where there is none
+-- the row with this number, counted from 0; a row without vertices if there is none
 abbrev pub row_at : List Row → ℕ → Row
 row_at rows k = slice_index_or rows k (record { costs = []; last = [] })
 
--- the last arc of the walk to a vertex, where it is new
+-- the last arc of the walk to a vertex, if its cost is new in this row
 abbrev pub last_at : Row → ℕ → Option ℕ
 last_at row vertex = slice_index_or row.last vertex None
 
--- the arc leads to the vertex, and to the cost there, which is below that of the row before
+-- the arc leads to the vertex, and from the row below to its cost in the row above, which is lower than in the row below
 pub record Falls (arcs : List Arc) (below above : Row) (vertex number : ℕ) : Type 0 where
   pub within : number < length arcs
   pub head : (arc_at arcs number).head ≡ vertex
   pub is : value_at above.costs vertex ≡ value_at below.costs (arc_at arcs number).tail +ℤ (arc_at arcs number).cost
   pub less : value_at above.costs vertex <ℤ value_at below.costs vertex
 
--- the row of walks with one arc more: no arc leads from the row before to a lower cost, and each cost is that of the row before or one to which an arc leads
+-- the row of walks with one more arc: no arc leads from the row below to a lower cost, and each cost is that of the row below or one that an arc leads to
 pub record IsAbove (arcs : List Arc) (below above : Row) : Type 0 where
   pub costs : length above.costs ≡ length below.costs
   pub last : length above.last ≡ length below.costs
@@ -38,7 +38,7 @@ pub record IsAbove (arcs : List Arc) (below above : Row) : Type 0 where
   pub kept : (vertex : ℕ) → last_at above vertex ≡ None → value_at above.costs vertex ≡ value_at below.costs vertex
   pub fell : (vertex number : ℕ) → last_at above vertex ≡ Some number → Falls arcs below above vertex number
 
--- rows of n vertices, the first of zeros, each on from the one before it
+-- rows of n vertices: the first has zeros only, and each other is the next after the row before it
 pub record AreLevels (n : ℕ) (arcs : List Arc) (rows : List Row) : Type 0 where
   pub costs : (k : ℕ) → k < length rows → length (row_at rows k).costs ≡ n
   pub last : (k : ℕ) → k < length rows → length (row_at rows k).last ≡ n

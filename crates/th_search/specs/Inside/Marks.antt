@@ -2,11 +2,11 @@ use Rattle.std.specs.Prelude.{◌≢◌, ℕ, ◌<◌, ◌≤◌, List, Option, 
 use Rattle.th_search.specs.Inside.Entries.{IsRooted}
 use Rattle.th_search.specs.declared.arcs.Arc.{Arc}
 
--- the mark of a vertex, 0 for none
+-- the mark of a vertex; 0 if it has none
 abbrev pub mark_at : List ℕ → ℕ → ℕ
 mark_at marks vertex = slice_index_or marks vertex 0
 
--- the vertices before this one are marked, each mark is at most its number, and from marked ones the entries lead back to one that was not entered
+-- the first `count` vertices are marked, no mark is above `count`, and the entries lead back from every marked vertex to one that was not entered
 pub record AreMarked (arcs : List Arc) (entries : List (Option ℕ)) (marks : List ℕ) (count : ℕ) : Type 0 where
   pub each : (vertex : ℕ) → vertex < count → mark_at marks vertex ≢ 0
   pub most : (vertex : ℕ) → mark_at marks vertex ≤ count

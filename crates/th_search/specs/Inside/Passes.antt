@@ -8,17 +8,17 @@ use Rattle.th_search.specs.declared.arcs.Arc.{Arc}
 use Rattle.th_search.specs.declared.passes.Pass.{Pass}
 use Rattle.th_search.specs.declared.passes.Pass.TheVariants.{Lowered, Done, Closed}
 
--- labels fell, or no arc improves one, or the entries lead from a vertex back to itself
+-- what a pass found: labels fell; or no arc improves one, and the entries form a forest; or the entries lead from a vertex back to itself
 abbrev pub IsPass : List Arc → List ℤ → List ℤ → List (Option ℕ) → Pass → Type 0
 IsPass arcs old new entries Lowered = room new < room old
 IsPass arcs old new entries Done = IsFeasible arcs new × IsForest arcs entries
 IsPass arcs old new entries (Closed vertex) = (vertex < length new) × IsOnCycle arcs entries vertex
 
--- the place that a step comes to, of so many, from the front or from the back
+-- the place of a step among `size` places, from the front or from the back
 abbrev pub place_at : Bool → ℕ → ℕ → ℕ
 place_at backwards size step = if backwards then size - 1 - step else step
 
--- a pass may begin: the ends of arcs, which are not too many, have labels, and from each vertex the entries lead back to one that was not entered
+-- a pass may begin: the arcs are not too many, their ends have labels, and the entries lead back from every vertex to one that was not entered
 pub record IsReady (all : List Arc) (values : List ℤ) (entries : List (Option ℕ)) : Type 0 where
   pub arcs : All (IsArc (length values)) all
   pub many : length all ≤ max_arcs

@@ -1,4 +1,4 @@
--- What is searched.
+-- The input of a search.
 use Rattle.std.specs.Prelude.{ℕ, ◌≤◌, List, All, length}
 use Rattle.th_search.specs.Limits.{max_arcs, max_vertices}
 use Rattle.th_search.specs.Walks.{IsArc}
