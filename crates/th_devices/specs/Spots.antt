@@ -1,7 +1,7 @@
 -- Where bytes are.
 use Rattle.std.specs.Prelude.{ℕ, Bool, true, false, List}
 
--- where bytes are: in the file of a name, in a standard stream, or in no folder
+-- where bytes are: in the file with this name, in a standard stream, or in no folder
 pub data Spot : Type 0 where
   file : List ℕ → Spot
   input : Spot

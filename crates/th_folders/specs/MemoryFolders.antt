@@ -32,7 +32,7 @@ abbrev pub files_in : Files → Named
 files_in End = []
 files_in (More' p name sink next) = (string_bytes name, sink) ∷ files_in next
 
--- the sink of the file of this name, of the one that was closed last
+-- the sink of the file with this name; of several, the one closed last
 abbrev pub found_in : Named → List ℕ → Option TextSinkState
 found_in [] wanted = None
 found_in (one ∷ files) wanted = if bytes_eq one.0 wanted then Some one.1 else found_in files wanted
@@ -52,7 +52,7 @@ memory_held folder output = option_map (λ own. own.held) folder.output
 memory_held folder errors = option_map (λ own. own.held) folder.errors
 memory_held folder nowhere = None
 
--- a call failed of the sink that was closed last for this spot
+-- whether a call of the sink closed last for this spot failed
 abbrev pub failed_of : Option TextSinkState → Bool
 failed_of own = option_map_or (λ known. nat_lt 0 known.counts.failures) own false
 

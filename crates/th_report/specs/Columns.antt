@@ -1,11 +1,11 @@
 -- The columns of a printed table.
 use Rattle.std.specs.Prelude.{ℕ, ◌-◌, List, [], ◌∷◌, ◌++◌, length, replicate}
 
--- a text with spaces after it, so many bytes in all; a longer text is printed whole
+-- a text padded with spaces after it to a width in bytes; a longer text is printed whole
 unfoldable pub left_in : ℕ → List ℕ → List ℕ
 left_in width text = text ++ replicate (width - length text) 32
 
--- a text with spaces before it, so many bytes in all; a longer text is printed whole
+-- a text padded with spaces before it to a width in bytes; a longer text is printed whole
 unfoldable pub right_in : ℕ → List ℕ → List ℕ
 right_in width text = replicate (width - length text) 32 ++ text
 
@@ -17,6 +17,6 @@ gap = 32 ∷ 32 ∷ []
 abbrev pub line_end : List ℕ
 line_end = 10 ∷ []
 
--- how many bytes the widest column has
+-- the width of the widest column, in bytes
 abbrev pub widest : ℕ
 widest = 26

@@ -19,11 +19,11 @@ padded_name name = replicate (16 - length name) 48 ++ name
 unfoldable pub number_word : ℕ → List ℕ → Parts
 number_word number name = parts 11 (last_digits 4 number) false (padded_name name)
 
--- the size of a height in 1/100 mm, to the nearest, and at the half upwards
+-- the size of a height in 1/100 mm, rounded to the nearest, halves up
 abbrev pub hundredths : ℤ → ℕ
 hundredths height = (unsigned_abs height + 500) / 1000
 
--- a height below zero that is not rounded to zero
+-- whether a height is printed with a minus: it is below zero and not rounded to zero
 abbrev pub has_minus : ℤ → Bool
 has_minus height = is_negative height && not (hundredths height == 0)
 
@@ -39,20 +39,20 @@ point_block number name height = record { width = Sixteen; words = number_word n
 abbrev pub point_text : ℕ → List ℕ → ℤ → List ℕ
 point_text number name height = block_text (point_block number name height)
 
--- the line of a numbered name
+-- the line of a point, given its number and its name
 unfoldable pub text_of_point : (List ℕ → ℤ) → ℕ × List ℕ → List ℕ
 text_of_point heights (number, name) = point_text number name (heights name)
 
--- the text: a line for each point, in point order, numbered from 1
+-- the text of the file: a line for each point, in point order, numbered from 1
 abbrev pub gsi_text : Survey → (List ℕ → ℤ) → List ℕ
 gsi_text survey heights = flat_map (text_of_point heights) (enumerate_from 1 (points_of survey))
 
--- the name in the data of a block's first word, where that is a word 11
+-- the name in the data of a block's first word, if that is a word 11
 abbrev pub name_in : List Parts → Option (List ℕ)
 name_in [] = None
 name_in (word ∷ words) = if word.index == 11 then name_of word.body else None
 
--- the name that is read from a line, where that is a block
+-- the name on a parsed line, if that is a block
 abbrev pub name_read : Result (Option BlockParts) BlockFault → Option (List ℕ)
 name_read (Ok (Some block)) = name_in block.words
 name_read other = None

@@ -13,7 +13,7 @@ use Rattle.th_blunders.specs.Opposites.{opposites}
 use Rattle.th_blunders.specs.declared.pairs.Opposite.{Opposite}
 use Rattle.th_report.specs.Columns.{gap, left_in, line_end, right_in}
 
--- a label, and the value that it stands for
+-- a line with a label and its value
 unfoldable pub label_line : List ℕ → List ℕ → List ℕ
 label_line label value = left_in 14 label ++ right_in 26 value ++ line_end
 
@@ -36,16 +36,16 @@ count_lines survey =
     ++ label_line (codes "benchmarks") (decimal (benchmark_count survey))
     ++ label_line (codes "observations") (decimal (length survey.observations))
 
--- the title, and what was adjusted in numbers: the counts, the cost in units of 10 nm, and the limit in metres
+-- the title, and the numbers of the adjustment: the counts, the cost in units of 10 nm, and the limit of blunders in metres
 unfoldable pub head_lines : Survey → ℕ → ℤ → List ℕ
 head_lines survey cost limit =
     title_line ++ count_lines survey ++ label_line (codes "cost") (decimal cost) ++ label_line (codes "blunder limit") (metres limit)
 
--- the columns of points: a name, a height, and a mark
+-- the columns of points: name, height, and mark
 unfoldable pub point_columns : List ℕ → List ℕ → List ℕ → List ℕ
 point_columns name height mark = left_in 16 name ++ gap ++ right_in 20 height ++ mark ++ line_end
 
--- the mark after a benchmark
+-- the mark after a benchmark; nothing after another point
 abbrev pub benchmark_mark : Bool → List ℕ
 benchmark_mark is_one = if is_one then codes "  B" else []
 
@@ -57,31 +57,31 @@ point_line survey heights name = point_columns name (metres (heights name)) (ben
 unfoldable pub point_lines : Survey → (List ℕ → ℤ) → List ℕ
 point_lines survey heights = point_columns (codes "POINT") (codes "HEIGHT") [] ++ flat_map (point_line survey heights) (points_of survey)
 
--- the columns that say which observation it is: its number, its book and its line there
+-- the columns that identify an observation: number, book, and line in that book
 unfoldable pub place_columns : List ℕ → List ℕ → List ℕ → List ℕ
 place_columns number book line = right_in 5 number ++ gap ++ right_in 2 book ++ gap ++ right_in 8 line ++ gap
 
--- the columns of its ends
+-- the columns of an observation's ends
 unfoldable pub end_columns : List ℕ → List ℕ → List ℕ
 end_columns station target = left_in 16 station ++ gap ++ left_in 16 target ++ gap
 
--- the last columns: a weight, a residual, and a mark
+-- the last columns of residuals: weight, residual, and mark
 unfoldable pub residual_columns : List ℕ → List ℕ → List ℕ → List ℕ
 residual_columns weight residual mark = right_in 4 weight ++ gap ++ right_in 20 residual ++ mark ++ line_end
 
--- the mark after a blunder
+-- the mark after a blunder; nothing after another observation
 abbrev pub blunder_mark : Bool → List ℕ
 blunder_mark is_one = if is_one then codes "  *" else []
 
--- which observation it is
+-- the columns that identify an observation, filled in
 unfoldable pub place_of : ℕ → Observed → List ℕ
 place_of number o = place_columns (decimal number) (decimal o.book) (decimal o.line)
 
--- its ends
+-- the columns of an observation's ends, filled in
 unfoldable pub ends_of : Observed → List ℕ
 ends_of o = end_columns o.station o.target
 
--- its weight and its residual, with the mark of a blunder
+-- the last columns of residuals, filled in, with the mark of a blunder
 unfoldable pub residual_of : ℤ → ℕ → ℤ → List ℕ
 residual_of limit weight residual = residual_columns (decimal weight) (metres residual) (blunder_mark (is_blunder limit residual))
 
@@ -89,15 +89,15 @@ residual_of limit weight residual = residual_columns (decimal weight) (metres re
 unfoldable pub residual_line : ℤ → ℕ → Observed → ℕ → ℤ → List ℕ
 residual_line limit number o weight residual = place_of number o ++ ends_of o ++ residual_of limit weight residual
 
--- the same, with the weight of the survey
+-- the line of an observation, with its weight in the survey
 unfoldable pub line_in : Survey → ℤ → ℕ × (Observed × ℤ) → List ℕ
 line_in survey limit (number, (o, residual)) = residual_line limit number o (weight_of survey.weights o.station o.target) residual
 
--- the observations, each with its residual and numbered from 1
+-- the rows of the table of residuals: the observations, numbered from 1, each with its residual
 abbrev pub residual_rows : Survey → List ℤ → List (ℕ × (Observed × ℤ))
 residual_rows survey residuals = enumerate_from 1 (zip survey.observations residuals)
 
--- the names of the columns
+-- the header of the table of residuals
 unfoldable pub residual_header : List ℕ
 residual_header =
     place_columns (codes "NO") (codes "BK") (codes "LINE")
@@ -109,39 +109,39 @@ unfoldable pub residual_lines : Survey → List ℤ → ℤ → List ℕ
 residual_lines survey residuals limit =
     residual_header ++ flat_map (line_in survey limit) (residual_rows survey residuals)
 
--- those that are blunders
+-- the rows of the blunders
 abbrev pub blunder_rows : Survey → List ℤ → ℤ → List (ℕ × (Observed × ℤ))
 blunder_rows survey residuals limit = filter (λ row. is_blunder limit row.1.1) (residual_rows survey residuals)
 
--- how many blunders there are, and the lines of the table of residuals that are theirs
+-- the number of blunders, and then their lines from the table of residuals
 unfoldable pub blunder_lines : Survey → List ℤ → ℤ → List ℕ
 blunder_lines survey residuals limit =
     label_line (codes "blunders") (decimal (length (blunders limit residuals)))
     ++ flat_map (line_in survey limit) (blunder_rows survey residuals limit)
 
--- the numbers of an observation and of its opposite, the earlier one
+-- the columns of the numbers of an observation and of its opposite, the earlier one
 unfoldable pub number_columns : Opposite → List ℕ
 number_columns opposite = right_in 5 (decimal opposite.number) ++ gap ++ right_in 5 (decimal opposite.earlier) ++ gap
 
--- the numbers, the ends of the later observation, and the sum of the two differences
+-- the columns of an opposite: the numbers, the ends of the later observation, and the sum of the two differences
 unfoldable pub opposite_columns : Opposite → Observed → List ℕ
 opposite_columns opposite later = number_columns opposite ++ ends_of later ++ right_in 20 (metres opposite.sum) ++ line_end
 
--- the line of an observation with its opposite: the observation is the one that has the number, from 1
+-- the line of an opposite; numbers of observations count from 1
 unfoldable pub opposite_line : List Observed → Opposite → List ℕ
 opposite_line observations opposite = option_map_or (opposite_columns opposite) (slice_get observations (opposite.number - 1)) []
 
--- how many opposites there are, and their lines
+-- the number of opposites, and then their lines
 unfoldable pub opposite_lines : List Observed → List ℕ
 opposite_lines observations =
     label_line (codes "opposites") (decimal (length (opposites observations)))
     ++ flat_map (opposite_line observations) (opposites observations)
 
--- what was adjusted: the title with the numbers, and the points, an empty line after each
+-- the first part of the report: the title with the numbers, and the points, with an empty line after each
 unfoldable pub adjusted_part : Survey → (List ℕ → ℤ) → ℕ → ℤ → List ℕ
 adjusted_part survey heights cost limit = head_lines survey cost limit ++ line_end ++ point_lines survey heights ++ line_end
 
--- what was observed: the residuals, the blunders and the opposites, an empty line between neighbours
+-- the second part of the report: the residuals, the blunders and the opposites, with an empty line between neighbours
 unfoldable pub observed_part : Survey → List ℤ → ℤ → List ℕ
 observed_part survey residuals limit =
     residual_lines survey residuals limit ++ line_end

@@ -29,7 +29,7 @@ outputs = record { first = output.Points; second = output.Observations; third = 
 abbrev pub in_order : ReviewOutTexts → Four (List ℕ)
 in_order texts = record { first = texts.points; second = texts.observations; third = texts.entries; fourth = texts.review }
 
--- for each source the text that it gave: the one that it told, if it told one
+-- for each source the text that it gave: the one that it reported, if it reported one
 abbrev pub AreTold : List (Option (List ℕ)) → List (List ℕ) → Type 0
 AreTold tolds texts = AllZip (λ told text. IfSome told (λ own. own ≡ text)) tolds texts
 
@@ -37,22 +37,23 @@ AreTold tolds texts = AllZip (λ told text. IfSome told (λ own. own ≡ text)) 
 abbrev pub IsReviewOf : ℕ × List ParsedLine → BookReview → Type 0
 IsReviewOf book review = Reviews book.0 book.1 review
 
--- the reviews are those of books with the texts that sources gave, numbered from this one on, and so are the names that are spelled in more than one way
+-- the reviews are those of books with the texts that sources gave, numbered from this one on; so are the names that are spelled in more than one way
 pub record AreReviewsOf (number : ℕ) (tolds : List (Option (List ℕ))) (reviews : List BookReview) (spellings : List Spelling) : Type 0 where
   pub texts : List (List ℕ)
   pub told : AreTold tolds texts
   pub reviewed : AllZip IsReviewOf (numbered number texts) reviews
   pub spelled : spellings ≡ spellings_of (numbered number texts)
 
--- What was found of a survey and of the entries of its books: the strengths of its points, with its weights and with weights of 1, the controls of its
--- observations, and for each entry what a mistake in it would do.
+-- What was found about a survey and the entries of its books: the strengths of its points, with its weights and with
+-- all weights 1; the controls of its observations; and for each entry what a mistake in it would do.
 pub record AreFound (survey : Survey) (books : List BookReview) (found : Found) : Type 0 where
   pub strengths : AreStrengths survey found.strengths
   pub unit_strengths : AreStrengths (record survey { weights = [] }) found.unit_strengths
   pub controls : AreControls survey found.controls
   pub mistakes : AllZip (λ entry mistake. IsSharedMistake survey (in_sights (sights_of entry)) mistake) (entries_of books) found.mistakes
 
--- The texts are the review of a survey and of its books, for this limit of blunders in units of 10 nm: the heights are best, and what they print was found.
+-- The texts are the review of a survey and of its books, for this limit of blunders in units
+-- of 10 nm. The heights in them are best, and the rest is what was found.
 pub record AreReviewed (survey : Survey) (books : List BookReview) (spellings : List Spelling) (limit : ℤ) (texts : ReviewOutTexts) : Type 0 where
   pub answer : Best
   pub answers : IsBest survey answer

@@ -9,19 +9,19 @@ use Rattle.th_entries.specs.declared.seen.SeenNames.{SeenNames}
 use Rattle.th_entries.specs.declared.feeds.ReviewFeed.{ReviewFeed}
 use Rattle.th_entries.specs.declared.reviews.BookReview.{BookReview}
 
--- a feed took these bytes: what it was to take with them it has taken
+-- a feed took these bytes: if it had just them left to take, it has none left now
 abbrev pub AreTaken : {B F : Type 0} → (B → List ℕ → F → Type 0) → List ℕ → F → F → Type 0
 AreTaken {B} has_taken bytes old new = (start : B) → has_taken start bytes old → has_taken start [] new
 
--- the review that a feed has read was put behind others, and so many names are known with it
+-- the review that a feed has read was put after others, and the names of its book were added to those before
 pub record IsAdded (feed : ReviewFeed) (old new : List BookReview) (more : SeenNames) : Type 0 where
   pub review : BookReview
   pub joined : new ≡ old ++ review ∷ []
   pub reviewed : (names : SeenNames) (number : ℕ) (text : List ℕ) → IsReading names number text [] feed → IsFaultless number text → Reviews number (parsed_of text) review
   pub named : (names : SeenNames) (number : ℕ) (text : List ℕ) → IsReading names number text [] feed → IsFaultless number text → AddsBook number (parsed_of text) names more
 
--- The review of the book with this number was put behind others, and the names that it mentions were added to those of the books before. Its text is
--- the one that is told, if one is, and gives the observations.
+-- The review of the book with this number was put after others, and the names that it mentions were added to those of
+-- the books before. Its text is the reported one, if one is reported, and gives the observations.
 pub record IsReviewedNext (number : ℕ) (told : Option (List ℕ)) (observations : List Observed) (old new : List BookReview) (names more : SeenNames) : Type 0 where
   pub text : List ℕ
   pub review : BookReview
@@ -31,7 +31,7 @@ pub record IsReviewedNext (number : ℕ) (told : Option (List ℕ)) (observation
   pub joined : new ≡ old ++ review ∷ []
   pub named : AddsBook number (parsed_of text) names more
 
--- a reader read books one after the other, numbered from this one on, and their observations were put behind others
+-- a reader read books one after the other, numbered from this one on, and their observations were put after others
 abbrev pub HasReadBooks : {R : Type 0} → (ℕ → Option (List ℕ) → List Observed → R → R → Type 0) → ℕ → List (Option (List ℕ)) → List Observed → List Observed → R → R → Type 0
 HasReadBooks has_read number [] before after old new = (after ≡ before) × (new ≡ old)
 HasReadBooks {R} has_read number (told ∷ tolds) before after old new =
