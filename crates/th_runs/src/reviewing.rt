@@ -4,6 +4,7 @@ ghost use Rattle.std.specs.List.{AllZip};
 ghost use Rattle.th_entries.specs.Stations.{HasOneStation};
 ghost use Rattle.th_entries.specs.declared.reviews.BookReview.{BookReview};
 ghost use Rattle.th_entries.specs.declared.spellings.Spelling.{Spelling};
+ghost use Rattle.th_limits.specs.Limits.{max_books};
 ghost use Rattle.th_reliability.specs.Numbers.{AreControls, AreStrengths};
 ghost use Rattle.th_reliability.specs.SharedMistakes.{IsSharedMistake};
 ghost use Rattle.th_reliability.specs.Sights.{in_sights};
@@ -81,7 +82,7 @@ fn texts_of(
     spellings: &[Spelling],
     limit: i64,
 ) -> Result<ReviewTexts, Refusal>
-    requires few { length reviews.now ≤ 16 }
+    requires few { length reviews.now ≤ max_books }
     requires stations { All (HasOneStation inputs.observations) (entries_of reviews.now) }
     ensures { IsOfNetwork inputs (λ texts.
         AreReviewed inputs reviews.now spellings.now limit (bytes_of texts)) result }
@@ -104,7 +105,7 @@ fn texts_of_network(
 ) -> Result<ReviewTexts, Refusal>
     requires network { MakesNetwork network.now }
     requires weights { AreWeights network.now.weights }
-    requires few { length reviews.now ≤ 16 }
+    requires few { length reviews.now ≤ max_books }
     requires stations { All (HasOneStation network.now.observations) (entries_of reviews.now) }
     ensures texts { IfOk result (λ texts. AreReviewed network.now reviews.now spellings.now limit (bytes_of texts)) }
     ensures refused { IfErr result (λ own. own ≡ Refusal.NoMemory) }
