@@ -1,5 +1,5 @@
 -- The text of a certificate, in each of its versions.
-use Rattle.std.specs.Prelude.{◌≡◌, ℕ, ℤ, List, Some, [], ◌∷◌, ◌++◌, All, codes, decimal, length, map}
+use Rattle.std.specs.Prelude.{◌≡◌, ℕ, ℤ, List, None, Some, [], ◌∷◌, ◌++◌, All, codes, decimal, length, map}
 use Rattle.std.specs.Fmt.{signed_decimal}
 use Rattle.std.specs.List.{enumerate_from}
 use Rattle.gsi_word.specs.Names.{name_of}
@@ -11,7 +11,7 @@ use Rattle.th_csv.specs.Texts.{csv_text}
 use Rattle.th_network.specs.Faults.{IsNetwork}
 use Rattle.th_network.specs.Heights.{cost}
 use Rattle.th_network.specs.Networks.{Survey, points_of}
-use Rattle.th_certificate.specs.Certified.{HeightRows, rows_at}
+use Rattle.th_certificate.specs.Certified.{Certified, HeightRows, rows_at}
 
 -- the row of a name and its height in metres, under the letter of its kind
 abbrev pub height_row : List ℕ → List ℕ × ℤ → Fields
@@ -65,6 +65,21 @@ text_of_version_1 survey heights flows = csv_text (rows_of_version_1 survey heig
 
 abbrev pub text_of_version_2 : Survey → (List ℕ → ℤ) → (List ℕ → ℤ) → (List ℕ → ℤ) → List ℤ → List ℕ
 text_of_version_2 survey heights low high flows = csv_text (rows_of_version_2 survey heights low high flows)
+
+-- the certificates that these texts state
+abbrev pub certificate_of_version_1 : Survey → (List ℕ → ℤ) → List ℤ → Certified
+certificate_of_version_1 survey heights flows =
+    record { version = 1; heights = heights_at_points survey heights; low = None; high = None; flows = flows; cost = cost_of survey heights }
+
+abbrev pub certificate_of_version_2 : Survey → (List ℕ → ℤ) → (List ℕ → ℤ) → (List ℕ → ℤ) → List ℤ → Certified
+certificate_of_version_2 survey heights low high flows = record {
+  version = 2;
+  heights = heights_at_points survey heights;
+  low = Some (heights_at_points survey low);
+  high = Some (heights_at_points survey high);
+  flows = flows;
+  cost = cost_of survey heights;
+}
 
 -- what every network has: no fault, observations and weights in their ranges, and names in reduced form
 pub record IsCertifiable (survey : Survey) : Type 0 where

@@ -1,6 +1,6 @@
 //! Laws that relate the definitions to one another. They compute nothing.
 
-ghost use Rattle.std.specs.Prelude.{◌≡◌, ◌≤◌, ◌↔◌, ℕ, ℤ, List, Err, None, Ok, Some, length};
+ghost use Rattle.std.specs.Prelude.{◌≡◌, ◌≤◌, ◌↔◌, ℕ, ℤ, List, Err, Ok, length};
 ghost use Rattle.th_csv.specs.Records.{Fields, records_of};
 ghost use Rattle.th_network.specs.Networks.{AreInRange, AreOfObservations, Survey};
 ghost use Rattle.th_certificate.specs.Certified.{Certified};
@@ -9,7 +9,7 @@ ghost use Rattle.th_certificate.specs.Reading.{certificate_in, certificate_of};
 ghost use Rattle.th_certificate.specs.Limits.{max_certificate};
 ghost use Rattle.th_certificate.specs.Rows.{IsCertificate};
 ghost use Rattle.th_certificate.specs.declared.faults.CertFault.{CertFault};
-ghost use Rattle.th_certificate.specs.Texts.{IsCertifiable, cost_of, heights_at_points, text_of_version_1, text_of_version_2};
+ghost use Rattle.th_certificate.specs.Texts.{IsCertifiable, certificate_of_version_1, certificate_of_version_2, text_of_version_1, text_of_version_2};
 
 /// Bytes are read as a certificate exactly where they are not too many and their records are its
 /// rows: the header, the version with the count of flows, the heights, in version 2 the lowest and
@@ -37,17 +37,9 @@ pub fn fault_is_the_first()
 /// cost.
 pub fn text_of_version_1_is_read_back()
     ensures { (survey : Survey) (heights : List ℕ → ℤ) (flows : List ℤ)
-        → IsCertifiable survey
-        → AreInRange survey heights
-        → AreOfObservations survey flows
-        → certificate_of (text_of_version_1 survey heights flows) ≡ Ok (record {
-          version = 1;
-          heights = heights_at_points survey heights;
-          low = None;
-          high = None;
-          flows = flows;
-          cost = cost_of survey heights;
-        }) }
+        → IsCertifiable survey → AreInRange survey heights → AreOfObservations survey flows
+        → certificate_of (text_of_version_1 survey heights flows)
+        ≡ Ok (certificate_of_version_1 survey heights flows) }
 {}
 
 /// The text of version 2 is read as the certificate with exactly these three maps of heights, flows
@@ -55,16 +47,8 @@ pub fn text_of_version_1_is_read_back()
 pub fn text_of_version_2_is_read_back()
     ensures { (survey : Survey) (heights low high : List ℕ → ℤ) (flows : List ℤ)
         → IsCertifiable survey
-        → AreInRange survey heights
-        → AreInRange survey low
-        → AreInRange survey high
+        → AreInRange survey heights → AreInRange survey low → AreInRange survey high
         → AreOfObservations survey flows
-        → certificate_of (text_of_version_2 survey heights low high flows) ≡ Ok (record {
-          version = 2;
-          heights = heights_at_points survey heights;
-          low = Some (heights_at_points survey low);
-          high = Some (heights_at_points survey high);
-          flows = flows;
-          cost = cost_of survey heights;
-        }) }
+        → certificate_of (text_of_version_2 survey heights low high flows)
+        ≡ Ok (certificate_of_version_2 survey heights low high flows) }
 {}

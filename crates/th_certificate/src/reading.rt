@@ -1,5 +1,6 @@
 ghost use Rattle.std.specs.Prelude.{◌≡◌, ◌⊎◌, ◌<◌, ◌^◌, ◌+◌, Ok, Err, IfErr, IfOk, length};
 ghost use Rattle.th_certificate.specs.Faults.{no_memory, too_long};
+ghost use Rattle.th_certificate.specs.Inside.Reads.{IsReadOf};
 ghost use Rattle.th_certificate.specs.Reading.{certificate_after, certificate_in, certificate_of, ended, in_version_2, is_header};
 ghost use Rattle.th_certificate.specs.Limits.{max_certificate};
 
@@ -41,10 +42,7 @@ fn read_records(
     record: &mut Record,
 ) -> Result<Certificate, CertFault>
     requires few { length reader.old.records + 2 < 2 ^ 32 }
-    ensures certificate { IfOk result (λ certificate.
-        certificate_in reader.old.records ≡ Ok certificate) }
-    ensures fault { IfErr result (λ fault.
-        (fault ≡ no_memory) ⊎ (certificate_in reader.old.records ≡ Err fault)) }
+    ensures { IsReadOf (certificate_in reader.old.records) result }
 {
     if !reader.next(record)? || !is_header(record) {
         return Err(CertFault::BAD_HEADER);
@@ -83,10 +81,7 @@ fn read_rows(
     mut draft: Draft,
 ) -> Result<Certificate, CertFault>
     requires few { length reader.old.records + 4 < 2 ^ 32 }
-    ensures certificate { IfOk result (λ certificate.
-        certificate_after reader.old.records 3 draft ≡ Ok certificate) }
-    ensures fault { IfErr result (λ fault.
-        (fault ≡ no_memory) ⊎ (certificate_after reader.old.records 3 draft ≡ Err fault)) }
+    ensures { IsReadOf (certificate_after reader.old.records 3 draft) result }
 {
     let row = add_rows(alloc, content, reader, record, &mut draft)?;
     certificate_of_draft(row, draft)

@@ -3,8 +3,7 @@ ghost use Rattle.std.specs.List.{enumerate_from};
 ghost use Rattle.gsi_word.specs.Names.{name_of};
 ghost use Rattle.th_csv.specs.Texts.{csv_text};
 ghost use Rattle.th_network.specs.Faults.{IsNetwork};
-ghost use Rattle.th_network.specs.Heights.{heights_at};
-ghost use Rattle.th_network.specs.Networks.{AreAtPoints, AreOfObservations, points_of};
+ghost use Rattle.th_network.specs.Networks.{AreAtPoints, AreOfObservations, at_points_of, points_of};
 ghost use Rattle.th_tables.specs.Rows.{AreWeights};
 ghost use Rattle.th_certificate.specs.Texts.{IsCertifiable, cost_row, flow_row, header_row, height_row, heights_at_points, text_of_version_2, version_row};
 
@@ -29,10 +28,9 @@ pub fn write_certificate(
     requires high { AreAtPoints network.now spans.now.high.items }
     requires flows { AreOfObservations network.now settled.now.flows.items }
     ensures text { IfOk result (λ text. text.items ≡ text_of_version_2 network.now
-        (heights_at (points_of network.now) settled.now.heights.items)
-        (heights_at (points_of network.now) spans.now.low.items)
-        (heights_at (points_of network.now) spans.now.high.items)
-        settled.now.flows.items) }
+        (at_points_of network.now settled.now.heights.items)
+        (at_points_of network.now spans.now.low.items)
+        (at_points_of network.now spans.now.high.items) settled.now.flows.items) }
     ensures certifiable { OnOk result (AreWeights network.now.weights → IsCertifiable network.now) }
 {
     certificate_text(
@@ -61,10 +59,8 @@ pub fn certificate_text(
     requires high { AreAtPoints network.now high.now }
     requires flows { AreOfObservations network.now flows.now }
     ensures text { IfOk result (λ text. text.items ≡ text_of_version_2 network.now
-        (heights_at (points_of network.now) heights.now)
-        (heights_at (points_of network.now) low.now)
-        (heights_at (points_of network.now) high.now)
-        flows.now) }
+        (at_points_of network.now heights.now) (at_points_of network.now low.now)
+        (at_points_of network.now high.now) flows.now) }
     ensures certifiable { OnOk result (AreWeights network.now.weights → IsCertifiable network.now) }
 {
     let cost = cost_of(alloc, network, heights)?;
@@ -97,7 +93,7 @@ fn write_heights(
 ) -> Result<(), AllocError>
     requires { AreAtPoints network.now heights.now }
     ensures text { OnOk result (writer.new.text ≡ writer.old.text ++ csv_text (map (height_row letter.now)
-        (heights_at_points network.now (heights_at (points_of network.now) heights.now)))) }
+        (heights_at_points network.now (at_points_of network.now heights.now)))) }
     ensures network { OnOk result (IsNetwork network.now.observations network.now.benchmarks) }
     ensures names { OnOk result (All (λ name. name_of name ≡ Some name) (points_of network.now)) }
 {
