@@ -9,7 +9,7 @@ pub data Spot : Type 0 where
   errors : Spot
   nowhere : Spot
 
--- the bytes there are in a file
+-- whether the bytes at a spot are those of a file
 abbrev pub is_file : Spot → Bool
 is_file (file name) = true
 is_file other = false

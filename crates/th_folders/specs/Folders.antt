@@ -18,7 +18,7 @@ spot_of_target (target.File name) = file name.now
 spot_of_target target.Output = output
 
 -- A folder that took a sink back. The bytes of a sink that was finished are at its spot. A file whose sink was not finished is as it was, while a stream has the
--- bytes of a sink that was called. Each other spot is as it was. A folder that tells knows whether a call failed of the sink whose bytes it has
+-- bytes of a sink that was called. Each other spot is as it was. A folder that reports its bytes knows whether a call of that sink failed.
 pub record IsClosed {F : Type 0} (tells : Bool) (held_in : F → Spot → Option (List ℕ)) (has_failed : F → Spot → Bool) (sink : SinkState) (old new : F) : Type 0 where
   pub untouched : sink.counts.calls ≡ 0 → sink.is_finished ≡ false → new ≡ old
   pub unfinished : is_file sink.spot ≡ true → sink.is_finished ≡ false → new ≡ old
