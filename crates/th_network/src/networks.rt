@@ -152,6 +152,7 @@ impl<'a> Network<'a> {
         ensures observations { result.now ≡ self.now.observations }
         ensures few { length self.now.observations ≤ max_observations }
         ensures between { All IsBetweenPoints self.now.observations }
+        ensures network { IsNetwork self.now.observations self.now.benchmarks }
     {
         &self.observations
     }

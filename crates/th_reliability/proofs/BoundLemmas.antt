@@ -1,12 +1,12 @@
 -- What the controls of a group's observations tell of a mistake that the group shares.
-use Rattle.std.proofs.Common.{◌≡◌, ℕ, suc, ◌+◌, ◌<◌, ◌≤◌, inl, inr, Bool, true, false, List, [], ◌∷◌, get_or, length, Option, Some, None, Contains, eqb, ltb, if◌then◌else◌, refl, sym, ap, ◌∙◌, subst, arith}
+use Rattle.std.proofs.Common.{◌≡◌, ℕ, suc, ◌+◌, ◌<◌, ◌≤◌, inl, inr, Bool, true, false, List, [], ◌∷◌, get_or, length, Option, Some, None, All, Contains, eqb, ltb, if◌then◌else◌, refl, sym, ap, ◌∙◌, subst, arith}
 use Rattle.std.specs.Prelude.{IfSome}
 use Rattle.std.proofs.lemmas.Bool.{cases_eq, cases_lt, eqb-false, eqb-true, false≢true, ltb-false, ltb-true}
 use Rattle.std.proofs.lemmas.List.{get_or_default}
 use Rattle.std.proofs.lemmas.List.Elements.{All-contains, All-from_recursion}
 use Rattle.std.proofs.lemmas.List.Sums.{get_or-le-sum_by, sum_by-cons}
 use Rattle.th_book.specs.Observed.{Observed}
-use Rattle.th_tables.specs.Rows.{AreWeights, weight_of}
+use Rattle.th_tables.specs.Rows.{weight_of}
 use Rattle.th_points.specs.Points.{points}
 use Rattle.th_points.proofs.PlaceLemmas.{ends_contained}
 use Rattle.th_network.specs.Networks.{Survey, points_of}
@@ -26,7 +26,6 @@ use Rattle.th_reliability.specs.declared.mistakes.SharedMistake.TheVariants.{Dra
 use Rattle.th_reliability.proofs.GroupLemmas.{parts}
 use Rattle.th_reliability.proofs.LevelLemmas.{none_crosses}
 use Rattle.th_reliability.proofs.SumLemmas.{sums-le}
-use Rattle.th_reliability.proofs.WeightLemmas.{heavy}
 
 -- nothing better than one and nothing worse than the other
 pub is_bounded : (survey : Survey) (group : Observed → Bool) (best worst : SharedMistake) → IsNoBetter survey group best → IsNoWorse survey group worst → IfSome (bounded best worst) (IsSharedMistake survey group)
@@ -38,12 +37,16 @@ is_bounded survey group Ties Ties better worse = let most = worse better.0 bette
 is_bounded survey group Ties Drags better worse = tt
 is_bounded survey group Drags worst better worse = better
 
+-- each observation weighs something
+abbrev pub WeighSome : Survey → Type 0
+WeighSome survey = All (λ o. 1 ≤ weight_of survey.weights o.station o.target) survey.observations
+
 -- a free set that holds a point of an anchored network cuts something
-pub cuts_some : (survey : Survey) (inside : List ℕ → Bool) → AreWeights survey.weights → Anchored survey.observations survey.benchmarks → IsFreeWithPoint survey inside → 0 < cut survey.observations survey.weights inside
+pub cuts_some : (survey : Survey) (inside : List ℕ → Bool) → WeighSome survey → Anchored survey.observations survey.benchmarks → IsFreeWithPoint survey inside → 0 < cut survey.observations survey.weights inside
 cuts_some survey inside are tied is =
     elim (cases_eq (cut survey.observations survey.weights inside) 0) [
       | inl none ↦
-          let level = All-from_recursion (λ o. inside o.station ≡ inside o.target) survey.observations (none_crosses survey.weights inside survey.observations (heavy survey.weights are) (omega arith)) in
+          let level = All-from_recursion (λ o. inside o.station ≡ inside o.target) survey.observations (none_crosses survey.weights inside survey.observations are (omega arith)) in
           let point = is.point in
           absurd (untied_inside survey.observations survey.benchmarks inside level is.free point.0 point.2 (All-contains (IsTied survey.observations survey.benchmarks) (points_of survey) point.0 tied point.1))
       | inr some ↦ omega arith
@@ -145,13 +148,13 @@ cuts_least survey group least inside all is some =
         (n, e, omega arith)
 
 -- a set without one cuts something
-cuts_other : (survey : Survey) (group : Observed → Bool) (inside : List ℕ → Bool) → AreWeights survey.weights → Anchored survey.observations survey.benchmarks → IsFreeWithPoint survey inside → own survey group inside ≡ 0 → own survey group inside < rest survey group inside
+cuts_other : (survey : Survey) (group : Observed → Bool) (inside : List ℕ → Bool) → WeighSome survey → Anchored survey.observations survey.benchmarks → IsFreeWithPoint survey inside → own survey group inside ≡ 0 → own survey group inside < rest survey group inside
 cuts_other survey group inside are tied is none =
     let some = cuts_some survey inside are tied is in
     let both = parts survey.observations survey.weights group inside in
     omega arith
 
-pub no_worse : (survey : Survey) (group : Observed → Bool) (least : Option ℕ) → AreWeights survey.weights → Anchored survey.observations survey.benchmarks → AreNoLess survey group least (length survey.observations) → IsNoWorse survey group (worst_of least (weight_in survey.observations survey.weights group))
+pub no_worse : (survey : Survey) (group : Observed → Bool) (least : Option ℕ) → WeighSome survey → Anchored survey.observations survey.benchmarks → AreNoLess survey group least (length survey.observations) → IsNoWorse survey group (worst_of least (weight_in survey.observations survey.weights group))
 no_worse survey group None are tied all = λ inside is. elim (cases_eq (own survey group inside) 0) [
   | inl none ↦ cuts_other survey group inside are tied is none
   | inr some ↦ let least = cuts_least survey group None inside all is (omega arith) in cc least.1

@@ -14,6 +14,7 @@ use Rattle.th_reliability.specs.SharedMistakes.{IsFreeWithPoint, IsSharedMistake
 use Rattle.th_reliability.specs.declared.mistakes.SharedMistake.TheVariants.{Drags, Shows, Ties}
 use Rattle.th_reliability.proofs.BoundLemmas.{cuts_some, end_inside}
 use Rattle.th_reliability.proofs.GroupLemmas.{parts}
+use Rattle.th_reliability.proofs.WeightLemmas.{heavy}
 
 -- a sum with one term that is not 0 is that term
 one_term : {X : Type 0} (f : X → ℕ) (xs : List X) (k : ℕ) (d : X) → k < length xs → ((j : ℕ) (d : X) → j ≢ k → j < length xs → f (get_or xs j d) ≡ 0) → sum_by f xs ≡ f (get_or xs k d)
@@ -53,7 +54,7 @@ module _ (survey : Survey) (group : Observed → Bool) (place : ℕ) (o : Observ
   uncrossed : (inside : List ℕ → Bool) → AreWeights survey.weights → Anchored survey.observations survey.benchmarks → IsFreeWithPoint survey inside → crosses inside o ≡ false → own survey group inside < rest survey group inside
   uncrossed inside are tied is level =
       let mine : own survey group inside ≡ 0 = own_is inside ∙ ap (λ (b : Bool). if b then weight_of survey.weights o.station o.target else 0) level in
-      let some = cuts_some survey inside are tied is in
+      let some = cuts_some survey inside (λ k d within. heavy survey.weights are (get_or survey.observations k d).station (get_or survey.observations k d).target) tied is in
       let both = parts survey.observations survey.weights group inside in
       omega arith
 

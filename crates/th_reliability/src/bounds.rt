@@ -32,16 +32,14 @@ pub(crate) fn mistake_by_controls(
     requires weight { weight ≡ weight_in network.now.observations network.now.weights (in_sights sights.now) }
     ensures { IfSome result (IsSharedMistake network.now (in_sights sights.now)) }
 {
-    // a network is anchored, and its weights are positive
-    let _ = network.points();
-    let _ = network.weight_table().entry(0);
     let observations = network.observations();
+    let weights = network.weights();
     let (start, end) = runs.run_of(sights);
     let mut best = SharedMistake::Shows;
     let mut least = None;
     for i in start..end {
         if sights.hold(&observations[i]) {
-            let own = network.weight(i);
+            let own = weights[i];
             best = best.worse(SharedMistake::of_one(controls[i], own));
             least = lesser(least, controls[i], own);
         }

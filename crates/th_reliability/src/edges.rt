@@ -1,6 +1,5 @@
-ghost use Rattle.std.specs.Prelude.{◌≡◌, ◌<◌, ◌≤◌, All, IfOk, length, sum_by};
+ghost use Rattle.std.specs.Prelude.{◌≡◌, ◌<◌, ◌≤◌, All, IfOk, sum_by};
 ghost use Rattle.th_limits.specs.Limits.{max_total_weight};
-ghost use Rattle.th_network.specs.Limits.{max_observations};
 ghost use Rattle.th_network.specs.Networks.{vertices_of};
 ghost use Rattle.th_reliability.specs.Edges.{edges_of as edges_in};
 
@@ -10,7 +9,6 @@ use th_network::Network;
 
 /// The observations of a network as edges between its vertices, in their order.
 pub(crate) fn edges_of(alloc: Global, network: &Network) -> Result<Vec<Edge>, AllocError>
-    requires few { length network.now.observations ≤ max_observations }
     ensures edges { IfOk result (λ edges. edges.items
         ≡ edges_in network.now.observations network.now.benchmarks network.now.weights) }
     ensures ends { IfOk result (λ edges. All (λ edge. (edge.tail < vertices_of network.now)

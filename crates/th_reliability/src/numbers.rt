@@ -48,7 +48,6 @@ pub fn point_strengths(alloc: Global, network: &Network) -> Result<Vec<Option<u3
 fn tree_of(alloc: Global, network: &Network) -> Result<CutTree, AllocError>
     ensures { IfOk result (λ tree. IsGraphOf network.now tree) }
 {
-    let _few = network.points();
     let edges = edges_of(alloc, network)?;
     CutTree::of(alloc, network.vertices(), edges)
 }

@@ -32,7 +32,6 @@ pub fn shared_mistakes(
     ensures { IfOk result (λ mistakes. AllZip (λ entry mistake.
         IsSharedMistake network.now (in_sights entry) mistake) entries.now mistakes.items) }
 {
-    let _few = network.points();
     let runs = Runs::of(network.observations());
     let edges = edges_of(alloc, network)?;
     let mut before = None;

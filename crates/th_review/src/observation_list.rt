@@ -1,5 +1,5 @@
 //! The rows of the observations.
-ghost use Rattle.std.specs.Prelude.{◌≡◌, ◌<◌, ◌^◌, All, IfOk, length, unsigned_abs};
+ghost use Rattle.std.specs.Prelude.{◌≡◌, ◌<◌, All, IfOk, length, unsigned_abs};
 ghost use Rattle.th_blunders.specs.Residuals.{residual_limit};
 ghost use Rattle.th_network.specs.Heights.{heights_at};
 ghost use Rattle.th_network.specs.Networks.{AreAtPoints, points_of};
@@ -25,8 +25,6 @@ pub(crate) fn observation_rows(
     ensures { IfOk result (λ rows. rows.items ≡ observation_rows network.now
         (heights_at (points_of network.now) low.now) controls.now) }
 {
-    // its points say that a network has few observations
-    let _ = network.points();
     let residuals = residuals(alloc, network, low)?;
     rows_of(alloc, network, &residuals, controls)
 }
@@ -38,7 +36,6 @@ fn rows_of(
     residuals: &[i64],
     controls: &[Option<u32>],
 ) -> Result<Vec<ObservationRow>, AllocError>
-    requires few { length network.now.observations < 2 ^ 32 }
     requires each { length residuals.now ≡ length network.now.observations }
     requires small { All (λ residual. unsigned_abs residual < residual_limit) residuals.now }
     requires controls { length controls.now ≡ length network.now.observations }

@@ -1,16 +1,16 @@
 use Rattle.std.proofs.Common.{◌≡◌, ◌<◌, ◌+◌, ◌∙◌, ℕ, List, Option, Some, None, get_or, slice_get, length, ap, sym, subst, arith}
 use Rattle.std.specs.Prelude.{IfSome}
 use Rattle.std.proofs.lemmas.List.{get_or-map}
-use Rattle.std.proofs.lemmas.Option.{get_or_from_slice_get, slice_get-get_or}
+use Rattle.std.proofs.lemmas.Option.{slice_get-get_or}
 use Rattle.th_book.specs.Observed.{Observed}
-use Rattle.th_tables.specs.Rows.{AreWeights, weight_of}
-use Rattle.th_network.specs.Networks.{weights_of}
+use Rattle.th_tables.specs.Rows.{weight_of}
 use Rattle.th_reliability.specs.SharedMistakes.{IsSharedMistake}
 use Rattle.th_reliability.specs.Sights.{in_sights}
 use Rattle.th_reliability.specs.Inside.Bounds.{AreNoLess, IsNoBetter, IsNoWorse, worst_of}
 use Rattle.th_reliability.specs.Inside.Runs.{HoldsSights}
 use Rattle.th_reliability.specs.declared.mistakes.SharedMistake.{SharedMistake}
 use Rattle.th_reliability.proofs.BoundLemmas.{all_held, is_bounded, no_worse, none_held, one_held}
+use Rattle.th_reliability.proofs.WeightLemmas.{heavy_listed}
 use Rattle.th_reliability.proofs.bounds.mistake_by_controls.Goals as goal
 use Rattle.th_reliability.proofs.bounds.mistake_by_controls.Goals.{then-hold, else-hold}
 
@@ -28,8 +28,9 @@ loop-i-preserved c =
           let control : Option ℕ = get_or c.args.controls.now i None in
           let weight_at = λ (o : Observed). weight_of survey.weights o.station o.target in
           let at : slice_get survey.observations i ≡ Some o = slice_get-get_or survey.observations i o within ∙ ap Some (sym is) in
-          let weight : w.weight-own.result ≡ weight_at o = sym (get_or_from_slice_get (weights_of survey) i w.weight-own.result w.weight-own.result w.weight-own.ensures.weight) ∙ get_or-map weight_at survey.observations i o w.weight-own.result within ∙ ap weight_at (sym is) in
-          let more = one_held survey group c.loop-i.best w.of_one.result w.worse-best.result c.loop-i.least w.lesser-least.result control i w.weight-own.result o is within (sym c.hold.ensures ∙ w.if-hold.true) (c.requires.controls.are i o None at) weight w.of_one.ensures w.worse-best.ensures w.lesser-least.ensures.here w.lesser-least.ensures.kept c.loop-i.invariant.best c.loop-i.invariant.least in
+          let own : ℕ = get_or c.weights-weights.result.now i 0 in
+          let weight : own ≡ weight_at o = ap (λ (listed : List ℕ). get_or listed i 0) c.weights-weights.ensures.weights ∙ get_or-map weight_at survey.observations i o 0 within ∙ ap weight_at (sym is) in
+          let more = one_held survey group c.loop-i.best w.of_one.result w.worse-best.result c.loop-i.least w.lesser-least.result control i own o is within (sym c.hold.ensures ∙ w.if-hold.true) (c.requires.controls.are i o None at) weight w.of_one.ensures w.worse-best.ensures w.lesser-least.ensures.here w.lesser-least.ensures.kept c.loop-i.invariant.best c.loop-i.invariant.least in
           record {
             best = subst (IsNoBetter survey group) (sym w.best-is) more.0;
             least = subst (λ (least : Option ℕ). AreNoLess survey group least (i + 1)) (sym w.least-is) more.1;
@@ -50,5 +51,5 @@ returns c =
     subst (λ (observations : List Observed). HoldsSights observations sights c.run_of-start.result) c.requires.runs c.run_of-start.ensures in
     let all = all_held survey sights c.loop-i.least c.run_of-start.result c.loop-i.i run c.loop-i-test.false c.loop-i.invariant.least in
     let worst : IsNoWorse survey group c.worst_of.result = subst (IsNoWorse survey group) (sym (c.worst_of.ensures ∙ ap (worst_of c.loop-i.least) c.requires.weight))
-    (no_worse survey group c.loop-i.least (subst AreWeights c.weight_table.ensures c.entry.ensures.rows) c.points.ensures.network.anchored all) in
+    (no_worse survey group c.loop-i.least (heavy_listed survey c.weights-weights.result.now c.weights-weights.ensures.weights c.weights-weights.ensures.in_range) c.observations-observations.ensures.network.anchored all) in
     subst (λ (found : Option SharedMistake). IfSome found (IsSharedMistake survey group)) (sym c.bounded.ensures) (is_bounded survey group c.loop-i.best c.worst_of.result c.loop-i.invariant.best worst)
