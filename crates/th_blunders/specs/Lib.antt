@@ -1,3 +1,4 @@
 pub mod Residuals
+pub mod Fits
 pub mod Blunders
 pub mod Opposites

@@ -7,10 +7,9 @@ use std::alloc::{AllocError, Global};
 
 /// Whether a residual is above a limit in size. One that is just the limit in size is no blunder.
 pub fn is_blunder(residual: i64, limit: i64) -> bool
-    requires { unsigned_abs residual < residual_limit }
     ensures { result ≡ is_blunder limit residual }
 {
-    residual.abs() > limit
+    limit < 0 || residual.unsigned_abs() > limit.unsigned_abs()
 }
 
 /// The numbers, in order and from 1, of the residuals that are blunders.

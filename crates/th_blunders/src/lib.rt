@@ -7,6 +7,7 @@
 
 // Residuals and their cost.
 mod costs;
+mod fits;
 mod residual;
 
 // Blunders.
@@ -17,5 +18,6 @@ mod pairs;
 
 pub use blunder::{blunders, is_blunder};
 pub use costs::cost;
+pub use fits::Fit;
 pub use pairs::{Opposite, opposites};
 pub use residual::residuals;

@@ -21,7 +21,6 @@ mod reading;
 mod statements;
 
 // Writing.
-mod costs;
 mod writing;
 
 // Laws of the definitions.

@@ -5,12 +5,12 @@ ghost use Rattle.th_csv.specs.Texts.{csv_text};
 ghost use Rattle.th_network.specs.Faults.{IsNetwork};
 ghost use Rattle.th_network.specs.Networks.{AreAtPoints, AreOfObservations, at_points_of, points_of};
 ghost use Rattle.th_tables.specs.Rows.{AreWeights};
-ghost use Rattle.th_certificate.specs.Texts.{IsCertifiable, cost_row, flow_row, header_row, height_row, heights_at_points, text_of_version_2, version_row};
+ghost use Rattle.th_certificate.specs.Texts.{IsCertifiable, cost_of, cost_row, flow_row, header_row, height_row, heights_at_points, text_of_version_2, version_row};
 
-use crate::costs::cost_of;
 use gsi_word::Name;
 use itoa::Buffer;
 use std::alloc::{AllocError, Global};
+use th_blunders::Fit;
 use th_circulation::{Settled, Spans};
 use th_csv::RowWriter;
 use th_network::Network;
@@ -33,13 +33,15 @@ pub fn write_certificate(
         (at_points_of network.now spans.now.high.items) settled.now.flows.items) }
     ensures certifiable { OnOk result (AreWeights network.now.weights → IsCertifiable network.now) }
 {
+    let fit = Fit::of(alloc, network, &settled.heights)?;
     certificate_text(
         alloc,
         network,
-        settled.heights.as_slice(),
-        spans.low.as_slice(),
-        spans.high.as_slice(),
-        settled.flows.as_slice(),
+        &settled.heights,
+        &spans.low,
+        &spans.high,
+        &settled.flows,
+        fit.cost,
     )
 }
 
@@ -53,17 +55,18 @@ pub fn certificate_text(
     low: &[i64],
     high: &[i64],
     flows: &[i64],
+    cost: u128,
 ) -> Result<Vec<u8>, AllocError>
     requires heights { AreAtPoints network.now heights.now }
     requires low { AreAtPoints network.now low.now }
     requires high { AreAtPoints network.now high.now }
     requires flows { AreOfObservations network.now flows.now }
+    requires cost { cost ≡ cost_of network.now (at_points_of network.now heights.now) }
     ensures text { IfOk result (λ text. text.items ≡ text_of_version_2 network.now
         (at_points_of network.now heights.now) (at_points_of network.now low.now)
         (at_points_of network.now high.now) flows.now) }
     ensures certifiable { OnOk result (AreWeights network.now.weights → IsCertifiable network.now) }
 {
-    let cost = cost_of(alloc, network, heights)?;
     let mut writer = RowWriter::new(alloc);
     write_front(&mut writer, network.observations().len() as u64)?;
     write_heights(&mut writer, b"H", network, heights)?;

@@ -30,5 +30,7 @@ pub use gsi::heights_gsi;
 pub use heads::{benchmark_count, write_count, write_label};
 pub use heights::heights_csv;
 pub use lists::list_text;
-pub use reports::report_text;
-pub use residual_tables::{write_end_columns, write_ends, write_place, write_place_columns};
+pub use reports::{report_on_fit, report_text};
+pub use residual_tables::{
+    blunder_mark, write_end_columns, write_ends, write_place, write_place_columns,
+};

@@ -1,7 +1,7 @@
 //! The report on an adjustment.
 ghost use Rattle.std.specs.Prelude.{◌≡◌, ◌<◌, ◌++◌, All, IfOk, OnOk, length, unsigned_abs};
-ghost use Rattle.th_network.specs.Heights.{heights_at};
-ghost use Rattle.th_network.specs.Networks.{AreAtPoints, points_of};
+ghost use Rattle.th_network.specs.Networks.{AreAtPoints, at_points_of};
+ghost use Rattle.th_blunders.specs.Fits.{IsFit};
 ghost use Rattle.th_blunders.specs.Residuals.{residual_limit};
 ghost use Rattle.th_report.specs.Reports.{adjusted_part, observed_part, report_text};
 
@@ -11,7 +11,7 @@ use crate::opposite_lists::write_opposites;
 use crate::point_tables::write_points;
 use crate::residual_tables::{write_blunders, write_residuals};
 use std::alloc::{AllocError, Global};
-use th_blunders::{cost, residuals};
+use th_blunders::Fit;
 use th_network::Network;
 
 /// The report on the heights of a network, which are in point order and in units of 10 nm: counts,
@@ -19,7 +19,6 @@ use th_network::Network;
 /// above the limit in size, and the opposites.
 ///
 /// The limit is in units of 10 nm.
-#[tactic(auto, unfolding(crate::specs::Reports::report_text))]
 pub fn report_text(
     alloc: Global,
     network: &Network,
@@ -27,14 +26,30 @@ pub fn report_text(
     limit: i64,
 ) -> Result<Vec<u8>, AllocError>
     requires { AreAtPoints network.now heights.now }
-    ensures { IfOk result (λ text. text.items ≡ report_text network.now
-        (heights_at (points_of network.now) heights.now) limit) }
+    ensures { IfOk result (λ text. text.items
+        ≡ report_text network.now (at_points_of network.now heights.now) limit) }
 {
-    let residuals = residuals(alloc, network, heights)?;
+    let fit = Fit::of(alloc, network, heights)?;
+    report_on_fit(alloc, network, heights, &fit, limit)
+}
+
+/// The text of `report_text` where it is known how the heights fit.
+#[tactic(auto, unfolding(crate::specs::Reports::report_text))]
+pub fn report_on_fit(
+    alloc: Global,
+    network: &Network,
+    heights: &[i64],
+    fit: &Fit,
+    limit: i64,
+) -> Result<Vec<u8>, AllocError>
+    requires heights { AreAtPoints network.now heights.now }
+    requires fit { IsFit network.now (at_points_of network.now heights.now) fit.now }
+    ensures { IfOk result (λ text. text.items
+        ≡ report_text network.now (at_points_of network.now heights.now) limit) }
+{
     let mut page = Page::with_room(alloc, room_for(network))?;
-    let cost = cost(network, &residuals);
-    write_adjusted(&mut page, network, heights, cost, limit)?;
-    write_observed(alloc, &mut page, network, &residuals, limit)?;
+    write_adjusted(&mut page, network, heights, fit.cost, limit)?;
+    write_observed(alloc, &mut page, network, &fit.residuals, limit)?;
     Ok(page.into_bytes())
 }
 
@@ -55,7 +70,7 @@ fn write_adjusted(
 ) -> Result<(), AllocError>
     requires { AreAtPoints network.now heights.now }
     ensures { OnOk result (page.new ≡ page.old ++ adjusted_part network.now
-        (heights_at (points_of network.now) heights.now) cost limit) }
+        (at_points_of network.now heights.now) cost limit) }
 {
     write_head(page, network, cost, limit)?;
     page.end_line()?;
@@ -76,11 +91,10 @@ fn write_observed(
     requires small { All (λ residual. unsigned_abs residual < residual_limit) residuals.now }
     ensures { OnOk result (page.new ≡ page.old ++ observed_part network.now residuals.now limit) }
 {
-    // its points say that a network has few observations
-    let _ = network.points();
+    let observations = network.observations();
     let blunders = write_residuals(alloc, page, network, residuals, limit)?;
     page.end_line()?;
     write_blunders(alloc, page, residuals, limit, blunders)?;
     page.end_line()?;
-    write_opposites(alloc, page, network.observations())
+    write_opposites(alloc, page, observations)
 }

@@ -111,7 +111,6 @@ fn write_residual(
     residual: i64,
     limit: i64,
 ) -> Result<(), AllocError>
-    requires { unsigned_abs residual < residual_limit }
     ensures { OnOk result (page.new ≡ page.old ++ residual_line limit number o.now weight residual) }
 {
     write_place(page, number, o)?;
@@ -146,7 +145,6 @@ pub fn write_ends(page: &mut Page, o: &Observation) -> Result<(), AllocError>
 /// Writes a weight and a residual, with a mark where that is a blunder.
 #[tactic(auto, unfolding(crate::specs::Reports::residual_of))]
 fn write_left(page: &mut Page, weight: u32, residual: i64, limit: i64) -> Result<(), AllocError>
-    requires { unsigned_abs residual < residual_limit }
     ensures { OnOk result (page.new ≡ page.old ++ residual_of limit weight residual) }
 {
     let mut digits = Buffer::new();
@@ -155,13 +153,12 @@ fn write_left(page: &mut Page, weight: u32, residual: i64, limit: i64) -> Result
         page,
         digits.format(weight).as_bytes(),
         metres.as_bytes(),
-        mark_of(residual, limit),
+        blunder_mark(residual, limit),
     )
 }
 
-/// The mark of a residual.
-fn mark_of(residual: i64, limit: i64) -> &'static [u8]
-    requires { unsigned_abs residual < residual_limit }
+/// The mark of a residual, which shows a blunder.
+pub fn blunder_mark(residual: i64, limit: i64) -> &'static [u8]
     ensures { result.now ≡ blunder_mark (is_blunder limit residual) }
 {
     if is_blunder(residual, limit) {

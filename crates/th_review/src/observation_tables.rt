@@ -2,8 +2,7 @@
 ghost use Rattle.std.specs.Prelude.{◌≡◌, ◌++◌, OnOk, codes, decimal};
 ghost use Rattle.std.specs.List.{flat_map};
 ghost use Rattle.th_units.specs.Metres.{metres};
-ghost use Rattle.th_blunders.specs.Blunders.{is_blunder};
-ghost use Rattle.th_report.specs.Reports.{blunder_mark, label_line};
+ghost use Rattle.th_report.specs.Reports.{label_line};
 ghost use Rattle.th_review.specs.Words.{number_or_dash};
 ghost use Rattle.th_review.specs.Reviews.{checked_columns, largest_line, largest_lines, marked_line, observation_header, observation_line, observation_lines};
 
@@ -13,7 +12,8 @@ use crate::words::{mistake_mark, number_or_dash};
 use itoa::Buffer;
 use std::alloc::{AllocError, Global};
 use th_report::{
-    Page, write_count, write_end_columns, write_ends, write_label, write_place, write_place_columns,
+    Page, blunder_mark, write_count, write_end_columns, write_ends, write_label, write_place,
+    write_place_columns,
 };
 use th_units::metre_text;
 
@@ -63,17 +63,6 @@ fn write_largest_row(page: &mut Page, row: &ObservationRow, limit: i64) -> Resul
     ensures { OnOk result (page.new ≡ page.old ++ largest_line limit row.now) }
 {
     write_marked(page, row, blunder_mark(row.residual, limit))
-}
-
-/// The mark of a residual.
-fn blunder_mark(residual: i64, limit: i64) -> &'static [u8]
-    ensures { result.now ≡ blunder_mark (is_blunder limit residual) }
-{
-    if limit < 0 || residual.unsigned_abs() > limit.unsigned_abs() {
-        b"  *"
-    } else {
-        b""
-    }
 }
 
 /// Writes the table of observations.

@@ -30,13 +30,13 @@ returns-clause-text c =
     let flows = c.args.flows.now in
     let count : length c.observations.result.now ≡ length network.observations = ap length c.observations.ensures.observations in
     let count_rows = λ (n : ℕ) (cost : ℕ). rows_from n (heights_at_points network heights) (heights_at_points network low) (heights_at_points network high) flows cost in
-    let whole : c.write_cost.new.writer.text ≡ csv_text (count_rows (length c.observations.result.now) c.in_ok-cost.cost) =
+    let whole : c.write_cost.new.writer.text ≡ csv_text (count_rows (length c.observations.result.now) c.args.cost) =
     written_joined c.new-writer.result.text c.write_front.new.writer.text c.write_heights.new.writer.text c.write_heights-2.new.writer.text c.write_heights-3.new.writer.text c.write_flows.new.writer.text c.write_cost.new.writer.text
     (header_row ∷ version_row (codes "2") (length c.observations.result.now) ∷ []) (map (height_row (codes "H")) (heights_at_points network heights)) (map (height_row (codes "L")) (heights_at_points network low))
-    (map (height_row (codes "U")) (heights_at_points network high)) (map flow_row (enumerate_from 1 flows)) (cost_row c.in_ok-cost.cost ∷ [])
+    (map (height_row (codes "U")) (heights_at_points network high)) (map flow_row (enumerate_from 1 flows)) (cost_row c.args.cost ∷ [])
     c.new-writer.ensures.text c.in_ok-write_front.ensures c.in_ok-write_heights.ensures.text c.in_ok-write_heights-2.ensures.text c.in_ok-write_heights-3.ensures.text c.in_ok-write_flows.ensures c.in_ok-write_cost.ensures in
     holds_same c.into_text.result c.write_cost.new.writer.text _ c.into_text.ensures.text
-    (whole ∙ ap (λ n. csv_text (count_rows n c.in_ok-cost.cost)) count ∙ ap (λ n. csv_text (count_rows (length network.observations) n)) c.in_ok-cost.ensures)
+    (whole ∙ ap (λ n. csv_text (count_rows n c.args.cost)) count ∙ ap (λ n. csv_text (count_rows (length network.observations) n)) c.requires.cost)
 
 -- what is made is of a network whose names, observations and weights are in their ranges
 certifiable : {X E : Type 0} (result : Result X E) (survey : Survey) → IsNetwork survey.observations survey.benchmarks → All IsBetweenPoints survey.observations
