@@ -1,13 +1,12 @@
 ghost use Rattle.std.specs.Prelude.{◌≡◌, ◌<◌, ◌≤◌, ◌^◌, true, length, min};
 ghost use Rattle.std.specs.List.{list_all};
 ghost use Rattle.th_units.specs.Lengths.{is_digit, number};
-ghost use Rattle.th_units.specs.Metres.{has_minus, without_sign};
 ghost use Rattle.th_certificate.specs.Certified.{cost_limit};
 ghost use Rattle.th_certificate.specs.Numbers.{cost_in, count_in, flow_in, height_in, writes};
 
 use crate::faults::CertKind;
 use crate::limits::{MAX_COST_DIGITS, MAX_DIGITS, MAX_FLOWS};
-use th_units::{LenFault, are_digits, parse_metres, short_number};
+use th_units::{LenFault, are_digits, has_minus, parse_metres, short_number, without_sign};
 
 /// What no cost reaches: the least number of more digits than a cost has.
 const COST_LIMIT: u128 = 1_000_000_000_000_000_000_000_000_000_000;
@@ -87,21 +86,4 @@ fn capped_number(digits: &[u8]) -> u128
         number = if more < COST_LIMIT { more } else { COST_LIMIT };
     }
     number
-}
-
-/// Whether a text begins with a minus sign.
-fn has_minus(text: &[u8]) -> bool
-    ensures { result ≡ has_minus text.now }
-{
-    matches!(text, [b'-', ..])
-}
-
-/// A text without the sign that it may begin with.
-fn without_sign(text: &[u8]) -> &[u8]
-    ensures { result.now ≡ without_sign text.now }
-{
-    match text {
-        [b'+' | b'-', digits @ ..] => digits,
-        _ => text,
-    }
 }

@@ -2,12 +2,13 @@ ghost use Rattle.std.specs.Prelude.{◌≡◌, ◌+◌, ◌<◌, ◌≤◌, ◌^
 ghost use Rattle.std.specs.List.{list_all};
 ghost use Rattle.std.specs.Option.{option_copied};
 ghost use Rattle.th_units.specs.Lengths.{is_digit, number};
-ghost use Rattle.th_units.specs.Metres.{metres, last_digits, are_decimals, decimals, has_minus, size_value, units_of, value, whole, without_sign};
+ghost use Rattle.th_units.specs.Metres.{metres, last_digits, are_decimals, decimals, size_value, units_of, value, whole};
 
 use crate::faults::LenFault;
 use crate::lengths::are_digits;
 use crate::limits::{MAX_DECIMALS, MAX_WHOLE_DIGITS};
 use crate::short_numbers::number;
+use crate::signs::{has_minus, without_sign};
 use std::marker::Model;
 
 /// How many units of 10 nm a metre has.
@@ -114,23 +115,6 @@ pub fn parse_metres(text: &[u8]) -> Result<i64, LenFault>
 {
     let size = parse_size(without_sign(text))? as i64;
     Ok(if has_minus(text) { -size } else { size })
-}
-
-/// Whether a text begins with a minus sign.
-fn has_minus(text: &[u8]) -> bool
-    ensures { result ≡ has_minus text.now }
-{
-    matches!(text, [b'-', ..])
-}
-
-/// A text without the sign that it may begin with.
-fn without_sign(text: &[u8]) -> &[u8]
-    ensures { result.now ≡ without_sign text.now }
-{
-    match text {
-        [b'+' | b'-', size @ ..] => size,
-        _ => text,
-    }
 }
 
 /// The size in units of 10 nm that a text in metres without a sign writes.
