@@ -9,9 +9,10 @@ use Rattle.std.proofs.lemmas.List.Sums.{sum_by-le}
 use Rattle.std.proofs.lemmas.Map.Entries.{All-lookup}
 use Rattle.std.proofs.lemmas.Map.Keys.{IsDistinct-cons, IsDistinct-head, IsDistinct-tail}
 use Rattle.std.proofs.lemmas.Slice.Eq.{bytes_eq-Decides}
+use Rattle.gsi_word.specs.Names.{same_pair}
 use Rattle.th_book.specs.Observed.{IsBetweenPoints, Observed, largest_difference}
 use Rattle.th_tables.specs.Limits.{max_weight}
-use Rattle.th_tables.specs.Rows.{AreWeights, BenchmarkRows, WeightRows, same_ends, weight_of}
+use Rattle.th_tables.specs.Rows.{AreWeights, BenchmarkRows, WeightRows, weight_of}
 use Rattle.th_network.specs.Heights.{residual}
 use Rattle.th_network.specs.Networks.{AreInRange, Survey, points_of}
 use Rattle.th_points.specs.Points.{distinct, ends, points}
@@ -73,7 +74,7 @@ at_point P (first ∷ names) name each among = by (bytes_eq name first) (bytes_e
 -- no weight is above the largest
 pub weight_small : (weights : WeightRows) (station target : List ℕ) → AreWeights weights → weight_of weights station target ≤ max_weight
 weight_small weights station target valid =
-    either (lookup (same_ends (station, target)) weights) (All-lookup (λ weight. (1 ≤ weight) × (weight ≤ max_weight)) (same_ends (station, target)) weights valid.weights)
+    either (lookup (same_pair (station, target)) weights) (All-lookup (λ weight. (1 ≤ weight) × (weight ≤ max_weight)) (same_pair (station, target)) weights valid.weights)
   where
     either : (found : Option ℕ) → IfSome found (λ weight. (1 ≤ weight) × (weight ≤ max_weight)) → unwrap_or found 1 ≤ max_weight
     either None h = omega arith

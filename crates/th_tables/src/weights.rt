@@ -1,7 +1,8 @@
 ghost use Rattle.std.specs.Prelude.{◌≡◌, ◌⊎◌, ◌<◌, ◌≤◌, ◌^◌, ◌+◌, [], Ok, Err, IfErr, IfOk, length, slice_get};
+ghost use Rattle.gsi_word.specs.Names.{same_pair};
 ghost use Rattle.th_tables.specs.Fields.{is_weights_header, weighted_in};
 ghost use Rattle.th_tables.specs.Limits.{max_table, max_weight};
-ghost use Rattle.th_tables.specs.Rows.{AreWeights, same_ends, weight_of};
+ghost use Rattle.th_tables.specs.Rows.{AreWeights, weight_of};
 ghost use Rattle.th_tables.specs.Tables.{no_memory, rows_after, rows_under, too_long, weights_of};
 
 use crate::faults::{TableFault, TableKind};
@@ -116,10 +117,10 @@ fn read_table(
     record: &mut Record,
 ) -> Result<Weights, TableFault>
     requires { length reader.old.records + 1 < 2 ^ 32 }
-    ensures table { IfOk result (λ table. rows_under same_ends weighted_in is_weights_header reader.old.records ≡ Ok table) }
+    ensures table { IfOk result (λ table. rows_under same_pair weighted_in is_weights_header reader.old.records ≡ Ok table) }
     ensures rows { IfOk result (λ table. AreWeights table) }
     ensures fault { IfErr result (λ fault. (fault ≡ no_memory)
-        ⊎ (rows_under same_ends weighted_in is_weights_header reader.old.records ≡ Err fault)) }
+        ⊎ (rows_under same_pair weighted_in is_weights_header reader.old.records ≡ Err fault)) }
 {
     if !reader.next(record)? || !is_weights_header(record) {
         return Err(TableFault::BAD_HEADER);
@@ -136,9 +137,9 @@ fn read_rows(
     record: &mut Record,
 ) -> Result<Weights, TableFault>
     requires { length reader.old.records + 2 < 2 ^ 32 }
-    ensures table { IfOk result (λ table. rows_after same_ends weighted_in [] reader.old.records ≡ Ok table) }
+    ensures table { IfOk result (λ table. rows_after same_pair weighted_in [] reader.old.records ≡ Ok table) }
     ensures rows { IfOk result (λ table. AreWeights table) }
-    ensures fault { IfErr result (λ fault. (fault ≡ no_memory) ⊎ (rows_after same_ends weighted_in [] reader.old.records ≡ Err fault)) }
+    ensures fault { IfErr result (λ fault. (fault ≡ no_memory) ⊎ (rows_after same_pair weighted_in [] reader.old.records ≡ Err fault)) }
 {
     let room = bytes.len() / ROW;
     let mut weights = NameMap::with_capacity_and_hasher(alloc, room, HashSeed::none())?;

@@ -1,12 +1,13 @@
 use Rattle.std.proofs.Common.{length}
+use Rattle.gsi_word.specs.Names.{same_pair}
 use Rattle.th_tables.specs.Fields.{weighted_in}
-use Rattle.th_tables.specs.Rows.{AreWeights, same_ends}
+use Rattle.th_tables.specs.Rows.{AreWeights}
 use Rattle.th_tables.proofs.TableLemmas.{ReadUpTo}
 use Rattle.th_tables.proofs.weights.read_rows.Given as goal
 
 abbrev pub invariant-records : goal.invariant-records
 invariant-records l = record {
-  read : ReadUpTo same_ends weighted_in l.initial.reader.records l.reader.records l.weights.entries l.row;
+  read : ReadUpTo same_pair weighted_in l.initial.reader.records l.reader.records l.weights.entries l.row;
   valid : AreWeights l.weights.entries;
 }
 
