@@ -1,18 +1,16 @@
 -- What holds of the points and the cost of a network.
-use Rattle.std.proofs.Common.{◌≡◌, ◌<◌, ◌≤◌, ◌*◌, ℕ, ℤ, ◌-ℤ◌, Bool, true, false, not, cond, ◌||◌, List, [], ◌∷◌, ◌++◌, map, filter, Option, Some, None, IfSome, bytes_eq, unsigned_abs, unwrap_or, refl, sym, subst, arith}
+use Rattle.std.proofs.Common.{◌≡◌, ◌<◌, ◌≤◌, ◌*◌, ℕ, ℤ, ◌-ℤ◌, Bool, true, false, not, cond, ◌||◌, List, [], ◌∷◌, ◌++◌, map, filter, bytes_eq, unsigned_abs, refl, sym, subst, arith}
 use Rattle.std.specs.List.{AllByRecursion, IsDistinct, list_any}
-use Rattle.std.specs.Map.{lookup}
 use Rattle.std.proofs.Math.Nat.{mul-le-mul}
 use Rattle.std.proofs.lemmas.Int.{ints}
 use Rattle.std.proofs.lemmas.List.Elements.{All-from_recursion, recursion_from_All}
 use Rattle.std.proofs.lemmas.List.Sums.{sum_by-le}
-use Rattle.std.proofs.lemmas.Map.Entries.{All-lookup}
 use Rattle.std.proofs.lemmas.Map.Keys.{IsDistinct-cons, IsDistinct-head, IsDistinct-tail}
 use Rattle.std.proofs.lemmas.Slice.Eq.{bytes_eq-Decides}
-use Rattle.gsi_word.specs.Names.{same_pair}
 use Rattle.th_book.specs.Observed.{IsBetweenPoints, Observed, largest_difference}
 use Rattle.th_tables.specs.Limits.{max_weight}
 use Rattle.th_tables.specs.Rows.{AreWeights, BenchmarkRows, WeightRows, weight_of}
+use Rattle.th_tables.proofs.WeightLemmas.{weight_is}
 use Rattle.th_network.specs.Heights.{residual}
 use Rattle.th_network.specs.Networks.{AreInRange, Survey, points_of}
 use Rattle.th_points.specs.Points.{distinct, ends, points}
@@ -71,15 +69,6 @@ at_point P (first ∷ names) name each among = by (bytes_eq name first) (bytes_e
     by true equal more among = subst P (sym (equal refl)) each.0
     by false equal more among = more among
 
--- no weight is above the largest
-pub weight_small : (weights : WeightRows) (station target : List ℕ) → AreWeights weights → weight_of weights station target ≤ max_weight
-weight_small weights station target valid =
-    either (lookup (same_pair (station, target)) weights) (All-lookup (λ weight. (1 ≤ weight) × (weight ≤ max_weight)) (same_pair (station, target)) weights valid.weights)
-  where
-    either : (found : Option ℕ) → IfSome found (λ weight. (1 ≤ weight) × (weight ≤ max_weight)) → unwrap_or found 1 ≤ max_weight
-    either None h = omega arith
-    either (Some weight) h = h.1
-
 -- a residual of heights in their range is in its range
 pub residual_small : (difference target station : ℤ) → unsigned_abs difference ≤ largest_difference → unsigned_abs target < height_limit → unsigned_abs station < height_limit → unsigned_abs (difference -ℤ (target -ℤ station)) ≤ most_residual
 residual_small difference target station a b c = omega (arith, ints)
@@ -89,7 +78,7 @@ each_small : (weights : WeightRows) (heights : List ℕ → ℤ) (names : List (
     → AllByRecursion IsBetweenPoints observations → AllByRecursion (EndsAmong names) observations → AllByRecursion (λ o. weighted weights heights o ≤ max_weight * most_residual) observations
 each_small weights heights names [] valid each between among = tt
 each_small weights heights names (o ∷ observations) valid each between among = (
-  mul-le-mul (weight_small weights o.station o.target valid)
+  mul-le-mul (weight_is weights valid o.station o.target).1
       (residual_small o.difference (heights o.target) (heights o.station) between.0.in_range
       (at_point (λ name. unsigned_abs (heights name) < height_limit) names o.target each among.0.1)
       (at_point (λ name. unsigned_abs (heights name) < height_limit) names o.station each among.0.0)),

@@ -26,7 +26,7 @@ use Rattle.th_reliability.specs.declared.mistakes.SharedMistake.TheVariants.{Dra
 use Rattle.th_reliability.proofs.GroupLemmas.{parts}
 use Rattle.th_reliability.proofs.LevelLemmas.{none_crosses}
 use Rattle.th_reliability.proofs.SumLemmas.{sums-le}
-use Rattle.th_reliability.proofs.WeightLemmas.{heavy}
+use Rattle.th_tables.proofs.WeightLemmas.{heavy}
 
 -- nothing better than one and nothing worse than the other
 pub is_bounded : (survey : Survey) (group : Observed → Bool) (best worst : SharedMistake) → IsNoBetter survey group best → IsNoWorse survey group worst → IfSome (bounded best worst) (IsSharedMistake survey group)

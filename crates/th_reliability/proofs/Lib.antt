@@ -1,6 +1,5 @@
 pub mod SumLemmas
 pub mod ShiftLemmas
-pub mod WeightLemmas
 pub mod LevelLemmas
 pub mod UncheckedLemmas
 pub mod LayerLemmas

@@ -21,12 +21,16 @@ height_of benchmarks name = lookup (bytes_eq name) benchmarks
 abbrev pub weight_of : WeightRows → List ℕ → List ℕ → ℕ
 weight_of weights station target = unwrap_or (lookup (same_pair (station, target)) weights) 1
 
+-- a weight that an observation may have: from 1 to 1,000
+abbrev pub IsWeight : ℕ → Type 0
+IsWeight weight = (1 ≤ weight) × (weight ≤ max_weight)
+
 -- rows that a table of benchmarks may have: each name has one row, and each height is at most 10 km in size
 pub record AreBenchmarks (rows : BenchmarkRows) : Type 0 where
   pub distinct : IsDistinct bytes_eq (keys_of rows)
   pub heights : All (λ row. unsigned_abs row.1 ≤ max_len) rows
 
--- rows that a table of weights may have: each station and target have one row, and each weight is from 1 to 1,000
+-- rows that a table of weights may have: each station and target have one row
 pub record AreWeights (rows : WeightRows) : Type 0 where
   pub distinct : IsDistinct same_pair (keys_of rows)
-  pub weights : All (λ row. (1 ≤ row.1) × (row.1 ≤ max_weight)) rows
+  pub weights : All (λ row. IsWeight row.1) rows

@@ -1,7 +1,7 @@
 ghost use Rattle.std.specs.Prelude.{◌≡◌, ◌≤◌, IfOk, unsigned_abs};
 ghost use Rattle.th_units.specs.Limits.{max_len};
-ghost use Rattle.th_tables.specs.Limits.{max_weight};
 ghost use Rattle.th_tables.specs.Fields.{height_in, name_in, weight_in};
+ghost use Rattle.th_tables.specs.Rows.{IsWeight};
 
 use crate::faults::TableKind;
 use crate::limits::MAX_WEIGHT_DIGITS;
@@ -30,7 +30,7 @@ pub(crate) fn height_in(field: &[u8]) -> Result<i64, TableKind>
 /// The weight that a field has in at most `MAX_WEIGHT_DIGITS` digits, 1 to `MAX_WEIGHT`.
 pub(crate) fn weight_in(field: &[u8]) -> Result<u32, TableKind>
     ensures value { result ≡ weight_in field.now }
-    ensures range { IfOk result (λ weight. (1 ≤ weight) × (weight ≤ max_weight)) }
+    ensures range { IfOk result IsWeight }
 {
     match short_number(field) {
         Some(weight) if field.len() <= MAX_WEIGHT_DIGITS && 1 <= weight && weight <= MAX_WEIGHT => {

@@ -79,8 +79,7 @@ impl Weights {
 
 impl Table for Weights {
     ghost use Rattle.th_tables.specs.Fields.{is_weights_header, weighted_in};
-    ghost use Rattle.std.specs.Prelude.{◌≤◌};
-    ghost use Rattle.th_tables.specs.Limits.{max_weight};
+    ghost use Rattle.th_tables.specs.Rows.{IsWeight};
 
     type Key = (Name, Name);
 
@@ -90,7 +89,7 @@ impl Table for Weights {
 
     ghost row_in = { weighted_in };
 
-    ghost IsAllowed = { λ weight. (1 ≤ weight) × (weight ≤ max_weight) };
+    ghost IsAllowed = { IsWeight };
 
     const FEW: usize = FEW_PAIRS;
 
