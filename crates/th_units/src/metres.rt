@@ -14,7 +14,7 @@ use std::marker::Model;
 /// How many units of 10 nm a metre has.
 pub const UNITS_PER_METRE: u64 = 100_000_000;
 
-/// The most bytes that the text of a length in metres has.
+/// Room in bytes for the text of any length.
 const CAPACITY: usize = 24;
 
 /// A length in metres as text: a minus sign below zero, the whole metres, a dot and eight decimals.
@@ -76,7 +76,7 @@ impl MetreText {
         }
     }
 
-    /// Puts a number in digits before the text.
+    /// Puts the digits of a number, without leading zeros, before the text.
     fn prepend_decimal(&mut self, number: u64)
         requires { length self.old + length (decimal number) ≤ CAPACITY }
         ensures { self.new ≡ decimal number ++ self.old }
@@ -90,7 +90,7 @@ impl MetreText {
     }
 }
 
-/// The text of a length in metres, for a length in units of 10 nm.
+/// The text in metres of a length in units of 10 nm.
 pub fn metre_text(units: i64) -> MetreText
     ensures { result ≡ metres units }
 {
@@ -117,7 +117,7 @@ pub fn parse_metres(text: &[u8]) -> Result<i64, LenFault>
     Ok(if has_minus(text) { -size } else { size })
 }
 
-/// The size in units of 10 nm that a text in metres without a sign writes.
+/// Reads a text in metres without a sign as a size in units of 10 nm.
 fn parse_size(text: &[u8]) -> Result<u64, LenFault>
     ensures value { result ≡ size_value text.now }
     ensures bound { IfOk result (λ size. size < 10 ^ 17) }
@@ -150,7 +150,7 @@ fn are_decimals(bytes: &[u8]) -> bool
     are_digits(bytes) && bytes.len() <= MAX_DECIMALS
 }
 
-/// The size that whole metres and decimals write, in units of 10 nm.
+/// The size in units of 10 nm of whole metres and decimals. No decimals are 0.
 fn units_of(whole: &[u8], decimals: &[u8]) -> u64
     requires whole_digits { list_all is_digit whole.now ≡ true }
     requires whole_short { length whole.now ≤ MAX_WHOLE_DIGITS }
