@@ -1,5 +1,4 @@
-use Rattle.std.specs.Prelude.{ℕ, ◌-◌, ◌==◌, ◌&&◌, not, nat_eq, Bool, List, [], ◌∷◌, length, Option, Some, None, if◌then◌else◌, nat_lt, take, drop}
-use Rattle.std.specs.Cmp.Lexicographic.{pointwise}
+use Rattle.std.specs.Prelude.{ℕ, ◌-◌, ◌==◌, ◌&&◌, not, Bool, List, [], ◌∷◌, length, Option, Some, None, if◌then◌else◌, bytes_eq, nat_lt, take, drop}
 use Rattle.std.specs.List.{list_all, list_any, prefix_len, suffix_len}
 use Rattle.gsi_word.specs.Limits.{max_name}
 use Rattle.gsi_word.specs.Bytes.{is_data, is_padding, is_space, is_zero}
@@ -28,8 +27,8 @@ name_of bytes =
 
 -- whether two names have the same bytes, so `a` and `A` differ: what `==` on names computes, and what a map keyed by names compares by
 abbrev pub same_name : List ℕ → List ℕ → Bool
-same_name = pointwise nat_eq
+same_name = bytes_eq
 
--- whether two pairs have the same first name and the same second name
+-- whether two pairs of names, such as a station and a target, are the same in this order
 abbrev pub same_pair : List ℕ × List ℕ → List ℕ × List ℕ → Bool
-same_pair pair other = same_name pair.0 other.0 && same_name pair.1 other.1
+same_pair pair other = bytes_eq pair.0 other.0 && bytes_eq pair.1 other.1

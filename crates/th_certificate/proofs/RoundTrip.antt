@@ -21,7 +21,8 @@ use Rattle.th_certificate.specs.Texts.{IsCertifiable, cost_of, cost_row, end_row
 use Rattle.th_certificate.specs.declared.statements.Statement.TheVariants.{Height, Low, High}
 use Rattle.th_certificate.proofs.ReadNumbers.{cost_in-decimal, count_in-decimal}
 use Rattle.th_certificate.proofs.ReadRows.{IsReadable, cost_read, flowing, flows_read, heights_read}
-use Rattle.th_certificate.proofs.SurveyLemmas.{IsDistinct-points, cost_of_small}
+use Rattle.th_points.proofs.PlaceLemmas.{points_distinct}
+use Rattle.th_certificate.proofs.SurveyLemmas.{cost_of_small}
 use Rattle.th_certificate.proofs.TextLengths.{IsShortRow, length-csv_text, short_cost, short_flows, short_header, short_heights, short_version}
 use Rattle.th_tables.specs.Limits.{max_weight}
 
@@ -111,7 +112,7 @@ read_version_1 survey heights flows certifiable in_range are =
     let fields : AllByRecursion HasField rows = (omega arith, (omega arith, joined HasField body tail (heights_have_fields (codes "H") (heights_at_points survey heights)) (end_fields flows (cost_of survey heights)))) in
     read_text rows short fields (unmarked_text 107 _ refl) (omega (arith, size))
     ∙ begins (codes "1") 1 count (body ++ tail) refl few
-    ∙ heights_read (codes "H") (λ row. Height row.0 row.1) (λ rows. flowing 1 count rows [] [] []) (λ rows key number. refl) (λ rows row. refl) heights [] (points_of survey) tail 3 (IsDistinct-points survey.observations survey.benchmarks) each
+    ∙ heights_read (codes "H") (λ row. Height row.0 row.1) (λ rows. flowing 1 count rows [] [] []) (λ rows key number. refl) (λ rows row. refl) heights [] (points_of survey) tail 3 (points_distinct survey.observations survey.benchmarks) each
     ∙ (ends survey 1 (3 + length (points_of survey)) (heights_at_points survey heights) [] [] heights flows certifiable in_range are).1
 
 pub read_version_2 : (survey : Survey) (heights low high : List ℕ → ℤ) (flows : List ℤ) → IsCertifiable survey → AreInRange survey heights → AreInRange survey low → AreInRange survey high → AreOfObservations survey flows
@@ -126,7 +127,7 @@ read_version_2 survey heights low high flows certifiable in_range low_in_range h
     let high_each = readable survey high certifiable high_in_range in
     let few : length survey.observations ≤ max_observations = omega (arith, certifiable.network.few_observations) in
     let points : length (points_of survey) ≤ max_points = omega (arith, certifiable.network.few_points) in
-    let distinct = IsDistinct-points survey.observations survey.benchmarks in
+    let distinct = points_distinct survey.observations survey.benchmarks in
     let tail = end_rows flows (cost_of survey heights) in
     let h = map (height_row (codes "H")) (heights_at_points survey heights) in
     let l = map (height_row (codes "L")) (heights_at_points survey low) in

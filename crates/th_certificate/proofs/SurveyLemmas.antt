@@ -1,20 +1,17 @@
 -- What holds of the points and the cost of a network.
-use Rattle.std.proofs.Common.{◌≡◌, ◌<◌, ◌≤◌, ◌*◌, ℕ, ℤ, ◌-ℤ◌, Bool, true, false, not, cond, ◌||◌, List, [], ◌∷◌, ◌++◌, map, filter, Option, Some, None, IfSome, bytes_eq, unsigned_abs, unwrap_or, refl, sym, subst, arith}
-use Rattle.std.specs.List.{AllByRecursion, IsDistinct, list_any}
-use Rattle.std.specs.Map.{lookup}
+use Rattle.std.proofs.Common.{◌≡◌, ◌<◌, ◌≤◌, ◌*◌, ℕ, ℤ, ◌-ℤ◌, Bool, true, false, ◌||◌, List, [], ◌∷◌, bytes_eq, unsigned_abs, refl, sym, subst, arith}
+use Rattle.std.specs.List.{AllByRecursion, list_any}
 use Rattle.std.proofs.Math.Nat.{mul-le-mul}
 use Rattle.std.proofs.lemmas.Int.{ints}
 use Rattle.std.proofs.lemmas.List.Elements.{All-from_recursion, recursion_from_All}
 use Rattle.std.proofs.lemmas.List.Sums.{sum_by-le}
-use Rattle.std.proofs.lemmas.Map.Entries.{All-lookup}
-use Rattle.std.proofs.lemmas.Map.Keys.{IsDistinct-cons, IsDistinct-head, IsDistinct-tail}
 use Rattle.std.proofs.lemmas.Slice.Eq.{bytes_eq-Decides}
 use Rattle.th_book.specs.Observed.{IsBetweenPoints, Observed, largest_difference}
 use Rattle.th_tables.specs.Limits.{max_weight}
-use Rattle.th_tables.specs.Rows.{AreWeights, BenchmarkRows, WeightRows, same_ends, weight_of}
+use Rattle.th_tables.specs.Rows.{AreWeights, WeightRows, weight_of}
+use Rattle.th_tables.proofs.WeightLemmas.{weight_is}
 use Rattle.th_network.specs.Heights.{residual}
 use Rattle.th_network.specs.Networks.{AreInRange, Survey, points_of}
-use Rattle.th_points.specs.Points.{distinct, ends, points}
 use Rattle.th_points.proofs.PointLemmas.{EndsAmong, ends_are_points}
 use Rattle.th_certificate.specs.Certified.{cost_limit}
 use Rattle.th_network.specs.Limits.{height_limit}
@@ -25,42 +22,6 @@ use Rattle.th_certificate.specs.Limits.{most_residual}
 abbrev weighted : WeightRows → (List ℕ → ℤ) → Observed → ℕ
 weighted weights heights o = weight_of weights o.station o.target * unsigned_abs (residual o heights)
 
--- names that are left of some that were apart from a name are apart from it
-apart_filter : (name : List ℕ) (test : List ℕ → Bool) (names : List (List ℕ)) → AllByRecursion (λ other. bytes_eq name other ≡ false) names → AllByRecursion (λ other. bytes_eq name other ≡ false) (filter test names)
-apart_filter name test [] each = tt
-apart_filter name test (first ∷ names) each = by (test first) (apart_filter name test names each.1)
-  where
-    by : (b : Bool) → AllByRecursion (λ other. bytes_eq name other ≡ false) (filter test names) → AllByRecursion (λ other. bytes_eq name other ≡ false) (cond b (first ∷ filter test names) (filter test names))
-    by true more = (each.0, more)
-    by false more = more
-
-distinct_filter : (test : List ℕ → Bool) (names : List (List ℕ)) → IsDistinct bytes_eq names → IsDistinct bytes_eq (filter test names)
-distinct_filter test [] h = h
-distinct_filter test (first ∷ names) h = by (test first) (distinct_filter test names (IsDistinct-tail bytes_eq first names h)) (apart_filter first test names (IsDistinct-head bytes_eq first names h))
-  where
-    by : (b : Bool) → IsDistinct bytes_eq (filter test names) → AllByRecursion (λ other. bytes_eq first other ≡ false) (filter test names) → IsDistinct bytes_eq (cond b (first ∷ filter test names) (filter test names))
-    by true more apart = IsDistinct-cons bytes_eq first (filter test names) apart more
-    by false more apart = more
-
--- names without those that are one name are apart from it
-without : (name : List ℕ) (names : List (List ℕ)) → AllByRecursion (λ other. bytes_eq name other ≡ false) (filter (λ later. not (bytes_eq name later)) names)
-without name [] = tt
-without name (first ∷ names) = by (bytes_eq name first) refl (without name names)
-  where
-    by : (b : Bool) → bytes_eq name first ≡ b → AllByRecursion (λ other. bytes_eq name other ≡ false) (filter (λ later. not (bytes_eq name later)) names)
-        → AllByRecursion (λ other. bytes_eq name other ≡ false) (cond (not b) (first ∷ filter (λ later. not (bytes_eq name later)) names) (filter (λ later. not (bytes_eq name later)) names))
-    by true is more = more
-    by false is more = (is, more)
-
-pub IsDistinct-distinct : (names : List (List ℕ)) → IsDistinct bytes_eq (distinct names)
-unfolding IsDistinct
-IsDistinct-distinct [] = tt
-IsDistinct-distinct (name ∷ names) = (without name (distinct names), distinct_filter (λ later. not (bytes_eq name later)) (distinct names) (IsDistinct-distinct names))
-
-pub IsDistinct-points : (observations : List Observed) (benchmarks : BenchmarkRows) → IsDistinct bytes_eq (points observations benchmarks)
-unfolding points
-IsDistinct-points observations benchmarks = IsDistinct-distinct (ends observations ++ map (λ row. row.0) benchmarks)
-
 -- what holds of each point holds of a name that is one
 pub at_point : (P : List ℕ → Type 0) (names : List (List ℕ)) (name : List ℕ) → AllByRecursion P names → list_any (bytes_eq name) names ≡ true → P name
 at_point P [] name each among = cc among
@@ -69,15 +30,6 @@ at_point P (first ∷ names) name each among = by (bytes_eq name first) (bytes_e
     by : (same : Bool) → (same ≡ true → name ≡ first) → (list_any (bytes_eq name) names ≡ true → P name) → (same || list_any (bytes_eq name) names) ≡ true → P name
     by true equal more among = subst P (sym (equal refl)) each.0
     by false equal more among = more among
-
--- no weight is above the largest
-pub weight_small : (weights : WeightRows) (station target : List ℕ) → AreWeights weights → weight_of weights station target ≤ max_weight
-weight_small weights station target valid =
-    either (lookup (same_ends (station, target)) weights) (All-lookup (λ weight. (1 ≤ weight) × (weight ≤ max_weight)) (same_ends (station, target)) weights valid.weights)
-  where
-    either : (found : Option ℕ) → IfSome found (λ weight. (1 ≤ weight) × (weight ≤ max_weight)) → unwrap_or found 1 ≤ max_weight
-    either None h = omega arith
-    either (Some weight) h = h.1
 
 -- a residual of heights in their range is in its range
 pub residual_small : (difference target station : ℤ) → unsigned_abs difference ≤ largest_difference → unsigned_abs target < height_limit → unsigned_abs station < height_limit → unsigned_abs (difference -ℤ (target -ℤ station)) ≤ most_residual
@@ -88,7 +40,7 @@ each_small : (weights : WeightRows) (heights : List ℕ → ℤ) (names : List (
     → AllByRecursion IsBetweenPoints observations → AllByRecursion (EndsAmong names) observations → AllByRecursion (λ o. weighted weights heights o ≤ max_weight * most_residual) observations
 each_small weights heights names [] valid each between among = tt
 each_small weights heights names (o ∷ observations) valid each between among = (
-  mul-le-mul (weight_small weights o.station o.target valid)
+  mul-le-mul (weight_is weights valid o.station o.target).1
       (residual_small o.difference (heights o.target) (heights o.station) between.0.in_range
       (at_point (λ name. unsigned_abs (heights name) < height_limit) names o.target each among.0.1)
       (at_point (λ name. unsigned_abs (heights name) < height_limit) names o.station each among.0.0)),

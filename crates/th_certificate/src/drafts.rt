@@ -11,8 +11,8 @@ use std::alloc::{AllocError, Global};
 use std::marker::Model;
 use th_csv::Record;
 
-/// What the records of a certificate have said so far: the version and the count of the version row,
-/// the rows of each kind, and the cost, where it was said.
+/// What the records of a certificate have stated so far: the version and the count of observations,
+/// the rows of each kind, and the cost if a row has stated it.
 #[derive(Drop)]
 pub(crate) struct Draft {
     pub version: u32,
@@ -52,7 +52,7 @@ impl Model for Draft {
 }
 
 impl Draft {
-    /// The draft that the version row begins.
+    /// The draft of a certificate with this version row.
     pub fn begin(alloc: Global, fields: &Record) -> Result<Draft, CertKind>
         ensures { result ≡ begun fields.now }
     {
@@ -70,7 +70,7 @@ impl Draft {
         })
     }
 
-    /// What the next record says, or the first kind of its fault.
+    /// What the next record states, or the first kind of its fault.
     pub fn statement_of(&self, fields: &Record) -> Result<Statement, CertKind>
         ensures value { result ≡ statement_of self.now fields.now }
         ensures follows { IfOk result (Follows self.now) }
@@ -79,7 +79,7 @@ impl Draft {
         self.said(kind, key, number)
     }
 
-    /// What a record of three fields says.
+    /// What the next record states in its three fields, or the first kind of its fault.
     fn said(&self, kind: &[u8], key: &[u8], number: &[u8]) -> Result<Statement, CertKind>
         ensures { result ≡ said self.now kind.now key.now number.now }
     {
@@ -102,42 +102,42 @@ impl Draft {
         }
     }
 
-    /// Whether a height may stand next.
+    /// Whether a height may come next.
     fn may_have_height(&self) -> bool
         ensures { result ≡ may_have_height self.now }
     {
         self.cost.is_none() && self.flows.is_empty() && self.high.is_empty() && self.low.is_empty()
     }
 
-    /// Whether a lowest best height may stand next.
+    /// Whether a lowest best height may come next.
     fn may_have_low(&self) -> bool
         ensures { result ≡ may_have_low self.now }
     {
         self.may_have_high() && self.high.is_empty()
     }
 
-    /// Whether a highest best height may stand next.
+    /// Whether a highest best height may come next.
     fn may_have_high(&self) -> bool
         ensures { result ≡ may_have_high self.now }
     {
         self.cost.is_none() && self.flows.is_empty() && self.version == 2
     }
 
-    /// Whether a flow may stand next.
+    /// Whether a flow may come next.
     fn may_have_flow(&self) -> bool
         ensures { result ≡ may_have_flow self.now }
     {
         self.cost.is_none() && (self.flows.len() as u32) < self.count
     }
 
-    /// Whether the cost may stand next.
+    /// Whether the cost may come next.
     fn may_have_cost(&self) -> bool
         ensures { result ≡ may_have_cost self.now }
     {
         self.cost.is_none() && self.flows.len() as u32 == self.count
     }
 
-    /// Adds what a record of some content says.
+    /// Adds what a record of `content` states. After an error nothing is known of the draft.
     pub fn add(
         &mut self,
         alloc: Global,
@@ -158,7 +158,7 @@ impl Draft {
     }
 }
 
-/// The version of a version row, if its key says one that is read.
+/// The version that a version row states in its key, if it is 1 or 2.
 fn version_in(kind: &[u8], key: &[u8]) -> Option<u32>
     ensures version { result ≡ (if bytes_eq kind.now (codes "V") then version_in key.now else None) }
     ensures known { IfSome result (λ version. (1 ≤ version) × (version ≤ 2)) }
@@ -174,7 +174,7 @@ fn version_in(kind: &[u8], key: &[u8]) -> Option<u32>
     }
 }
 
-/// The name and the height of a row after the earlier ones of its kind.
+/// The name and the height that a row states. No earlier row of its kind has the name.
 fn row_in(earlier: &StatedHeights, key: &[u8], number: &[u8]) -> Result<(Name, i64), CertKind>
     ensures { result ≡ row_in earlier.now key.now number.now }
 {

@@ -1,18 +1,17 @@
 ghost use Rattle.std.specs.Prelude.{◌≡◌, ◌<◌, ◌≤◌, ◌^◌, true, length, min};
 ghost use Rattle.std.specs.List.{list_all};
 ghost use Rattle.th_units.specs.Lengths.{is_digit, number};
-ghost use Rattle.th_units.specs.Metres.{has_minus, without_sign};
 ghost use Rattle.th_certificate.specs.Certified.{cost_limit};
 ghost use Rattle.th_certificate.specs.Numbers.{cost_in, count_in, flow_in, height_in, writes};
 
 use crate::faults::CertKind;
 use crate::limits::{MAX_COST_DIGITS, MAX_DIGITS, MAX_FLOWS};
-use th_units::{LenFault, are_digits, parse_metres, short_number};
+use th_units::{LenFault, are_digits, has_minus, parse_metres, short_number, without_sign};
 
-/// What no cost reaches: the least number of more digits than a cost has.
+/// The least number that has more digits than a cost may have.
 const COST_LIMIT: u128 = 1_000_000_000_000_000_000_000_000_000_000;
 
-/// The height that a field has in metres.
+/// Reads a field in metres as a height in units of 10 nm.
 pub(crate) fn height_in(field: &[u8]) -> Result<i64, CertKind>
     ensures { result ≡ height_in field.now }
 {
@@ -23,7 +22,7 @@ pub(crate) fn height_in(field: &[u8]) -> Result<i64, CertKind>
     }
 }
 
-/// The count of observations that a field has.
+/// Reads a field as a count of observations.
 pub(crate) fn count_in(field: &[u8]) -> Result<u32, CertKind>
     ensures { result ≡ count_in field.now }
 {
@@ -36,7 +35,7 @@ pub(crate) fn count_in(field: &[u8]) -> Result<u32, CertKind>
     }
 }
 
-/// The flow in a field, where the key beside it has the number of its place, counted from 1.
+/// Reads a field as the flow at a place, counted from 1. The key beside it must write the place.
 pub(crate) fn flow_in(place: u32, key: &[u8], field: &[u8]) -> Result<i64, CertKind>
     ensures { result ≡ flow_in place key.now field.now }
 {
@@ -53,7 +52,7 @@ pub(crate) fn flow_in(place: u32, key: &[u8], field: &[u8]) -> Result<i64, CertK
     }
 }
 
-/// The cost that a field has.
+/// Reads a field as a cost.
 pub(crate) fn cost_in(field: &[u8]) -> Result<u128, CertKind>
     ensures { result ≡ cost_in field.now }
 {
@@ -66,7 +65,7 @@ pub(crate) fn cost_in(field: &[u8]) -> Result<u128, CertKind>
     Ok(capped_number(field))
 }
 
-/// Whether a field has the digits of a number, however many zeros before it.
+/// Whether a field writes this number, with any number of leading zeros.
 fn writes(field: &[u8], number: u32) -> bool
     ensures { result ≡ writes field.now number }
 {
@@ -76,7 +75,7 @@ fn writes(field: &[u8], number: u32) -> bool
     }
 }
 
-/// The number that digits write, or `COST_LIMIT` where it is larger.
+/// The number that digits write, but at most `COST_LIMIT`.
 fn capped_number(digits: &[u8]) -> u128
     requires { list_all is_digit digits.now ≡ true }
     ensures { result ≡ min (number digits.now) cost_limit }
@@ -87,21 +86,4 @@ fn capped_number(digits: &[u8]) -> u128
         number = if more < COST_LIMIT { more } else { COST_LIMIT };
     }
     number
-}
-
-/// Whether a text begins with a minus sign.
-fn has_minus(text: &[u8]) -> bool
-    ensures { result ≡ has_minus text.now }
-{
-    matches!(text, [b'-', ..])
-}
-
-/// A text without the sign that it may begin with.
-fn without_sign(text: &[u8]) -> &[u8]
-    ensures { result.now ≡ without_sign text.now }
-{
-    match text {
-        [b'+' | b'-', digits @ ..] => digits,
-        _ => text,
-    }
 }

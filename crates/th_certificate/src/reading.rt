@@ -34,7 +34,7 @@ pub fn read_certificate(alloc: Global, bytes: &[u8]) -> Result<Certificate, Cert
     )
 }
 
-/// The certificate of the records of some content, the first of which is the header.
+/// Reads the certificate in `content` from its records, the first of which is the header.
 fn read_records(
     alloc: Global,
     content: &[u8],
@@ -71,8 +71,8 @@ fn is_header(fields: &Record) -> bool
     }
 }
 
-/// The certificate of a draft and the records that a reader has left of some content, the first of
-/// which is record 3.
+/// Completes a draft with the records of `content` that a reader has left. The first of them is
+/// record 3.
 fn read_rows(
     alloc: Global,
     content: &[u8],
@@ -87,8 +87,8 @@ fn read_rows(
     certificate_of_draft(row, draft)
 }
 
-/// Adds the records that a reader has left of some content, the first of which is record 3, to a
-/// draft. Returns the number of the record after the last one.
+/// Adds to a draft the records of `content` that a reader has left. The first of them is record 3.
+/// Returns the number that a record after the last one would have.
 fn add_rows(
     alloc: Global,
     content: &[u8],
@@ -114,8 +114,7 @@ fn add_rows(
     Ok(row)
 }
 
-/// The certificate of a draft at the end of the records, where the record after the last one has this
-/// number.
+/// The certificate of a draft at the end of the records. Without a cost it is truncated at this row.
 #[tactic(auto, using(crate::proofs::VersionLemmas::of_version))]
 fn certificate_of_draft(row: u32, draft: Draft) -> Result<Certificate, CertFault>
     ensures { result ≡ ended row draft draft.cost }
@@ -145,7 +144,7 @@ fn certificate_of_draft(row: u32, draft: Draft) -> Result<Certificate, CertFault
     }
 }
 
-/// The rows of spans, which version 2 has.
+/// The lowest or the highest best heights; `None` in version 1.
 fn in_version_2(version: u32, rows: StatedHeights) -> Option<StatedHeights>
     ensures { result ≡ in_version_2 version rows }
 {

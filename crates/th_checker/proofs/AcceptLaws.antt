@@ -26,7 +26,7 @@ use Rattle.th_checker.specs.Verdicts.{if_there}
 use Rattle.th_checker.proofs.AcceptLemmas.{AgreeAt}
 use Rattle.std.proofs.lemmas.List.Elements.{All-from_recursion}
 use Rattle.th_tables.specs.Rows.{AreWeights}
-use Rattle.th_certificate.proofs.SurveyLemmas.{weight_small}
+use Rattle.th_tables.proofs.WeightLemmas.{weight_is}
 use Rattle.th_checker.specs.Shown.{Shown}
 use Rattle.th_checker.specs.Verdicts.{first_not_slack, first_too_large, first_unbalanced, flow_verdict, if_found, keeps, map_verdict, names_are, not_slack_in, of_all_maps, slack_verdict, unless, verdict_of}
 use Rattle.th_checker.specs.declared.verdicts.Reason.TheVariants.{PointsDiffer, BenchmarkMoved, FlowCount, FlowTooLarge, Unbalanced, NotSlack, WrongCost, LowNotSlack, HighNotSlack}
@@ -201,7 +201,7 @@ flows_small weights [] (flow ∷ flows) valid each = absurd each
 flows_small weights (o ∷ observations) [] valid each = absurd each
 flows_small weights (o ∷ observations) (flow ∷ flows) valid each =
     let first = each.0 in
-    let most = weight_small weights o.station o.target valid in
+    let most = (weight_is weights valid o.station o.target).1 in
     (let small : unsigned_abs flow ≤ max_weight = omega (arith, first, most) in small, flows_small weights observations flows valid each.1)
 
 of_observations : (survey : Survey) (flows : List ℤ) → IsCertifiable survey → Circulation survey.observations survey.benchmarks survey.weights flows → AreOfObservations survey flows

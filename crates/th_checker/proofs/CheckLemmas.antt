@@ -11,9 +11,9 @@ use Rattle.th_network.specs.Circulation.{arriving, leaving, total_by}
 use Rattle.th_network.specs.Heights.{cost, residual}
 use Rattle.th_points.specs.Ends.{ArePoints, ends_in}
 use Rattle.th_points.specs.Points.{points}
+use Rattle.th_points.proofs.PlaceLemmas.{points_distinct}
 use Rattle.th_points.proofs.PointLemmas.{ends_are_points}
 use Rattle.th_certificate.specs.Certified.{Certified, HeightRows, stated_height}
-use Rattle.th_certificate.proofs.SurveyLemmas.{IsDistinct-points}
 use Rattle.th_checker.specs.Inside.Tests.{added_at, AreBalances, AreHeightsAt, AreListed, AreMaps, AreMapsAt, AreStated, cost_at, first_place, is_slack_at, listed_in, not_slack_at, residual_at, slack_verdict_at, span_not_slack_at, too_large_at}
 use Rattle.th_checker.specs.Verdicts.{first_not_slack, first_too_large, first_unbalanced, flow_verdict, if_found, not_slack_in, slack_verdict, unless}
 use Rattle.th_checker.specs.declared.maps.Maps.{Maps}
@@ -76,7 +76,7 @@ unbalanced_found observations benchmarks flows fs names ends balances found are 
     sums.sums k (omega (arith, ap length are.all, within))
     ∙ ap (λ (fs : List ℤ). total_by (added_at k) (zip ends fs)) same
     ∙ ap (λ (es : List (ℕ × ℕ)). total_by (added_at k) (zip es flows)) placed
-    ∙ balance_by_places all observations flows k [] (IsDistinct-points observations benchmarks) within)
+    ∙ balance_by_places all observations flows k [] (points_distinct observations benchmarks) within)
 
 -- a height for each of the names
 heights_at_names : (names : List (List ℕ)) (rows : HeightRows) (heights : List ℤ) → AreStated names rows heights → AreHeightsAt (length names) heights

@@ -16,7 +16,7 @@ use Rattle.th_circulation.specs.Extremes.{High, Low}
 use Rattle.th_circulation.proofs.BestExists.{IsNear, IsRanked, Map, alone_kept, benchmarks_alone, best_exists, each_inside, none_less}
 use Rattle.th_circulation.proofs.ExtremeLemmas.{all_among, among_at, names_near, small_of_cost}
 use Rattle.th_circulation.proofs.MisreadLemmas.{lt_z-false, lt_z-true}
-use Rattle.th_circulation.proofs.WeightLemmas.{heavy}
+use Rattle.th_tables.proofs.WeightLemmas.{heavy}
 
 -- ---- two maps of heights: the lower height at each name, and the higher one
 abbrev lower : Map → Map → Map

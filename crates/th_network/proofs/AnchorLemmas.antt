@@ -4,7 +4,7 @@ use Rattle.std.proofs.lemmas.Bool.{false≢true}
 use Rattle.std.proofs.lemmas.List.{length-map, get_or-map}
 use Rattle.std.proofs.lemmas.List.Elements.{All-contains, Contains-get_or, Contains-append_left, Contains-push, Contains-push_cases}
 use Rattle.std.proofs.lemmas.Option.{slice_get_within, slice_get_read, get_or_from_slice_get, slice_get-get_or}
-use Rattle.th_network.specs.Inside.Pairs.{AreBelow}
+use Rattle.th_points.specs.Ends.{AreBelow}
 use Rattle.th_network.specs.Inside.Neighbours.{Joins, IsListed, AreNeighbours}
 use Rattle.th_network.specs.Inside.Marks.{IsMarked, IsSeeded, Spreads, AreAdded}
 use Rattle.th_network.specs.Inside.Reached.{IsReached, by_height, joined}

@@ -1,4 +1,4 @@
--- What is found place by place is so of the network: its ends, its ties and its vertices.
+-- What is found place by place is so of the network: its ties and its vertices.
 use Rattle.std.proofs.Common.{◌≡◌, ℕ, ◌+◌, ◌<◌, Bool, true, false, List, length, get_or, slice_get, take, map, Option, Some, None, All, is_none, count_by, if◌then◌else◌, refl, sym, ap, ◌∙◌, subst, arith, length-take}
 use Rattle.std.proofs.lemmas.List.{take_all, take-take, get_or-take}
 use Rattle.std.proofs.lemmas.List.Elements.{All-from_recursion, All-map}
@@ -8,8 +8,7 @@ use Rattle.th_book.specs.Observed.{Observed}
 use Rattle.th_tables.specs.Rows.{BenchmarkRows, height_of}
 use Rattle.th_points.specs.Points.{points}
 use Rattle.th_points.specs.Places.{place_of}
-use Rattle.th_network.specs.Inside.Pairs.{AreBelow}
-use Rattle.th_points.specs.Ends.{ArePoints, ends_in, ends_of}
+use Rattle.th_points.specs.Ends.{ArePoints, ends_of}
 use Rattle.th_network.specs.Inside.Reached.{IsFirstUnreached}
 use Rattle.th_network.specs.Walks.{IsTied, Anchored}
 use Rattle.th_network.specs.Faults.{IsFirstUntied}
@@ -20,17 +19,6 @@ use Rattle.th_network.proofs.Balance.{weaker}
 use Rattle.th_points.proofs.PointLemmas.{is_among, EndsAmong, ends_are_points}
 use Rattle.th_points.proofs.PlaceLemmas.{at_place_of, place_of_at, points_distinct}
 use Rattle.th_network.proofs.TieLemmas.{point_heights, IsPointReached, tied_from_reached, reached_from_tied}
-
--- ---- the places of the ends are places of points
-place_within : (names : List (List ℕ)) (name : List ℕ) → is_among names name ≡ true → place_of names name < length names
-place_within names name there = slice_get_within names (place_of names name) name (at_place_of names name there)
-
-pub ends_within : (observations : List Observed) (benchmarks : BenchmarkRows) (names : List (List ℕ)) (ends : List (ℕ × ℕ)) → ArePoints observations benchmarks names ends → All (AreBelow (length names)) ends
-ends_within observations benchmarks names ends h =
-    let ps = points observations benchmarks in
-    let Within : Observed → Type 0 = λ o. AreBelow (length ps) (ends_in ps o) in
-    let each : All Within observations = All-from_recursion Within observations (weaker (EndsAmong ps) Within (λ o among. (place_within ps o.station among.0, place_within ps o.target among.1)) observations (ends_are_points observations benchmarks)) in
-    subst (All (AreBelow (length names))) (sym h.placed) (subst (λ (ns : List (List ℕ)). All (AreBelow (length ns)) (ends_of observations benchmarks)) (sym h.all) (All-map (AreBelow (length ps)) (ends_in ps) observations each))
 
 -- ---- what is found of places, said of points
 unreached_of_points : (observations : List Observed) (benchmarks : BenchmarkRows) (names : List (List ℕ)) (ends : List (ℕ × ℕ)) (found : Option (List ℕ)) → ArePoints observations benchmarks names ends → IsFirstUnreached (map (height_of benchmarks) names) ends names found → IsFirstUnreached (point_heights observations benchmarks) (ends_of observations benchmarks) (points observations benchmarks) found

@@ -1,4 +1,3 @@
-pub mod Pairs
 pub mod Neighbours
 pub mod Marks
 pub mod Reached

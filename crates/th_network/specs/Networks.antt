@@ -2,6 +2,7 @@ use Rattle.std.specs.Prelude.{◌≡◌, ◌<◌, ◌≤◌, ℕ, ℤ, pos, List
 use Rattle.th_book.specs.Observed.{Observed, IsBetweenPoints}
 use Rattle.th_tables.specs.Limits.{max_weight}
 use Rattle.th_tables.specs.Rows.{BenchmarkRows, WeightRows, height_of, weight_of}
+pub use Rattle.th_tables.specs.Rows.{IsWeight}
 use Rattle.th_points.specs.Points.{points}
 use Rattle.th_units.specs.Limits.{max_len}
 use Rattle.th_points.specs.Ends.{ends_of}
@@ -59,10 +60,6 @@ pub record AreOfObservations (survey : Survey) (flows : List ℤ) : Type 0 where
 -- a map of heights that are below 10^17 units in size at the points of a survey
 abbrev pub AreInRange : Survey → (List ℕ → ℤ) → Type 0
 AreInRange survey heights = All (λ name. unsigned_abs (heights name) < height_limit) (points_of survey)
-
--- a weight that an observation may have
-abbrev pub IsWeight : ℕ → Type 0
-IsWeight weight = (1 ≤ weight) × (weight ≤ max_weight)
 
 -- A survey makes a network: these are its points, the heights of those that are benchmarks, the places of the
 -- ends among the points, the weights of the observations, the number of vertices, and the arcs.

@@ -1,6 +1,6 @@
 ghost use Rattle.std.specs.Prelude.{◌≡◌, All, IfOk, MatchOption, length};
 ghost use Rattle.th_network.specs.Faults.{IsFirstUntied};
-ghost use Rattle.th_network.specs.Inside.Pairs.{AreBelow};
+ghost use Rattle.th_points.specs.Ends.{AreBelow};
 ghost use Rattle.th_network.specs.Inside.Reached.{AreReached, IsFirstUnreached};
 ghost use Rattle.th_network.specs.Walks.{Anchored};
 

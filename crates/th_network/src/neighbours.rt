@@ -1,5 +1,5 @@
 ghost use Rattle.std.specs.Prelude.{◌≡◌, ◌↔◌, ◌⊎◌, ◌<◌, [], ℕ, All, Contains, IfOk, OnOk, length};
-ghost use Rattle.th_network.specs.Inside.Pairs.{AreBelow};
+ghost use Rattle.th_points.specs.Ends.{AreBelow};
 ghost use Rattle.th_network.specs.Inside.Neighbours.{AreNeighbours, IsListed};
 
 use std::alloc::{AllocError, Global};

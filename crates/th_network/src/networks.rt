@@ -5,7 +5,7 @@ ghost use Rattle.th_network.specs.Faults.{HasFault, IsNetwork};
 ghost use Rattle.th_network.specs.Limits.{max_observations, max_points};
 ghost use Rattle.th_network.specs.Links.{largest_link_difference};
 ghost use Rattle.th_network.specs.Networks.{IsWeight, arcs_of, heights_of, points_of, surveyed, vertices_of, weights_of};
-ghost use Rattle.th_points.specs.Ends.{ends_of};
+ghost use Rattle.th_points.specs.Ends.{AreBelow, ends_of};
 ghost use Rattle.th_network.specs.declared.faults.NetFault.TheVariants.{NoMemory, TooManyObservations};
 ghost use Rattle.th_tables.specs.Limits.{max_weight};
 ghost use Rattle.th_tables.specs.Rows.{height_of};
@@ -160,8 +160,7 @@ impl<'a> Network<'a> {
     /// For each observation the places of its station and its target among the points, counted from 0.
     pub fn ends(&self) -> &[(usize, usize)]
         ensures ends { result.now ≡ ends_of self.now.observations self.now.benchmarks }
-        ensures within { All (λ pair. (pair.0 < length (points_of self.now))
-            × (pair.1 < length (points_of self.now))) result.now }
+        ensures within { All (AreBelow (length (points_of self.now))) result.now }
     {
         &self.ends
     }

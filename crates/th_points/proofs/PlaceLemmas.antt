@@ -1,5 +1,5 @@
 -- The points are distinct: a name stands at its place alone, and both ends of an observation have a place.
-use Rattle.std.proofs.Common.{◌≡◌, ◌↔◌, ◌⊎◌, ℕ, ◌+◌, inl, inr, Bool, true, false, not, cond, ◌||◌, List, [], ◌∷◌, ◌++◌, get_or, slice_get, length, map, Some, IsSome, is_some, All, Contains, bytes_eq, refl, sym, ap, ◌∙◌, subst, arith, one-add}
+use Rattle.std.proofs.Common.{◌≡◌, ◌↔◌, ◌⊎◌, ℕ, ◌+◌, inl, inr, Bool, true, false, not, cond, ◌||◌, List, [], ◌∷◌, ◌++◌, get_or, slice_get, length, map, ◌<◌, Some, IsSome, is_some, All, Contains, bytes_eq, refl, sym, ap, ◌∙◌, subst, arith, one-add}
 use Rattle.std.specs.List.{IsDistinct}
 use Rattle.std.proofs.lemmas.Cmp.{nat_list_eq_equiv}
 use Rattle.std.proofs.lemmas.Bool.{false≢true, or_left, or_right}
@@ -8,11 +8,12 @@ use Rattle.std.proofs.lemmas.Map.Views.{Contains-from_any, list_any-from_Contain
 use Rattle.std.proofs.lemmas.Map.Keys.{IsDistinct-push, apart_from_distinct}
 use Rattle.std.proofs.lemmas.List.Folds.{list_any-append, list_any_at}
 use Rattle.std.proofs.lemmas.List.Sums.{position_or_len_is}
-use Rattle.std.proofs.lemmas.List.Elements.{All-contains, All-from_recursion, All-weaker}
+use Rattle.std.proofs.lemmas.List.Elements.{All-contains, All-from_recursion, All-map, All-weaker}
 use Rattle.std.proofs.lemmas.Option.{slice_get_within, slice_get_read, get_or_from_slice_get}
 use Rattle.indexmap.specs.IndexSet.{insert_key, insert_all}
 use Rattle.th_book.specs.Observed.{Observed}
 use Rattle.th_tables.specs.Rows.{BenchmarkRows, height_of}
+use Rattle.th_points.specs.Ends.{AreBelow, ArePoints, ends_in, ends_of}
 use Rattle.th_points.specs.Points.{ends, points}
 use Rattle.th_points.specs.Places.{place_of}
 use Rattle.th_points.proofs.PointLemmas.{is_among, bytes_eq_same, among_distinct, EndsAmong, ends_are_points}
@@ -92,6 +93,17 @@ ends_at_places observations benchmarks o has =
     let names = points observations benchmarks in
     let among : EndsAmong names o = All-contains (EndsAmong names) observations o (All-from_recursion (EndsAmong names) observations (ends_are_points observations benchmarks)) has in
     (at_place_of names o.station among.0, at_place_of names o.target among.1)
+
+-- so its ends are places among the points
+place_within : (names : List (List ℕ)) (name : List ℕ) → is_among names name ≡ true → place_of names name < length names
+place_within names name there = slice_get_within names (place_of names name) name (at_place_of names name there)
+
+pub ends_within : (observations : List Observed) (benchmarks : BenchmarkRows) (names : List (List ℕ)) (ends : List (ℕ × ℕ)) → ArePoints observations benchmarks names ends → All (AreBelow (length names)) ends
+ends_within observations benchmarks names ends h =
+    let ps = points observations benchmarks in
+    let Within : Observed → Type 0 = λ o. AreBelow (length ps) (ends_in ps o) in
+    let each : All Within observations = All-weaker (EndsAmong ps) Within (λ o among. (place_within ps o.station among.0, place_within ps o.target among.1)) observations (All-from_recursion (EndsAmong ps) observations (ends_are_points observations benchmarks)) in
+    subst (All (AreBelow (length names))) (sym h.placed) (subst (λ (ns : List (List ℕ)). All (AreBelow (length ns)) (ends_of observations benchmarks)) (sym h.all) (All-map (AreBelow (length ps)) (ends_in ps) observations each))
 
 -- both ends of each observation, and each benchmark, are points
 among_contained : (names : List (List ℕ)) (name : List ℕ) → is_among names name ≡ true → Contains names name

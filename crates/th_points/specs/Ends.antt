@@ -1,5 +1,5 @@
 -- Where the ends of the observations are among the points.
-use Rattle.std.specs.Prelude.{◌≡◌, ℕ, List, map}
+use Rattle.std.specs.Prelude.{◌≡◌, ◌<◌, ℕ, List, map}
 use Rattle.th_book.specs.Observed.{Observed}
 use Rattle.th_tables.specs.Rows.{BenchmarkRows}
 use Rattle.th_points.specs.Points.{points}
@@ -8,6 +8,10 @@ use Rattle.th_points.specs.Places.{place_of}
 -- the places of an observation's station and of its target
 abbrev pub ends_in : List (List ℕ) → Observed → ℕ × ℕ
 ends_in names o = (place_of names o.station, place_of names o.target)
+
+-- the places of an observation's station and of its target are below the number of points, so that both are places of points
+abbrev pub AreBelow : ℕ → ℕ × ℕ → Type 0
+AreBelow count ends = (ends.0 < count) × (ends.1 < count)
 
 -- for each observation, the places of its ends among the points
 abbrev pub ends_of : List Observed → BenchmarkRows → List (ℕ × ℕ)

@@ -14,7 +14,7 @@ use Rattle.th_reliability.specs.SharedMistakes.{IsFreeWithPoint, IsSharedMistake
 use Rattle.th_reliability.specs.declared.mistakes.SharedMistake.TheVariants.{Drags, Shows, Ties}
 use Rattle.th_reliability.proofs.BoundLemmas.{cuts_some, end_inside}
 use Rattle.th_reliability.proofs.GroupLemmas.{parts}
-use Rattle.th_reliability.proofs.WeightLemmas.{heavy}
+use Rattle.th_tables.proofs.WeightLemmas.{heavy}
 
 -- a sum with one term that is not 0 is that term
 one_term : {X : Type 0} (f : X → ℕ) (xs : List X) (k : ℕ) (d : X) → k < length xs → ((j : ℕ) (d : X) → j ≢ k → j < length xs → f (get_or xs j d) ≡ 0) → sum_by f xs ≡ f (get_or xs k d)

@@ -1,3 +1,3 @@
-pub mod FieldLemmas
 pub mod TableLemmas
 pub mod FaultLaws
+pub mod WeightLemmas

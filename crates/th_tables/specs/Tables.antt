@@ -1,10 +1,11 @@
 use Rattle.std.specs.Prelude.{◌≡◌, ℕ, ◌+◌, ◌<◌, ◌==◌, Bool, false, List, [], ◌∷◌, ◌++◌, length, map, slice_get, take, Option, Some, None, Result, Ok, Err, if◌then◌else◌, bytes_eq, nat_lt}
 use Rattle.std.specs.List.{list_any}
 use Rattle.std.specs.Result.{result_err}
+use Rattle.gsi_word.specs.Names.{same_pair}
 use Rattle.th_tables.specs.Limits.{max_table}
 use Rattle.th_tables.specs.Fields.{benchmark_in, is_benchmarks_header, is_weights_header, weighted_in}
 use Rattle.th_csv.specs.Records.{Fields, records_of}
-use Rattle.th_tables.specs.Rows.{BenchmarkRows, WeightRows, same_ends}
+use Rattle.th_tables.specs.Rows.{BenchmarkRows, WeightRows}
 use Rattle.th_tables.specs.declared.faults.TableFault.{TableFault}
 use Rattle.th_tables.specs.declared.faults.TableKind.{TableKind}
 use Rattle.th_tables.specs.declared.faults.TableKind.TheVariants.{BadHeader, NoMemory, Repeated, TableTooLong}
@@ -78,4 +79,4 @@ benchmarks_of bytes = if_short bytes (rows_under bytes_eq benchmark_in is_benchm
 
 -- the weights in a table's bytes, or the table's first fault; an empty file has no weights
 abbrev pub weights_of : List ℕ → Result WeightRows TableFault
-weights_of bytes = if length bytes == 0 then Ok [] else if_short bytes (rows_under same_ends weighted_in is_weights_header (records_of bytes))
+weights_of bytes = if length bytes == 0 then Ok [] else if_short bytes (rows_under same_pair weighted_in is_weights_header (records_of bytes))

@@ -1,18 +1,17 @@
-ghost use Rattle.std.specs.Prelude.{◌≡◌, ◌⊎◌, ◌<◌, ◌≤◌, ◌^◌, ◌+◌, [], Ok, Err, IfErr, IfOk, IfSome, bytes_eq, length, slice_get, unsigned_abs};
-ghost use Rattle.th_tables.specs.Fields.{benchmark_in, is_benchmarks_header};
+ghost use Rattle.std.specs.Prelude.{◌≡◌, ◌⊎◌, ◌<◌, ◌≤◌, ◌^◌, Ok, Err, IfErr, IfOk, IfSome, length, slice_get, unsigned_abs};
 ghost use Rattle.th_tables.specs.Rows.{AreBenchmarks, height_of};
 ghost use Rattle.th_units.specs.Limits.{max_len};
 ghost use Rattle.th_tables.specs.Limits.{max_table};
-ghost use Rattle.th_tables.specs.Tables.{benchmarks_of, no_memory, rows_after, rows_under, too_long};
+ghost use Rattle.th_tables.specs.Tables.{benchmarks_of, no_memory, too_long};
 
 use crate::faults::{TableFault, TableKind};
-use crate::fields::{benchmark_in, is_benchmarks_header};
-use crate::limits::MAX_TABLE;
+use crate::fields::{height_in, name_in};
+use crate::tables::{Table, read_table};
 use gsi_word::Name;
 use std::alloc::Global;
 use std::marker::Model;
-use th_csv::{Record, RecordReader};
-use th_hash::{FEW_NAMES, HashSeed, NameMap, insert_stated};
+use th_csv::Record;
+use th_hash::{FEW_NAMES, NameMap};
 
 /// The benchmarks: names and their heights in units of 10 nm, in the order of their table.
 #[derive(Debug, Drop)]
@@ -60,6 +59,36 @@ impl Benchmarks {
     }
 }
 
+impl Table for Benchmarks {
+    ghost use Rattle.th_tables.specs.Fields.{benchmark_in, is_benchmarks_header};
+    ghost use Rattle.std.specs.Prelude.{◌≤◌, unsigned_abs};
+    ghost use Rattle.th_units.specs.Limits.{max_len};
+
+    type Key = Name;
+
+    type Value = i64;
+
+    ghost is_header = { is_benchmarks_header };
+
+    ghost row_in = { benchmark_in };
+
+    ghost IsAllowed = { λ height. unsigned_abs height ≤ max_len };
+
+    const FEW: usize = FEW_NAMES;
+
+    fn is_header(fields: &Record) -> bool {
+        match fields.two() {
+            Some((point, height)) => point == b"point".as_slice() && height == b"height".as_slice(),
+            None => false,
+        }
+    }
+
+    fn row_in(fields: &Record) -> Result<(Name, i64), TableKind> {
+        let (name, height) = fields.two().ok_or(TableKind::FieldCount)?;
+        Ok((name_in(name)?, height_in(height)?))
+    }
+}
+
 /// Reads a table of benchmarks with the header `point,height`, or returns its first fault.
 ///
 /// A record under the header has a name and metres of at most 10 km in size, and no name that an
@@ -70,63 +99,6 @@ pub fn read_benchmarks(alloc: Global, bytes: &[u8]) -> Result<Benchmarks, TableF
     ensures fault { IfErr result (λ fault. (fault ≡ no_memory) ⊎ (benchmarks_of bytes.now ≡ Err fault)) }
     ensures too_long { max_table < length bytes.now → result ≡ Err too_long }
 {
-    if bytes.len() > MAX_TABLE {
-        return Err(TableFault::TOO_LONG);
-    }
-    read_table(
-        alloc,
-        bytes,
-        &mut RecordReader::open(alloc, bytes),
-        &mut Record::new(alloc),
-    )
-}
-
-/// The benchmarks of the records of a table with these bytes, the first of which is its header.
-fn read_table(
-    alloc: Global,
-    bytes: &[u8],
-    reader: &mut RecordReader<'_>,
-    record: &mut Record,
-) -> Result<Benchmarks, TableFault>
-    requires { length reader.old.records + 1 < 2 ^ 32 }
-    ensures table { IfOk result (λ table. rows_under bytes_eq benchmark_in is_benchmarks_header reader.old.records ≡ Ok table) }
-    ensures rows { IfOk result (λ table. AreBenchmarks table) }
-    ensures fault { IfErr result (λ fault. (fault ≡ no_memory)
-        ⊎ (rows_under bytes_eq benchmark_in is_benchmarks_header reader.old.records ≡ Err fault)) }
-{
-    if !reader.next(record)? || !is_benchmarks_header(record) {
-        return Err(TableFault::BAD_HEADER);
-    }
-    read_rows(alloc, bytes, reader, record)
-}
-
-/// The benchmarks of the records that a reader has left of a table with these bytes. The first of them
-/// is record 2.
-fn read_rows(
-    alloc: Global,
-    bytes: &[u8],
-    reader: &mut RecordReader<'_>,
-    record: &mut Record,
-) -> Result<Benchmarks, TableFault>
-    requires { length reader.old.records + 2 < 2 ^ 32 }
-    ensures table { IfOk result (λ table. rows_after bytes_eq benchmark_in [] reader.old.records ≡ Ok table) }
-    ensures rows { IfOk result (λ table. AreBenchmarks table) }
-    ensures fault { IfErr result (λ fault. (fault ≡ no_memory) ⊎ (rows_after bytes_eq benchmark_in [] reader.old.records ≡ Err fault)) }
-{
-    let mut heights = NameMap::with_hasher(alloc, HashSeed::none());
-    let mut row = 1;
-    'records: while reader.next(record)? {
-        row += 1;
-        let (name, height) = match benchmark_in(record) {
-            Ok(benchmark) => benchmark,
-            Err(kind) => return Err(TableFault { row, kind }),
-        };
-        if insert_stated(alloc, bytes, FEW_NAMES, &mut heights, name, height)?.is_some() {
-            return Err(TableFault {
-                row,
-                kind: TableKind::Repeated,
-            });
-        }
-    }
+    let heights = read_table::<Benchmarks>(alloc, bytes)?;
     Ok(Benchmarks { heights })
 }

@@ -1,9 +1,10 @@
 //! Laws that relate the definitions to one another. They call nothing of the code.
 
 ghost use Rattle.std.specs.Prelude.{◌≡◌, [], List, Ok, Err, bytes_eq};
+ghost use Rattle.gsi_word.specs.Names.{same_pair};
 ghost use Rattle.th_csv.specs.Records.{Fields};
 ghost use Rattle.th_tables.specs.Fields.{benchmark_in, weighted_in};
-ghost use Rattle.th_tables.specs.Rows.{BenchmarkRows, WeightRows, same_ends};
+ghost use Rattle.th_tables.specs.Rows.{BenchmarkRows, WeightRows};
 ghost use Rattle.th_tables.specs.Tables.{AreRowsOf, IsFirstFault, rows_after};
 ghost use Rattle.th_tables.specs.declared.faults.TableFault.{TableFault};
 
@@ -16,6 +17,6 @@ pub fn benchmarks_have_no_fault_or_the_first()
 
 /// The same for a table of weights.
 pub fn weights_have_no_fault_or_the_first()
-    ensures rows { (records : List Fields) (rows : WeightRows) → rows_after same_ends weighted_in [] records ≡ Ok rows → AreRowsOf same_ends weighted_in records rows }
-    ensures fault { (records : List Fields) (fault : TableFault) → rows_after same_ends weighted_in [] records ≡ Err fault → IsFirstFault same_ends weighted_in records fault }
+    ensures rows { (records : List Fields) (rows : WeightRows) → rows_after same_pair weighted_in [] records ≡ Ok rows → AreRowsOf same_pair weighted_in records rows }
+    ensures fault { (records : List Fields) (fault : TableFault) → rows_after same_pair weighted_in [] records ≡ Err fault → IsFirstFault same_pair weighted_in records fault }
 {}

@@ -9,8 +9,9 @@
 mod faults;
 mod limits;
 
-// Records.
+// Fields, and the rows of any table.
 mod fields;
+mod tables;
 
 // Tables.
 mod benchmarks;

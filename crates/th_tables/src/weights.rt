@@ -1,21 +1,17 @@
-ghost use Rattle.std.specs.Prelude.{◌≡◌, ◌⊎◌, ◌<◌, ◌≤◌, ◌^◌, ◌+◌, [], Ok, Err, IfErr, IfOk, length, slice_get};
-ghost use Rattle.th_tables.specs.Fields.{is_weights_header, weighted_in};
+ghost use Rattle.std.specs.Prelude.{◌≡◌, ◌⊎◌, ◌<◌, ◌≤◌, ◌^◌, [], Ok, Err, IfErr, IfOk, length, slice_get};
 ghost use Rattle.th_tables.specs.Limits.{max_table, max_weight};
-ghost use Rattle.th_tables.specs.Rows.{AreWeights, same_ends, weight_of};
-ghost use Rattle.th_tables.specs.Tables.{no_memory, rows_after, rows_under, too_long, weights_of};
+ghost use Rattle.th_tables.specs.Rows.{AreWeights, weight_of};
+ghost use Rattle.th_tables.specs.Tables.{no_memory, too_long, weights_of};
 
 use crate::faults::{TableFault, TableKind};
-use crate::fields::{is_weights_header, weighted_in};
-use crate::limits::MAX_TABLE;
+use crate::fields::{name_in, weight_in};
+use crate::tables::{Table, read_table};
 use gsi_word::Name;
 use std::alloc::Global;
 use std::marker::Model;
-use th_csv::{Record, RecordReader};
-use th_hash::{HashSeed, NameMap, insert_stated};
+use th_csv::Record;
+use th_hash::{HashSeed, NameMap};
 use th_limits::MAX_OBSERVATIONS;
-
-/// How many bytes a row has as a rule.
-const ROW: usize = 16;
 
 /// The most pairs that are hashed without a seed: a network has no more observations.
 const FEW_PAIRS: usize = MAX_OBSERVATIONS;
@@ -81,6 +77,38 @@ impl Weights {
     }
 }
 
+impl Table for Weights {
+    ghost use Rattle.th_tables.specs.Fields.{is_weights_header, weighted_in};
+    ghost use Rattle.th_tables.specs.Rows.{IsWeight};
+
+    type Key = (Name, Name);
+
+    type Value = u32;
+
+    ghost is_header = { is_weights_header };
+
+    ghost row_in = { weighted_in };
+
+    ghost IsAllowed = { IsWeight };
+
+    const FEW: usize = FEW_PAIRS;
+
+    fn is_header(fields: &Record) -> bool {
+        match fields.three() {
+            Some((from, to, weight)) => from == b"from".as_slice()
+                && to == b"to".as_slice()
+                && weight == b"weight".as_slice(),
+            None => false,
+        }
+    }
+
+    fn row_in(fields: &Record) -> Result<((Name, Name), u32), TableKind> {
+        let (station, target, weight) = fields.three().ok_or(TableKind::FieldCount)?;
+        let ends = (name_in(station)?, name_in(target)?);
+        Ok((ends, weight_in(weight)?))
+    }
+}
+
 /// Reads a table of weights with the header `from,to,weight`, or returns its first fault. No bytes
 /// are an empty table.
 ///
@@ -97,64 +125,6 @@ pub fn read_weights(alloc: Global, bytes: &[u8]) -> Result<Weights, TableFault>
     if bytes.is_empty() {
         return Ok(Weights::empty(alloc));
     }
-    if bytes.len() > MAX_TABLE {
-        return Err(TableFault::TOO_LONG);
-    }
-    read_table(
-        alloc,
-        bytes,
-        &mut RecordReader::open(alloc, bytes),
-        &mut Record::new(alloc),
-    )
-}
-
-/// The weights of the records of a table with these bytes, the first of which is its header.
-fn read_table(
-    alloc: Global,
-    bytes: &[u8],
-    reader: &mut RecordReader<'_>,
-    record: &mut Record,
-) -> Result<Weights, TableFault>
-    requires { length reader.old.records + 1 < 2 ^ 32 }
-    ensures table { IfOk result (λ table. rows_under same_ends weighted_in is_weights_header reader.old.records ≡ Ok table) }
-    ensures rows { IfOk result (λ table. AreWeights table) }
-    ensures fault { IfErr result (λ fault. (fault ≡ no_memory)
-        ⊎ (rows_under same_ends weighted_in is_weights_header reader.old.records ≡ Err fault)) }
-{
-    if !reader.next(record)? || !is_weights_header(record) {
-        return Err(TableFault::BAD_HEADER);
-    }
-    read_rows(alloc, bytes, reader, record)
-}
-
-/// The weights of the records that a reader has left of a table with these bytes. The first of them is
-/// record 2.
-fn read_rows(
-    alloc: Global,
-    bytes: &[u8],
-    reader: &mut RecordReader<'_>,
-    record: &mut Record,
-) -> Result<Weights, TableFault>
-    requires { length reader.old.records + 2 < 2 ^ 32 }
-    ensures table { IfOk result (λ table. rows_after same_ends weighted_in [] reader.old.records ≡ Ok table) }
-    ensures rows { IfOk result (λ table. AreWeights table) }
-    ensures fault { IfErr result (λ fault. (fault ≡ no_memory) ⊎ (rows_after same_ends weighted_in [] reader.old.records ≡ Err fault)) }
-{
-    let room = bytes.len() / ROW;
-    let mut weights = NameMap::with_capacity_and_hasher(alloc, room, HashSeed::none())?;
-    let mut row = 1;
-    'records: while reader.next(record)? {
-        row += 1;
-        let (ends, weight) = match weighted_in(record) {
-            Ok(weighted) => weighted,
-            Err(kind) => return Err(TableFault { row, kind }),
-        };
-        if insert_stated(alloc, bytes, FEW_PAIRS, &mut weights, ends, weight)?.is_some() {
-            return Err(TableFault {
-                row,
-                kind: TableKind::Repeated,
-            });
-        }
-    }
+    let weights = read_table::<Weights>(alloc, bytes)?;
     Ok(Weights { weights })
 }

@@ -73,7 +73,7 @@ pub fn is_digit(byte: u8) -> bool
     b'0' <= byte && byte <= b'9'
 }
 
-/// The number that digits write, unless it is above `MAX_LEN`.
+/// The number that digits write; `None` if it is above `MAX_LEN`.
 fn number_within_limit(digits: &[u8]) -> Option<u64>
     requires { are_digits digits.now ≡ true }
     ensures { SomeIff result (number digits.now ≤ max_len) (number digits.now) }

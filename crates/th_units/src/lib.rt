@@ -15,8 +15,9 @@ mod units;
 mod lengths;
 mod short_numbers;
 
-// Texts in metres.
+// Texts in metres, and the signs of texts.
 mod metres;
+mod signs;
 
 // Laws of the definitions.
 pub mod laws;
@@ -26,5 +27,6 @@ pub use lengths::{Len, are_digits, is_digit, to_len};
 pub use limits::MAX_SHORT;
 pub use metres::{MetreText, metre_text, parse_metres};
 pub use short_numbers::short_number;
+pub use signs::{has_minus, without_sign};
 pub use th_limits::MAX_LEN;
 pub use units::{Unit, step, unit_of};

@@ -2,18 +2,19 @@ ghost use Rattle.std.specs.Prelude.{◌≡◌, ◌+◌, ◌<◌, ◌≤◌, ◌^
 ghost use Rattle.std.specs.List.{list_all};
 ghost use Rattle.std.specs.Option.{option_copied};
 ghost use Rattle.th_units.specs.Lengths.{is_digit, number};
-ghost use Rattle.th_units.specs.Metres.{metres, last_digits, are_decimals, decimals, has_minus, size_value, units_of, value, whole, without_sign};
+ghost use Rattle.th_units.specs.Metres.{metres, last_digits, are_decimals, decimals, size_value, units_of, value, whole};
 
 use crate::faults::LenFault;
 use crate::lengths::are_digits;
 use crate::limits::{MAX_DECIMALS, MAX_WHOLE_DIGITS};
 use crate::short_numbers::number;
+use crate::signs::{has_minus, without_sign};
 use std::marker::Model;
 
 /// How many units of 10 nm a metre has.
 pub const UNITS_PER_METRE: u64 = 100_000_000;
 
-/// The most bytes that the text of a length in metres has.
+/// Room in bytes for the text of any length.
 const CAPACITY: usize = 24;
 
 /// A length in metres as text: a minus sign below zero, the whole metres, a dot and eight decimals.
@@ -75,7 +76,7 @@ impl MetreText {
         }
     }
 
-    /// Puts a number in digits before the text.
+    /// Puts the digits of a number, without leading zeros, before the text.
     fn prepend_decimal(&mut self, number: u64)
         requires { length self.old + length (decimal number) ≤ CAPACITY }
         ensures { self.new ≡ decimal number ++ self.old }
@@ -89,7 +90,7 @@ impl MetreText {
     }
 }
 
-/// The text of a length in metres, for a length in units of 10 nm.
+/// The text in metres of a length in units of 10 nm.
 pub fn metre_text(units: i64) -> MetreText
     ensures { result ≡ metres units }
 {
@@ -116,24 +117,7 @@ pub fn parse_metres(text: &[u8]) -> Result<i64, LenFault>
     Ok(if has_minus(text) { -size } else { size })
 }
 
-/// Whether a text begins with a minus sign.
-fn has_minus(text: &[u8]) -> bool
-    ensures { result ≡ has_minus text.now }
-{
-    matches!(text, [b'-', ..])
-}
-
-/// A text without the sign that it may begin with.
-fn without_sign(text: &[u8]) -> &[u8]
-    ensures { result.now ≡ without_sign text.now }
-{
-    match text {
-        [b'+' | b'-', size @ ..] => size,
-        _ => text,
-    }
-}
-
-/// The size in units of 10 nm that a text in metres without a sign writes.
+/// Reads a text in metres without a sign as a size in units of 10 nm.
 fn parse_size(text: &[u8]) -> Result<u64, LenFault>
     ensures value { result ≡ size_value text.now }
     ensures bound { IfOk result (λ size. size < 10 ^ 17) }
@@ -166,7 +150,7 @@ fn are_decimals(bytes: &[u8]) -> bool
     are_digits(bytes) && bytes.len() <= MAX_DECIMALS
 }
 
-/// The size that whole metres and decimals write, in units of 10 nm.
+/// The size in units of 10 nm of whole metres and decimals. No decimals are 0.
 fn units_of(whole: &[u8], decimals: &[u8]) -> u64
     requires whole_digits { list_all is_digit whole.now ≡ true }
     requires whole_short { length whole.now ≤ MAX_WHOLE_DIGITS }

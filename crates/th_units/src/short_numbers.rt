@@ -16,7 +16,7 @@ pub fn short_number(bytes: &[u8]) -> Option<u32>
     }
 }
 
-/// The number that at most nine digits write.
+/// The number that at most nine digits write; 0 for no digits.
 pub(crate) fn number(digits: &[u8]) -> u32
     requires digits { list_all is_digit digits.now ≡ true }
     requires short { length digits.now ≤ MAX_SHORT }

@@ -3,6 +3,7 @@ use Rattle.std.specs.Prelude.{◌≡◌, ◌<◌, ◌≤◌, ◌==◌, ◌&&◌,
 use Rattle.std.specs.Ordering.{int_eq}
 use Rattle.th_book.specs.Observed.{Observed}
 use Rattle.th_tables.specs.Rows.{BenchmarkRows, height_of}
+use Rattle.th_points.specs.Ends.{AreBelow}
 use Rattle.std.specs.declared.alloc.Global.{Global}
 use Rattle.th_network.specs.Circulation.{total_by}
 use Rattle.std.specs.List.{position_from, zip}
@@ -13,10 +14,6 @@ use Rattle.th_checker.specs.declared.maps.Maps.{Maps}
 use Rattle.th_checker.specs.declared.verdicts.Reason.TheVariants.{NotSlack, WrongCost, LowNotSlack, HighNotSlack}
 use Rattle.th_checker.specs.declared.verdicts.Verdict.{Verdict}
 use Rattle.th_checker.specs.declared.verdicts.Verdict.TheVariants.{Yes}
-
--- both places of a pair are below the limit
-abbrev pub AreBelow : ℕ → ℕ × ℕ → Type 0
-AreBelow limit pair = (pair.0 < limit) × (pair.1 < limit)
 
 -- the residual of an observation over listed heights, given the places of its station and its target
 abbrev pub residual_at : List ℤ → Observed × (ℕ × ℕ) → ℤ

@@ -6,7 +6,8 @@ use Rattle.std.proofs.lemmas.List.{take_all}
 use Rattle.std.proofs.lemmas.List.Elements.{All-get_or}
 use Rattle.std.proofs.lemmas.Slice.Zip.{get_or-zip, length-zip}
 use Rattle.th_certificate.specs.Certified.{flow_limit}
-use Rattle.th_checker.specs.Inside.Tests.{AreBalances, AreBelow}
+use Rattle.th_points.specs.Ends.{AreBelow}
+use Rattle.th_checker.specs.Inside.Tests.{AreBalances}
 use Rattle.th_checker.proofs.BalanceLemmas.{balances_more, small_more}
 use Rattle.th_checker.proofs.NumberLemmas.{plain_flow}
 use Rattle.th_checker.proofs.balances.add_all.Goals as goal

@@ -1,10 +1,10 @@
 use Rattle.std.proofs.Common.{List, ℕ, Option, Some, None, All, length, subst, sym, ap, ◌∙◌}
 use Rattle.std.specs.List.{zip}
 use Rattle.std.proofs.lemmas.List.{length-map}
-use Rattle.th_network.proofs.NetworkLemmas.{ends_within}
-use Rattle.th_points.specs.Ends.{ends_in}
+use Rattle.th_points.specs.Ends.{AreBelow, ends_in}
+use Rattle.th_points.proofs.PlaceLemmas.{ends_within}
 use Rattle.th_points.specs.Points.{points}
-use Rattle.th_checker.specs.Inside.Tests.{AreBalances, AreBelow, AreMapsAt, first_place, listed_in, slack_verdict_at}
+use Rattle.th_checker.specs.Inside.Tests.{AreBalances, AreMapsAt, first_place, listed_in, slack_verdict_at}
 use Rattle.th_checker.specs.Verdicts.{first_unbalanced, if_found, slack_verdict}
 use Rattle.th_checker.specs.declared.verdicts.Reason.TheVariants.{FlowTooLarge, Unbalanced}
 use Rattle.th_checker.proofs.CheckLemmas.{flow_is, maps_at_names, slack_is, too_large_found, unbalanced_found}

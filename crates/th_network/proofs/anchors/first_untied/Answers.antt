@@ -1,9 +1,9 @@
 use Rattle.std.proofs.Common.{◌≡◌, ℕ, List, All, length, sym, ap, ◌∙◌, subst}
 use Rattle.std.proofs.lemmas.List.{length-map}
 use Rattle.th_tables.specs.Rows.{height_of}
-use Rattle.th_network.specs.Inside.Pairs.{AreBelow}
+use Rattle.th_points.specs.Ends.{AreBelow}
+use Rattle.th_points.proofs.PlaceLemmas.{ends_within}
 use Rattle.th_network.specs.Inside.Sites.{AreSites, Looked}
-use Rattle.th_network.proofs.NetworkLemmas.{ends_within}
 use Rattle.th_network.proofs.SiteLemmas.{untied_when_ok}
 use Rattle.th_network.proofs.anchors.first_untied.Goals as goal
 

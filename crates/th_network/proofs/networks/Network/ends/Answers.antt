@@ -1,7 +1,7 @@
 use Rattle.std.proofs.Common.{refl, ap, ◌∙◌}
 use Rattle.th_network.specs.Networks.{Survey, points_of}
 use Rattle.th_points.specs.Ends.{ends_of}
-use Rattle.th_network.proofs.NetworkLemmas.{ends_within}
+use Rattle.th_points.proofs.PlaceLemmas.{ends_within}
 use Rattle.th_network.proofs.networks.Network.ends.Goals as goal
 
 pub returns-clause-within : goal.returns-clause-within

@@ -1,23 +1,14 @@
-use Rattle.std.proofs.Common.{◌≡◌, ◌≤◌, ℕ, List, Option, Some, None, IfSome, unwrap_or, subst, sym, arith, rules}
-use Rattle.std.specs.Map.{lookup}
-use Rattle.std.proofs.lemmas.Map.Entries.{All-lookup}
-use Rattle.th_tables.specs.Rows.{same_ends}
-use Rattle.th_tables.specs.Limits.{max_weight}
+use Rattle.std.proofs.Common.{◌≡◌, subst, sym, rules}
+use Rattle.th_tables.specs.Rows.{IsWeight, weight_of}
+use Rattle.th_tables.proofs.WeightLemmas.{weight_is}
 use Rattle.th_tables.proofs.weights.Weights.of.Goals as goal
 
--- what holds of a value that may be there and of the default holds of either
-either : {X : Type 0} (P : X → Type 0) (found : Option X) (default : X) → IfSome found P → P default → P (unwrap_or found default)
-either P None default one other = other
-either P (Some x) default one other = one
-
 -- the weight of the call is allowed
-allowed : (c : goal.After-unwrap_or) → (1 ≤ c.unwrap_or.result) × (c.unwrap_or.result ≤ max_weight)
+allowed : (c : goal.After-unwrap_or) → IsWeight c.unwrap_or.result
 allowed c =
     let rows = c.self.inside.weights.entries in
-    let ends : List ℕ × List ℕ = (c.args.station.now, c.args.target.now) in
-    let found : c.unwrap_or.result ≡ unwrap_or (lookup (same_ends ends) rows) 1 = search rules in
-    subst (λ weight. (1 ≤ weight) × (weight ≤ max_weight)) (sym found)
-    (either (λ weight. (1 ≤ weight) × (weight ≤ max_weight)) (lookup (same_ends ends) rows) 1 (All-lookup (λ weight. (1 ≤ weight) × (weight ≤ max_weight)) (same_ends ends) rows c.self.invariant.weights) (omega arith, omega arith))
+    let found : c.unwrap_or.result ≡ weight_of rows c.args.station.now c.args.target.now = search rules in
+    subst IsWeight (sym found) (weight_is rows c.self.invariant c.args.station.now c.args.target.now)
 
 pub returns-clause-positive : goal.returns-clause-positive
 returns-clause-positive c = (allowed c).0
