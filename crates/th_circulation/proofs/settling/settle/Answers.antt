@@ -19,7 +19,7 @@ returns-clause-settled g c =
     let many = c.in_ok-heights.ensures.len in
     let names = ap (λ (ns : List (List ℕ)). length ns) c.points.ensures.points in
     let is = written c.in_ok-heights.heights.len c.place.new.listed c.in_ok-heights.heights.items (omega arith) (omega arith) in
-    let placed = subst (λ (hs : List ℤ). ArePlaced survey.observations survey.benchmarks (value_at hs) c.place.new.listed) c.deref-2.ensures.value c.place.ensures.placed in
-    let light = subst (All (λ (weight : ℕ). weight ≤ max_weight)) c.in_ok-weights.ensures.weights c.in_ok-weights.ensures.light in
+    let placed = subst (λ (hs : List ℤ). ArePlaced survey.observations survey.benchmarks (value_at hs) c.place.new.listed) c.deref.ensures.value c.place.ensures.placed in
+    let light = subst (All (λ (weight : ℕ). weight ≤ max_weight)) graph.ensures.weights graph.result.graph.light in
     let settled = is_settled survey graph.result.links.now graph.result.weights.now c.place.new.listed work.flows.items (value_at work.heights.items) graph.ensures.links graph.ensures.weights light done.flow done.shown.shown placed (record { each = omega arith; in_range = c.place.ensures.in_range }) in
     subst (λ (hs : List ℤ). IsSettled survey hs work.flows.items) (sym is) settled
