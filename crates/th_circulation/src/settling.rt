@@ -4,7 +4,7 @@ ghost use Rattle.th_circulation.specs.Limits.{max_counted};
 ghost use Rattle.th_circulation.specs.Settled.{IsSettled};
 
 use crate::graphs::Graph;
-use crate::placed::place;
+use crate::point_heights::set_point_heights;
 use crate::settled::Settled;
 use crate::steps::Steps;
 use crate::workspaces::Workspace;
@@ -37,7 +37,7 @@ pub fn settle<S: Search>(
     let graph = Graph::of(network);
     let mut work = Workspace::new(alloc, &graph)?;
     work.settle(alloc, &graph, search, steps)?;
-    place(network, &work.heights, &mut heights);
+    set_point_heights(network, &work.heights, &mut heights);
     Ok(Settled {
         heights,
         flows: work.flows,
