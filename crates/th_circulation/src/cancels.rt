@@ -5,11 +5,11 @@ ghost use Rattle.th_circulation.specs.Inside.Cycles.{HasRoom, HasRooms, leads_to
 ghost use Rattle.th_circulation.specs.Inside.Flows.{AreBounded};
 ghost use Rattle.th_circulation.specs.Inside.Listings.{slots_at};
 
-use crate::graphs::Graph;
+use crate::graphs::LinkGraph;
 use crate::slots::Slot;
 
 /// Sends as much along a cycle of slots as has room, and at most this.
-pub(crate) fn cancel(graph: &Graph, slots: &[Slot], cycle: &[u32], most: u32, flows: &mut [i64])
+pub(crate) fn cancel(graph: &LinkGraph, slots: &[Slot], cycle: &[u32], most: u32, flows: &mut [i64])
     requires some { 1 ≤ most }
     requires small { most ≤ most_room }
     requires numbers { All (λ number. number < length slots.now) cycle.now }
@@ -23,13 +23,13 @@ pub(crate) fn cancel(graph: &Graph, slots: &[Slot], cycle: &[u32], most: u32, fl
 {
     let amount = least_room(graph, slots, cycle, most, flows);
     'slots: for &number in cycle {
-        raise(graph, slots[number as usize], amount, flows);
+        send_along(graph, slots[number as usize], amount, flows);
     }
 }
 
 /// How much can flow along each of the slots, and at most this: at least 1, and no more than there can
 /// be room for.
-fn least_room(graph: &Graph, slots: &[Slot], cycle: &[u32], most: u32, flows: &[i64]) -> u32
+fn least_room(graph: &LinkGraph, slots: &[Slot], cycle: &[u32], most: u32, flows: &[i64]) -> u32
     requires some { 1 ≤ most }
     requires small { most ≤ most_room }
     requires numbers { All (λ number. number < length slots.now) cycle.now }
@@ -51,7 +51,7 @@ fn least_room(graph: &Graph, slots: &[Slot], cycle: &[u32], most: u32, flows: &[
 }
 
 /// Sends an amount along a slot.
-fn raise(graph: &Graph, slot: Slot, amount: u32, flows: &mut [i64])
+fn send_along(graph: &LinkGraph, slot: Slot, amount: u32, flows: &mut [i64])
     requires place { slot.place < length graph.now.links.now }
     requires flows { AreBounded graph.now.weights.now flows.old }
     requires room { HasRoom graph.now.weights.now amount flows.old slot }

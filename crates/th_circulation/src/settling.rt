@@ -3,7 +3,7 @@ ghost use Rattle.th_circulation.specs.Counts.{IsCounted, most_steps};
 ghost use Rattle.th_circulation.specs.Limits.{max_counted};
 ghost use Rattle.th_circulation.specs.Settled.{IsSettled};
 
-use crate::graphs::Graph;
+use crate::graphs::LinkGraph;
 use crate::point_heights::set_point_heights;
 use crate::settled::Settled;
 use crate::steps::Steps;
@@ -34,7 +34,7 @@ pub fn settle<S: Search>(
         search.old search.new steps.old steps.new }
 {
     let mut heights = vec![in alloc; 0i64; network.points().len()]?;
-    let graph = Graph::of(network);
+    let graph = LinkGraph::of(network);
     let mut work = Workspace::new(alloc, &graph)?;
     work.settle(alloc, &graph, search, steps)?;
     set_point_heights(network, &work.heights, &mut heights);

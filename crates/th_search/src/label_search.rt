@@ -3,7 +3,7 @@ ghost use Rattle.th_search.specs.Answers.{IsAnswer};
 ghost use Rattle.th_search.specs.Inside.Searched.{IsSearched};
 
 use crate::arcs::Arc;
-use crate::counts::Counts;
+use crate::counts::SearchCounts;
 use crate::fronts::cycle_in_front;
 use crate::labels::Labels;
 use crate::passes::{Pass, pass_over};
@@ -14,7 +14,7 @@ use std::alloc::{AllocError, Global};
 /// A search that lowers labels.
 #[derive(Debug, Drop)]
 pub struct LabelSearch {
-    counts: Counts,
+    counts: SearchCounts,
 }
 
 impl LabelSearch {
@@ -25,7 +25,7 @@ impl LabelSearch {
         ensures cycles { ⟦<LabelSearch as Search>⟧.cycles result ≡ 0 }
     {
         LabelSearch {
-            counts: Counts::new(),
+            counts: SearchCounts::new(),
         }
     }
 }
