@@ -24,7 +24,7 @@ pub record AreTight (vertices : ℕ) (arcs : List Arc) : Type 0 where
   pub some : 1 ≤ vertices
   pub few : vertices ≤ max_vertices
   pub ends : All (IsArc vertices) arcs
-  pub known : ¬ ((numbers : ℕ → ℤ) → ¬ KeepCosts arcs numbers)
+  pub known : ∥ ((numbers : ℕ → ℤ) × KeepCosts arcs numbers) ∥₁
   pub near : (numbers : ℕ → ℤ) → KeepCosts arcs numbers → (vertex : ℕ) → vertex < vertices → unsigned_abs (numbers vertex) ≤ farthest
 
 -- a label for each vertex, which is at least its number in all numbers that keep the costs
