@@ -162,7 +162,7 @@ impl Workspace {
         self.list_next(graph);
         match search.search(alloc, graph.vertices, &self.listing.arcs)? {
             Found::Cycle(cycle) => {
-                let most = self.most.clamp(1, MOST_ROOM);
+                let most = self.most;
                 cancel(graph, &self.listing.slots, &cycle, most, &mut self.flows);
                 steps.tick();
                 Ok(true)

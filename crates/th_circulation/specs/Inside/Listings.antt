@@ -37,6 +37,13 @@ slot_at slots number = slice_index_or slots number (record { place = 0; is_forwa
 abbrev pub slots_at : List Slot → List ℕ → List Slot
 slots_at slots numbers = map (slot_at slots) numbers
 
+-- flows within the weights, slots that each have a link and room, and numbers of some of them
+pub record AreOpen (graph : LinkGraph) (slots : List Slot) (numbers : List ℕ) (flows : List ℤ) : Type 0 where
+  pub bounded : AreBounded graph.weights.now flows
+  pub within : All (λ slot. slot.place < length graph.links.now) slots
+  pub room : All (HasRoom graph.weights.now 1 flows) slots
+  pub numbered : All (λ number. number < length slots) numbers
+
 -- differences, heights and flows of a graph from which residual arcs can be listed
 pub record AreListable (graph : LinkGraph) (diffs heights flows : List ℤ) : Type 0 where
   pub near_differences : AreWithin (length graph.links.now) largest_link_difference diffs
