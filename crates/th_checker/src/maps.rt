@@ -16,8 +16,17 @@ use th_tables::Benchmarks;
 #[derive(Drop)]
 pub(crate) struct Maps {
     pub heights: Vec<i64>,
-    pub low: Option<Vec<i64>>,
-    pub high: Option<Vec<i64>>,
+    pub low: SpanHeights,
+    pub high: SpanHeights,
+}
+
+/// The heights of a span at the points.
+#[derive(Drop)]
+pub(crate) enum SpanHeights {
+    /// The certificate has no such span.
+    Absent,
+    /// A height for each point, in their order.
+    Listed(Vec<i64>),
 }
 
 /// The heights of a certificate at the points; none where the names of a map are not just these.
@@ -45,13 +54,12 @@ pub(crate) fn maps_at(
     }
 }
 
-/// The heights of a span at the points, where there is a span; none where its names are not just
-/// these.
+/// The heights of a span at the points; none where its names are not just these.
 fn span_at(
     alloc: Global,
     points: &NameSet<Name>,
     span: Option<&StatedHeights>,
-) -> Result<Option<Option<Vec<i64>>>, AllocError>
+) -> Result<Option<SpanHeights>, AllocError>
     ensures { IfOk result (λ found. MatchOption found
         (if_there (names_are points.now.keys) (option_copied span.entry) ≡ false)
         (λ listed. (if_there (names_are points.now.keys) (option_copied span.entry) ≡ true)
@@ -59,10 +67,10 @@ fn span_at(
 {
     let stated = match span {
         Some(stated) => stated,
-        None => return Ok(Some(None)),
+        None => return Ok(Some(SpanHeights::Absent)),
     };
     match heights_at(alloc, points, stated)? {
-        Some(heights) => Ok(Some(Some(heights))),
+        Some(heights) => Ok(Some(SpanHeights::Listed(heights))),
         None => Ok(None),
     }
 }

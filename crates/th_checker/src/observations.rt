@@ -5,6 +5,7 @@ ghost use Rattle.th_certificate.specs.Certified.{flow_limit};
 ghost use Rattle.th_certificate.specs.Limits.{most_residual};
 ghost use Rattle.th_checker.specs.Inside.Tests.{AreHeightsAt, AreTested, cost_at, is_slack_at, listed_in, not_slack_at, residuals_at, span_not_slack_at, too_large_at};
 
+use crate::maps::SpanHeights;
 use std::alloc::{AllocError, Global};
 use th_book::Observation;
 use th_tables::Weights;
@@ -52,14 +53,14 @@ impl<'a> Tested<'a> {
     }
 
     /// The same over the heights of a span; none where there is no span.
-    pub fn span_not_slack(&self, span: &Option<Vec<i64>>) -> Option<u32>
+    pub fn span_not_slack(&self, span: &SpanHeights) -> Option<u32>
         requires { IfSome (listed_in span.now) (AreHeightsAt self.now.points) }
         ensures { result ≡ span_not_slack_at self.now.weights.now
             (zip self.now.observations.now self.now.ends.now) self.now.flows.now (listed_in span.now) }
     {
         match span {
-            Some(heights) => self.first_not_slack(heights),
-            None => None,
+            SpanHeights::Listed(heights) => self.first_not_slack(heights),
+            SpanHeights::Absent => None,
         }
     }
 

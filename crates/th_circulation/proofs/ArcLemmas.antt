@@ -12,7 +12,7 @@ use Rattle.th_search.specs.declared.arcs.Arc.{Arc}
 use Rattle.th_circulation.specs.Inside.Bounds.{farthest, height_bound}
 use Rattle.th_circulation.specs.declared.slots.Slot.{Slot}
 use Rattle.th_circulation.specs.Inside.Cycles.{link_at}
-use Rattle.th_circulation.specs.Inside.Graphs.{AreWithin, IsGraph}
+use Rattle.th_circulation.specs.Inside.Graphs.{AreWithin, IsLinkGraph}
 use Rattle.th_circulation.specs.Inside.Listings.{AreResidual, arc_of}
 use Rattle.th_circulation.proofs.GraphLemmas.{IsNear, ends_at, near_at}
 use Rattle.th_network.specs.Links.{largest_link_difference}
@@ -23,7 +23,7 @@ arc_within : (forward : Bool) (tail head n : ℕ) (high low diff : ℤ) → tail
 arc_within true tail head n high low diff t h near = record { tail = t; head = h; cost = omega (arith, ints) }
 arc_within false tail head n high low diff t h near = record { tail = h; head = t; cost = omega (arith, ints) }
 
-pub arcs_are : (vertices : ℕ) (links : List Link) (weights : List ℕ) (diffs heights flows : List ℤ) (arcs : List Arc) (slots : List Slot) → IsGraph vertices links weights → AreWithin (length links) largest_link_difference diffs → AreWithin vertices height_bound heights → AreResidual links weights diffs (value_at heights) flows arcs slots → All (IsArc vertices) arcs
+pub arcs_are : (vertices : ℕ) (links : List Link) (weights : List ℕ) (diffs heights flows : List ℤ) (arcs : List Arc) (slots : List Slot) → IsLinkGraph vertices links weights → AreWithin (length links) largest_link_difference diffs → AreWithin vertices height_bound heights → AreResidual links weights diffs (value_at heights) flows arcs slots → All (IsArc vertices) arcs
 arcs_are vertices links weights diffs heights flows arcs slots graph near_diffs near_heights residual =
     let f = arc_of links diffs (value_at heights) in
     subst (All (IsArc vertices)) (sym residual.is) (All-map (IsArc vertices) f slots (λ k d within.

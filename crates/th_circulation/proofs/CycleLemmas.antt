@@ -17,7 +17,7 @@ use Rattle.th_network.specs.Circulation.{total_by}
 use Rattle.th_network.specs.declared.links.Link.{Link}
 use Rattle.th_circulation.specs.Inside.Flows.{IsFlow, arriving, leaving, gain}
 use Rattle.th_circulation.specs.declared.slots.Slot.{Slot}
-use Rattle.th_circulation.specs.Inside.Cycles.{start_of, finish_of, IsWalk, change, raised, send, sent, HasRoom, HasRooms, slot_cost, walk_cost, IsCycle, leads_to}
+use Rattle.th_circulation.specs.Inside.Cycles.{tail_of, head_of, IsWalk, change, flow_after, send, sent, HasRoom, HasRooms, slot_cost, walk_cost, IsCycle, leads_to}
 use Rattle.th_circulation.proofs.PhaseLemmas.{gain-cons}
 
 -- the flow of a pair that passes a test
@@ -91,7 +91,7 @@ eqb_if : (b : Bool) (x y v : ℕ) → eqb (if b then x else y) v ≡ (if b then 
 eqb_if true x y v = refl
 eqb_if false x y v = refl
 
-slot_excess : (links : List Link) (flows : List ℤ) (amount : ℕ) (slot : Slot) (link : Link) (vertex : ℕ) → length flows ≡ length links → slice_get links slot.place ≡ Some link → excess links (send amount flows slot) vertex ≡ excess links flows vertex +ℤ at amount (finish_of slot link) vertex -ℤ at amount (start_of slot link) vertex
+slot_excess : (links : List Link) (flows : List ℤ) (amount : ℕ) (slot : Slot) (link : Link) (vertex : ℕ) → length flows ≡ length links → slice_get links slot.place ≡ Some link → excess links (send amount flows slot) vertex ≡ excess links flows vertex +ℤ at amount (head_of slot link) vertex -ℤ at amount (tail_of slot link) vertex
 slot_excess links flows amount slot link vertex sized e =
     let within = slice_get_within links slot.place link e in
     let same = get_or_from_slice_get links slot.place link link e in
@@ -111,18 +111,18 @@ walk_excess links flows amount [] from to vertex sized walk =
     omega (arith, ints)
 walk_excess links flows amount (slot ∷ slots) from to vertex sized walk = by (walk_excess links (send amount flows slot) amount slots) (slice_get links slot.place) refl walk
   where
-    by : ((middle to vertex : ℕ) → length (send amount flows slot) ≡ length links → IsWalk links middle slots to → excess links (sent amount (send amount flows slot) slots) vertex ≡ excess links (send amount flows slot) vertex +ℤ at amount to vertex -ℤ at amount middle vertex) → (found : Option Link) → slice_get links slot.place ≡ found → IsSomeAnd found (λ link. (start_of slot link ≡ from) × IsWalk links (finish_of slot link) slots to) → excess links (sent amount (send amount flows slot) slots) vertex ≡ excess links flows vertex +ℤ at amount to vertex -ℤ at amount from vertex
+    by : ((middle to vertex : ℕ) → length (send amount flows slot) ≡ length links → IsWalk links middle slots to → excess links (sent amount (send amount flows slot) slots) vertex ≡ excess links (send amount flows slot) vertex +ℤ at amount to vertex -ℤ at amount middle vertex) → (found : Option Link) → slice_get links slot.place ≡ found → IsSomeAnd found (λ link. (tail_of slot link ≡ from) × IsWalk links (head_of slot link) slots to) → excess links (sent amount (send amount flows slot) slots) vertex ≡ excess links flows vertex +ℤ at amount to vertex -ℤ at amount from vertex
     by others None e h = absurd h
     by others (Some link) e h =
-        let long = length-set flows slot.place (raised amount flows slot) in
-        let rest = others (finish_of slot link) to vertex (omega arith) h.1 in
+        let long = length-set flows slot.place (flow_after amount flows slot) in
+        let rest = others (head_of slot link) to vertex (omega arith) h.1 in
         let one = slot_excess links flows amount slot link vertex sized e in
         let same = ap (λ v. at amount v vertex) h.0 in
         omega (arith, ints)
 
 pub sent_bounded : (weights : List ℕ) (flows : List ℤ) (amount : ℕ) (slots : List Slot) → AllZip (λ weight flow. unsigned_abs flow ≤ weight) weights flows → HasRooms weights amount flows slots → AllZip (λ weight flow. unsigned_abs flow ≤ weight) weights (sent amount flows slots)
 sent_bounded weights flows amount [] h rooms = h
-sent_bounded weights flows amount (slot ∷ slots) h rooms = sent_bounded weights (send amount flows slot) amount slots (set_bounded weights flows slot.place (raised amount flows slot) h rooms.0) rooms.1
+sent_bounded weights flows amount (slot ∷ slots) h rooms = sent_bounded weights (send amount flows slot) amount slots (set_bounded weights flows slot.place (flow_after amount flows slot) h rooms.0) rooms.1
 
 -- what is set at a place stands there, or the place is beyond the end and nothing is set
 set_or_beyond : (flows : List ℤ) (i : ℕ) (f : ℤ) → (slice_index_or (slice_set flows i f) i (pos 0) ≡ f) ⊎ (slice_set flows i f ≡ flows)
@@ -155,12 +155,12 @@ room_after links weights amount flows slot next bounded apart room = by (eqb slo
   where
     by : (b : Bool) → eqb slot.place next.place ≡ b → HasRoom weights amount (send amount flows slot) next
     by false e =
-        let same = get_or-set_other flows slot.place next.place (raised amount flows slot) (pos 0) (λ f. eqb-false slot.place next.place e (sym f)) in
+        let same = get_or-set_other flows slot.place next.place (flow_after amount flows slot) (pos 0) (λ f. eqb-false slot.place next.place e (sym f)) in
         subst (λ f. unsigned_abs (f +ℤ change amount next) ≤ slice_index_or weights next.place 0) (sym same) room
     by true e =
         let place = eqb-true slot.place next.place e in
-        let back : unsigned_abs (raised amount flows slot +ℤ change amount next) ≤ slice_index_or weights slot.place 0 = there_and_back slot.is_forward next.is_forward amount (slice_index_or weights slot.place 0) (slice_index_or flows slot.place (pos 0)) (opposite links slot next e apart) (bounded_at weights flows slot.place bounded) in
-        elim (set_or_beyond flows slot.place (raised amount flows slot)) [
+        let back : unsigned_abs (flow_after amount flows slot +ℤ change amount next) ≤ slice_index_or weights slot.place 0 = there_and_back slot.is_forward next.is_forward amount (slice_index_or weights slot.place 0) (slice_index_or flows slot.place (pos 0)) (opposite links slot next e apart) (bounded_at weights flows slot.place bounded) in
+        elim (set_or_beyond flows slot.place (flow_after amount flows slot)) [
           | inl set ↦ subst (λ (i : ℕ). unsigned_abs (slice_index_or (send amount flows slot) i (pos 0) +ℤ change amount next) ≤ slice_index_or weights i 0) place (subst (λ f. unsigned_abs (f +ℤ change amount next) ≤ slice_index_or weights slot.place 0) (sym set) back)
           | inr none ↦ subst (λ fs. HasRoom weights amount fs next) (sym none) room
         ]
@@ -175,7 +175,7 @@ rooms_from_once links weights amount flows [] bounded once rooms = tt
 rooms_from_once links weights amount flows (slot ∷ slots) bounded once rooms =
     let head = IsDistinct-head eqb (leads_to links slot) (map (leads_to links) slots) once in
     let tail = IsDistinct-tail eqb (leads_to links slot) (map (leads_to links) slots) once in
-    (rooms.0, rooms_from_once links weights amount (send amount flows slot) slots (set_bounded weights flows slot.place (raised amount flows slot) bounded rooms.0) tail (rooms_kept links weights amount flows slot slots bounded head rooms.1))
+    (rooms.0, rooms_from_once links weights amount (send amount flows slot) slots (set_bounded weights flows slot.place (flow_after amount flows slot) bounded rooms.0) tail (rooms_kept links weights amount flows slot slots bounded head rooms.1))
 
 slot_gain : (b : Bool) (amount : ℕ) (d : ℤ) → (if b then pos amount else (pos 0 -ℤ pos amount)) *ℤ d ≡ pos 0 -ℤ pos amount *ℤ (if b then (pos 0 -ℤ d) else d)
 slot_gain true amount d =
@@ -193,12 +193,12 @@ pub sent_gain : (links : List Link) (diffs flows : List ℤ) (amount : ℕ) (slo
 sent_gain links diffs flows amount [] from to sized walk = let none = *ℤ-zero (pos amount) in omega (arith, ints)
 sent_gain links diffs flows amount (slot ∷ slots) from to sized walk = by (sent_gain links diffs (send amount flows slot) amount slots) (slice_get links slot.place) refl walk
   where
-    by : ((middle to : ℕ) → length (send amount flows slot) ≡ length links → IsWalk links middle slots to → gain (sent amount (send amount flows slot) slots) diffs ≡ gain (send amount flows slot) diffs -ℤ pos amount *ℤ walk_cost diffs slots) → (found : Option Link) → slice_get links slot.place ≡ found → IsSomeAnd found (λ link. (start_of slot link ≡ from) × IsWalk links (finish_of slot link) slots to) → gain (sent amount (send amount flows slot) slots) diffs ≡ gain flows diffs -ℤ pos amount *ℤ walk_cost diffs (slot ∷ slots)
+    by : ((middle to : ℕ) → length (send amount flows slot) ≡ length links → IsWalk links middle slots to → gain (sent amount (send amount flows slot) slots) diffs ≡ gain (send amount flows slot) diffs -ℤ pos amount *ℤ walk_cost diffs slots) → (found : Option Link) → slice_get links slot.place ≡ found → IsSomeAnd found (λ link. (tail_of slot link ≡ from) × IsWalk links (head_of slot link) slots to) → gain (sent amount (send amount flows slot) slots) diffs ≡ gain flows diffs -ℤ pos amount *ℤ walk_cost diffs (slot ∷ slots)
     by others None e h = absurd h
     by others (Some link) e h =
         let within = slice_get_within links slot.place link e in
-        let long = length-set flows slot.place (raised amount flows slot) in
-        let rest = others (finish_of slot link) to (omega arith) h.1 in
+        let long = length-set flows slot.place (flow_after amount flows slot) in
+        let rest = others (head_of slot link) to (omega arith) h.1 in
         let one = gain_set flows diffs slot.place (change amount slot) (omega arith) in
         let part = slot_gain slot.is_forward amount (slice_index_or diffs slot.place (pos 0)) in
         let more = ap (λ z. pos amount *ℤ z) (total_by-cons (slot_cost diffs) slot slots) ∙ times-plus (pos amount) (slot_cost diffs slot) (walk_cost diffs slots) in

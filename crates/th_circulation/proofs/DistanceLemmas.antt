@@ -1,14 +1,18 @@
 -- Labels that fall along arcs stay at or above all numbers that keep the costs; where no arc is shorter than they say, they keep the costs too.
-use Rattle.std.proofs.Common.{◌≡◌, ℕ, zero, suc, Bool, true, false, ◌-◌, ◌<◌, ◌≤◌, ℤ, pos, ◌+ℤ◌, ◌-ℤ◌, ◌≤ℤ◌, List, [], ◌∷◌, All, length, replicate, unsigned_abs, refl, ap, ◌∙◌, subst, arith, length-set}
+use Rattle.std.proofs.Common.{◌≡◌, ℕ, zero, suc, ◌-◌, ◌<◌, ◌≤◌, ℤ, pos, ◌+ℤ◌, ◌-ℤ◌, ◌≤ℤ◌, List, [], ◌∷◌, All, length, replicate, unsigned_abs, refl, ap, ◌∙◌, subst, arith, length-set}
 use Rattle.std.specs.Prelude.{◌<ℤ◌, slice_set}
+use Rattle.std.proofs.lemmas.Grind.{not_there}
 use Rattle.std.proofs.lemmas.Int.{ints, by_lt_z}
 use Rattle.std.proofs.lemmas.List.{get_or_default, get_or-replicate, length-replicate}
 use Rattle.std.proofs.lemmas.List.Sums.{sum_by-set}
 use Rattle.th_search.specs.declared.arcs.Arc.{Arc}
+use Rattle.th_search.specs.declared.sweeps.Sweep.{Sweep}
+use Rattle.th_search.specs.declared.sweeps.Sweep.TheVariants.{Forwards, Backwards}
 use Rattle.th_search.specs.Potentials.{value_at}
+use Rattle.th_search.specs.Sweeps.{index_at}
 use Rattle.th_search.specs.Walks.{IsArc, arc_at}
 use Rattle.th_circulation.specs.Inside.Bounds.{farthest}
-use Rattle.th_circulation.specs.Inside.Distances.{AreDistances, AreLabels, AreTight, IsKept, KeepCosts, place_at, room}
+use Rattle.th_circulation.specs.Inside.Distances.{AreDistances, AreLabels, AreTight, IsKept, KeepCosts, room}
 use Rattle.th_circulation.proofs.HeightLemmas.{all_within, set_any}
 
 -- what holds of the number at a place that is set, and of the others
@@ -38,9 +42,9 @@ in_range vertices arcs labels number label tight are within is less =
     let each = are.within.each in
     let inside = ends.head in
     let high = are.within.small arc.head (pos 0) (omega arith) in
-    by_lt_z label (pos 0 -ℤ pos farthest) (λ low. absurd (tight.known (λ numbers keep.
-    let below = below_arc vertices arcs labels number label tight are within is numbers keep in
-    let near = tight.near numbers keep arc.head inside in
+    by_lt_z label (pos 0 -ℤ pos farthest) (λ low. absurd (not_there tight.known (λ known.
+    let below = below_arc vertices arcs labels number label tight are within is known.0 known.1 in
+    let near = tight.near known.0 known.1 arc.head inside in
     omega (arith, ints)))) (λ fits. omega (arith, ints))
 
 pub lowered_labels : (vertices : ℕ) (arcs : List Arc) (labels : List ℤ) (number : ℕ) (label : ℤ) → AreTight vertices arcs → AreLabels vertices arcs labels → number < length arcs → label ≡ value_at labels (arc_at arcs number).tail +ℤ (arc_at arcs number).cost → label <ℤ value_at labels (arc_at arcs number).head → AreLabels vertices arcs (slice_set labels (arc_at arcs number).head label)
@@ -90,19 +94,19 @@ distances_found vertices arcs labels tight are kept =
     record {
       within = are.within;
       keep = record {
-        start = by_lt_z (value_at labels 0) (pos 0) (λ low. absurd (tight.known (λ numbers keep.
-            let above = are.above numbers keep 0 (omega arith) in
-            let none = keep.start in
+        start = by_lt_z (value_at labels 0) (pos 0) (λ low. absurd (not_there tight.known (λ known.
+            let above = are.above known.0 known.1 0 (omega arith) in
+            let none = known.1.start in
             omega (arith, ints)))) (λ high. omega (arith, ints));
         along = kept;
       };
       greatest = are.above;
     }
 
--- each place is come to by a step
-pub kept_from_steps : (arcs : List Arc) (labels : List ℤ) (backwards : Bool) (steps : ℕ) → length arcs ≤ steps → ((k : ℕ) → k < steps → IsKept (value_at labels) (arc_at arcs (place_at backwards (length arcs) k))) → All (IsKept (value_at labels)) arcs
-kept_from_steps arcs labels false steps all each = λ k d within. subst (IsKept (value_at labels)) (get_or_default arcs k (record { tail = 0; head = 0; cost = pos 0 }) d within) (each k (omega arith))
-kept_from_steps arcs labels true steps all each = λ k d within.
+-- a step leads to each arc
+pub kept_from_steps : (arcs : List Arc) (labels : List ℤ) (sweep : Sweep) (steps : ℕ) → length arcs ≤ steps → ((k : ℕ) → k < steps → IsKept (value_at labels) (arc_at arcs (index_at sweep (length arcs) k))) → All (IsKept (value_at labels)) arcs
+kept_from_steps arcs labels Forwards steps all each = λ k d within. subst (IsKept (value_at labels)) (get_or_default arcs k (record { tail = 0; head = 0; cost = pos 0 }) d within) (each k (omega arith))
+kept_from_steps arcs labels Backwards steps all each = λ k d within.
     let back : length arcs - 1 - (length arcs - 1 - k) ≡ k = omega arith in
     let there : IsKept (value_at labels) (arc_at arcs (length arcs - 1 - (length arcs - 1 - k))) = each (length arcs - 1 - k) (omega arith) in
     subst (IsKept (value_at labels)) (ap (arc_at arcs) back ∙ get_or_default arcs k (record { tail = 0; head = 0; cost = pos 0 }) d within) there

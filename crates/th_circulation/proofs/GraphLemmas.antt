@@ -13,13 +13,13 @@ use Rattle.th_circulation.specs.declared.slots.Slot.{Slot}
 use Rattle.th_circulation.specs.Inside.Flows.{AreBounded}
 use Rattle.th_circulation.specs.Inside.Cycles.{HasRoom, link_at}
 use Rattle.th_circulation.specs.Inside.Listings.{slot_at, slots_at}
-use Rattle.th_circulation.specs.Inside.Graphs.{AreWithin, IsGraph}
+use Rattle.th_circulation.specs.Inside.Graphs.{AreWithin, IsLinkGraph}
 use Rattle.th_circulation.proofs.CycleLemmas.{bounded_at}
 use Rattle.th_network.specs.Links.{largest_link_difference}
 use Rattle.th_tables.specs.Limits.{max_weight}
 
 -- the ends of a slot's link are vertices
-pub ends_at : (vertices : ℕ) (links : List Link) (weights : List ℕ) (slot : Slot) → IsGraph vertices links weights → slot.place < length links → ((link_at links slot).tail < vertices) × ((link_at links slot).head < vertices)
+pub ends_at : (vertices : ℕ) (links : List Link) (weights : List ℕ) (slot : Slot) → IsLinkGraph vertices links weights → slot.place < length links → ((link_at links slot).tail < vertices) × ((link_at links slot).head < vertices)
 ends_at vertices links weights slot graph within = graph.ends slot.place (record { tail = 0; head = 0; diff = pos 0 }) within
 
 pub record IsNear (high low diff : ℤ) : Type 0 where
@@ -27,7 +27,7 @@ pub record IsNear (high low diff : ℤ) : Type 0 where
   pub low_near : unsigned_abs low ≤ height_bound
   pub diff_near : unsigned_abs diff ≤ largest_link_difference
 
-pub near_at : (vertices : ℕ) (links : List Link) (weights : List ℕ) (heights diffs : List ℤ) (slot : Slot) → IsGraph vertices links weights → AreWithin vertices height_bound heights → AreWithin (length links) largest_link_difference diffs → slot.place < length links → IsNear (value_at heights (link_at links slot).head) (value_at heights (link_at links slot).tail) (slice_index_or diffs slot.place (pos 0))
+pub near_at : (vertices : ℕ) (links : List Link) (weights : List ℕ) (heights diffs : List ℤ) (slot : Slot) → IsLinkGraph vertices links weights → AreWithin vertices height_bound heights → AreWithin (length links) largest_link_difference diffs → slot.place < length links → IsNear (value_at heights (link_at links slot).head) (value_at heights (link_at links slot).tail) (slice_index_or diffs slot.place (pos 0))
 near_at vertices links weights heights diffs slot graph near_heights near_diffs within =
     let ends = ends_at vertices links weights slot graph within in
     let each = near_heights.each in
@@ -45,7 +45,7 @@ pub record IsLight (weight : ℕ) (flow : ℤ) : Type 0 where
 pub flows_long : (weights : List ℕ) (flows : List ℤ) → AreBounded weights flows → length flows ≡ length weights
 flows_long weights flows bounded = AllZip-long (λ weight flow. unsigned_abs flow ≤ weight) weights flows bounded
 
-pub light_at : (vertices : ℕ) (links : List Link) (weights : List ℕ) (flows : List ℤ) (slot : Slot) → IsGraph vertices links weights → AreBounded weights flows → slot.place < length links → IsLight (slice_index_or weights slot.place 0) (slice_index_or flows slot.place (pos 0))
+pub light_at : (vertices : ℕ) (links : List Link) (weights : List ℕ) (flows : List ℤ) (slot : Slot) → IsLinkGraph vertices links weights → AreBounded weights flows → slot.place < length links → IsLight (slice_index_or weights slot.place 0) (slice_index_or flows slot.place (pos 0))
 light_at vertices links weights flows slot graph bounded within =
     let sized = graph.sized in
     record { bounded = bounded_at weights flows slot.place bounded; light = graph.light slot.place 0 (omega arith) }

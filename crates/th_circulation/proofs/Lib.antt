@@ -11,7 +11,7 @@ pub mod HeightLemmas
 pub mod ArcLemmas
 pub mod AdvanceLemmas
 pub mod PhaseStarts
-pub mod PlacedLemmas
+pub mod PointHeightLemmas
 pub mod SettledLemmas
 pub mod BestLemmas
 pub mod SideLemmas

@@ -24,7 +24,7 @@ use Rattle.th_network.specs.Circulation.{Shows}
 use Rattle.th_network.specs.Links.{base, link_difference}
 use Rattle.th_network.proofs.Slackness.{slackness}
 use Rattle.th_circulation.specs.Inside.Flows.{IsFlow, ShowsLinks, arriving, leaving, residual as link_residual, residuals}
-use Rattle.th_circulation.specs.Inside.Placed.{placed}
+use Rattle.th_circulation.specs.Inside.PointHeights.{point_height}
 
 -- a benchmark has vertex 0, another point has none of that number
 pub fixed_vertex : (observations : List Observed) (benchmarks : BenchmarkRows) (name : List ℕ) (height : ℤ) → height_of benchmarks name ≡ Some height → vertex_of observations benchmarks name ≡ 0
@@ -107,9 +107,9 @@ flow_circulates observations benchmarks weights flows flow = record {
       a ∙ flow.balanced (vertex_of observations benchmarks point) ∙ sym b;
 }
 
--- a name's placed height is the benchmark's part and its vertex's
-pub placed_parts : (observations : List Observed) (benchmarks : BenchmarkRows) (heights : ℕ → ℤ) (name : List ℕ) → placed observations benchmarks heights name ≡ base benchmarks name +ℤ (heights (vertex_of observations benchmarks name) -ℤ heights 0)
-placed_parts observations benchmarks heights name = by (height_of benchmarks name) refl
+-- a name's height by heights of vertices is the benchmark's part and its vertex's
+pub point_height_parts : (observations : List Observed) (benchmarks : BenchmarkRows) (heights : ℕ → ℤ) (name : List ℕ) → point_height observations benchmarks heights name ≡ base benchmarks name +ℤ (heights (vertex_of observations benchmarks name) -ℤ heights 0)
+point_height_parts observations benchmarks heights name = by (height_of benchmarks name) refl
   where
     by : (found : Option ℤ) → height_of benchmarks name ≡ found → unwrap_or found (heights (vertex_of observations benchmarks name) -ℤ heights 0) ≡ unwrap_or found (pos 0) +ℤ (heights (vertex_of observations benchmarks name) -ℤ heights 0)
     by None e = omega (arith, ints)
@@ -117,18 +117,18 @@ placed_parts observations benchmarks heights name = by (height_of benchmarks nam
         let level = ap heights (fixed_vertex observations benchmarks name height e) in
         omega (arith, ints)
 
-residual_same : (observations : List Observed) (benchmarks : BenchmarkRows) (heights : ℕ → ℤ) (o : Observed) → link_residual heights (link_of observations benchmarks o) (link_difference benchmarks o) ≡ residual o (placed observations benchmarks heights)
+residual_same : (observations : List Observed) (benchmarks : BenchmarkRows) (heights : ℕ → ℤ) (o : Observed) → link_residual heights (link_of observations benchmarks o) (link_difference benchmarks o) ≡ residual o (point_height observations benchmarks heights)
 residual_same observations benchmarks heights o =
-    let station = placed_parts observations benchmarks heights o.station in
-    let target = placed_parts observations benchmarks heights o.target in
+    let station = point_height_parts observations benchmarks heights o.station in
+    let target = point_height_parts observations benchmarks heights o.target in
     omega (arith, ints)
 
-pub shows_same : (all : List Observed) (benchmarks : BenchmarkRows) (weights : WeightRows) (heights : ℕ → ℤ) (observations : List Observed) (flows : List ℤ) → AllZip (λ weight flow. unsigned_abs flow ≤ weight) (map (λ o. weight_of weights o.station o.target) observations) flows → ShowsLinks (map (λ o. weight_of weights o.station o.target) observations) flows (residuals (map (link_of all benchmarks) observations) (map (link_difference benchmarks) observations) heights) → Shows observations weights flows (placed all benchmarks heights)
+pub shows_same : (all : List Observed) (benchmarks : BenchmarkRows) (weights : WeightRows) (heights : ℕ → ℤ) (observations : List Observed) (flows : List ℤ) → AllZip (λ weight flow. unsigned_abs flow ≤ weight) (map (λ o. weight_of weights o.station o.target) observations) flows → ShowsLinks (map (λ o. weight_of weights o.station o.target) observations) flows (residuals (map (link_of all benchmarks) observations) (map (link_difference benchmarks) observations) heights) → Shows observations weights flows (point_height all benchmarks heights)
 shows_same all benchmarks weights heights [] [] h s = tt
 shows_same all benchmarks weights heights [] (flow ∷ flows) h s = absurd h
 shows_same all benchmarks weights heights (o ∷ observations) [] h s = absurd h
 shows_same all benchmarks weights heights (o ∷ observations) (flow ∷ flows) h s = (subst (λ r. flow *ℤ r ≡ pos (weight_of weights o.station o.target * unsigned_abs r)) (residual_same all benchmarks heights o) s.0, shows_same all benchmarks weights heights observations flows h.1 s.1)
 
-pub shown_is_least : (observations : List Observed) (benchmarks : BenchmarkRows) (weights : WeightRows) (heights : ℕ → ℤ) (flows : List ℤ) → IsFlow (map (link_of observations benchmarks) observations) (map (λ o. weight_of weights o.station o.target) observations) flows → ShowsLinks (map (λ o. weight_of weights o.station o.target) observations) flows (residuals (map (link_of observations benchmarks) observations) (map (link_difference benchmarks) observations) heights) → LeastFine observations benchmarks weights (placed observations benchmarks heights)
+pub shown_is_least : (observations : List Observed) (benchmarks : BenchmarkRows) (weights : WeightRows) (heights : ℕ → ℤ) (flows : List ℤ) → IsFlow (map (link_of observations benchmarks) observations) (map (λ o. weight_of weights o.station o.target) observations) flows → ShowsLinks (map (λ o. weight_of weights o.station o.target) observations) flows (residuals (map (link_of observations benchmarks) observations) (map (link_difference benchmarks) observations) heights) → LeastFine observations benchmarks weights (point_height observations benchmarks heights)
 shown_is_least observations benchmarks weights heights flows flow s =
-    slackness observations benchmarks weights (placed observations benchmarks heights) flows (λ name height e. ap (λ found. unwrap_or found (heights (vertex_of observations benchmarks name) -ℤ heights 0)) e) (flow_circulates observations benchmarks weights flows flow) (shows_same observations benchmarks weights heights observations flows flow.bounded s)
+    slackness observations benchmarks weights (point_height observations benchmarks heights) flows (λ name height e. ap (λ found. unwrap_or found (heights (vertex_of observations benchmarks name) -ℤ heights 0)) e) (flow_circulates observations benchmarks weights flows flow) (shows_same observations benchmarks weights heights observations flows flow.bounded s)

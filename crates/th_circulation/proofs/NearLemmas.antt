@@ -1,5 +1,6 @@
 -- Where arcs lead from vertex 0 to each vertex and back, numbers that keep their costs are near 0.
 use Rattle.std.proofs.Common.{◌≡◌, ℕ, zero, suc, Bool, true, false, ◌+◌, ◌*◌, ◌<◌, ◌≤◌, ℤ, pos, ◌≤ℤ◌, ◌⊎◌, inl, inr, List, [], ◌∷◌, if◌then◌else◌, map, unsigned_abs, refl, ap, sym, ◌∙◌, arith}
+use Rattle.std.proofs.lemmas.Grind.{merely}
 use Rattle.std.proofs.lemmas.Int.{ints}
 use Rattle.std.proofs.lemmas.List.Elements.{All-from_recursion, recursion_from_All}
 use Rattle.std.specs.List.{AllByRecursion}
@@ -205,7 +206,7 @@ tight n arcs known tied keep = record {
   some = tied.some;
   few = tied.few;
   ends = All-from_recursion (IsArc n) arcs tied.ends;
-  known = λ none. none known keep;
+  known = merely (known, keep);
   near = near n arcs tied;
 }
 
@@ -214,6 +215,6 @@ tight_turned n arcs known tied keep = record {
   some = tied.some;
   few = tied.few;
   ends = All-from_recursion (IsArc n) (map turned arcs) (ends_turned n arcs tied.ends);
-  known = λ none. none (opposite known) (keep_turned known arcs keep);
+  known = merely (opposite known, keep_turned known arcs keep);
   near = λ numbers kept v within. let back = near n arcs tied (opposite numbers) (keep_back numbers arcs kept) v within in omega (arith, ints);
 }

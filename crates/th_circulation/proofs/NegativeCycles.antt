@@ -12,7 +12,7 @@ use Rattle.th_search.specs.declared.arcs.Arc.{Arc}
 use Rattle.th_search.specs.Walks.{IsNegativeCycle, arc_at, cost_of, entered_by, IsWalk as IsArcWalk}
 use Rattle.th_circulation.specs.declared.slots.Slot.{Slot}
 use Rattle.th_circulation.specs.Inside.Flows.{residual, residuals}
-use Rattle.th_circulation.specs.Inside.Cycles.{IsCycle, IsWalk, HasRoom, finish_of, leads_to, link_at, slot_cost, start_of, walk_cost}
+use Rattle.th_circulation.specs.Inside.Cycles.{IsCycle, IsWalk, HasRoom, head_of, leads_to, link_at, slot_cost, tail_of, walk_cost}
 use Rattle.th_circulation.specs.Inside.Listings.{AreResidual, arc_of, slot_at, slots_at}
 use Rattle.th_circulation.proofs.ShortestLemmas.{residual_at, walk_telescopes}
 
@@ -38,9 +38,9 @@ walk_is links diffs heights arcs slots (number ∷ cycle) from to is each walk =
     let link = link_at links slot in
     let place = place_within links slots number each within in
     let there : slice_get links slot.place ≡ Some link = slice_get-get_or links slot.place (record { tail = 0; head = 0; diff = pos 0 }) place in
-    let starts : start_of slot link ≡ from = sym (walk.1 ∙ ap (λ (arc : Arc). arc.tail) same) in
-    let rest = walk_is links diffs heights arcs slots cycle (finish_of slot link) to is each (subst (λ (v : ℕ). IsArcWalk arcs v cycle to) (ap (λ (arc : Arc). arc.head) same) walk.2) in
-    subst (λ (found : Option Link). IsSomeAnd found (λ l. (start_of slot l ≡ from) × IsWalk links (finish_of slot l) (slots_at slots cycle) to)) (sym there) (starts, rest)
+    let starts : tail_of slot link ≡ from = sym (walk.1 ∙ ap (λ (arc : Arc). arc.tail) same) in
+    let rest = walk_is links diffs heights arcs slots cycle (head_of slot link) to is each (subst (λ (v : ℕ). IsArcWalk arcs v cycle to) (ap (λ (arc : Arc). arc.head) same) walk.2) in
+    subst (λ (found : Option Link). IsSomeAnd found (λ l. (tail_of slot l ≡ from) × IsWalk links (head_of slot l) (slots_at slots cycle) to)) (sym there) (starts, rest)
 
 entered_is : (links : List Link) (diffs : List ℤ) (heights : ℕ → ℤ) (arcs : List Arc) (slots : List Slot) (cycle : List ℕ) (from to : ℕ) → arcs ≡ map (arc_of links diffs heights) slots → IsArcWalk arcs from cycle to → entered_by arcs cycle ≡ map (leads_to links) (slots_at slots cycle)
 entered_is links diffs heights arcs slots [] from to is walk = refl

@@ -11,7 +11,7 @@ use Rattle.std.specs.List.{AllByRecursion}
 use Rattle.th_circulation.specs.Limits.{phases}
 use Rattle.th_network.specs.declared.links.Link.{Link}
 use Rattle.th_circulation.specs.Inside.Flows.{AreBounded, IsFlow, Next, ShowsLinks, arriving, gain, leaving, residuals}
-use Rattle.th_circulation.specs.Inside.Graphs.{AreWithin, IsGraph}
+use Rattle.th_circulation.specs.Inside.Graphs.{AreWithin, IsLinkGraph}
 use Rattle.th_circulation.specs.Inside.Phases.{difference_in, differences_in}
 use Rattle.th_circulation.specs.Inside.Workspaces.{IsNear}
 use Rattle.th_network.proofs.Balance.{total_by-cons}
@@ -102,7 +102,7 @@ gain_none (flow ∷ flows) (diff ∷ diffs) none =
     let e = *ℤ-zero diff in
     omega (arith, ints)
 
-none_near : (vertices : ℕ) (links : List Link) (weights : List ℕ) (flows : List ℤ) → IsGraph vertices links weights → AllByRecursion (λ flow. flow ≡ pos 0) flows → IsNear links weights (differences_in (phases - 1) links) flows
+none_near : (vertices : ℕ) (links : List Link) (weights : List ℕ) (flows : List ℤ) → IsLinkGraph vertices links weights → AllByRecursion (λ flow. flow ≡ pos 0) flows → IsNear links weights (differences_in (phases - 1) links) flows
 none_near vertices links weights flows graph none others flow =
     let most = first_gain links weights others (recursion_from_All (λ link. unsigned_abs link.diff ≤ largest_link_difference) links graph.near) flow.bounded in
     let nothing = gain_none flows (differences_in (phases - 1) links) none in
@@ -127,7 +127,7 @@ all_none zero = tt
 all_none (suc n) = (refl, all_none n)
 
 -- the first phase starts from no flow, and raises the gain by at most the sum of the weights
-pub first_rise : (vertices : ℕ) (links : List Link) (weights : List ℕ) (flows new diffs : List ℤ) (rise : ℕ) → IsGraph vertices links weights → diffs ≡ differences_in (phases - 1) links → flows ≡ replicate (length links) (pos 0) → IsFlow links weights new → (gain flows diffs +ℤ pos rise) ≤ℤ gain new diffs → rise ≤ sum weights
+pub first_rise : (vertices : ℕ) (links : List Link) (weights : List ℕ) (flows new diffs : List ℤ) (rise : ℕ) → IsLinkGraph vertices links weights → diffs ≡ differences_in (phases - 1) links → flows ≡ replicate (length links) (pos 0) → IsFlow links weights new → (gain flows diffs +ℤ pos rise) ≤ℤ gain new diffs → rise ≤ sum weights
 first_rise vertices links weights flows new diffs rise graph is none flow gained =
     let most = first_gain links weights new (recursion_from_All (λ link. unsigned_abs link.diff ≤ largest_link_difference) links graph.near) flow.bounded in
     let nothing = gain_none (replicate (length links) (pos 0)) (differences_in (phases - 1) links) (all_none (length links)) in
@@ -154,7 +154,7 @@ sum_small (weight ∷ weights) h =
     let s = sum_by-cons (λ (x : ℕ). x) weight weights in
     omega arith
 
-pub weights_small : (vertices : ℕ) (links : List Link) (weights : List ℕ) → IsGraph vertices links weights → sum weights ≤ max_weight * max_observations
+pub weights_small : (vertices : ℕ) (links : List Link) (weights : List ℕ) → IsLinkGraph vertices links weights → sum weights ≤ max_weight * max_observations
 weights_small vertices links weights graph =
     let most = sum_small weights (recursion_from_All (λ weight. weight ≤ max_weight) weights graph.light) in
     let sized = graph.sized in
@@ -189,5 +189,5 @@ none_flows links weights sized = record {
   balanced = λ vertex. none_arrives links vertex ∙ sym (none_leaves links vertex);
 }
 
-pub none_near_replicate : (vertices : ℕ) (links : List Link) (weights : List ℕ) → IsGraph vertices links weights → IsNear links weights (differences_in (phases - 1) links) (replicate (length links) (pos 0))
+pub none_near_replicate : (vertices : ℕ) (links : List Link) (weights : List ℕ) → IsLinkGraph vertices links weights → IsNear links weights (differences_in (phases - 1) links) (replicate (length links) (pos 0))
 none_near_replicate vertices links weights graph = none_near vertices links weights (replicate (length links) (pos 0)) graph (all_none (length links))

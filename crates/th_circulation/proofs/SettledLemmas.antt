@@ -22,13 +22,13 @@ use Rattle.th_points.proofs.PlaceLemmas.{at_place_of, benchmark_is_point}
 use Rattle.th_circulation.specs.Settled.{IsSettled}
 use Rattle.th_circulation.specs.Inside.Flows.{AreBounded, IsFlow, ShowsLinks, residuals}
 use Rattle.th_circulation.specs.Inside.Phases.{differences_in}
-use Rattle.th_circulation.specs.Inside.Placed.{ArePlaced, placed}
+use Rattle.th_circulation.specs.Inside.PointHeights.{ArePointHeights, point_height}
 use Rattle.th_circulation.proofs.NameLemmas.{flow_circulates, shows_same}
 use Rattle.th_circulation.proofs.PhaseStarts.{first_differences}
 
--- listed by points, the heights are those that are placed
-pub listed_placed : (observations : List Observed) (benchmarks : BenchmarkRows) (heights : ℕ → ℤ) (listed : List ℤ) (name : List ℕ) → ArePlaced observations benchmarks heights listed → is_among (points observations benchmarks) name ≡ true → heights_at (points observations benchmarks) listed name ≡ placed observations benchmarks heights name
-listed_placed observations benchmarks heights listed name are among =
+-- listed by points, heights are those that the heights of vertices give
+pub listed_point_heights : (observations : List Observed) (benchmarks : BenchmarkRows) (heights : ℕ → ℤ) (listed : List ℤ) (name : List ℕ) → ArePointHeights observations benchmarks heights listed → is_among (points observations benchmarks) name ≡ true → heights_at (points observations benchmarks) listed name ≡ point_height observations benchmarks heights name
+listed_point_heights observations benchmarks heights listed name are among =
     let names = points observations benchmarks in
     are (place_of names name) name (at_place_of names name among)
 
@@ -52,7 +52,7 @@ settled_circulates survey links weights flows l w flow =
     flow_circulates survey.observations survey.benchmarks survey.weights flows (subst (λ (ls : List Link). IsFlow ls (weights_of survey) flows) l (subst (λ (ws : List ℕ). IsFlow links ws flows) w flow))
 
 -- heights of the vertices that it shows are, listed by points, heights that it shows
-pub settled_shows : (survey : Survey) (links : List Link) (weights : List ℕ) (flows listed : List ℤ) (heights : ℕ → ℤ) → links ≡ arcs_of survey → weights ≡ weights_of survey → IsFlow links weights flows → ShowsLinks weights flows (residuals links (differences_in 0 links) heights) → ArePlaced survey.observations survey.benchmarks heights listed → Shows survey.observations survey.weights flows (heights_at (points_of survey) listed)
+pub settled_shows : (survey : Survey) (links : List Link) (weights : List ℕ) (flows listed : List ℤ) (heights : ℕ → ℤ) → links ≡ arcs_of survey → weights ≡ weights_of survey → IsFlow links weights flows → ShowsLinks weights flows (residuals links (differences_in 0 links) heights) → ArePointHeights survey.observations survey.benchmarks heights listed → Shows survey.observations survey.weights flows (heights_at (points_of survey) listed)
 settled_shows survey links weights flows listed heights l w flow shows are =
     let observations = survey.observations in
     let benchmarks = survey.benchmarks in
@@ -61,14 +61,14 @@ settled_shows survey links weights flows listed heights l w flow shows are =
     let diffs = first_differences arcs ∙ differences_are observations benchmarks observations in
     let shown : ShowsLinks (weights_of survey) flows (residuals arcs (map (link_difference benchmarks) observations) heights) = subst (λ (ds : List ℤ). ShowsLinks (weights_of survey) flows (residuals arcs ds heights)) diffs (subst (λ (ls : List Link). ShowsLinks (weights_of survey) flows (residuals ls (differences_in 0 ls) heights)) l (subst (λ (ws : List ℕ). ShowsLinks ws flows (residuals links (differences_in 0 links) heights)) w shows)) in
     let by_vertex = shows_same observations benchmarks survey.weights heights observations flows moved.bounded shown in
-    shows_moved survey.weights (placed observations benchmarks heights) (heights_at (points_of survey) listed) (points_of survey) observations flows (λ name among. sym (listed_placed observations benchmarks heights listed name are among)) (ends_are_points observations benchmarks) by_vertex
+    shows_moved survey.weights (point_height observations benchmarks heights) (heights_at (points_of survey) listed) (points_of survey) observations flows (λ name among. sym (listed_point_heights observations benchmarks heights listed name are among)) (ends_are_points observations benchmarks) by_vertex
 
 -- and keep each benchmark
-pub settled_keeps : (survey : Survey) (listed : List ℤ) (heights : ℕ → ℤ) → ArePlaced survey.observations survey.benchmarks heights listed → IsHeights survey.benchmarks (heights_at (points_of survey) listed)
+pub settled_keeps : (survey : Survey) (listed : List ℤ) (heights : ℕ → ℤ) → ArePointHeights survey.observations survey.benchmarks heights listed → IsHeights survey.benchmarks (heights_at (points_of survey) listed)
 settled_keeps survey listed heights are name height e =
     let observations = survey.observations in
     let benchmarks = survey.benchmarks in
-    listed_placed observations benchmarks heights listed name are (benchmark_is_point observations benchmarks name (subst IsSome (sym e) refl)) ∙ ap (λ (found : Option ℤ). unwrap_or found (heights (vertex_of observations benchmarks name) -ℤ heights 0)) e
+    listed_point_heights observations benchmarks heights listed name are (benchmark_is_point observations benchmarks name (subst IsSome (sym e) refl)) ∙ ap (λ (found : Option ℤ). unwrap_or found (heights (vertex_of observations benchmarks name) -ℤ heights 0)) e
 
 light_flows : (most : ℕ) (weights : List ℕ) (flows : List ℤ) → AllByRecursion (λ weight. weight ≤ most) weights → AreBounded weights flows
     → (length flows ≡ length weights) × All (λ flow. unsigned_abs flow ≤ most) flows
@@ -90,12 +90,12 @@ settled_flows survey flows light flow =
 -- what settled heights and flows are
 pub is_settled : (survey : Survey) (links : List Link) (weights : List ℕ) (listed flows : List ℤ) (heights : ℕ → ℤ) → links ≡ arcs_of survey → weights ≡ weights_of survey
     → All (λ weight. weight ≤ max_weight) (weights_of survey) → IsFlow links weights flows → ShowsLinks weights flows (residuals links (differences_in 0 links) heights)
-    → ArePlaced survey.observations survey.benchmarks heights listed → AreAtPoints survey listed → IsSettled survey listed flows
-is_settled survey links weights listed flows heights l w light flow shown placed at_points = record {
+    → ArePointHeights survey.observations survey.benchmarks heights listed → AreAtPoints survey listed → IsSettled survey listed flows
+is_settled survey links weights listed flows heights l w light flow shown point_heights at_points = record {
   shown = record {
-    kept = settled_keeps survey listed heights placed;
+    kept = settled_keeps survey listed heights point_heights;
     circulation = settled_circulates survey links weights flows l w flow;
-    shows = settled_shows survey links weights flows listed heights l w flow shown placed;
+    shows = settled_shows survey links weights flows listed heights l w flow shown point_heights;
   };
   at_points = at_points;
   of_observations = settled_flows survey flows light (subst (λ (ls : List Link). IsFlow ls (weights_of survey) flows) l (subst (λ (ws : List ℕ). IsFlow links ws flows) w flow));

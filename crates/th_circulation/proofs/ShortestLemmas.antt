@@ -11,7 +11,7 @@ use Rattle.th_network.proofs.Balance.{total_by-cons}
 use Rattle.th_network.specs.declared.links.Link.{Link}
 use Rattle.th_circulation.specs.Inside.Flows.{ShowsLinks, residual, residuals}
 use Rattle.th_circulation.specs.declared.slots.Slot.{Slot}
-use Rattle.th_circulation.specs.Inside.Cycles.{start_of, finish_of, IsWalk, slot_cost, walk_cost, SavesNothing}
+use Rattle.th_circulation.specs.Inside.Cycles.{tail_of, head_of, IsWalk, slot_cost, walk_cost, SavesNothing}
 
 pub residual_at : (links : List Link) (diffs : List ℤ) (heights : ℕ → ℤ) (i : ℕ) (d : Link) → length diffs ≡ length links → i < length links → slice_index_or (residuals links diffs heights) i (pos 0) ≡ residual heights (slice_index_or links i d) (slice_index_or diffs i (pos 0))
 residual_at [] diffs heights i d h k = absurd (omega arith)
@@ -23,7 +23,7 @@ slot_part : (b : Bool) (heights : ℕ → ℤ) (head tail : ℕ) (diff : ℤ) �
 slot_part true heights head tail diff = omega (arith, ints)
 slot_part false heights head tail diff = omega (arith, ints)
 
-slot_telescopes : (links : List Link) (diffs : List ℤ) (heights : ℕ → ℤ) (slot : Slot) (link : Link) → length diffs ≡ length links → slice_get links slot.place ≡ Some link → slot_cost (residuals links diffs heights) slot ≡ slot_cost diffs slot +ℤ (heights (finish_of slot link) -ℤ heights (start_of slot link))
+slot_telescopes : (links : List Link) (diffs : List ℤ) (heights : ℕ → ℤ) (slot : Slot) (link : Link) → length diffs ≡ length links → slice_get links slot.place ≡ Some link → slot_cost (residuals links diffs heights) slot ≡ slot_cost diffs slot +ℤ (heights (head_of slot link) -ℤ heights (tail_of slot link))
 slot_telescopes links diffs heights slot link sized e =
     let within = slice_get_within links slot.place link e in
     let same = get_or_from_slice_get links slot.place link link e in
@@ -37,10 +37,10 @@ walk_telescopes links diffs heights [] from to sized walk =
     omega (arith, ints)
 walk_telescopes links diffs heights (slot ∷ slots) from to sized walk = by (walk_telescopes links diffs heights slots) (slice_get links slot.place) refl walk
   where
-    by : ((middle to : ℕ) → length diffs ≡ length links → IsWalk links middle slots to → walk_cost (residuals links diffs heights) slots ≡ walk_cost diffs slots +ℤ (heights to -ℤ heights middle)) → (found : Option Link) → slice_get links slot.place ≡ found → IsSomeAnd found (λ link. (start_of slot link ≡ from) × IsWalk links (finish_of slot link) slots to) → walk_cost (residuals links diffs heights) (slot ∷ slots) ≡ walk_cost diffs (slot ∷ slots) +ℤ (heights to -ℤ heights from)
+    by : ((middle to : ℕ) → length diffs ≡ length links → IsWalk links middle slots to → walk_cost (residuals links diffs heights) slots ≡ walk_cost diffs slots +ℤ (heights to -ℤ heights middle)) → (found : Option Link) → slice_get links slot.place ≡ found → IsSomeAnd found (λ link. (tail_of slot link ≡ from) × IsWalk links (head_of slot link) slots to) → walk_cost (residuals links diffs heights) (slot ∷ slots) ≡ walk_cost diffs (slot ∷ slots) +ℤ (heights to -ℤ heights from)
     by others None e h = absurd h
     by others (Some link) e h =
-        let rest = others (finish_of slot link) to sized h.1 in
+        let rest = others (head_of slot link) to sized h.1 in
         let one = slot_telescopes links diffs heights slot link sized e in
         let a = total_by-cons (slot_cost diffs) slot slots in
         let b = total_by-cons (slot_cost (residuals links diffs heights)) slot slots in

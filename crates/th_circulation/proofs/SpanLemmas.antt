@@ -19,16 +19,16 @@ use Rattle.th_search.specs.Walks.{IsArc}
 use Rattle.th_circulation.specs.Extremes.{High, Low}
 use Rattle.th_circulation.specs.Settled.{AreShown}
 use Rattle.th_circulation.specs.Inside.Distances.{AreTight, IsKept, KeepCosts, opposite}
-use Rattle.th_circulation.specs.Inside.Placed.{ArePlaced}
+use Rattle.th_circulation.specs.Inside.PointHeights.{ArePointHeights}
 use Rattle.th_circulation.specs.Inside.Residuals.{turned}
 use Rattle.th_circulation.specs.Inside.Spans.{AreAbove, AreBelow}
 use Rattle.th_circulation.proofs.BestLemmas.{best_is_shown, shown_is_best}
 use Rattle.th_circulation.proofs.ExtremeLemmas.{among_at, full_of_kept, kept_of_full}
-use Rattle.th_circulation.proofs.NameLemmas.{fixed_vertex, placed_parts}
+use Rattle.th_circulation.proofs.NameLemmas.{fixed_vertex, point_height_parts}
 use Rattle.th_circulation.proofs.NearLemmas.{keep_back, keep_turned, tight, tight_turned}
-use Rattle.th_circulation.proofs.PlacedLemmas.{free_more, free_most}
+use Rattle.th_circulation.proofs.PointHeightLemmas.{free_more, free_most}
 use Rattle.th_circulation.proofs.ResidualLemmas.{AreMatched, arcs_kept, bounds_kept}
-use Rattle.th_circulation.proofs.SettledLemmas.{listed_placed, settled_keeps}
+use Rattle.th_circulation.proofs.SettledLemmas.{listed_point_heights, settled_keeps}
 use Rattle.th_circulation.proofs.SideLemmas.{full_of_shows, shows_of_full}
 use Rattle.th_circulation.proofs.TiedLemmas.{all_observations_heavy, arcs_in, circulation_ties}
 use Rattle.th_circulation.proofs.VertexNumbers.{matched_numbers, numbers_of, numbers_start}
@@ -78,25 +78,25 @@ vertex_within survey name among = by (height_of survey.benchmarks name) refl
         omega arith
 
 -- ---- listed by points
-matched_below : (survey : Survey) (numbers : ℕ → ℤ) (heights : List ℤ) → numbers 0 ≡ pos 0 → ArePlaced survey.observations survey.benchmarks (opposite numbers) heights → AreMatched survey.observations survey.benchmarks (heights_at (points_of survey) heights) numbers
+matched_below : (survey : Survey) (numbers : ℕ → ℤ) (heights : List ℤ) → numbers 0 ≡ pos 0 → ArePointHeights survey.observations survey.benchmarks (opposite numbers) heights → AreMatched survey.observations survey.benchmarks (heights_at (points_of survey) heights) numbers
 matched_below survey numbers heights start are name among =
-    let listed = listed_placed survey.observations survey.benchmarks (opposite numbers) heights name are among in
-    let parts = placed_parts survey.observations survey.benchmarks (opposite numbers) name in
+    let listed = listed_point_heights survey.observations survey.benchmarks (opposite numbers) heights name are among in
+    let parts = point_height_parts survey.observations survey.benchmarks (opposite numbers) name in
     omega (arith, ints)
 
-matched_above : (survey : Survey) (numbers : ℕ → ℤ) (heights : List ℤ) → numbers 0 ≡ pos 0 → ArePlaced survey.observations survey.benchmarks numbers heights → AreMatched survey.observations survey.benchmarks (heights_at (points_of survey) heights) (opposite numbers)
+matched_above : (survey : Survey) (numbers : ℕ → ℤ) (heights : List ℤ) → numbers 0 ≡ pos 0 → ArePointHeights survey.observations survey.benchmarks numbers heights → AreMatched survey.observations survey.benchmarks (heights_at (points_of survey) heights) (opposite numbers)
 matched_above survey numbers heights start are name among =
-    let listed = listed_placed survey.observations survey.benchmarks numbers heights name are among in
-    let parts = placed_parts survey.observations survey.benchmarks numbers name in
+    let listed = listed_point_heights survey.observations survey.benchmarks numbers heights name are among in
+    let parts = point_height_parts survey.observations survey.benchmarks numbers name in
     omega (arith, ints)
 
 pub low_found : (survey : Survey) (flows : List ℤ) (known : List ℕ → ℤ) (heights : List ℤ) → AreShown survey flows known → AreBelow survey (arcs_in survey flows) heights → Low survey.observations survey.benchmarks survey.weights (heights_at (points_of survey) heights)
 low_found survey flows known heights are below =
     let names = points_of survey in
     let numbers = value_at below.distances in
-    let matched = matched_below survey numbers heights below.long.keep.start below.placed in
+    let matched = matched_below survey numbers heights below.long.keep.start below.point_heights in
     record {
-      best = best_of survey flows (heights_at names heights) numbers are.circulation (settled_keeps survey heights (opposite numbers) below.placed) matched below.long.keep;
+      best = best_of survey flows (heights_at names heights) numbers are.circulation (settled_keeps survey heights (opposite numbers) below.point_heights) matched below.long.keep;
       lowest = λ others best k d within.
           let name = slice_index_or names k d in
           let among = among_at names k d within in
@@ -110,9 +110,9 @@ pub high_found : (survey : Survey) (flows : List ℤ) (known : List ℕ → ℤ)
 high_found survey flows known heights are above =
     let names = points_of survey in
     let numbers = value_at above.distances in
-    let matched = matched_above survey numbers heights above.long.keep.start above.placed in
+    let matched = matched_above survey numbers heights above.long.keep.start above.point_heights in
     record {
-      best = best_of survey flows (heights_at names heights) (opposite numbers) are.circulation (settled_keeps survey heights numbers above.placed) matched (keep_back numbers (arcs_in survey flows) above.long.keep);
+      best = best_of survey flows (heights_at names heights) (opposite numbers) are.circulation (settled_keeps survey heights numbers above.point_heights) matched (keep_back numbers (arcs_in survey flows) above.long.keep);
       highest = λ others best k d within.
           let name = slice_index_or names k d in
           let among = among_at names k d within in

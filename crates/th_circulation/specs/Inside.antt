@@ -2,7 +2,7 @@ pub mod Bounds
 -- what private functions promise one another
 pub mod Flows
 pub mod Cycles
-pub mod Placed
+pub mod PointHeights
 pub mod Graphs
 pub mod Residuals
 pub mod Spreading

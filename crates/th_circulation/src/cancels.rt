@@ -3,19 +3,15 @@ ghost use Rattle.std.specs.List.{IsDistinct};
 ghost use Rattle.th_circulation.specs.Inside.Bounds.{most_room};
 ghost use Rattle.th_circulation.specs.Inside.Cycles.{HasRoom, HasRooms, leads_to, send, sent};
 ghost use Rattle.th_circulation.specs.Inside.Flows.{AreBounded};
-ghost use Rattle.th_circulation.specs.Inside.Listings.{slots_at};
+ghost use Rattle.th_circulation.specs.Inside.Listings.{AreOpen, slots_at};
 
-use crate::graphs::Graph;
+use crate::graphs::LinkGraph;
+use crate::limits::MOST_ROOM;
 use crate::slots::Slot;
 
-/// Sends as much along a cycle of slots as has room, and at most this.
-pub(crate) fn cancel(graph: &Graph, slots: &[Slot], cycle: &[u32], most: u32, flows: &mut [i64])
-    requires some { 1 ≤ most }
-    requires small { most ≤ most_room }
-    requires numbers { All (λ number. number < length slots.now) cycle.now }
-    requires within { All (λ slot. slot.place < length graph.now.links.now) slots.now }
-    requires flows { AreBounded graph.now.weights.now flows.old }
-    requires room { All (HasRoom graph.now.weights.now 1 flows.old) slots.now }
+/// Sends as much along a cycle of slots as has room: at least 1, and else at most this.
+pub(crate) fn cancel(graph: &LinkGraph, slots: &[Slot], cycle: &[u32], most: u32, flows: &mut [i64])
+    requires ready { AreOpen graph.now slots.now cycle.now flows.old }
     requires once { IsDistinct eqb (map (leads_to graph.now.links.now) (slots_at slots.now cycle.now)) }
     ensures { (amount : ℕ) × (1 ≤ amount)
         × All (HasRoom graph.now.weights.now amount flows.old) (slots_at slots.now cycle.now)
@@ -23,24 +19,18 @@ pub(crate) fn cancel(graph: &Graph, slots: &[Slot], cycle: &[u32], most: u32, fl
 {
     let amount = least_room(graph, slots, cycle, most, flows);
     'slots: for &number in cycle {
-        raise(graph, slots[number as usize], amount, flows);
+        send_along(graph, slots[number as usize], amount, flows);
     }
 }
 
-/// How much can flow along each of the slots, and at most this: at least 1, and no more than there can
-/// be room for.
-fn least_room(graph: &Graph, slots: &[Slot], cycle: &[u32], most: u32, flows: &[i64]) -> u32
-    requires some { 1 ≤ most }
-    requires small { most ≤ most_room }
-    requires numbers { All (λ number. number < length slots.now) cycle.now }
-    requires within { All (λ slot. slot.place < length graph.now.links.now) slots.now }
-    requires flows { AreBounded graph.now.weights.now flows.now }
-    requires room { All (HasRoom graph.now.weights.now 1 flows.now) slots.now }
+/// How much can flow along each of the slots: at least 1, and else at most this.
+fn least_room(graph: &LinkGraph, slots: &[Slot], cycle: &[u32], most: u32, flows: &[i64]) -> u32
+    requires { AreOpen graph.now slots.now cycle.now flows.now }
     ensures some { 1 ≤ result }
     ensures small { result ≤ most_room }
     ensures room { All (HasRoom graph.now.weights.now result flows.now) (slots_at slots.now cycle.now) }
 {
-    let mut least = most;
+    let mut least = most.clamp(1, MOST_ROOM);
     for &number in cycle {
         let room = graph.room(flows, slots[number as usize]) as u32;
         if room < least {
@@ -51,7 +41,7 @@ fn least_room(graph: &Graph, slots: &[Slot], cycle: &[u32], most: u32, flows: &[
 }
 
 /// Sends an amount along a slot.
-fn raise(graph: &Graph, slot: Slot, amount: u32, flows: &mut [i64])
+fn send_along(graph: &LinkGraph, slot: Slot, amount: u32, flows: &mut [i64])
     requires place { slot.place < length graph.now.links.now }
     requires flows { AreBounded graph.now.weights.now flows.old }
     requires room { HasRoom graph.now.weights.now amount flows.old slot }

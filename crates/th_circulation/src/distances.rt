@@ -1,5 +1,5 @@
 ghost use Rattle.std.specs.Prelude.{◌≡◌, ◌<◌, ◌+ℤ◌, All, IfOk, MatchBool, length};
-ghost use Rattle.th_circulation.specs.Inside.Distances.{AreDistances, AreLabels, AreTight, IsKept, place_at, room};
+ghost use Rattle.th_circulation.specs.Inside.Distances.{AreDistances, AreLabels, AreTight, IsKept, room};
 ghost use Rattle.th_circulation.specs.Inside.Spreading.{AreTails};
 ghost use Rattle.th_search.specs.Potentials.{value_at};
 ghost use Rattle.th_search.specs.Walks.{arc_at};
@@ -7,7 +7,7 @@ ghost use Rattle.th_search.specs.Walks.{arc_at};
 use crate::limits::FARTHEST;
 use crate::spreading::{Queue, Tails};
 use std::alloc::{AllocError, Global};
-use th_search::Arc;
+use th_search::{Arc, Sweep};
 
 /// How many entries of the queue are taken before the passes, for each vertex that there is.
 const LOOKS: usize = 64;
@@ -36,9 +36,9 @@ impl<'a> TightArcs<'a> {
         let mut labels = vec![in alloc; FARTHEST; self.vertices as usize]?;
         labels[0] = 0;
         self.spread(alloc, &mut labels)?;
-        let mut backwards = false;
-        'passes: while self.lower_all(backwards, &mut labels) {
-            backwards = !backwards;
+        let mut sweep = Sweep::Forwards;
+        'passes: while self.lower_all(sweep, &mut labels) {
+            sweep = sweep.reversed();
         }
         Ok(labels)
     }
@@ -113,9 +113,9 @@ impl<'a> TightArcs<'a> {
         self.levels.get(vertex as usize).copied().unwrap_or(0)
     }
 
-    /// Goes over the arcs once, from the front or from the back, and lowers the labels; whether any
-    /// was lowered. Where none was, each arc is as long as they say, or longer.
-    fn lower_all(&self, backwards: bool, labels: &mut [i64]) -> bool
+    /// Goes over the arcs once and lowers the labels; whether any was lowered. Where none was, each arc
+    /// is as long as they say, or longer.
+    fn lower_all(&self, sweep: Sweep, labels: &mut [i64]) -> bool
         requires { AreLabels self.now.vertices self.now.arcs.now labels.old }
         ensures labels { AreLabels self.now.vertices self.now.arcs.now labels.new }
         ensures lowered { MatchBool result (room labels.new < room labels.old)
@@ -123,7 +123,7 @@ impl<'a> TightArcs<'a> {
     {
         let mut lowered = false;
         for step in 0..self.arcs.len() {
-            let number = place(backwards, self.arcs.len(), step);
+            let number = sweep.index_at(self.arcs.len(), step);
             if self.lower(number, labels) {
                 lowered = true;
             }
@@ -160,13 +160,4 @@ impl<'a> TightArcs<'a> {
         let arc = self.arcs[number];
         labels[arc.tail as usize] + arc.cost
     }
-}
-
-/// The place that a step comes to, from the front or from the back.
-fn place(backwards: bool, size: usize, step: usize) -> usize
-    requires { step < size }
-    ensures within { result < size }
-    ensures value { result ≡ place_at backwards size step }
-{
-    if backwards { size - 1 - step } else { step }
 }

@@ -1,24 +1,23 @@
-ghost use Rattle.std.specs.Prelude.{◌≡◌, ◌↔◌, ◌<◌, ◌≤◌, ◌≤ℤ◌, ℕ, All, pos, length, slice_index_or, unsigned_abs};
-ghost use Rattle.th_circulation.specs.Inside.Graphs.{AreWithin, IsGraph};
+ghost use Rattle.std.specs.Prelude.{◌≡◌, ◌↔◌, ◌<◌, ◌≤◌, ◌≤ℤ◌, ℕ, pos, length, slice_index_or, unsigned_abs};
+ghost use Rattle.th_circulation.specs.Inside.Graphs.{AreWithin, IsLinkGraph};
 ghost use Rattle.th_circulation.specs.Inside.Bounds.{height_bound, most_room};
 ghost use Rattle.th_network.specs.Links.{largest_link_difference};
 ghost use Rattle.th_search.specs.Limits.{max_cost};
-ghost use Rattle.th_tables.specs.Limits.{max_weight};
 
 use crate::slots::Slot;
 use th_network::{Link, Network};
 use th_search::Arc;
 
-/// A network by its vertices: links between them, and the weight of each.
+/// The links of a network between its vertices, and the weight of each.
 #[derive(Clone, Copy)]
-pub(crate) struct Graph<'a> {
+pub(crate) struct LinkGraph<'a> {
     pub vertices: u32,
     pub links: &'a [Link],
     pub weights: &'a [u32],
-    ghost graph: { IsGraph vertices links.now weights.now },
+    ghost graph: { IsLinkGraph vertices links.now weights.now },
 }
 
-impl<'a> Graph<'a> {
+impl<'a> LinkGraph<'a> {
     ghost use Rattle.th_circulation.specs.Inside.Cycles.{HasRoom, link_at};
     ghost use Rattle.th_circulation.specs.Inside.Flows.{AreBounded, residual};
     ghost use Rattle.th_circulation.specs.Inside.Listings.{arc_of};
@@ -27,19 +26,17 @@ impl<'a> Graph<'a> {
     ghost use Rattle.th_search.specs.Potentials.{value_at};
     ghost use Rattle.th_search.specs.Walks.{IsArc};
 
-    /// The vertices and links of a network, and these weights, which are its own.
-    pub fn of(network: &'a Network, weights: &'a [u32]) -> Graph<'a>
-        requires network { IsNetwork network.now.observations network.now.benchmarks }
-        requires weights { weights.now ≡ weights_of network.now }
-        requires light { All (λ weight. weight ≤ max_weight) weights.now }
+    /// The vertices, links and weights of a network.
+    pub fn of(network: &'a Network) -> LinkGraph<'a>
+        requires { IsNetwork network.now.observations network.now.benchmarks }
         ensures vertices { result.vertices ≡ vertices_of network.now }
         ensures links { result.links.now ≡ arcs_of network.now }
         ensures weights { result.weights.now ≡ weights_of network.now }
     {
-        Graph {
+        LinkGraph {
             vertices: network.vertices(),
             links: network.arcs(),
-            weights,
+            weights: network.weights(),
         }
     }
 

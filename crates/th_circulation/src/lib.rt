@@ -21,7 +21,7 @@ mod slots;
 // How flows change, phase by phase.
 mod cancels;
 mod heights;
-mod placed;
+mod point_heights;
 mod proposals;
 mod proposing;
 mod settling;

@@ -5,7 +5,7 @@ ghost use Rattle.th_circulation.specs.Inside.Listings.{AreListable, Fits, HasAll
 ghost use Rattle.th_circulation.specs.declared.slots.Slot.{Slot as ASlot};
 ghost use Rattle.th_network.specs.Limits.{max_observations};
 
-use crate::graphs::Graph;
+use crate::graphs::LinkGraph;
 use crate::slots::Slot;
 use std::alloc::{AllocError, Global};
 use th_guide::ResidualArc;
@@ -45,7 +45,7 @@ impl Listing {
     /// Adds the residual arc of a slot, where it has room.
     fn list(
         &mut self,
-        graph: &Graph,
+        graph: &LinkGraph,
         differences: &[i64],
         heights: &[i64],
         flows: &[i64],
@@ -69,7 +69,13 @@ impl Listing {
     }
 
     /// Lists all residual arcs, at costs that the heights reduce.
-    pub fn list_all(&mut self, graph: &Graph, differences: &[i64], heights: &[i64], flows: &[i64])
+    pub fn list_all(
+        &mut self,
+        graph: &LinkGraph,
+        differences: &[i64],
+        heights: &[i64],
+        flows: &[i64],
+    )
         requires from { AreListable graph.now differences.now heights.now flows.now }
         requires fits { Fits graph.now self.old }
         ensures few { length self.new.slots.items ≤ 2 * length graph.now.links.now }
@@ -99,7 +105,7 @@ impl Listing {
     /// reduce; those that are not in the graph or have no room are left out.
     pub fn list_these(
         &mut self,
-        graph: &Graph,
+        graph: &LinkGraph,
         differences: &[i64],
         heights: &[i64],
         flows: &[i64],

@@ -1,8 +1,13 @@
-use crate::graphs::Graph;
+use crate::graphs::LinkGraph;
 use th_guide::{Guide, Link};
 
 /// Sets a guide to work on the links of a graph, with these differences and flows.
-pub(crate) fn start_guide(guide: &mut Guide, graph: &Graph, differences: &[i64], flows: &[i64]) {
+pub(crate) fn start_guide(
+    guide: &mut Guide,
+    graph: &LinkGraph,
+    differences: &[i64],
+    flows: &[i64],
+) {
     for (place, link) in graph.links.iter().enumerate() {
         let link = Link {
             tail: link.tail,

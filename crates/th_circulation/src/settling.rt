@@ -1,12 +1,10 @@
-ghost use Rattle.std.specs.Prelude.{◌≡◌, ◌≤◌, All, IfOk};
+ghost use Rattle.std.specs.Prelude.{◌≤◌, IfOk};
 ghost use Rattle.th_circulation.specs.Counts.{IsCounted, most_steps};
 ghost use Rattle.th_circulation.specs.Limits.{max_counted};
 ghost use Rattle.th_circulation.specs.Settled.{IsSettled};
-ghost use Rattle.th_network.specs.Networks.{weights_of};
-ghost use Rattle.th_tables.specs.Limits.{max_weight};
 
-use crate::graphs::Graph;
-use crate::placed::place;
+use crate::graphs::LinkGraph;
+use crate::point_heights::set_point_heights;
 use crate::settled::Settled;
 use crate::steps::Steps;
 use crate::workspaces::Workspace;
@@ -36,26 +34,12 @@ pub fn settle<S: Search>(
         search.old search.new steps.old steps.new }
 {
     let mut heights = vec![in alloc; 0i64; network.points().len()]?;
-    let weights = list_weights(alloc, network)?;
-    let graph = Graph::of(&*network, &weights);
+    let graph = LinkGraph::of(network);
     let mut work = Workspace::new(alloc, &graph)?;
     work.settle(alloc, &graph, search, steps)?;
-    place(network, &work.heights, &mut heights);
+    set_point_heights(network, &work.heights, &mut heights);
     Ok(Settled {
         heights,
         flows: work.flows,
     })
-}
-
-/// The weights of the observations of a network.
-fn list_weights(alloc: Global, network: &Network) -> Result<Vec<u32>, AllocError>
-    ensures weights { IfOk result (λ weights. weights.items ≡ weights_of network.now) }
-    ensures light { IfOk result (λ weights. All (λ weight. weight ≤ max_weight) weights.items) }
-{
-    let count = network.observations().len();
-    let mut weights = Vec::with_capacity(alloc, count)?;
-    for i in 0..count {
-        weights.push(network.weight(i))?;
-    }
-    Ok(weights)
 }

@@ -9,7 +9,7 @@ ghost use Rattle.th_search.specs.Potentials.{value_at};
 
 use crate::distances::TightArcs;
 use crate::heights::raise;
-use crate::placed::place;
+use crate::point_heights::set_point_heights;
 use crate::residuals::{residual_arcs, turned};
 use crate::settled::{Settled, Spans};
 use std::alloc::{AllocError, Global};
@@ -81,7 +81,7 @@ fn lowest(
     }
     .distances(alloc)?;
     let heights = opposites(alloc, &distances, vertices)?;
-    place(network, &heights, &mut listed);
+    set_point_heights(network, &heights, &mut listed);
     Ok(listed)
 }
 
@@ -116,6 +116,6 @@ fn highest(
         levels,
     }
     .distances(alloc)?;
-    place(network, &distances, &mut listed);
+    set_point_heights(network, &distances, &mut listed);
     Ok(listed)
 }

@@ -11,7 +11,7 @@ ghost use Rattle.th_search.specs.Limits.{max_calls, max_vertices};
 
 use crate::cancels::cancel;
 use crate::differences::set_differences;
-use crate::graphs::Graph;
+use crate::graphs::LinkGraph;
 use crate::heights::{double, raise, take};
 use crate::limits::{MOST_ROOM, PHASES};
 use crate::listings::Listing;
@@ -41,7 +41,7 @@ pub(crate) struct Workspace {
 
 impl Workspace {
     /// No flow yet, and all heights 0.
-    pub fn new(alloc: Global, graph: &Graph) -> Result<Workspace, AllocError>
+    pub fn new(alloc: Global, graph: &LinkGraph) -> Result<Workspace, AllocError>
         ensures rested { IfOk result (IsRested graph.now) }
     {
         let differences = vec![in alloc; 0i64; graph.links.len()]?;
@@ -64,7 +64,7 @@ impl Workspace {
     pub fn settle<S: Search>(
         &mut self,
         alloc: Global,
-        graph: &Graph,
+        graph: &LinkGraph,
         search: &mut S,
         steps: &mut Steps,
     ) -> Result<(), AllocError>
@@ -89,7 +89,7 @@ impl Workspace {
     fn settle_at_once<S: Search>(
         &mut self,
         alloc: Global,
-        graph: &Graph,
+        graph: &LinkGraph,
         search: &mut S,
         steps: &mut Steps,
     ) -> Result<bool, AllocError>
@@ -117,7 +117,7 @@ impl Workspace {
     fn settle_by_halves<S: Search>(
         &mut self,
         alloc: Global,
-        graph: &Graph,
+        graph: &LinkGraph,
         search: &mut S,
         steps: &mut Steps,
     ) -> Result<(), AllocError>
@@ -143,7 +143,7 @@ impl Workspace {
     fn advance<S: Search>(
         &mut self,
         alloc: Global,
-        graph: &Graph,
+        graph: &LinkGraph,
         search: &mut S,
         steps: &mut Steps,
     ) -> Result<bool, AllocError>
@@ -162,7 +162,7 @@ impl Workspace {
         self.list_next(graph);
         match search.search(alloc, graph.vertices, &self.listing.arcs)? {
             Found::Cycle(cycle) => {
-                let most = self.most.clamp(1, MOST_ROOM);
+                let most = self.most;
                 cancel(graph, &self.listing.slots, &cycle, most, &mut self.flows);
                 steps.tick();
                 Ok(true)
@@ -176,7 +176,7 @@ impl Workspace {
 
     /// Lists what is searched next: the arcs round a cycle that the guide proposes, where that is one
     /// which costs less than 0; else all residual arcs, at costs that the guide's heights reduce.
-    fn list_next(&mut self, graph: &Graph)
+    fn list_next(&mut self, graph: &LinkGraph)
         requires ready { IsReady graph.now self.old }
         ensures differences { self.new.differences.items ≡ self.old.differences.items }
         ensures flows { self.new.flows.items ≡ self.old.flows.items }
@@ -201,7 +201,7 @@ impl Workspace {
     }
 
     /// Lists the arcs round a cycle that the guide proposes; true where they cost less than 0.
-    fn list_proposal(&mut self, graph: &Graph) -> bool
+    fn list_proposal(&mut self, graph: &LinkGraph) -> bool
         requires ready { IsReady graph.now self.old }
         ensures differences { self.new.differences.items ≡ self.old.differences.items }
         ensures flows { self.new.flows.items ≡ self.old.flows.items }
@@ -228,7 +228,7 @@ impl Workspace {
     }
 
     /// Takes the differences of a phase, and the heights doubled.
-    fn start_phase(&mut self, graph: &Graph, phase: u32)
+    fn start_phase(&mut self, graph: &LinkGraph, phase: u32)
         requires phase { phase < phases }
         requires rested { IsRested graph.now self.old }
         ensures ready { IsReady graph.now self.new }
@@ -245,7 +245,7 @@ impl Workspace {
     fn settle_phase<S: Search>(
         &mut self,
         alloc: Global,
-        graph: &Graph,
+        graph: &LinkGraph,
         search: &mut S,
         steps: &mut Steps,
     ) -> Result<(), AllocError>

@@ -9,7 +9,7 @@ use Rattle.th_cuts.specs.declared.edges.Edge.{Edge}
 use Rattle.th_cuts.specs.declared.edges.Way.{Way}
 use Rattle.th_cuts.specs.Cuts.{crosses, cut_weight}
 use Rattle.th_cuts.specs.Inside.Trees.{at}
-use Rattle.th_cuts.specs.Inside.Flows.{AreBounded, AreFullOut, HasRoom, IsFlow, IsFullOut, IsGraph, change, edge_at, finish_of, flow_at, net, out_of, raised, send, start_of}
+use Rattle.th_cuts.specs.Inside.Flows.{AreBounded, AreFullOut, CanCarry, IsFlow, IsFullOut, IsGraph, carried, carry, edge_at, finish_of, flow_at, net, out_of, signed, start_of}
 
 -- ---- no cut weighs less than what is taken out of it
 out_most : (s t : Bool) (f : ℤ) (w : ℕ) → unsigned_abs f ≤ w → (if s then (if t then pos 0 else f) else (if t then (pos 0 -ℤ f) else pos 0)) ≤ℤ pos (if (if s then (if t then false else true) else t) then w else 0)
@@ -79,14 +79,14 @@ full_of_net inside (edge ∷ edges) (flow ∷ flows) sized bounded is (suc numbe
     full_of_net inside edges flows (omega arith) (λ number. bounded (suc number)) (omega (arith, ints)) number (omega arith)
 
 -- a way with room does not lead out of such a cut
-pub not_out : (edges : List Edge) (flows : List ℤ) (inside : ℕ → Bool) (amount : ℕ) (way : Way) → AreFullOut edges flows inside → way.edge < length edges → 1 ≤ amount → HasRoom edges flows amount way → inside (start_of way (edge_at edges way.edge)) ≡ true → inside (finish_of way (edge_at edges way.edge)) ≡ true
+pub not_out : (edges : List Edge) (flows : List ℤ) (inside : ℕ → Bool) (amount : ℕ) (way : Way) → AreFullOut edges flows inside → way.edge < length edges → 1 ≤ amount → CanCarry edges flows amount way → inside (start_of way (edge_at edges way.edge)) ≡ true → inside (finish_of way (edge_at edges way.edge)) ≡ true
 not_out edges flows inside amount way full among some room start = by (inside (finish_of way (edge_at edges way.edge))) refl
   where
     is_full : (forward : Bool) → IsFullOut edges flows inside (record { edge = way.edge; is_forward = forward })
     is_full true = (full way.edge among).0
     is_full false = (full way.edge among).1
 
-    no_room : (forward : Bool) (w : ℕ) (f : ℤ) → f ≡ change w forward → unsigned_abs (f +ℤ change amount forward) ≤ w → ⊥
+    no_room : (forward : Bool) (w : ℕ) (f : ℤ) → f ≡ signed w forward → unsigned_abs (f +ℤ signed amount forward) ≤ w → ⊥
     no_room true w f is room = omega (arith, ints)
     no_room false w f is room = omega (arith, ints)
 
@@ -125,7 +125,7 @@ flow_start edges source sink flows are =
       valued = λ inside in_it out. net_none inside edges flows none;
     }
 
--- ---- an amount sent along a way is taken out at its start and brought in at its finish
+-- ---- an amount that a way carries is taken out at its start and brought in at its finish
 out_plus : (s t : Bool) (f c : ℤ) → (if s then (if t then pos 0 else (f +ℤ c)) else (if t then (pos 0 -ℤ (f +ℤ c)) else pos 0)) ≡ (if s then (if t then pos 0 else f) else (if t then (pos 0 -ℤ f) else pos 0)) +ℤ (if s then (if t then pos 0 else c) else (if t then (pos 0 -ℤ c) else pos 0))
 out_plus true true f c = refl
 out_plus true false f c = refl
@@ -142,15 +142,15 @@ net_set inside (edge ∷ edges) (flow ∷ flows) (suc i) c h sized =
     let rest = net_set inside edges flows i c (omega arith) (omega arith) in
     omega (arith, ints)
 
-out_change : (forward : Bool) (inside : ℕ → Bool) (tail head amount : ℕ) → (if inside tail then (if inside head then pos 0 else change amount forward) else (if inside head then (pos 0 -ℤ change amount forward) else pos 0)) ≡ at amount (inside (if forward then tail else head)) -ℤ at amount (inside (if forward then head else tail))
-out_change true inside tail head amount = by (inside tail) (inside head)
+out_signed : (forward : Bool) (inside : ℕ → Bool) (tail head amount : ℕ) → (if inside tail then (if inside head then pos 0 else signed amount forward) else (if inside head then (pos 0 -ℤ signed amount forward) else pos 0)) ≡ at amount (inside (if forward then tail else head)) -ℤ at amount (inside (if forward then head else tail))
+out_signed true inside tail head amount = by (inside tail) (inside head)
   where
     by : (s t : Bool) → (if s then (if t then pos 0 else pos amount) else (if t then (pos 0 -ℤ pos amount) else pos 0)) ≡ at amount s -ℤ at amount t
     by true true = omega (arith, ints)
     by true false = omega (arith, ints)
     by false true = omega (arith, ints)
     by false false = omega (arith, ints)
-out_change false inside tail head amount = by (inside tail) (inside head)
+out_signed false inside tail head amount = by (inside tail) (inside head)
   where
     by : (s t : Bool) → (if s then (if t then pos 0 else (pos 0 -ℤ pos amount)) else (if t then (pos 0 -ℤ (pos 0 -ℤ pos amount)) else pos 0)) ≡ at amount t -ℤ at amount s
     by true true = omega (arith, ints)
@@ -158,14 +158,14 @@ out_change false inside tail head amount = by (inside tail) (inside head)
     by false true = omega (arith, ints)
     by false false = omega (arith, ints)
 
-pub net_send : (inside : ℕ → Bool) (edges : List Edge) (flows : List ℤ) (amount : ℕ) (way : Way) → way.edge < length edges → length flows ≡ length edges → net inside edges (send amount flows way) ≡ net inside edges flows +ℤ (at amount (inside (start_of way (edge_at edges way.edge))) -ℤ at amount (inside (finish_of way (edge_at edges way.edge))))
-net_send inside edges flows amount way h sized =
+pub net_carry : (inside : ℕ → Bool) (edges : List Edge) (flows : List ℤ) (amount : ℕ) (way : Way) → way.edge < length edges → length flows ≡ length edges → net inside edges (carry amount flows way) ≡ net inside edges flows +ℤ (at amount (inside (start_of way (edge_at edges way.edge))) -ℤ at amount (inside (finish_of way (edge_at edges way.edge))))
+net_carry inside edges flows amount way h sized =
     let edge = edge_at edges way.edge in
-    let set = net_set inside edges flows way.edge (change amount way.is_forward) h sized in
-    let out = out_change way.is_forward inside edge.tail edge.head amount in
+    let set = net_set inside edges flows way.edge (signed amount way.is_forward) h sized in
+    let out = out_signed way.is_forward inside edge.tail edge.head amount in
     omega (arith, ints)
 
--- ---- what is sent along a way with room keeps the bounds
+-- ---- what a way can carry keeps the bounds
 set_within : (most : ℕ → ℕ) (flows : List ℤ) (i : ℕ) (f : ℤ) → ((number : ℕ) → unsigned_abs (flow_at flows number) ≤ most number) → unsigned_abs f ≤ most i → (number : ℕ) → unsigned_abs (flow_at (slice_set flows i f) number) ≤ most number
 set_within most [] i f h room number = h number
 set_within most (flow ∷ flows) zero f h room zero = room
@@ -173,10 +173,10 @@ set_within most (flow ∷ flows) zero f h room (suc number) = h (suc number)
 set_within most (flow ∷ flows) (suc i) f h room zero = h 0
 set_within most (flow ∷ flows) (suc i) f h room (suc number) = set_within (λ k. most (suc k)) flows i f (λ k. h (suc k)) room number
 
-pub send_bounded : (edges : List Edge) (flows : List ℤ) (amount : ℕ) (way : Way) → AreBounded edges flows → HasRoom edges flows amount way → AreBounded edges (send amount flows way)
-send_bounded edges flows amount way are room = record {
-  sized = let long = length-set flows way.edge (raised amount flows way) in let same = are.sized in omega arith;
-  bounded = set_within (λ number. (edge_at edges number).weight) flows way.edge (raised amount flows way) are.bounded room;
+pub carry_bounded : (edges : List Edge) (flows : List ℤ) (amount : ℕ) (way : Way) → AreBounded edges flows → CanCarry edges flows amount way → AreBounded edges (carry amount flows way)
+carry_bounded edges flows amount way are room = record {
+  sized = let long = length-set flows way.edge (carried amount flows way) in let same = are.sized in omega arith;
+  bounded = set_within (λ number. (edge_at edges number).weight) flows way.edge (carried amount flows way) are.bounded room;
 }
 
 -- ---- room
@@ -188,42 +188,42 @@ finish_within vertices edges source sink way graph among = by way.is_forward
     by false = (graph.ends way.edge (edge_at [] 0) among).0
 
 -- how much more can flow along a way
-pub room_is : (forward : Bool) (w : ℕ) (f r : ℤ) (amount : ℕ) → unsigned_abs f ≤ w → r ≡ (if forward then (pos w -ℤ f) else (pos w +ℤ f)) → (unsigned_abs (f +ℤ change amount forward) ≤ w) ↔ (pos amount ≤ℤ r)
+pub room_is : (forward : Bool) (w : ℕ) (f r : ℤ) (amount : ℕ) → unsigned_abs f ≤ w → r ≡ (if forward then (pos w -ℤ f) else (pos w +ℤ f)) → (unsigned_abs (f +ℤ signed amount forward) ≤ w) ↔ (pos amount ≤ℤ r)
 room_is true w f r amount bounded e = (λ h. omega (arith, ints), λ h. omega (arith, ints))
 room_is false w f r amount bounded e = (λ h. omega (arith, ints), λ h. omega (arith, ints))
 
 -- there is room for less where there is room for more
-pub room_for_less : (forward : Bool) (w less more : ℕ) (f : ℤ) → unsigned_abs f ≤ w → less ≤ more → unsigned_abs (f +ℤ change more forward) ≤ w → unsigned_abs (f +ℤ change less forward) ≤ w
+pub room_for_less : (forward : Bool) (w less more : ℕ) (f : ℤ) → unsigned_abs f ≤ w → less ≤ more → unsigned_abs (f +ℤ signed more forward) ≤ w → unsigned_abs (f +ℤ signed less forward) ≤ w
 room_for_less true w less more f bounded h room = omega (arith, ints)
 room_for_less false w less more f bounded h room = omega (arith, ints)
 
 -- a way with no room is full
-pub full_of_none : (forward : Bool) (w : ℕ) (f : ℤ) → unsigned_abs f ≤ w → (unsigned_abs (f +ℤ change 1 forward) ≤ w → ⊥) → f ≡ change w forward
+pub full_of_none : (forward : Bool) (w : ℕ) (f : ℤ) → unsigned_abs f ≤ w → (unsigned_abs (f +ℤ signed 1 forward) ≤ w → ⊥) → f ≡ signed w forward
 full_of_none forward w f bounded none = by forward (omega arith)
   where
-    by : (forward : Bool) → w < unsigned_abs (f +ℤ change 1 forward) → f ≡ change w forward
+    by : (forward : Bool) → w < unsigned_abs (f +ℤ signed 1 forward) → f ≡ signed w forward
     by true more = omega (arith, ints)
     by false more = omega (arith, ints)
 
 -- an amount one way leaves the room the other way
-back_and_forth : (forward next : Bool) (w amount more : ℕ) (f : ℤ) → (forward ≡ next → ⊥) → unsigned_abs f ≤ w → unsigned_abs (f +ℤ change amount forward) ≤ w → unsigned_abs (f +ℤ change more next) ≤ w → unsigned_abs ((f +ℤ change amount forward) +ℤ change more next) ≤ w
+back_and_forth : (forward next : Bool) (w amount more : ℕ) (f : ℤ) → (forward ≡ next → ⊥) → unsigned_abs f ≤ w → unsigned_abs (f +ℤ signed amount forward) ≤ w → unsigned_abs (f +ℤ signed more next) ≤ w → unsigned_abs ((f +ℤ signed amount forward) +ℤ signed more next) ≤ w
 back_and_forth true true w amount more f other h one two = absurd (other refl)
 back_and_forth true false w amount more f other h one two = omega (arith, ints)
 back_and_forth false true w amount more f other h one two = omega (arith, ints)
 back_and_forth false false w amount more f other h one two = absurd (other refl)
 
--- what is sent along a way leaves the room of each other way
-pub room_kept : (edges : List Edge) (flows : List ℤ) (amount more : ℕ) (way next : Way) → AreBounded edges flows → way.edge < length edges → HasRoom edges flows amount way → HasRoom edges flows more next → (next.edge ≡ way.edge → way.is_forward ≡ next.is_forward → ⊥) → HasRoom edges (send amount flows way) more next
+-- what a way carries leaves the room of each other way
+pub room_kept : (edges : List Edge) (flows : List ℤ) (amount more : ℕ) (way next : Way) → AreBounded edges flows → way.edge < length edges → CanCarry edges flows amount way → CanCarry edges flows more next → (next.edge ≡ way.edge → way.is_forward ≡ next.is_forward → ⊥) → CanCarry edges (carry amount flows way) more next
 room_kept edges flows amount more way next are within one two apart = by (eqb next.edge way.edge) refl
   where
-    by : (b : Bool) → eqb next.edge way.edge ≡ b → HasRoom edges (send amount flows way) more next
-    by false e = subst (λ f. unsigned_abs (f +ℤ change more next.is_forward) ≤ (edge_at edges next.edge).weight) (sym (get_or-set_other flows way.edge next.edge (raised amount flows way) (pos 0) (eqb-false next.edge way.edge e))) two
+    by : (b : Bool) → eqb next.edge way.edge ≡ b → CanCarry edges (carry amount flows way) more next
+    by false e = subst (λ f. unsigned_abs (f +ℤ signed more next.is_forward) ≤ (edge_at edges next.edge).weight) (sym (get_or-set_other flows way.edge next.edge (carried amount flows way) (pos 0) (eqb-false next.edge way.edge e))) two
     by true e =
         let same = eqb-true next.edge way.edge e in
         let long = are.sized in
-        let back = back_and_forth way.is_forward next.is_forward (edge_at edges way.edge).weight amount more (flow_at flows way.edge) (apart same) (are.bounded way.edge) one (subst (λ i. unsigned_abs (flow_at flows i +ℤ change more next.is_forward) ≤ (edge_at edges i).weight) same two) in
-        let set = get_or-set_same flows way.edge (raised amount flows way) (pos 0) (omega arith) in
-        subst (λ i. unsigned_abs (flow_at (send amount flows way) i +ℤ change more next.is_forward) ≤ (edge_at edges i).weight) (sym same) (subst (λ f. unsigned_abs (f +ℤ change more next.is_forward) ≤ (edge_at edges way.edge).weight) (sym set) back)
+        let back = back_and_forth way.is_forward next.is_forward (edge_at edges way.edge).weight amount more (flow_at flows way.edge) (apart same) (are.bounded way.edge) one (subst (λ i. unsigned_abs (flow_at flows i +ℤ signed more next.is_forward) ≤ (edge_at edges i).weight) same two) in
+        let set = get_or-set_same flows way.edge (carried amount flows way) (pos 0) (omega arith) in
+        subst (λ i. unsigned_abs (flow_at (carry amount flows way) i +ℤ signed more next.is_forward) ≤ (edge_at edges i).weight) (sym same) (subst (λ f. unsigned_abs (f +ℤ signed more next.is_forward) ≤ (edge_at edges way.edge).weight) (sym set) back)
 
 -- ---- a side that agrees with another one is as full, and no cut weighs more than all edges
 pub full_same : (edges : List Edge) (flows : List ℤ) (inside other : ℕ → Bool) → ((vertex : ℕ) → inside vertex ≡ other vertex) → AreFullOut edges flows inside → AreFullOut edges flows other

@@ -3,27 +3,27 @@ use Rattle.std.proofs.Common.{◌≡◌, ℕ, ◌+◌, ◌<◌, ◌≤◌, ℤ, 
 use borrow.Author.Count.{below_more}
 use Rattle.std.proofs.lemmas.List.{get_or_append_left, get_or_push, get_or-take, length-append, length-take-le}
 use Rattle.th_cuts.specs.declared.edges.Edge.{Edge}
-use Rattle.th_cuts.specs.declared.trees.Step.{Step}
+use Rattle.th_cuts.specs.declared.trees.WayStep.{WayStep}
 use Rattle.th_cuts.specs.Inside.Guides.{level_at}
 use Rattle.th_cuts.specs.Inside.Paths.{IsPath}
 use Rattle.th_cuts.specs.Inside.Trees.{AreApart, IsStep, step_at}
 use Rattle.th_cuts.proofs.TreeLemmas.{steps_more, steps_start}
 
-pub path_apart : (vertices : ℕ) (edges : List Edge) (flows : List ℤ) (source : ℕ) (levels : List ℕ) (steps : List Step) → IsPath vertices edges flows source levels steps → AreApart steps
+pub path_apart : (vertices : ℕ) (edges : List Edge) (flows : List ℤ) (source : ℕ) (levels : List ℕ) (steps : List WayStep) → IsPath vertices edges flows source levels steps → AreApart steps
 path_apart vertices edges flows source levels steps path j k h i same =
     let one = path.nearer j h in
     let other = path.nearer k i in
     let level = ap (level_at levels) same in
     omega arith
 
-pub path_start : (vertices : ℕ) (edges : List Edge) (flows : List ℤ) (source : ℕ) (levels : List ℕ) (step : Step) → source < vertices → step.vertex ≡ source → 1 ≤ step.limit → IsPath vertices edges flows source levels (step ∷ [])
+pub path_start : (vertices : ℕ) (edges : List Edge) (flows : List ℤ) (source : ℕ) (levels : List ℕ) (step : WayStep) → source < vertices → step.vertex ≡ source → 1 ≤ step.limit → IsPath vertices edges flows source levels (step ∷ [])
 path_start vertices edges flows source levels step within is limit = record {
   are_steps = steps_start edges flows source step is limit;
   among = λ k h. let first : 0 ≡ k = omega arith in subst (λ (k : ℕ). (step_at (step ∷ []) k).vertex < vertices) first (omega arith);
   nearer = λ k h. let first : 0 ≡ k = omega arith in subst (λ (k : ℕ). level_at levels (step_at (step ∷ []) k).vertex + k ≡ level_at levels source) first (let same = ap (level_at levels) is in omega arith);
 }
 
-pub path_more : (vertices : ℕ) (edges : List Edge) (flows : List ℤ) (source : ℕ) (levels : List ℕ) (steps : List Step) (new : Step) → IsPath vertices edges flows source levels steps → 1 ≤ new.limit → new.parent + 1 ≡ length steps → IsStep edges flows (step_at steps new.parent) new → new.vertex < vertices → level_at levels new.vertex + 1 ≡ level_at levels (step_at steps new.parent).vertex → IsPath vertices edges flows source levels (steps ++ new ∷ [])
+pub path_more : (vertices : ℕ) (edges : List Edge) (flows : List ℤ) (source : ℕ) (levels : List ℕ) (steps : List WayStep) (new : WayStep) → IsPath vertices edges flows source levels steps → 1 ≤ new.limit → new.parent + 1 ≡ length steps → IsStep edges flows (step_at steps new.parent) new → new.vertex < vertices → level_at levels new.vertex + 1 ≡ level_at levels (step_at steps new.parent).vertex → IsPath vertices edges flows source levels (steps ++ new ∷ [])
 path_more vertices edges flows source levels steps new path limit after step within nearer =
     let long = length-append steps (new ∷ []) in
     let old = λ (k : ℕ) (h : k < length steps). get_or_append_left steps (new ∷ []) (step_at [] 0) k h in
@@ -33,30 +33,30 @@ path_more vertices edges flows source levels steps new path limit after step wit
     record {
       are_steps = steps_more edges flows source steps new path.are_steps limit (omega arith) step;
       among = λ k h. below_more (λ k. (now k).vertex < vertices) (length steps)
-          (λ k h. subst (λ (s : Step). s.vertex < vertices) (sym (old k h)) (path.among k h))
-          (subst (λ (s : Step). s.vertex < vertices) (sym last) within)
+          (λ k h. subst (λ (s : WayStep). s.vertex < vertices) (sym (old k h)) (path.among k h))
+          (subst (λ (s : WayStep). s.vertex < vertices) (sym last) within)
           k (omega arith);
       nearer = λ k h. below_more (λ k. level_at levels (now k).vertex + k ≡ level_at levels source) (length steps)
-          (λ k h. subst (λ (s : Step). level_at levels s.vertex + k ≡ level_at levels source) (sym (old k h)) (path.nearer k h))
-          (subst (λ (s : Step). level_at levels s.vertex + length steps ≡ level_at levels source) (sym last) (omega arith))
+          (λ k h. subst (λ (s : WayStep). level_at levels s.vertex + k ≡ level_at levels source) (sym (old k h)) (path.nearer k h))
+          (subst (λ (s : WayStep). level_at levels s.vertex + length steps ≡ level_at levels source) (sym last) (omega arith))
           k (omega arith);
     }
 
 -- the first steps of a path
-pub path_front : (vertices : ℕ) (edges : List Edge) (flows : List ℤ) (source : ℕ) (levels : List ℕ) (steps : List Step) (n : ℕ) → IsPath vertices edges flows source levels steps → 1 ≤ n → n ≤ length steps → IsPath vertices edges flows source levels (take n steps)
+pub path_front : (vertices : ℕ) (edges : List Edge) (flows : List ℤ) (source : ℕ) (levels : List ℕ) (steps : List WayStep) (n : ℕ) → IsPath vertices edges flows source levels steps → 1 ≤ n → n ≤ length steps → IsPath vertices edges flows source levels (take n steps)
 path_front vertices edges flows source levels steps n path some few =
     let long = length-take-le n steps few in
     let old = λ (k : ℕ) (h : k < n). get_or-take n steps k (step_at [] 0) h in
     record {
       are_steps = record {
         root = omega arith;
-        root_vertex = ap (λ (s : Step). s.vertex) (old 0 (omega arith)) ∙ path.are_steps.root_vertex;
-        some = λ k h. subst (λ (s : Step). 1 ≤ s.limit) (sym (old k (omega arith))) (path.are_steps.some k (omega arith));
-        before = λ k h some. subst (λ (s : Step). s.parent < k) (sym (old k (omega arith))) (path.are_steps.before k (omega arith) some);
+        root_vertex = ap (λ (s : WayStep). s.vertex) (old 0 (omega arith)) ∙ path.are_steps.root_vertex;
+        some = λ k h. subst (λ (s : WayStep). 1 ≤ s.limit) (sym (old k (omega arith))) (path.are_steps.some k (omega arith));
+        before = λ k h some. subst (λ (s : WayStep). s.parent < k) (sym (old k (omega arith))) (path.are_steps.before k (omega arith) some);
         grown = λ k h some.
             let before = path.are_steps.before k (omega arith) some in
-            subst (λ (s : Step). IsStep edges flows (step_at (take n steps) s.parent) s) (sym (old k (omega arith))) (subst (λ (p : Step). IsStep edges flows p (step_at steps k)) (sym (old (step_at steps k).parent (omega arith))) (path.are_steps.grown k (omega arith) some));
+            subst (λ (s : WayStep). IsStep edges flows (step_at (take n steps) s.parent) s) (sym (old k (omega arith))) (subst (λ (p : WayStep). IsStep edges flows p (step_at steps k)) (sym (old (step_at steps k).parent (omega arith))) (path.are_steps.grown k (omega arith) some));
       };
-      among = λ k h. subst (λ (s : Step). s.vertex < vertices) (sym (old k (omega arith))) (path.among k (omega arith));
-      nearer = λ k h. subst (λ (s : Step). level_at levels s.vertex + k ≡ level_at levels source) (sym (old k (omega arith))) (path.nearer k (omega arith));
+      among = λ k h. subst (λ (s : WayStep). s.vertex < vertices) (sym (old k (omega arith))) (path.among k (omega arith));
+      nearer = λ k h. subst (λ (s : WayStep). level_at levels s.vertex + k ≡ level_at levels source) (sym (old k (omega arith))) (path.nearer k (omega arith));
     }

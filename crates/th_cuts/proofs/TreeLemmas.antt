@@ -1,4 +1,4 @@
--- A step that is added to a tree, and an amount that is sent along a tree's ways.
+-- A step that is added to a tree, and an amount that a tree's ways carry.
 use Rattle.std.proofs.Common.{◌≡◌, ℕ, zero, suc, ◌+◌, ◌<◌, ◌≤◌, ℤ, pos, Bool, true, false, List, [], ◌∷◌, ◌++◌, Option, Some, None, length, map, eqb, refl, ap, sym, subst, ◌∙◌, inl, inr, take, arith, All}
 use Rattle.std.specs.Prelude.{slice_set}
 use Rattle.std.proofs.lemmas.Int.{ints}
@@ -8,11 +8,11 @@ use borrow.Author.Count.{below_more}
 use Rattle.std.proofs.lemmas.List.{get_or_default, get_or_append_left, get_or_push, get_or-set_other, get_or-set_same, length-set, length-append}
 use Rattle.std.proofs.lemmas.List.Sums.{sum_by-cons, sum_by-set}
 use Rattle.th_cuts.specs.declared.edges.Edge.{Edge}
-use Rattle.th_cuts.specs.declared.trees.Step.{Step}
+use Rattle.th_cuts.specs.declared.trees.WayStep.{WayStep}
 use Rattle.th_cuts.specs.Cuts.{cut_weight, on_side}
-use Rattle.th_cuts.specs.Inside.Flows.{AreFullOut, HasRoom, IsFlow, edge_at, finish_of, flow_at, send}
+use Rattle.th_cuts.specs.Inside.Flows.{AreFullOut, CanCarry, IsFlow, carry, edge_at, finish_of, flow_at}
 use Rattle.th_cuts.specs.Inside.Trees.{AreApart, AreSteps, IsBack, IsStep, IsTree, at, count_left, is_placed, left, place_at, reached, step_at}
-use Rattle.th_cuts.proofs.FlowLemmas.{full_of_net, full_same, not_out, value_full, net_send, room_for_less, room_kept, send_bounded}
+use Rattle.th_cuts.proofs.FlowLemmas.{carry_bounded, full_of_net, full_same, net_carry, not_out, room_for_less, room_kept, value_full}
 
 -- a vertex with a place is none without
 placed_apart : (places : List (Option ℕ)) (u v k : ℕ) → place_at places u ≡ Some k → place_at places v ≡ None → u ≡ v → ⊥
@@ -25,23 +25,23 @@ count_set places v k within none =
     omega arith
 
 -- the steps with one more
-abbrev with_new : List Step → Step → ℕ → Step
+abbrev with_new : List WayStep → WayStep → ℕ → WayStep
 with_new steps new k = step_at (steps ++ new ∷ []) k
 
-old : (steps : List Step) (new : Step) (k : ℕ) → k < length steps → with_new steps new k ≡ step_at steps k
+old : (steps : List WayStep) (new : WayStep) (k : ℕ) → k < length steps → with_new steps new k ≡ step_at steps k
 old steps new k h = get_or_append_left steps (new ∷ []) (step_at [] 0) k h
 
-last : (steps : List Step) (new : Step) → with_new steps new (length steps) ≡ new
+last : (steps : List WayStep) (new : WayStep) → with_new steps new (length steps) ≡ new
 last steps new = get_or_push steps new (step_at [] 0) (length steps) refl
 
-placed_more : (vertices : ℕ) (edges : List Edge) (flows : List ℤ) (source : ℕ) (steps : List Step) (places : List (Option ℕ)) (new : Step) → IsTree vertices edges flows source steps places → new.vertex < vertices → (vertex k : ℕ) → place_at (slice_set places new.vertex (Some (length steps))) vertex ≡ Some k → (k < length (steps ++ new ∷ [])) × ((with_new steps new k).vertex ≡ vertex)
+placed_more : (vertices : ℕ) (edges : List Edge) (flows : List ℤ) (source : ℕ) (steps : List WayStep) (places : List (Option ℕ)) (new : WayStep) → IsTree vertices edges flows source steps places → new.vertex < vertices → (vertex k : ℕ) → place_at (slice_set places new.vertex (Some (length steps))) vertex ≡ Some k → (k < length (steps ++ new ∷ [])) × ((with_new steps new k).vertex ≡ vertex)
 placed_more vertices edges flows source steps places new tree within vertex k is = by (eqb vertex new.vertex) refl
   where
     by : (b : Bool) → eqb vertex new.vertex ≡ b → (k < length (steps ++ new ∷ [])) × ((with_new steps new k).vertex ≡ vertex)
     by false e =
         let before = tree.placed vertex k (sym (get_or-set_other places new.vertex vertex (Some (length steps)) None (eqb-false vertex new.vertex e)) ∙ is) in
         let long = length-append steps (new ∷ []) in
-        (omega arith, ap (λ (s : Step). s.vertex) (old steps new k before.0) ∙ before.1)
+        (omega arith, ap (λ (s : WayStep). s.vertex) (old steps new k before.0) ∙ before.1)
     by true e =
         let same = eqb-true vertex new.vertex e in
         let sized = tree.sized in
@@ -49,31 +49,31 @@ placed_more vertices edges flows source steps places new tree within vertex k is
         let there = sym set ∙ ap (place_at (slice_set places new.vertex (Some (length steps)))) (sym same) ∙ is in
         let k_is : length steps ≡ k = cc in
         let long = length-append steps (new ∷ []) in
-        (omega arith, ap (λ (i : ℕ). (with_new steps new i).vertex) (sym k_is) ∙ ap (λ (s : Step). s.vertex) (last steps new) ∙ sym same)
+        (omega arith, ap (λ (i : ℕ). (with_new steps new i).vertex) (sym k_is) ∙ ap (λ (s : WayStep). s.vertex) (last steps new) ∙ sym same)
 
-pub steps_more : (edges : List Edge) (flows : List ℤ) (source : ℕ) (steps : List Step) (new : Step) → AreSteps edges flows source steps → 1 ≤ new.limit → new.parent < length steps → IsStep edges flows (step_at steps new.parent) new → AreSteps edges flows source (steps ++ new ∷ [])
+pub steps_more : (edges : List Edge) (flows : List ℤ) (source : ℕ) (steps : List WayStep) (new : WayStep) → AreSteps edges flows source steps → 1 ≤ new.limit → new.parent < length steps → IsStep edges flows (step_at steps new.parent) new → AreSteps edges flows source (steps ++ new ∷ [])
 steps_more edges flows source steps new are limit after step =
     let root = are.root in
     let long = length-append steps (new ∷ []) in
     let now = with_new steps new in
     record {
       root = omega arith;
-      root_vertex = ap (λ (s : Step). s.vertex) (old steps new 0 (omega arith)) ∙ are.root_vertex;
+      root_vertex = ap (λ (s : WayStep). s.vertex) (old steps new 0 (omega arith)) ∙ are.root_vertex;
       some = λ k h. below_more (λ k. 1 ≤ (now k).limit) (length steps)
-          (λ k h. subst (λ (s : Step). 1 ≤ s.limit) (sym (old steps new k h)) (are.some k h))
-          (subst (λ (s : Step). 1 ≤ s.limit) (sym (last steps new)) limit)
+          (λ k h. subst (λ (s : WayStep). 1 ≤ s.limit) (sym (old steps new k h)) (are.some k h))
+          (subst (λ (s : WayStep). 1 ≤ s.limit) (sym (last steps new)) limit)
           k (omega arith);
       before = λ k h. below_more (λ k. 1 ≤ k → (now k).parent < k) (length steps)
-          (λ k h some. subst (λ (s : Step). s.parent < k) (sym (old steps new k h)) (are.before k h some))
-          (λ some. subst (λ (s : Step). s.parent < length steps) (sym (last steps new)) after)
+          (λ k h some. subst (λ (s : WayStep). s.parent < k) (sym (old steps new k h)) (are.before k h some))
+          (λ some. subst (λ (s : WayStep). s.parent < length steps) (sym (last steps new)) after)
           k (omega arith);
       grown = λ k h. below_more (λ k. 1 ≤ k → IsStep edges flows (now (now k).parent) (now k)) (length steps)
-          (λ k h some. let before = are.before k h some in subst (λ (s : Step). IsStep edges flows (now s.parent) s) (sym (old steps new k h)) (subst (λ (p : Step). IsStep edges flows p (step_at steps k)) (sym (old steps new (step_at steps k).parent (omega arith))) (are.grown k h some)))
-          (λ some. subst (λ (s : Step). IsStep edges flows (now s.parent) s) (sym (last steps new)) (subst (λ (p : Step). IsStep edges flows p new) (sym (old steps new new.parent after)) step))
+          (λ k h some. let before = are.before k h some in subst (λ (s : WayStep). IsStep edges flows (now s.parent) s) (sym (old steps new k h)) (subst (λ (p : WayStep). IsStep edges flows p (step_at steps k)) (sym (old steps new (step_at steps k).parent (omega arith))) (are.grown k h some)))
+          (λ some. subst (λ (s : WayStep). IsStep edges flows (now s.parent) s) (sym (last steps new)) (subst (λ (p : WayStep). IsStep edges flows p new) (sym (old steps new new.parent after)) step))
           k (omega arith);
     }
 
-pub tree_more : (vertices : ℕ) (edges : List Edge) (flows : List ℤ) (source : ℕ) (steps : List Step) (places : List (Option ℕ)) (new : Step) → IsTree vertices edges flows source steps places → 1 ≤ new.limit → new.parent < length steps → IsStep edges flows (step_at steps new.parent) new → new.vertex < vertices → place_at places new.vertex ≡ None → IsTree vertices edges flows source (steps ++ new ∷ []) (slice_set places new.vertex (Some (length steps)))
+pub tree_more : (vertices : ℕ) (edges : List Edge) (flows : List ℤ) (source : ℕ) (steps : List WayStep) (places : List (Option ℕ)) (new : WayStep) → IsTree vertices edges flows source steps places → 1 ≤ new.limit → new.parent < length steps → IsStep edges flows (step_at steps new.parent) new → new.vertex < vertices → place_at places new.vertex ≡ None → IsTree vertices edges flows source (steps ++ new ∷ []) (slice_set places new.vertex (Some (length steps)))
 tree_more vertices edges flows source steps places new tree limit after step within none =
     let sized = tree.sized in
     let counted = tree.counted in
@@ -86,8 +86,8 @@ tree_more vertices edges flows source steps places new tree limit after step wit
       counted = omega arith;
       are_steps = steps_more edges flows source steps new tree.are_steps limit after step;
       found = λ k h. below_more (λ k. place_at (slice_set places new.vertex (Some (length steps))) (now k).vertex ≡ Some k) (length steps)
-          (λ k h. let is = tree.found k h in subst (λ (s : Step). place_at (slice_set places new.vertex (Some (length steps))) s.vertex ≡ Some k) (sym (old steps new k h)) (get_or-set_other places new.vertex (step_at steps k).vertex (Some (length steps)) None (placed_apart places (step_at steps k).vertex new.vertex k is none) ∙ is))
-          (subst (λ (s : Step). place_at (slice_set places new.vertex (Some (length steps))) s.vertex ≡ Some (length steps)) (sym (last steps new)) (get_or-set_same places new.vertex (Some (length steps)) None (omega arith)))
+          (λ k h. let is = tree.found k h in subst (λ (s : WayStep). place_at (slice_set places new.vertex (Some (length steps))) s.vertex ≡ Some k) (sym (old steps new k h)) (get_or-set_other places new.vertex (step_at steps k).vertex (Some (length steps)) None (placed_apart places (step_at steps k).vertex new.vertex k is none) ∙ is))
+          (subst (λ (s : WayStep). place_at (slice_set places new.vertex (Some (length steps))) s.vertex ≡ Some (length steps)) (sym (last steps new)) (get_or-set_same places new.vertex (Some (length steps)) None (omega arith)))
           k (omega arith);
       placed = placed_more vertices edges flows source steps places new tree within;
     }
@@ -101,7 +101,7 @@ count_none (place ∷ places) none =
     let rest = count_none places (λ v. none (suc v)) in
     omega arith
 
-pub steps_start : (edges : List Edge) (flows : List ℤ) (source : ℕ) (step : Step) → step.vertex ≡ source → 1 ≤ step.limit → AreSteps edges flows source (step ∷ [])
+pub steps_start : (edges : List Edge) (flows : List ℤ) (source : ℕ) (step : WayStep) → step.vertex ≡ source → 1 ≤ step.limit → AreSteps edges flows source (step ∷ [])
 steps_start edges flows source step is limit = record {
   root = omega arith;
   root_vertex = is;
@@ -110,7 +110,7 @@ steps_start edges flows source step is limit = record {
   grown = λ k h some. absurd (omega arith);
 }
 
-pub tree_start : (vertices : ℕ) (edges : List Edge) (flows : List ℤ) (source : ℕ) (step : Step) (places : List (Option ℕ)) → length places ≡ vertices → ((v : ℕ) → place_at places v ≡ None) → source < vertices → step.vertex ≡ source → 1 ≤ step.limit → IsTree vertices edges flows source (step ∷ []) (slice_set places source (Some 0))
+pub tree_start : (vertices : ℕ) (edges : List Edge) (flows : List ℤ) (source : ℕ) (step : WayStep) (places : List (Option ℕ)) → length places ≡ vertices → ((v : ℕ) → place_at places v ≡ None) → source < vertices → step.vertex ≡ source → 1 ≤ step.limit → IsTree vertices edges flows source (step ∷ []) (slice_set places source (Some 0))
 tree_start vertices edges flows source step places long none within is limit =
     let set_long = length-set places source (Some 0) in
     let count = count_set places source 0 (omega arith) (none source) in
@@ -133,13 +133,13 @@ tree_start vertices edges flows source step places long none within is limit =
       ];
     }
 
--- ---- an amount that is sent back along a tree's ways
+-- ---- an amount that a tree's ways carry, way by way back from the sink
 -- steps that lead to different vertices do not take the same way
-apart_ways : (edges : List Edge) (flows : List ℤ) (p q a b : Step) → IsStep edges flows p a → IsStep edges flows q b → (a.vertex ≡ b.vertex → ⊥) → b.way.edge ≡ a.way.edge → a.way.is_forward ≡ b.way.is_forward → ⊥
+apart_ways : (edges : List Edge) (flows : List ℤ) (p q a b : WayStep) → IsStep edges flows p a → IsStep edges flows q b → (a.vertex ≡ b.vertex → ⊥) → b.way.edge ≡ a.way.edge → a.way.is_forward ≡ b.way.is_forward → ⊥
 apart_ways edges flows p q a b one two apart edge forward =
     apart (sym one.finish ∙ ap (λ (i : ℕ). finish_of (record { edge = i; is_forward = a.way.is_forward }) (edge_at edges i)) (sym edge) ∙ ap (λ (t : Bool). finish_of (record { edge = b.way.edge; is_forward = t }) (edge_at edges b.way.edge)) forward ∙ two.finish)
 
-pub back_step : (edges : List Edge) (first : List ℤ) (source sink amount : ℕ) (steps : List Step) (flows : List ℤ) (here : ℕ) → AreSteps edges first source steps → AreApart steps → IsBack edges first sink amount steps flows here → 1 ≤ here → HasRoom edges flows amount (step_at steps here).way × IsBack edges first sink amount steps (send amount flows (step_at steps here).way) (step_at steps here).parent
+pub back_step : (edges : List Edge) (first : List ℤ) (source sink amount : ℕ) (steps : List WayStep) (flows : List ℤ) (here : ℕ) → AreSteps edges first source steps → AreApart steps → IsBack edges first sink amount steps flows here → 1 ≤ here → CanCarry edges flows amount (step_at steps here).way × IsBack edges first sink amount steps (carry amount flows (step_at steps here).way) (step_at steps here).parent
 back_step edges first source sink amount steps flows here are each_apart back some =
     let step = step_at steps here in
     let parent = step_at steps step.parent in
@@ -150,12 +150,12 @@ back_step edges first source sink amount steps flows here are each_apart back so
     let within = back.within in
     let among = is.among in
     let sized = back.bounded.sized in
-    let room : HasRoom edges flows amount step.way = room_for_less step.way.is_forward (edge_at edges step.way.edge).weight amount step.limit (flow_at flows step.way.edge) (back.bounded.bounded step.way.edge) enough (back.rooms here (omega arith) some) in (
+    let room : CanCarry edges flows amount step.way = room_for_less step.way.is_forward (edge_at edges step.way.edge).weight amount step.limit (flow_at flows step.way.edge) (back.bounded.bounded step.way.edge) enough (back.rooms here (omega arith) some) in (
       room,
       record {
         within = omega arith;
         enough = omega arith;
-        bounded = send_bounded edges flows amount step.way back.bounded room;
+        bounded = carry_bounded edges flows amount step.way back.bounded room;
         rooms = λ k h more.
             let inside : k < length steps = omega arith in
             let other = are.grown k inside more in
@@ -164,7 +164,7 @@ back_step edges first source sink amount steps flows here are each_apart back so
             absurd (omega arith) in
             room_kept edges flows amount (step_at steps k).limit step.way (step_at steps k).way back.bounded among room (back.rooms k (omega arith) more) (apart_ways edges first parent (step_at steps (step_at steps k).parent) step (step_at steps k) is other apart);
         moved = λ inside.
-            let sent = net_send inside edges flows amount step.way among sized in
+            let sent = net_carry inside edges flows amount step.way among sized in
             let moved = back.moved inside in
             let start = ap (λ (v : ℕ). at amount (inside v)) is.start in
             let finish = ap (λ (v : ℕ). at amount (inside v)) is.finish in
@@ -173,7 +173,7 @@ back_step edges first source sink amount steps flows here are each_apart back so
     )
 
 -- back at the source, all has been sent
-pub back_done : (edges : List Edge) (first : List ℤ) (source sink amount value : ℕ) (steps : List Step) (flows : List ℤ) → AreSteps edges first source steps → IsBack edges first sink amount steps flows 0 → IsFlow edges source sink value first → IsFlow edges source sink (value + amount) flows
+pub back_done : (edges : List Edge) (first : List ℤ) (source sink amount value : ℕ) (steps : List WayStep) (flows : List ℤ) → AreSteps edges first source steps → IsBack edges first sink amount steps flows 0 → IsFlow edges source sink value first → IsFlow edges source sink (value + amount) flows
 back_done edges first source sink amount value steps flows are back flow = record {
   within = back.bounded;
   valued = λ inside in_it out.
@@ -185,7 +185,7 @@ back_done edges first source sink amount value steps flows are back flow = recor
 }
 
 -- ---- a tree's steps lead to different vertices
-pub tree_apart : (vertices : ℕ) (edges : List Edge) (flows : List ℤ) (source : ℕ) (steps : List Step) (places : List (Option ℕ)) → IsTree vertices edges flows source steps places → AreApart steps
+pub tree_apart : (vertices : ℕ) (edges : List Edge) (flows : List ℤ) (source : ℕ) (steps : List WayStep) (places : List (Option ℕ)) → IsTree vertices edges flows source steps places → AreApart steps
 tree_apart vertices edges flows source steps places tree j k h i same =
     let e = sym (tree.found j h) ∙ ap (place_at places) same ∙ tree.found k i in cc
 
@@ -195,11 +195,11 @@ place_within [] v k is = absurd (let none : None ≡ Some k = is in cc)
 place_within (place ∷ places) zero k is = omega arith
 place_within (place ∷ places) (suc v) k is = let rest = place_within places v k is in omega arith
 
-pub vertices_within : (vertices : ℕ) (edges : List Edge) (flows : List ℤ) (source : ℕ) (steps : List Step) (places : List (Option ℕ)) → IsTree vertices edges flows source steps places → All (λ step. step.vertex < vertices) steps
+pub vertices_within : (vertices : ℕ) (edges : List Edge) (flows : List ℤ) (source : ℕ) (steps : List WayStep) (places : List (Option ℕ)) → IsTree vertices edges flows source steps places → All (λ step. step.vertex < vertices) steps
 vertices_within vertices edges flows source steps places tree = λ k d h.
     let within = place_within places (step_at steps k).vertex k (tree.found k h) in
     let sized = tree.sized in
-    subst (λ (s : Step). s.vertex < vertices) (get_or_default steps k (step_at [] 0) d h) (omega arith)
+    subst (λ (s : WayStep). s.vertex < vertices) (get_or_default steps k (step_at [] 0) d h) (omega arith)
 
 -- ---- the side that is reached
 on_side_is : (places : List (Option ℕ)) (vertex : ℕ) → reached places vertex ≡ on_side (map is_placed places) vertex
@@ -207,18 +207,18 @@ on_side_is [] vertex = refl
 on_side_is (place ∷ places) zero = refl
 on_side_is (place ∷ places) (suc vertex) = on_side_is places vertex
 
-pub source_reached : (vertices : ℕ) (edges : List Edge) (flows : List ℤ) (source : ℕ) (steps : List Step) (places : List (Option ℕ)) → IsTree vertices edges flows source steps places → on_side (map is_placed places) source ≡ true
+pub source_reached : (vertices : ℕ) (edges : List Edge) (flows : List ℤ) (source : ℕ) (steps : List WayStep) (places : List (Option ℕ)) → IsTree vertices edges flows source steps places → on_side (map is_placed places) source ≡ true
 source_reached vertices edges flows source steps places tree =
     let root = tree.are_steps.root in
     sym (on_side_is places source) ∙ ap is_placed (ap (place_at places) (sym tree.are_steps.root_vertex) ∙ tree.found 0 (omega arith))
 
-pub side_weighs : (vertices : ℕ) (edges : List Edge) (flows : List ℤ) (source sink value : ℕ) (steps : List Step) (places : List (Option ℕ)) → IsTree vertices edges flows source steps places → IsFlow edges source sink value flows → place_at places sink ≡ None → (reached places sink ≡ false → AreFullOut edges flows (reached places)) → cut_weight (on_side (map is_placed places)) edges ≡ value
+pub side_weighs : (vertices : ℕ) (edges : List Edge) (flows : List ℤ) (source sink value : ℕ) (steps : List WayStep) (places : List (Option ℕ)) → IsTree vertices edges flows source steps places → IsFlow edges source sink value flows → place_at places sink ≡ None → (reached places sink ≡ false → AreFullOut edges flows (reached places)) → cut_weight (on_side (map is_placed places)) edges ≡ value
 side_weighs vertices edges flows source sink value steps places tree flow none full =
     let out = ap is_placed none in
     value_full edges source sink value flows (on_side (map is_placed places)) flow (full_same edges flows (reached places) (on_side (map is_placed places)) (on_side_is places) (full out)) (source_reached vertices edges flows source steps places tree) (sym (on_side_is places sink) ∙ out)
 
 -- ---- whatever holds the source and has no way with room out of it holds all that is reached
-steps_inside : (vertices : ℕ) (edges : List Edge) (flows : List ℤ) (source : ℕ) (steps : List Step) (places : List (Option ℕ)) (inside : ℕ → Bool) → IsTree vertices edges flows source steps places → AreFullOut edges flows inside → inside source ≡ true → (most k : ℕ) → k < most → k < length steps → inside (step_at steps k).vertex ≡ true
+steps_inside : (vertices : ℕ) (edges : List Edge) (flows : List ℤ) (source : ℕ) (steps : List WayStep) (places : List (Option ℕ)) (inside : ℕ → Bool) → IsTree vertices edges flows source steps places → AreFullOut edges flows inside → inside source ≡ true → (most k : ℕ) → k < most → k < length steps → inside (step_at steps k).vertex ≡ true
 steps_inside vertices edges flows source steps places inside tree full in_it zero k h within = absurd (omega arith)
 steps_inside vertices edges flows source steps places inside tree full in_it (suc most) zero h within = ap inside tree.are_steps.root_vertex ∙ in_it
 steps_inside vertices edges flows source steps places inside tree full in_it (suc most) (suc k) h within =
@@ -228,7 +228,7 @@ steps_inside vertices edges flows source steps places inside tree full in_it (su
     let parent = steps_inside vertices edges flows source steps places inside tree full in_it most step.parent (omega arith) (omega arith) in
     sym (ap inside is.finish) ∙ not_out edges flows inside step.limit step.way full is.among (tree.are_steps.some (suc k) within) is.room (ap inside is.start ∙ parent)
 
-pub reached_inside : (vertices : ℕ) (edges : List Edge) (flows : List ℤ) (source sink value : ℕ) (steps : List Step) (places : List (Option ℕ)) (inside : ℕ → Bool) → IsTree vertices edges flows source steps places → IsFlow edges source sink value flows → inside source ≡ true → inside sink ≡ false → cut_weight inside edges ≡ value → (vertex : ℕ) → on_side (map is_placed places) vertex ≡ true → inside vertex ≡ true
+pub reached_inside : (vertices : ℕ) (edges : List Edge) (flows : List ℤ) (source sink value : ℕ) (steps : List WayStep) (places : List (Option ℕ)) (inside : ℕ → Bool) → IsTree vertices edges flows source steps places → IsFlow edges source sink value flows → inside source ≡ true → inside sink ≡ false → cut_weight inside edges ≡ value → (vertex : ℕ) → on_side (map is_placed places) vertex ≡ true → inside vertex ≡ true
 reached_inside vertices edges flows source sink value steps places inside tree flow in_it out weighs vertex on =
     by (place_at places vertex) refl (on_side_is places vertex ∙ on)
   where

@@ -9,8 +9,8 @@ use crate::graphs::Graph;
 use crate::guides::Guide;
 use crate::neighbours::Neighbours;
 use crate::paths::Path;
-use crate::rooms::raise;
-use crate::trees::Step;
+use crate::rooms::carry;
+use crate::trees::WayStep;
 use std::alloc::{AllocError, Global};
 
 /// A flow from the source to the sink.
@@ -33,7 +33,7 @@ impl Flow {
     }
 
     /// Sends as much as has room from the source to the sink, along the ways that lead to a step.
-    pub fn send(&mut self, graph: &Graph, steps: &[Step], last: usize)
+    pub fn send(&mut self, graph: &Graph, steps: &[WayStep], last: usize)
         requires flow { IsFlow graph.now.edges.now graph.now.source graph.now.sink
             self.old.value self.old.flows.items }
         requires steps { AreSteps graph.now.edges.now self.old.flows.items graph.now.source steps.now }
@@ -77,7 +77,7 @@ impl Flow {
 }
 
 /// Sends as much as has room from the source to the sink, along the ways that lead to a step.
-fn augment(graph: &Graph, flows: &mut [i64], steps: &[Step], last: usize)
+fn augment(graph: &Graph, flows: &mut [i64], steps: &[WayStep], last: usize)
     requires flows { AreBounded graph.now.edges.now flows.old }
     requires steps { AreSteps graph.now.edges.now flows.old graph.now.source steps.now }
     requires apart { AreApart steps.now }
@@ -91,7 +91,7 @@ fn augment(graph: &Graph, flows: &mut [i64], steps: &[Step], last: usize)
     let mut at = last;
     'back: while at != 0 {
         let step = steps[at];
-        raise(graph, flows, step.way, amount);
+        carry(graph, flows, step.way, amount);
         at = step.parent;
     }
 }

@@ -10,13 +10,13 @@ use crate::graphs::Graph;
 use crate::guides::Guide;
 use crate::neighbours::Neighbours;
 use crate::rooms::room;
-use crate::trees::{Step, first_step, least};
+use crate::trees::{WayStep, first_step, least};
 use std::alloc::{AllocError, Global};
 
 /// Steps from the source, each from the one before it and nearer to the sink.
 #[derive(Drop)]
 pub(crate) struct Path {
-    pub steps: Vec<Step>,
+    pub steps: Vec<WayStep>,
 }
 
 impl Path {
@@ -65,7 +65,7 @@ impl Path {
     }
 
     /// The last step.
-    fn last(&self) -> Step
+    fn last(&self) -> WayStep
         requires { 1 ≤ length self.now.steps.items }
         ensures { result ≡ step_at self.now.steps.items (length self.now.steps.items - 1) }
     {
@@ -80,7 +80,7 @@ impl Path {
         flows: &[i64],
         neighbours: &Neighbours,
         guide: &mut Guide,
-        last: Step,
+        last: WayStep,
     ) -> Result<bool, AllocError>
         requires flows { AreBounded graph.now.edges.now flows.now }
         requires neighbours { AreNeighbours graph.now.vertices (length graph.now.edges.now)
@@ -121,7 +121,7 @@ impl Path {
         flows: &[i64],
         guide: &Guide,
         way: Way,
-        last: Step,
+        last: WayStep,
     ) -> Result<bool, AllocError>
         requires flows { AreBounded graph.now.edges.now flows.now }
         requires way { way.edge < length graph.now.edges.now }
@@ -143,7 +143,7 @@ impl Path {
         }
         let parent = self.steps.len() - 1;
         let limit = least(room, last.limit);
-        self.steps.push(Step {
+        self.steps.push(WayStep {
             vertex: finish,
             parent,
             way,

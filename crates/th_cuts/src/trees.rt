@@ -9,9 +9,9 @@ use crate::neighbours::Neighbours;
 use crate::rooms::room;
 use std::alloc::{AllocError, Global};
 
-/// A step of a search.
+/// A step of a search, along a way.
 #[derive(Clone, Copy, Debug, PartialEq, Eq)]
-pub(crate) struct Step {
+pub(crate) struct WayStep {
     /// The vertex that it reaches.
     pub vertex: u32,
     /// The place of the step that reached where its way begins.
@@ -25,7 +25,7 @@ pub(crate) struct Step {
 /// The steps of a search, in the order in which they were taken.
 #[derive(Drop)]
 pub(crate) struct Tree {
-    pub steps: Vec<Step>,
+    pub steps: Vec<WayStep>,
     /// For each vertex that is reached the place of the step that reaches it.
     pub places: Vec<Option<usize>>,
 }
@@ -236,7 +236,7 @@ impl Tree {
         let before = self.step(parent);
         let limit = least(room, before.limit);
         let place = self.steps.len();
-        self.steps.push(Step {
+        self.steps.push(WayStep {
             vertex: finish,
             parent,
             way,
@@ -255,7 +255,7 @@ impl Tree {
     }
 
     /// The step at a place.
-    pub fn step(&self, place: usize) -> Step
+    pub fn step(&self, place: usize) -> WayStep
         requires { place < length self.now.steps.items }
         ensures { result ≡ step_at self.now.steps.items place }
     {
@@ -274,11 +274,11 @@ impl Tree {
 }
 
 /// The step that reaches the source.
-pub(crate) fn first_step(graph: &Graph) -> Step
+pub(crate) fn first_step(graph: &Graph) -> WayStep
     ensures vertex { result.vertex ≡ graph.now.source }
     ensures limit { 1 ≤ result.limit }
 {
-    Step {
+    WayStep {
         vertex: graph.source,
         parent: 0,
         way: Way {

@@ -13,8 +13,8 @@ const NEAR: u32 = 8;
 pub(crate) struct Cycles {
     /// Where the ways out of each vertex end, among all sides.
     ends: Vec<u32>,
-    /// The place of each vertex on the walk, from 1; 0 where it is not on it.
-    places: Vec<u32>,
+    /// For each vertex the step of the walk, from 1, that leaves it; 0 where none does.
+    steps: Vec<u32>,
     /// The ways of the walk, by their places among all sides.
     walk: Vec<u32>,
     /// Where the walk is, and where it began.
@@ -29,7 +29,7 @@ impl Cycles {
     pub fn new(alloc: Global, vertices: u32) -> Result<Cycles, AllocError> {
         Ok(Cycles {
             ends: vec![in alloc; 0u32; vertices as usize]?,
-            places: vec![in alloc; 0u32; vertices as usize]?,
+            steps: vec![in alloc; 0u32; vertices as usize]?,
             walk: Vec::with_capacity(alloc, vertices as usize)?,
             here: 0,
             begin: 0,
@@ -58,7 +58,7 @@ impl Cycles {
         for (vertex, end) in self.ends.iter_mut().enumerate() {
             *end = sides.start(u32::try_from(vertex).ok()?)?;
         }
-        self.places.fill(0);
+        self.steps.fill(0);
         self.walk.clear();
         self.here = 0;
         self.begin = 0;
@@ -97,7 +97,7 @@ impl Cycles {
                     self.begin_again()?;
                 } else {
                     self.walk_on(sides, start, end)?;
-                    if self.place(self.here)? != 0 {
+                    if self.step(self.here)? != 0 {
                         return self.close(sides);
                     }
                 }
@@ -107,8 +107,8 @@ impl Cycles {
     }
 
     #[inline]
-    fn place(&self, vertex: u32) -> Option<u32> {
-        self.places.get(vertex as usize).copied()
+    fn step(&self, vertex: u32) -> Option<u32> {
+        self.steps.get(vertex as usize).copied()
     }
 
     /// Begins a walk where there may be ways.
@@ -129,22 +129,22 @@ impl Cycles {
         let mut chosen = end.checked_sub(1)?;
         let mut nearest = 0u32;
         for way in (from..end).rev() {
-            let place = self.place(sides.at(way)?.other)?;
-            if place > nearest {
-                nearest = place;
+            let step = self.step(sides.at(way)?.other)?;
+            if step > nearest {
+                nearest = step;
                 chosen = way;
             }
         }
         push_if_room(&mut self.walk, chosen)?;
         let length = u32::try_from(self.walk.len()).ok()?;
-        *self.places.get_mut(self.here as usize)? = length;
+        *self.steps.get_mut(self.here as usize)? = length;
         self.here = sides.at(chosen)?.other;
         Some(())
     }
 
     /// Takes the cycle from the walk that has closed, and what is to flow all round it.
     fn close(&mut self, sides: &mut Sides) -> Option<u32> {
-        let from = self.place(self.here)?.checked_sub(1)? as usize;
+        let from = self.step(self.here)?.checked_sub(1)? as usize;
         let mut least = i64::MAX;
         self.cycle.clear();
         for way in self.walk.iter().skip(from) {
@@ -189,7 +189,7 @@ impl Cycles {
                 sides.set(way, Side { rise, ..side })?;
             }
             if kept < self.walk.len() {
-                *self.places.get_mut(vertex as usize)? = 0;
+                *self.steps.get_mut(vertex as usize)? = 0;
             }
             vertex = side.other;
         }

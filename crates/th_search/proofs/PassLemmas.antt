@@ -11,7 +11,9 @@ use Rattle.th_search.specs.Walks.{IsArc, arc_at}
 use Rattle.th_search.specs.Potentials.{IsFeasible, value_at}
 use Rattle.th_search.specs.Inside.Bounds.{most_between, most_within}
 use Rattle.th_search.specs.Inside.Labels.{AreLabels, Improves, IsForest, room}
-use Rattle.th_search.specs.Inside.Passes.{place_at}
+use Rattle.th_search.specs.Sweeps.{index_at}
+use Rattle.th_search.specs.declared.sweeps.Sweep.{Sweep}
+use Rattle.th_search.specs.declared.sweeps.Sweep.TheVariants.{Forwards, Backwards}
 use Rattle.th_search.proofs.DepthLemmas.{arc_is}
 use Rattle.th_search.proofs.LowerLemmas.{AreWithin, label_within, room_falls, values_within, within_after}
 use Rattle.th_search.specs.declared.arcs.Arc.{Arc}
@@ -25,17 +27,17 @@ abbrev pub most_at : ℕ → ℕ
 most_at step = most_between + step * max_cost
 
 -- the pass has come to this step
-pub record IsPassing (arcs : List Arc) (old new : List ℤ) (was entries : List (Option ℕ)) (lowered backwards : Bool) (step : ℕ) : Type 0 where
+pub record IsPassing (arcs : List Arc) (old new : List ℤ) (was entries : List (Option ℕ)) (lowered : Bool) (sweep : Sweep) (step : ℕ) : Type 0 where
   pub size : length new ≡ length old
   pub labels : AreLabels arcs new entries
   pub within : AreWithin new (most_at step)
   pub most : room new ≤ room old
   pub fell : lowered ≡ true → room new < room old
   pub kept : lowered ≡ false → entries ≡ was
-  pub feasible : lowered ≡ false → (k : ℕ) → k < step → IsFitting arcs new (place_at backwards (length arcs) k)
+  pub feasible : lowered ≡ false → (k : ℕ) → k < step → IsFitting arcs new (index_at sweep (length arcs) k)
 
-pub passing_first : (arcs : List Arc) (values : List ℤ) (entries : List (Option ℕ)) (backwards : Bool) → All (IsArc (length values)) arcs → length values ≤ max_vertices → AreLabels arcs values entries → IsForest arcs entries → IsPassing arcs values values entries entries false backwards 0
-passing_first arcs values entries backwards all few labels forest = record {
+pub passing_first : (arcs : List Arc) (values : List ℤ) (entries : List (Option ℕ)) (sweep : Sweep) → All (IsArc (length values)) arcs → length values ≤ max_vertices → AreLabels arcs values entries → IsForest arcs entries → IsPassing arcs values values entries entries false sweep 0
+passing_first arcs values entries sweep all few labels forest = record {
   size = refl;
   labels = labels;
   within = values_within arcs values entries all few labels forest;
@@ -46,20 +48,20 @@ passing_first arcs values entries backwards all few labels forest = record {
 }
 
 -- an arc that improves nothing
-pub passing_by : (arcs : List Arc) (old new : List ℤ) (was entries : List (Option ℕ)) (lowered backwards : Bool) (step number : ℕ) → number ≡ place_at backwards (length arcs) step → IsFitting arcs new number → IsPassing arcs old new was entries lowered backwards step → IsPassing arcs old new was entries lowered backwards (step + 1)
-passing_by arcs old new was entries lowered backwards step number place fits passing = record {
+pub passing_by : (arcs : List Arc) (old new : List ℤ) (was entries : List (Option ℕ)) (lowered : Bool) (sweep : Sweep) (step number : ℕ) → number ≡ index_at sweep (length arcs) step → IsFitting arcs new number → IsPassing arcs old new was entries lowered sweep step → IsPassing arcs old new was entries lowered sweep (step + 1)
+passing_by arcs old new was entries lowered sweep step number index fits passing = record {
   size = passing.size;
   labels = passing.labels;
   within = λ v. let less = passing.within v in omega arith;
   most = passing.most;
   fell = passing.fell;
   kept = passing.kept;
-  feasible = λ is. below_more (λ k. IsFitting arcs new (place_at backwards (length arcs) k)) step (passing.feasible is) (subst (IsFitting arcs new) place fits);
+  feasible = λ is. below_more (λ k. IsFitting arcs new (index_at sweep (length arcs) k)) step (passing.feasible is) (subst (IsFitting arcs new) index fits);
 }
 
 -- an arc by which a label was lowered
-pub passing_lower : (arcs : List Arc) (old new : List ℤ) (was entries entries' : List (Option ℕ)) (lowered backwards : Bool) (step number : ℕ) (label : ℤ) → All (IsArc (length new)) arcs → step < max_arcs → number < length arcs → Improves arcs new number label → AreLabels arcs (set new (arc_at arcs number).head label) entries' → IsPassing arcs old new was entries lowered backwards step → IsPassing arcs old (set new (arc_at arcs number).head label) was entries' true backwards (step + 1)
-passing_lower arcs old new was entries entries' lowered backwards step number label all few within improves labels passing =
+pub passing_lower : (arcs : List Arc) (old new : List ℤ) (was entries entries' : List (Option ℕ)) (lowered : Bool) (sweep : Sweep) (step number : ℕ) (label : ℤ) → All (IsArc (length new)) arcs → step < max_arcs → number < length arcs → Improves arcs new number label → AreLabels arcs (set new (arc_at arcs number).head label) entries' → IsPassing arcs old new was entries lowered sweep step → IsPassing arcs old (set new (arc_at arcs number).head label) was entries' true sweep (step + 1)
+passing_lower arcs old new was entries entries' lowered sweep step number label all few within improves labels passing =
     let most = passing.most in
     let less = room_falls arcs new entries number (most_at step) label all (omega arith) passing.within passing.labels within improves in
     record {
@@ -142,15 +144,15 @@ read_low arcs values number most r all few sized within low =
     let s = value_at values (arc_at arcs number).head in
     sum_fits arcs values number r s (reads arcs values number most r s all few sized within low (get_or_default values (arc_at arcs number).head (pos 0) s (arc_is (length values) arcs number all within).head))
 
--- each place is come to
-place_again : (backwards : Bool) (size k : ℕ) → k < size → (place_at backwards size k < size) × (place_at backwards size (place_at backwards size k) ≡ k)
-place_again true size k within = (omega arith, omega arith)
-place_again false size k within = (within, refl)
+-- a step leads to each index
+index_again : (sweep : Sweep) (size k : ℕ) → k < size → (index_at sweep size k < size) × (index_at sweep size (index_at sweep size k) ≡ k)
+index_again Forwards size k within = (within, refl)
+index_again Backwards size k within = (omega arith, omega arith)
 
 -- a pass that lowered nothing
-pub passing_done : (arcs : List Arc) (old new : List ℤ) (was entries : List (Option ℕ)) (lowered backwards : Bool) (step : ℕ) → length arcs ≤ step → lowered ≡ false → IsPassing arcs old new was entries lowered backwards step → IsFeasible arcs new
-passing_done arcs old new was entries lowered backwards step past is passing =
+pub passing_done : (arcs : List Arc) (old new : List ℤ) (was entries : List (Option ℕ)) (lowered : Bool) (sweep : Sweep) (step : ℕ) → length arcs ≤ step → lowered ≡ false → IsPassing arcs old new was entries lowered sweep step → IsFeasible arcs new
+passing_done arcs old new was entries lowered sweep step past is passing =
     All-from_get_or (λ arc. value_at new arc.head ≤ℤ (value_at new arc.tail +ℤ arc.cost)) arcs (record { tail = 0; head = 0; cost = pos 0 }) (λ k within.
-    let place = place_again backwards (length arcs) k within in
-    let few = place.0 in
-    subst (IsFitting arcs new) place.1 (passing.feasible is (place_at backwards (length arcs) k) (omega arith)))
+    let index = index_again sweep (length arcs) k within in
+    let few = index.0 in
+    subst (IsFitting arcs new) index.1 (passing.feasible is (index_at sweep (length arcs) k) (omega arith)))

@@ -2,4 +2,5 @@ pub mod Limits
 pub mod Walks
 pub mod Potentials
 pub mod Answers
+pub mod Sweeps
 pub mod Inside

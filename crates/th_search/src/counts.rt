@@ -7,7 +7,7 @@ use std::alloc::AllocError;
 
 /// What a search counts.
 #[derive(Debug, Drop)]
-pub(crate) struct Counts {
+pub(crate) struct SearchCounts {
     /// Its calls.
     pub calls: u128,
     /// The calls that ran out of memory.
@@ -18,14 +18,14 @@ pub(crate) struct Counts {
     ghost cycles_are_calls: { cycles ≤ calls },
 }
 
-impl Counts {
+impl SearchCounts {
     /// The counts before the first call.
-    pub fn new() -> Counts
+    pub fn new() -> SearchCounts
         ensures calls { result.calls ≡ 0 }
         ensures refusals { result.refusals ≡ 0 }
         ensures cycles { result.cycles ≡ 0 }
     {
-        Counts {
+        SearchCounts {
             calls: 0,
             refusals: 0,
             cycles: 0,

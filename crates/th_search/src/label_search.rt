@@ -3,17 +3,18 @@ ghost use Rattle.th_search.specs.Answers.{IsAnswer};
 ghost use Rattle.th_search.specs.Inside.Searched.{IsSearched};
 
 use crate::arcs::Arc;
-use crate::counts::Counts;
+use crate::counts::SearchCounts;
 use crate::fronts::cycle_in_front;
 use crate::labels::Labels;
 use crate::passes::{Pass, pass_over};
 use crate::searches::{Found, Search};
+use crate::sweeps::Sweep;
 use std::alloc::{AllocError, Global};
 
 /// A search that lowers labels.
 #[derive(Debug, Drop)]
 pub struct LabelSearch {
-    counts: Counts,
+    counts: SearchCounts,
 }
 
 impl LabelSearch {
@@ -24,7 +25,7 @@ impl LabelSearch {
         ensures cycles { ⟦<LabelSearch as Search>⟧.cycles result ≡ 0 }
     {
         LabelSearch {
-            counts: Counts::new(),
+            counts: SearchCounts::new(),
         }
     }
 }
@@ -55,10 +56,10 @@ fn found_in(alloc: Global, n: u32, arcs: &[Arc]) -> Result<Found, AllocError>
     }
     let mut labels = Labels::new(alloc, n)?;
     let mut marks = vec![in alloc; 0u32; n as usize]?;
-    let mut backwards = false;
+    let mut sweep = Sweep::Forwards;
     'passes: loop {
-        match pass_over(arcs, backwards, &mut labels, &mut marks) {
-            Pass::Lowered => backwards = !backwards,
+        match pass_over(arcs, sweep, &mut labels, &mut marks) {
+            Pass::Lowered => sweep = sweep.reversed(),
             Pass::Done => return Ok(Found::Potentials(labels.values)),
             Pass::Closed(vertex) => {
                 return Ok(Found::Cycle(labels.cycle_through(alloc, arcs, vertex)?));

@@ -5,7 +5,7 @@ ghost use Rattle.th_search.specs.Inside.Searched.{IsSearched};
 ghost use Rattle.th_search.specs.Inside.Levels.{AreLevels, last_at, row_at, rows_of};
 
 use crate::arcs::Arc;
-use crate::counts::Counts;
+use crate::counts::SearchCounts;
 use crate::levels::Level;
 use crate::searches::{Found, Search};
 use std::alloc::{AllocError, Global};
@@ -15,7 +15,7 @@ use std::alloc::{AllocError, Global};
 /// times `n` entries of memory, and time in proportion to `n` times the number of arcs.
 #[derive(Debug, Drop)]
 pub struct LevelSearch {
-    counts: Counts,
+    counts: SearchCounts,
 }
 
 impl LevelSearch {
@@ -26,7 +26,7 @@ impl LevelSearch {
         ensures cycles { ⟦<LevelSearch as Search>⟧.cycles result ≡ 0 }
     {
         LevelSearch {
-            counts: Counts::new(),
+            counts: SearchCounts::new(),
         }
     }
 }

@@ -4,7 +4,7 @@
 //! The trait `Search` is what both searches promise: one of the two answers of `Found`, and counts
 //! of calls, refusals and cycles. `LabelSearch`, which the program uses, lowers labels in place.
 //! `LevelSearch`, for tests and comparison, makes a table of the cheapest walks of 0, 1, 2, ..
-//! arcs. `laws` proves that no network has both answers.
+//! arcs. `laws` proves that no network has both answers. `Sweep` is the order of a pass over arcs.
 #![tactic(auto)]
 
 // The input of a search, and its promise.
@@ -20,6 +20,7 @@ mod fronts;
 mod label_search;
 mod labels;
 mod passes;
+mod sweeps;
 
 // The search over a table of levels.
 mod level_search;
@@ -30,4 +31,5 @@ pub use label_search::LabelSearch;
 pub use level_search::LevelSearch;
 pub use limits::{MAX_ARCS, MAX_COST, MAX_VERTICES};
 pub use searches::{Found, Search};
+pub use sweeps::Sweep;
 pub use th_limits::MAX_CALLS;

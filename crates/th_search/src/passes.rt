@@ -1,10 +1,11 @@
-ghost use Rattle.std.specs.Prelude.{◌≡◌, ◌<◌, length};
+ghost use Rattle.std.specs.Prelude.{◌≡◌, length};
 ghost use Rattle.th_search.specs.Inside.Labels.{AreLabels, IsForest};
-ghost use Rattle.th_search.specs.Inside.Passes.{IsPass, IsReady, place_at};
+ghost use Rattle.th_search.specs.Inside.Passes.{IsPass, IsReady};
 
 use crate::arcs::Arc;
 use crate::entries::{leads_back, vertex_on_cycle};
 use crate::labels::Labels;
+use crate::sweeps::Sweep;
 
 /// What a pass over the arcs did.
 #[derive(Clone, Copy)]
@@ -17,14 +18,9 @@ pub(crate) enum Pass {
     Closed(u32),
 }
 
-/// Goes over the arcs once, from the front or from the back, and lowers the label of each head that
-/// its arc improves. Stops where an entry closes a cycle, or looks for one at the end.
-pub(crate) fn pass_over(
-    arcs: &[Arc],
-    backwards: bool,
-    labels: &mut Labels,
-    marks: &mut [u32],
-) -> Pass
+/// Goes over the arcs once and lowers the label of each head that its arc improves. Stops where an
+/// entry closes a cycle, or looks for one at the end.
+pub(crate) fn pass_over(arcs: &[Arc], sweep: Sweep, labels: &mut Labels, marks: &mut [u32]) -> Pass
     requires ready { IsReady arcs.now labels.old.values.items labels.old.entries.items }
     requires marks { length marks.old ≡ length labels.old.values.items }
     ensures size { length labels.new.values.items ≡ length labels.old.values.items }
@@ -33,7 +29,7 @@ pub(crate) fn pass_over(
         labels.new.entries.items result }
     ensures forest { result ≡ Pass.Lowered → IsForest arcs.now labels.new.entries.items }
 {
-    match lower_once(arcs, backwards, labels) {
+    match lower_once(arcs, sweep, labels) {
         Pass::Lowered => match vertex_on_cycle(arcs, &labels.entries, marks) {
             Some(vertex) => Pass::Closed(vertex),
             None => Pass::Lowered,
@@ -45,7 +41,7 @@ pub(crate) fn pass_over(
 /// The pass without a look for cycles at its end. An entry that is new at its head may close a cycle:
 /// the entries are walked back from its tail, as long as all these walks together take no more steps
 /// than there are arcs.
-fn lower_once(arcs: &[Arc], backwards: bool, labels: &mut Labels) -> Pass
+fn lower_once(arcs: &[Arc], sweep: Sweep, labels: &mut Labels) -> Pass
     requires { IsReady arcs.now labels.old.values.items labels.old.entries.items }
     ensures size { length labels.new.values.items ≡ length labels.old.values.items }
     ensures labels { AreLabels arcs.now labels.new.values.items labels.new.entries.items }
@@ -55,7 +51,7 @@ fn lower_once(arcs: &[Arc], backwards: bool, labels: &mut Labels) -> Pass
     let mut lowered = false;
     let mut steps = arcs.len();
     for step in 0..arcs.len() {
-        let number = place(backwards, arcs.len(), step);
+        let number = sweep.index_at(arcs.len(), step);
         let arc = arcs[number];
         let label = labels.values[arc.tail as usize] + arc.cost;
         if label < labels.values[arc.head as usize] {
@@ -69,13 +65,4 @@ fn lower_once(arcs: &[Arc], backwards: bool, labels: &mut Labels) -> Pass
         }
     }
     if lowered { Pass::Lowered } else { Pass::Done }
-}
-
-/// The place that a step comes to, from the front or from the back.
-fn place(backwards: bool, size: usize, step: usize) -> usize
-    requires { step < size }
-    ensures within { result < size }
-    ensures value { result ≡ place_at backwards size step }
-{
-    if backwards { size - 1 - step } else { step }
 }

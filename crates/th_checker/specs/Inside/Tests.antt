@@ -1,16 +1,17 @@
 -- The tests of observations, using the places of their ends among the points.
-use Rattle.std.specs.Prelude.{◌≡◌, ◌<◌, ◌≤◌, ◌==◌, ◌&&◌, ℕ, ℤ, ◌*◌, pos, ◌-ℤ◌, ◌*ℤ◌, not, Bool, List, [], ◌∷◌, All, IfSome, Option, Some, None, Vec, ⊤, map, nat_lt, sum_by, length, get_or, if◌then◌else◌, is_none, unsigned_abs}
+use Rattle.std.specs.Prelude.{◌≡◌, ◌<◌, ◌≤◌, ◌==◌, ◌&&◌, ℕ, ℤ, ◌*◌, pos, ◌-ℤ◌, ◌*ℤ◌, not, Bool, List, [], ◌∷◌, All, IfSome, Option, Some, None, ⊤, map, nat_lt, sum_by, length, get_or, if◌then◌else◌, is_none, unsigned_abs}
 use Rattle.std.specs.Ordering.{int_eq}
 use Rattle.th_book.specs.Observed.{Observed}
 use Rattle.th_tables.specs.Rows.{BenchmarkRows, height_of}
 use Rattle.th_points.specs.Ends.{AreBelow}
-use Rattle.std.specs.declared.alloc.Global.{Global}
 use Rattle.th_network.specs.Circulation.{total_by}
 use Rattle.std.specs.List.{position_from, zip}
 use Rattle.th_certificate.specs.Certified.{AreFlows, Certified, HeightRows, stated_height}
 use Rattle.th_network.specs.Limits.{height_limit, max_observations}
 use Rattle.th_checker.specs.Verdicts.{if_found, unless}
 use Rattle.th_checker.specs.declared.maps.Maps.{Maps}
+use Rattle.th_checker.specs.declared.maps.SpanHeights.{SpanHeights}
+use Rattle.th_checker.specs.declared.maps.SpanHeights.TheVariants.{Absent, Listed}
 use Rattle.th_checker.specs.declared.verdicts.Reason.TheVariants.{NotSlack, WrongCost, LowNotSlack, HighNotSlack}
 use Rattle.th_checker.specs.declared.verdicts.Verdict.{Verdict}
 use Rattle.th_checker.specs.declared.verdicts.Verdict.TheVariants.{Yes}
@@ -65,10 +66,10 @@ AreListed names None (Some heights) = ⊥
 AreListed names (Some rows) None = ⊥
 AreListed names (Some rows) (Some heights) = AreStated names rows heights
 
--- the list of an optional map of heights
-abbrev pub listed_in : Option (Vec ℤ Global) → Option (List ℤ)
-listed_in None = None
-listed_in (Some heights) = Some heights.items
+-- the list of the heights of a span, if there is one
+abbrev pub listed_in : SpanHeights → Option (List ℤ)
+listed_in Absent = None
+listed_in (Listed heights) = Some heights.items
 
 -- the heights of a certificate at the points
 pub record AreMaps (names : List (List ℕ)) (certificate : Certified) (maps : Maps) : Type 0 where

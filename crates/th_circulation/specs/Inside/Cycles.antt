@@ -5,12 +5,12 @@ use Rattle.th_network.specs.Circulation.{total_by}
 use Rattle.th_network.specs.declared.links.Link.{Link}
 use Rattle.th_circulation.specs.declared.slots.Slot.{Slot}
 
--- the vertices where a slot begins and to which it leads, on its link
-abbrev pub start_of : Slot → Link → ℕ
-start_of slot link = if slot.is_forward then link.tail else link.head
+-- the tail and the head of a slot on its link
+abbrev pub tail_of : Slot → Link → ℕ
+tail_of slot link = if slot.is_forward then link.tail else link.head
 
-abbrev pub finish_of : Slot → Link → ℕ
-finish_of slot link = if slot.is_forward then link.head else link.tail
+abbrev pub head_of : Slot → Link → ℕ
+head_of slot link = if slot.is_forward then link.head else link.tail
 
 -- the link of a slot; a link from vertex 0 to itself if there is none
 abbrev pub link_at : List Link → Slot → Link
@@ -19,19 +19,19 @@ link_at links slot = slice_index_or links slot.place (record { tail = 0; head = 
 -- the slots lead from one vertex to another, each beginning where the one before it ended
 abbrev pub IsWalk : List Link → ℕ → List Slot → ℕ → Type 0
 IsWalk links from [] to = from ≡ to
-IsWalk links from (slot ∷ slots) to = IsSomeAnd (slice_get links slot.place) (λ link. (start_of slot link ≡ from) × IsWalk links (finish_of slot link) slots to)
+IsWalk links from (slot ∷ slots) to = IsSomeAnd (slice_get links slot.place) (λ link. (tail_of slot link ≡ from) × IsWalk links (head_of slot link) slots to)
 
 -- what an amount sent along a slot adds to the flow at the slot's place
 abbrev pub change : ℕ → Slot → ℤ
 change amount slot = if slot.is_forward then pos amount else (pos 0 -ℤ pos amount)
 
 -- the flow at the place of a slot, after an amount was sent along the slot
-abbrev pub raised : ℕ → List ℤ → Slot → ℤ
-raised amount flows slot = slice_index_or flows slot.place (pos 0) +ℤ change amount slot
+abbrev pub flow_after : ℕ → List ℤ → Slot → ℤ
+flow_after amount flows slot = slice_index_or flows slot.place (pos 0) +ℤ change amount slot
 
 -- the flows after an amount was sent along a slot
 abbrev pub send : ℕ → List ℤ → Slot → List ℤ
-send amount flows slot = slice_set flows slot.place (raised amount flows slot)
+send amount flows slot = slice_set flows slot.place (flow_after amount flows slot)
 
 -- the flows after an amount was sent along each slot
 abbrev pub sent : ℕ → List ℤ → List Slot → List ℤ
@@ -39,7 +39,7 @@ sent amount flows slots = fold (send amount) flows slots
 
 -- a slot has room for an amount: with it, the flow is at most the link's weight in size
 abbrev pub HasRoom : List ℕ → ℕ → List ℤ → Slot → Type 0
-HasRoom weights amount flows slot = unsigned_abs (raised amount flows slot) ≤ slice_index_or weights slot.place 0
+HasRoom weights amount flows slot = unsigned_abs (flow_after amount flows slot) ≤ slice_index_or weights slot.place 0
 
 -- each slot has room for an amount, after it was sent along the slots before
 abbrev pub HasRooms : List ℕ → ℕ → List ℤ → List Slot → Type 0
@@ -48,7 +48,7 @@ HasRooms weights amount flows (slot ∷ slots) = HasRoom weights amount flows sl
 
 -- the vertex that a slot leads to
 abbrev pub leads_to : List Link → Slot → ℕ
-leads_to links slot = finish_of slot (link_at links slot)
+leads_to links slot = head_of slot (link_at links slot)
 
 -- the cost of a slot: the difference of its link, negated if the slot goes along the link
 abbrev pub slot_cost : List ℤ → Slot → ℤ

@@ -1,4 +1,4 @@
-use Rattle.std.specs.Prelude.{◌≡◌, ℕ, ◌-◌, ◌<◌, ◌≤◌, ℤ, pos, ◌+ℤ◌, ◌-ℤ◌, ◌≤ℤ◌, Bool, if◌then◌else◌, List, All, sum_by, unsigned_abs}
+use Rattle.std.specs.Prelude.{◌≡◌, ℕ, ◌<◌, ◌≤◌, ℤ, pos, ◌+ℤ◌, ◌-ℤ◌, ◌≤ℤ◌, List, All, sum_by, unsigned_abs}
 use Rattle.th_search.specs.declared.arcs.Arc.{Arc}
 use Rattle.th_search.specs.Potentials.{value_at}
 use Rattle.th_search.specs.Walks.{IsArc}
@@ -24,7 +24,7 @@ pub record AreTight (vertices : ℕ) (arcs : List Arc) : Type 0 where
   pub some : 1 ≤ vertices
   pub few : vertices ≤ max_vertices
   pub ends : All (IsArc vertices) arcs
-  pub known : ¬ ((numbers : ℕ → ℤ) → ¬ KeepCosts arcs numbers)
+  pub known : ∥ ((numbers : ℕ → ℤ) × KeepCosts arcs numbers) ∥₁
   pub near : (numbers : ℕ → ℤ) → KeepCosts arcs numbers → (vertex : ℕ) → vertex < vertices → unsigned_abs (numbers vertex) ≤ farthest
 
 -- a label for each vertex, which is at least its number in all numbers that keep the costs
@@ -42,7 +42,3 @@ pub record AreDistances (vertices : ℕ) (arcs : List Arc) (distances : List ℤ
 -- how far the labels can still fall in total
 abbrev pub room : List ℤ → ℕ
 room labels = sum_by (λ label. unsigned_abs (label +ℤ pos farthest)) labels
-
--- the place of a step among `size` places, from the front or from the back
-abbrev pub place_at : Bool → ℕ → ℕ → ℕ
-place_at backwards size step = if backwards then size - 1 - step else step

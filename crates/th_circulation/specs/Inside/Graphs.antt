@@ -6,7 +6,7 @@ use Rattle.th_search.specs.Limits.{max_vertices}
 use Rattle.th_tables.specs.Limits.{max_weight}
 
 -- a graph within the limits of a network: at least one vertex, links between the vertices, and a weight for each link
-pub record IsGraph (vertices : ℕ) (links : List Link) (weights : List ℕ) : Type 0 where
+pub record IsLinkGraph (vertices : ℕ) (links : List Link) (weights : List ℕ) : Type 0 where
   pub some : 1 ≤ vertices
   pub few_vertices : vertices ≤ max_vertices
   pub few_links : length links ≤ max_observations

@@ -7,8 +7,8 @@ use Rattle.th_network.specs.Links.{largest_link_difference}
 use Rattle.th_circulation.specs.Inside.Bounds.{height_bound}
 use Rattle.th_circulation.specs.Inside.Flows.{AreBounded, residual}
 use Rattle.th_circulation.specs.Inside.Graphs.{AreWithin}
-use Rattle.th_circulation.specs.Inside.Cycles.{HasRoom, finish_of, link_at, start_of}
-use Rattle.th_circulation.specs.declared.graphs.Graph.{Graph}
+use Rattle.th_circulation.specs.Inside.Cycles.{HasRoom, head_of, link_at, tail_of}
+use Rattle.th_circulation.specs.declared.graphs.LinkGraph.{LinkGraph}
 use Rattle.th_circulation.specs.declared.listings.Listing.{Listing}
 use Rattle.th_circulation.specs.declared.slots.Slot.{Slot}
 
@@ -17,7 +17,7 @@ abbrev pub arc_of : List Link → List ℤ → (ℕ → ℤ) → Slot → Arc
 arc_of links diffs heights slot =
     let link = link_at links slot in
     let rest = residual heights link (slice_index_or diffs slot.place (pos 0)) in
-    record { tail = start_of slot link; head = finish_of slot link; cost = if slot.is_forward then (pos 0 -ℤ rest) else rest }
+    record { tail = tail_of slot link; head = head_of slot link; cost = if slot.is_forward then (pos 0 -ℤ rest) else rest }
 
 -- the arcs are those of the slots, each of which has a link and room
 pub record AreResidual (links : List Link) (weights : List ℕ) (diffs : List ℤ) (heights : ℕ → ℤ) (flows : List ℤ) (arcs : List Arc) (slots : List Slot) : Type 0 where
@@ -37,18 +37,25 @@ slot_at slots number = slice_index_or slots number (record { place = 0; is_forwa
 abbrev pub slots_at : List Slot → List ℕ → List Slot
 slots_at slots numbers = map (slot_at slots) numbers
 
+-- flows within the weights, slots that each have a link and room, and numbers of some of them
+pub record AreOpen (graph : LinkGraph) (slots : List Slot) (numbers : List ℕ) (flows : List ℤ) : Type 0 where
+  pub bounded : AreBounded graph.weights.now flows
+  pub within : All (λ slot. slot.place < length graph.links.now) slots
+  pub room : All (HasRoom graph.weights.now 1 flows) slots
+  pub numbered : All (λ number. number < length slots) numbers
+
 -- differences, heights and flows of a graph from which residual arcs can be listed
-pub record AreListable (graph : Graph) (diffs heights flows : List ℤ) : Type 0 where
+pub record AreListable (graph : LinkGraph) (diffs heights flows : List ℤ) : Type 0 where
   pub near_differences : AreWithin (length graph.links.now) largest_link_difference diffs
   pub near_heights : AreWithin graph.vertices height_bound heights
   pub bounded : AreBounded graph.weights.now flows
 
 -- the listing has residual arcs of the graph, with their reduced costs at these heights
-abbrev pub Lists : Graph → List ℤ → List ℤ → List ℤ → Listing → Type 0
+abbrev pub Lists : LinkGraph → List ℤ → List ℤ → List ℤ → Listing → Type 0
 Lists graph diffs heights flows listing = AreResidual graph.links.now graph.weights.now diffs (value_at heights) flows listing.arcs.items listing.slots.items
 
 -- the listing has capacity for all residual arcs of a graph
-pub record Fits (graph : Graph) (listing : Listing) : Type 0 where
+pub record Fits (graph : LinkGraph) (listing : Listing) : Type 0 where
   pub arcs : 2 * length graph.links.now ≤ vec_capacity listing.arcs
   pub slots : 2 * length graph.links.now ≤ vec_capacity listing.slots
 

@@ -3,18 +3,18 @@ use Rattle.th_network.specs.Networks.{AreAtPoints, Survey, vertices_of}
 use Rattle.th_search.specs.declared.arcs.Arc.{Arc}
 use Rattle.th_search.specs.Potentials.{value_at}
 use Rattle.th_circulation.specs.Inside.Distances.{AreDistances, opposite}
-use Rattle.th_circulation.specs.Inside.Placed.{ArePlaced}
+use Rattle.th_circulation.specs.Inside.PointHeights.{ArePointHeights}
 
 -- heights in point order: every point that is no benchmark is as far below vertex 0 as its distance over these arcs
 pub record AreBelow (survey : Survey) (arcs : List Arc) (heights : List ℤ) : Type 0 where
   pub distances : List ℤ
   pub long : AreDistances (vertices_of survey) arcs distances
-  pub placed : ArePlaced survey.observations survey.benchmarks (opposite (value_at distances)) heights
+  pub point_heights : ArePointHeights survey.observations survey.benchmarks (opposite (value_at distances)) heights
   pub points : AreAtPoints survey heights
 
 -- heights in point order: every point that is no benchmark is as far above vertex 0 as its distance over these arcs
 pub record AreAbove (survey : Survey) (arcs : List Arc) (heights : List ℤ) : Type 0 where
   pub distances : List ℤ
   pub long : AreDistances (vertices_of survey) arcs distances
-  pub placed : ArePlaced survey.observations survey.benchmarks (value_at distances) heights
+  pub point_heights : ArePointHeights survey.observations survey.benchmarks (value_at distances) heights
   pub points : AreAtPoints survey heights

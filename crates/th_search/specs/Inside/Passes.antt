@@ -1,4 +1,4 @@
-use Rattle.std.specs.Prelude.{ℕ, ◌-◌, ◌<◌, ◌≤◌, All, Bool, ℤ, if◌then◌else◌, List, Option, length}
+use Rattle.std.specs.Prelude.{ℕ, ◌<◌, ◌≤◌, All, ℤ, List, Option, length}
 use Rattle.th_search.specs.Limits.{max_arcs, max_vertices}
 use Rattle.th_search.specs.Walks.{IsArc}
 use Rattle.th_search.specs.Potentials.{IsFeasible}
@@ -13,10 +13,6 @@ abbrev pub IsPass : List Arc → List ℤ → List ℤ → List (Option ℕ) →
 IsPass arcs old new entries Lowered = room new < room old
 IsPass arcs old new entries Done = IsFeasible arcs new × IsForest arcs entries
 IsPass arcs old new entries (Closed vertex) = (vertex < length new) × IsOnCycle arcs entries vertex
-
--- the place of a step among `size` places, from the front or from the back
-abbrev pub place_at : Bool → ℕ → ℕ → ℕ
-place_at backwards size step = if backwards then size - 1 - step else step
 
 -- a pass may begin: the arcs are not too many, their ends have labels, and the entries lead back from every vertex to one that was not entered
 pub record IsReady (all : List Arc) (values : List ℤ) (entries : List (Option ℕ)) : Type 0 where

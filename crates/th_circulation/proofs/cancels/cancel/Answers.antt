@@ -9,4 +9,4 @@ pub slots-init : goal.slots-init
 slots-init c =
     let weights = c.args.graph.now.weights.now in
     let slots = slots_at c.args.slots.now c.args.cycle.now in
-    (c.requires.flows, rooms_from_once c.args.graph.now.links.now weights c.least_room-amount.result c.args.flows.now slots c.requires.flows c.requires.once (recursion_from_All (HasRoom weights c.least_room-amount.result c.args.flows.now) slots c.least_room-amount.ensures.room), refl)
+    (c.requires.ready.bounded, rooms_from_once c.args.graph.now.links.now weights c.least_room-amount.result c.args.flows.now slots c.requires.ready.bounded c.requires.once (recursion_from_All (HasRoom weights c.least_room-amount.result c.args.flows.now) slots c.least_room-amount.ensures.room), refl)

@@ -9,19 +9,19 @@ loop-number-preserved c =
     let i = c.loop-number.number-index in
     let new = c.if-room-least.least in
     let number = get_or c.args.cycle.now i 0 in
-    let within = c.requires.numbers i 0 (omega arith) in
+    let within = c.requires.numbered i 0 (omega arith) in
     let one = (c.room-room.ensures.room 1).0 (c.requires.room number (record { place = 0; is_forward = false }) within) in
     elim c.if-room-least.branch [
       | then-room-least w ↦
           let is = w.least-is in
           let test = w.if-room-least.true in
           let most = c.room-room.ensures.small in
-          (omega (arith, ints), omega (arith, ints), least_more c.args.graph.now.weights.now c.args.flows.now c.args.slots.now c.args.cycle.now i c.loop-number.least new c.requires.flows c.loop-number.invariant.2 ((c.room-room.ensures.room new).1 (omega (arith, ints))) (omega (arith, ints)))
+          (omega (arith, ints), omega (arith, ints), least_more c.args.graph.now.weights.now c.args.flows.now c.args.slots.now c.args.cycle.now i c.loop-number.least new c.requires.bounded c.loop-number.invariant.2 ((c.room-room.ensures.room new).1 (omega (arith, ints))) (omega (arith, ints)))
       | else-room-least w ↦
           let is = w.least-is in
           let test = w.if-room-least.false in
           let most = c.room-room.ensures.small in
-          (omega (arith, ints), omega (arith, ints), least_more c.args.graph.now.weights.now c.args.flows.now c.args.slots.now c.args.cycle.now i c.loop-number.least new c.requires.flows c.loop-number.invariant.2 ((c.room-room.ensures.room new).1 (omega (arith, ints))) (omega (arith, ints)))
+          (omega (arith, ints), omega (arith, ints), least_more c.args.graph.now.weights.now c.args.flows.now c.args.slots.now c.args.cycle.now i c.loop-number.least new c.requires.bounded c.loop-number.invariant.2 ((c.room-room.ensures.room new).1 (omega (arith, ints))) (omega (arith, ints)))
     ]
 
 pub returns-clause-room : goal.returns-clause-room

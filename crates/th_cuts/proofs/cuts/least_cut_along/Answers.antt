@@ -1,5 +1,5 @@
 use Rattle.std.proofs.Common.{◌≡◌, ℤ, List, ◌<◌, length, sym, subst, ◌∙◌}
-use Rattle.th_cuts.specs.declared.trees.Step.{Step}
+use Rattle.th_cuts.specs.declared.trees.WayStep.{WayStep}
 use Rattle.th_cuts.specs.Inside.Flows.{IsFlow}
 use Rattle.th_cuts.specs.Inside.Trees.{AreApart, AreSteps, step_at}
 use Rattle.th_cuts.proofs.FlowLemmas.{value_most}
@@ -15,17 +15,17 @@ send-requires-clause-steps c =
 pub send-requires-clause-apart : goal.send-requires-clause-apart
 send-requires-clause-apart c =
     let graph = c.args.graph.now in
-    subst (λ (steps : List Step). AreApart steps) (sym c.deref-in-Some.ensures.value) (tree_apart graph.vertices graph.edges.now c.deref-then-flow-before.result.now graph.source c.in_ok-tree.tree.steps.items c.in_ok-tree.tree.places.items c.in_ok-tree.ensures.tree)
+    subst (λ (steps : List WayStep). AreApart steps) (sym c.deref-in-Some.ensures.value) (tree_apart graph.vertices graph.edges.now c.deref-then-flow-before.result.now graph.source c.in_ok-tree.tree.steps.items c.in_ok-tree.tree.places.items c.in_ok-tree.ensures.tree)
 
 pub send-requires-clause-within : goal.send-requires-clause-within
 send-requires-clause-within c =
     let placed = c.in_ok-tree.ensures.tree.placed c.args.graph.now.sink c.in-Some.last (sym c.place_of.ensures ∙ c.in-Some.is) in
-    subst (λ (steps : List Step). c.in-Some.last < length steps) (sym c.deref-in-Some.ensures.value) placed.0
+    subst (λ (steps : List WayStep). c.in-Some.last < length steps) (sym c.deref-in-Some.ensures.value) placed.0
 
 pub send-requires-clause-last : goal.send-requires-clause-last
 send-requires-clause-last c =
     let placed = c.in_ok-tree.ensures.tree.placed c.args.graph.now.sink c.in-Some.last (sym c.place_of.ensures ∙ c.in-Some.is) in
-    subst (λ (steps : List Step). (step_at steps c.in-Some.last).vertex ≡ c.args.graph.now.sink) (sym c.deref-in-Some.ensures.value) placed.1
+    subst (λ (steps : List WayStep). (step_at steps c.in-Some.last).vertex ≡ c.args.graph.now.sink) (sym c.deref-in-Some.ensures.value) placed.1
 
 pub returns-in-None-clause-least : goal.returns-in-None-clause-least
 returns-in-None-clause-least c inside in_it out =

@@ -1,5 +1,5 @@
 use Rattle.std.proofs.lemmas.Int.{ints}
-use Rattle.std.proofs.Common.{List, ℕ, ℤ, All, length, eqb, map, take, drop, ◌++◌, ◌<◌, ◌-ℤ◌, ap, sym, ◌∙◌, subst, arith}
+use Rattle.std.proofs.Common.{List, ℕ, ℤ, All, length, eqb, map, take, drop, ◌++◌, ◌-ℤ◌, ap, sym, ◌∙◌, subst, arith}
 use Rattle.std.specs.List.{IsDistinct}
 use Rattle.th_search.specs.Answers.{IsAnswer}
 use Rattle.th_search.specs.Potentials.{ArePotentials, value_at}
@@ -10,7 +10,7 @@ use Rattle.th_circulation.specs.declared.slots.Slot.{Slot}
 use Rattle.th_circulation.specs.Inside.Cycles.{leads_to}
 use Rattle.th_circulation.specs.Inside.Flows.{ShowsLinks, residuals}
 use Rattle.th_circulation.specs.Inside.Graphs.{AreWithin}
-use Rattle.th_circulation.specs.Inside.Listings.{HasAllBefore, slots_at}
+use Rattle.th_circulation.specs.Inside.Listings.{AreOpen, HasAllBefore, slots_at}
 use Rattle.th_circulation.proofs.AdvanceLemmas.{all_listed, sent_flow, sent_gain_more, sent_retold}
 use Rattle.th_circulation.proofs.ArcLemmas.{arcs_are, potentials_within}
 use Rattle.th_circulation.proofs.HeightLemmas.{written}
@@ -27,14 +27,22 @@ search-requires-clause-arcs g c =
     let residual = c.list_next.ensures.listed in
     subst (All (IsArc graph.vertices)) (sym c.deref.ensures.value) (arcs_are graph.vertices graph.links.now graph.weights.now work.differences.items next.heights.items work.flows.items next.listing.arcs.items next.listing.slots.items graph.graph ready.differences c.list_next.ensures.ready.heights residual)
 
-pub cancel-requires-clause-numbers : goal.cancel-requires-clause-numbers
-cancel-requires-clause-numbers g c =
+pub cancel-requires-clause-ready : goal.cancel-requires-clause-ready
+cancel-requires-clause-ready g c =
     let graph = c.args.graph.now in
     let work = c.args.self.now in
     let next = c.list_next.new.self in
     let residual = c.list_next.ensures.listed in
     let negative = subst (λ (arcs : List Arc). IsNegativeCycle arcs c.in-Cycle.cycle.items) c.deref.ensures.value (subst (IsAnswer graph.vertices c.deref.result.now) c.in-Cycle.is c.in_ok-cycle.ensures.answer) in
-    subst (λ (slots : List Slot). All (λ number. number < length slots) c.deref-in-Cycle-2.result.now) (sym c.deref-in-Cycle.ensures.value) (subst (All (λ number. number < length next.listing.slots.items)) (sym c.deref-in-Cycle-2.ensures.value) (numbers_of_cycle graph.links.now graph.weights.now work.differences.items (value_at next.heights.items) work.flows.items next.listing.arcs.items next.listing.slots.items c.in-Cycle.cycle.items residual negative))
+    let ready : AreOpen graph next.listing.slots.items c.in-Cycle.cycle.items work.flows.items = record {
+      bounded = c.requires.ready.flow.bounded;
+      within = residual.within;
+      room = residual.room;
+      numbered = numbers_of_cycle graph.links.now graph.weights.now work.differences.items (value_at next.heights.items) work.flows.items next.listing.arcs.items next.listing.slots.items c.in-Cycle.cycle.items residual negative;
+    } in
+    subst (λ (slots : List Slot). AreOpen graph slots c.deref-in-Cycle-2.result.now c.deref_mut.result.now) (sym c.deref-in-Cycle.ensures.value) (
+    subst (λ (cycle : List ℕ). AreOpen graph next.listing.slots.items cycle c.deref_mut.result.now) (sym c.deref-in-Cycle-2.ensures.value) (
+    subst (AreOpen graph next.listing.slots.items c.in-Cycle.cycle.items) (sym (c.deref_mut.ensures.value ∙ c.list_next.ensures.flows)) ready))
 
 pub cancel-requires-clause-once : goal.cancel-requires-clause-once
 cancel-requires-clause-once g c =

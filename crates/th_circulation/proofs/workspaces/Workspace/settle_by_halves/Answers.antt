@@ -3,7 +3,7 @@ use Rattle.th_circulation.specs.Limits.{phases}
 use Rattle.th_search.specs.Potentials.{value_at}
 use Rattle.th_network.specs.declared.links.Link.{Link}
 use Rattle.th_circulation.specs.Inside.Flows.{IsFlow, ShowsLinks, gain, residuals}
-use Rattle.th_circulation.specs.Inside.Graphs.{IsGraph}
+use Rattle.th_circulation.specs.Inside.Graphs.{IsLinkGraph}
 use Rattle.th_circulation.specs.Inside.Phases.{differences_in}
 use Rattle.th_circulation.specs.Inside.Workspaces.{AreShownFor, IsNear}
 use Rattle.th_circulation.proofs.PhaseStarts.{few_more, first_rise, next_near, none_near_replicate, phases_more, phases_most, weights_small}
@@ -26,13 +26,13 @@ settle_phase-requires-clause-steps g c =
     omega arith
 
 -- by how much the first phase raises the steps
-first : (vertices : ℕ) (links : List Link) (weights : List ℕ) (flows flows' new diffs : List ℤ) (done now next : ℕ) → IsGraph vertices links weights → diffs ≡ differences_in (phases - 1 - done) links → flows' ≡ flows → (done ≡ 0 → flows ≡ replicate (length links) (pos 0)) → IsFlow links weights new → (gain flows' diffs +ℤ pos (next - now)) ≤ℤ gain new diffs → now ≤ next → done ≡ 0 → next ≤ now + sum weights
+first : (vertices : ℕ) (links : List Link) (weights : List ℕ) (flows flows' new diffs : List ℤ) (done now next : ℕ) → IsLinkGraph vertices links weights → diffs ≡ differences_in (phases - 1 - done) links → flows' ≡ flows → (done ≡ 0 → flows ≡ replicate (length links) (pos 0)) → IsFlow links weights new → (gain flows' diffs +ℤ pos (next - now)) ≤ℤ gain new diffs → now ≤ next → done ≡ 0 → next ≤ now + sum weights
 first vertices links weights flows flows' new diffs done now next graph is kept none flow gained more e =
     let rise = first_rise vertices links weights flows' new diffs (next - now) graph (is ∙ ap (λ (k : ℕ). differences_in (phases - 1 - k) links) e) (kept ∙ none e) flow gained in
     omega arith
 
 -- how many steps there are after one phase more
-few_after : (vertices : ℕ) (links : List Link) (weights : List ℕ) (flows flows' new diffs : List ℤ) (done start now next : ℕ) → IsGraph vertices links weights → diffs ≡ differences_in (phases - 1 - done) links → flows' ≡ flows → (done ≡ 0 → flows ≡ replicate (length links) (pos 0)) → IsFlow links weights new → (gain flows' diffs +ℤ pos (next - now)) ≤ℤ gain new diffs → now ≤ next → next ≤ now + 2 * sum weights → now ≤ start + 2 * sum weights * done → (0 < done → now + sum weights ≤ start + 2 * sum weights * done) → next + sum weights ≤ start + 2 * sum weights * (done + 1)
+few_after : (vertices : ℕ) (links : List Link) (weights : List ℕ) (flows flows' new diffs : List ℤ) (done start now next : ℕ) → IsLinkGraph vertices links weights → diffs ≡ differences_in (phases - 1 - done) links → flows' ≡ flows → (done ≡ 0 → flows ≡ replicate (length links) (pos 0)) → IsFlow links weights new → (gain flows' diffs +ℤ pos (next - now)) ≤ℤ gain new diffs → now ≤ next → next ≤ now + 2 * sum weights → now ≤ start + 2 * sum weights * done → (0 < done → now + sum weights ≤ start + 2 * sum weights * done) → next + sum weights ≤ start + 2 * sum weights * (done + 1)
 few_after vertices links weights flows flows' new diffs done start now next graph is kept none flow gained more rise few fewer =
     few_more (sum weights) done start now next few more rise (first vertices links weights flows flows' new diffs done now next graph is kept none flow gained more) fewer
 

@@ -11,7 +11,7 @@ use Rattle.th_points.specs.Points.{points}
 use Rattle.th_network.specs.Vertices.{free_before, is_free, vertex_count, vertex_of}
 use Rattle.th_network.proofs.NetworkLemmas.{vertex_by_place}
 use Rattle.th_search.specs.Potentials.{value_at}
-use Rattle.th_circulation.specs.Inside.Placed.{placed}
+use Rattle.th_circulation.specs.Inside.PointHeights.{point_height}
 
 -- what holds of each place before, and of the next, holds of each place up to it
 pub set_more : (P : ℕ → ℤ → Type 0) (xs : List ℤ) (i : ℕ) (x : ℤ) → i < length xs → ((k : ℕ) → k < i → P k (value_at xs k)) → P i x → (k : ℕ) → k < i + 1 → P k (value_at (slice_set xs i x) k)
@@ -23,13 +23,13 @@ found_at benchmarks names k name found e at =
     let f = height_of benchmarks in
     sym (ap f (get_or_from_slice_get names k name name at)) ∙ sym (get_or-map f names k name found (slice_get_within names k name at)) ∙ get_or_from_slice_get (map f names) k found found e
 
--- a benchmark is placed at its own height
-pub placed_fixed : (observations : List Observed) (benchmarks : BenchmarkRows) (heights : ℕ → ℤ) (name : List ℕ) (height : ℤ) → height_of benchmarks name ≡ Some height → height ≡ placed observations benchmarks heights name
-placed_fixed observations benchmarks heights name height e = sym (ap (λ (found : Option ℤ). unwrap_or found (heights (vertex_of observations benchmarks name) -ℤ heights 0)) e)
+-- a benchmark has its own height
+pub point_height_fixed : (observations : List Observed) (benchmarks : BenchmarkRows) (heights : ℕ → ℤ) (name : List ℕ) (height : ℤ) → height_of benchmarks name ≡ Some height → height ≡ point_height observations benchmarks heights name
+point_height_fixed observations benchmarks heights name height e = sym (ap (λ (found : Option ℤ). unwrap_or found (heights (vertex_of observations benchmarks name) -ℤ heights 0)) e)
 
--- another point is placed by its vertex
-pub placed_free : (observations : List Observed) (benchmarks : BenchmarkRows) (heights : ℕ → ℤ) (k : ℕ) (name : List ℕ) → slice_get (points observations benchmarks) k ≡ Some name → height_of benchmarks name ≡ None → heights (free_before benchmarks (points observations benchmarks) k + 1) -ℤ heights 0 ≡ placed observations benchmarks heights name
-placed_free observations benchmarks heights k name at e =
+-- another point has its height by its vertex
+pub point_height_free : (observations : List Observed) (benchmarks : BenchmarkRows) (heights : ℕ → ℤ) (k : ℕ) (name : List ℕ) → slice_get (points observations benchmarks) k ≡ Some name → height_of benchmarks name ≡ None → heights (free_before benchmarks (points observations benchmarks) k + 1) -ℤ heights 0 ≡ point_height observations benchmarks heights name
+point_height_free observations benchmarks heights k name at e =
     let free = ap is_none e in
     let vertex = vertex_by_place observations benchmarks k name at ∙ ap (λ (b : Bool). if b then free_before benchmarks (points observations benchmarks) k + 1 else 0) free in
     sym (ap (λ (found : Option ℤ). unwrap_or found (heights (vertex_of observations benchmarks name) -ℤ heights 0)) e ∙ ap (λ (v : ℕ). heights v -ℤ heights 0) vertex)

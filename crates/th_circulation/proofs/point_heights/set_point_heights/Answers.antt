@@ -4,11 +4,11 @@ use Rattle.std.proofs.lemmas.Int.{ints}
 use Rattle.th_network.specs.Limits.{height_limit}
 use Rattle.th_network.specs.Networks.{points_of}
 use Rattle.th_search.specs.Potentials.{value_at}
-use Rattle.th_circulation.specs.Inside.Placed.{placed}
+use Rattle.th_circulation.specs.Inside.PointHeights.{point_height}
 use Rattle.th_circulation.proofs.HeightLemmas.{all_within}
-use Rattle.th_circulation.proofs.PlacedLemmas.{found_at, free_fixed, free_more, free_most, placed_fixed, placed_free, set_more}
-use Rattle.th_circulation.proofs.placed.place.Goals as goal
-use Rattle.th_circulation.proofs.placed.place.Goals.{in-Some, in-None}
+use Rattle.th_circulation.proofs.PointHeightLemmas.{found_at, free_fixed, free_more, free_most, point_height_fixed, point_height_free, set_more}
+use Rattle.th_circulation.proofs.point_heights.set_point_heights.Goals as goal
+use Rattle.th_circulation.proofs.point_heights.set_point_heights.Goals.{in-Some, in-None}
 
 pub bounds-heights-vertex : goal.bounds-heights-vertex
 bounds-heights-vertex c =
@@ -26,7 +26,7 @@ loop-place-preserved c =
     let test = c.loop-place-test.true in
     let same = c.loop-place.auto.listed in
     let place : i < length c.loop-place.listed = omega arith in
-    let Right : ℕ → ℤ → Type 0 = λ k z. (name : List ℕ) → slice_get (points_of network) k ≡ Some name → z ≡ placed network.observations network.benchmarks (value_at c.args.heights.now) name in
+    let Right : ℕ → ℤ → Type 0 = λ k z. (name : List ℕ) → slice_get (points_of network) k ≡ Some name → z ≡ point_height network.observations network.benchmarks (value_at c.args.heights.now) name in
     let Small : ℕ → ℤ → Type 0 = λ k z. unsigned_abs z < height_limit in
     elim c.match-fixed.branch [
       | in-Some w ↦
@@ -35,7 +35,7 @@ loop-place-preserved c =
           let is = w.listed-is in
           let vertex = w.vertex-is in
           let kept = free_fixed network.benchmarks (points_of network) i w.in-Some.height found in
-          (omega arith, set_more Small c.loop-place.listed i _ place inv.1 (omega (arith, ints)), set_more Right c.loop-place.listed i _ place inv.2 (λ name at. let right = placed_fixed network.observations network.benchmarks (value_at c.args.heights.now) name w.in-Some.height (found_at network.benchmarks (points_of network) i name (Some w.in-Some.height) found at) in omega (arith, ints)))
+          (omega arith, set_more Small c.loop-place.listed i _ place inv.1 (omega (arith, ints)), set_more Right c.loop-place.listed i _ place inv.2 (λ name at. let right = point_height_fixed network.observations network.benchmarks (value_at c.args.heights.now) name w.in-Some.height (found_at network.benchmarks (points_of network) i name (Some w.in-Some.height) found at) in omega (arith, ints)))
       | in-None w ↦
           let found = c.fixed.ensures.height ∙ ap Some w.in-None.is in
           let is = w.listed-is in
@@ -46,11 +46,11 @@ loop-place-preserved c =
           let high = c.requires.heights.small (c.loop-place.vertex + 1) (pos 0) (omega arith) in
           let level = c.requires.heights.small 0 (pos 0) (omega arith) in
           let rank = ap (λ (v : ℕ). value_at c.args.heights.now (v + 1) -ℤ value_at c.args.heights.now 0) inv.0 in
-          (omega arith, set_more Small c.loop-place.listed i _ place inv.1 (omega (arith, ints)), set_more Right c.loop-place.listed i _ place inv.2 (λ name at. let right = placed_free network.observations network.benchmarks (value_at c.args.heights.now) i name at (found_at network.benchmarks (points_of network) i name None found at) in omega (arith, ints)))
+          (omega arith, set_more Small c.loop-place.listed i _ place inv.1 (omega (arith, ints)), set_more Right c.loop-place.listed i _ place inv.2 (λ name at. let right = point_height_free network.observations network.benchmarks (value_at c.args.heights.now) i name at (found_at network.benchmarks (points_of network) i name None found at) in omega (arith, ints)))
     ]
 
-pub returns-clause-placed : goal.returns-clause-placed
-returns-clause-placed c = λ k name at. let test = c.loop-place-test.false in let within = slice_get_within (points_of c.args.network.now) k name at in let each = c.requires.each in let same = c.loop-place.auto.listed in c.loop-place.invariant.2 k (omega arith) name at
+pub returns-clause-point_heights : goal.returns-clause-point_heights
+returns-clause-point_heights c = λ k name at. let test = c.loop-place-test.false in let within = slice_get_within (points_of c.args.network.now) k name at in let each = c.requires.each in let same = c.loop-place.auto.listed in c.loop-place.invariant.2 k (omega arith) name at
 
 pub returns-clause-in_range : goal.returns-clause-in_range
 returns-clause-in_range c =

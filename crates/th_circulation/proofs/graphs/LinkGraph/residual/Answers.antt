@@ -1,7 +1,7 @@
 use Rattle.std.proofs.Common.{arith}
 use Rattle.std.proofs.lemmas.Int.{ints}
 use Rattle.th_circulation.proofs.GraphLemmas.{near_at}
-use Rattle.th_circulation.proofs.graphs.Graph.residual.Goals as goal
+use Rattle.th_circulation.proofs.graphs.LinkGraph.residual.Goals as goal
 
 pub overflow_sub-result : goal.overflow_sub-result
 overflow_sub-result c =

@@ -2,7 +2,7 @@ use Rattle.std.proofs.Common.{pos, ◌-ℤ◌, if◌then◌else◌, Bool, ap, ar
 use Rattle.std.proofs.lemmas.Int.{ints}
 use Rattle.th_circulation.proofs.CycleLemmas.{set_bounded}
 use Rattle.th_circulation.proofs.GraphLemmas.{flows_long, light_at}
-use Rattle.th_circulation.proofs.cancels.raise.Goals as goal
+use Rattle.th_circulation.proofs.cancels.send_along.Goals as goal
 
 pub slice_copy_out-flows : goal.slice_copy_out-flows
 slice_copy_out-flows c =

@@ -2,7 +2,7 @@ use Rattle.std.proofs.Common.{pos, ◌+ℤ◌, ◌-ℤ◌, if◌then◌else◌, 
 use Rattle.std.proofs.lemmas.Int.{ints}
 use Rattle.std.specs.Prelude.{slice_index_or}
 use Rattle.th_circulation.proofs.GraphLemmas.{flows_long, light_at, room_is}
-use Rattle.th_circulation.proofs.graphs.Graph.room.Goals as goal
+use Rattle.th_circulation.proofs.graphs.LinkGraph.room.Goals as goal
 
 pub bounds-flows-slot : goal.bounds-flows-slot
 bounds-flows-slot c =
