@@ -7,7 +7,7 @@ BOOK ?= examples/building_site.gsi
 LOG := build.log
 
 .PHONY: help run list toolchain build built calls check test gate examples statuses killed completions documents \
-	made-up guides reserved compare office mutated each-byte memory attacks hostile bench install uninstall clean
+	made-up edits guides reserved compare office mutated each-byte memory attacks hostile bench install uninstall clean
 
 help:
 	@echo 'make run       prove and build the program, adjust an example project, show its report and check its certificate'
@@ -22,6 +22,7 @@ help:
 	@echo 'make completions  test the completions for bash, zsh and fish'
 	@echo 'make documents test the pages: commands, links, sizes, and docs/THEOREM.md against the definitions'
 	@echo 'make made-up   fail where product code creates an allocation failure itself, but in the listed places'
+	@echo 'make edits     fail where an edit of must-fail/ or attacks/ no longer fits the code'
 	@echo 'make guides    run the tests of the solver with guides that are no help (some minutes)'
 	@echo 'make reserved  run the built program with little room to reserve memory, on small and on full inputs'
 	@echo 'make compare   compare the built program with the second reader on mutated books (BOOKS=$(BOOKS) SEED=$(SEED))'
@@ -61,10 +62,10 @@ calls:
 check:
 	@echo 'proving what changed; the log is $(LOG)'
 	@rt all check > $(LOG) 2>&1 || { tail -n 40 $(LOG); exit 1; }
-	@$(MAKE) --no-print-directory build calls examples statuses killed completions documents made-up reserved compare office mutated memory
+	@$(MAKE) --no-print-directory build calls examples statuses killed completions documents made-up edits reserved compare office mutated memory
 
 # The gate leaves the program that it proved and built, so nothing is proved again after it.
-test: gate examples statuses killed completions documents made-up guides reserved compare office mutated memory
+test: gate examples statuses killed completions documents made-up edits guides reserved compare office mutated memory
 
 gate:
 	@rt ci
@@ -87,6 +88,9 @@ documents: built
 
 made-up:
 	@tests/no_memory_made_up
+
+edits:
+	@tests/edits
 
 guides:
 	@tests/bad_guides/run

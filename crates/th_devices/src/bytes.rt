@@ -6,9 +6,9 @@ use crate::devices::Failed;
 use std::io;
 use std::io::Read;
 
-/// How many bytes at most one read takes. They go through an array, since of a read that fails the
-/// system does not say that it left the slice.
-const CHUNK: usize = 4_096;
+/// The most bytes that one read of a file or a stream takes. They go through an array, since the
+/// system does not promise that a read that fails leaves the slice as it was.
+const MAX_READ: usize = 4_096;
 
 /// Copies the front of `from` over the front of `into`, at most `most` bytes, and says how many.
 pub(crate) fn copy_front(from: &[u8], most: usize, into: &mut [u8]) -> usize
@@ -24,8 +24,8 @@ pub(crate) fn copy_front(from: &[u8], most: usize, into: &mut [u8]) -> usize
 pub(crate) fn read_some<T: Read>(reader: &mut T, into: &mut [u8]) -> Result<usize, Failed>
     ensures { Gives (T.remaining reader.old) (T.remaining reader.new) into.old into.new result }
 {
-    let mut chunk = [0u8; CHUNK];
-    let asked = CHUNK.min(into.len());
+    let mut chunk = [0u8; MAX_READ];
+    let asked = MAX_READ.min(into.len());
     let count = reader.read(&mut chunk[..asked]).map_err(|_| Failed)?;
     Ok(copy_front(&chunk[..count], count, into))
 }

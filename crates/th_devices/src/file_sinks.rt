@@ -1,7 +1,7 @@
 //! Real files as sinks. The bytes go to a file beside the named one, which takes the name when it
 //! is finished. So the name has either the whole text or what it had before. These sinks do not
 //! report their bytes.
-ghost use Rattle.std.specs.Prelude.{◌≡◌, ◌<◌, ◌≤◌, ◌||◌, true, false, is_ok, is_some, None, IfOk, OnOk, IsErr, length, option_and_then};
+ghost use Rattle.std.specs.Prelude.{◌≡◌, ◌<◌, ◌||◌, true, false, is_ok, is_some, None, IfOk, OnOk, IsErr, option_and_then};
 ghost use Rattle.std.specs.Io.KnownBytes.{Keeps};
 ghost use Rattle.th_devices.specs.Devices.{IsBegun, IsFinish, IsMade, IsWrite, Takes, untold};
 ghost use Rattle.th_devices.specs.Files.{TakesBytes};

@@ -1,7 +1,8 @@
 //! A source in memory that owns its bytes.
-ghost use Rattle.std.specs.Prelude.{◌≤◌, IfSome, vec_len};
-ghost use Rattle.th_devices.specs.Devices.{Gives, IsOpened};
-ghost use Rattle.th_devices.specs.Memory.{left_of};
+ghost use Rattle.std.specs.Prelude.{◌≡◌, ◌<◌, ◌≤◌, ◌↔◌, IfSome, IsErr, None, vec_len};
+ghost use Rattle.th_devices.specs.Devices.{Gives, IsOpened, IsRead};
+ghost use Rattle.th_devices.specs.Limits.{call_limit};
+ghost use Rattle.th_devices.specs.Memory.{IsMissing, left_of};
 
 use crate::bytes::copy_front;
 use crate::devices::{Counts, Failed, Source};
@@ -51,7 +52,12 @@ impl MemorySource {
 impl Source for MemorySource {
     ghost state = { λ source. source };
 
-    fn read(&mut self, into: &mut [u8]) -> Result<usize, Failed> {
+    fn read(&mut self, into: &mut [u8]) -> Result<usize, Failed>
+        requires { self.old.counts.calls < call_limit }
+        ensures read { IsRead self.old self.new into.old into.new result }
+        ensures fails_there { IsErr result ↔ IsMissing self.old }
+        ensures missing { IsMissing self.new ↔ IsMissing self.old }
+    {
         let answer = give(&self.text, &mut self.done, self.piece, into);
         self.counts.count(&answer);
         answer
@@ -68,6 +74,7 @@ fn give(
     requires piece { 1 ≤ piece }
     requires inside { IfSome text.now (λ own. done.old ≤ vec_len own) }
     ensures inside { IfSome text.now (λ own. done.new ≤ vec_len own) }
+    ensures fails_there { IsErr result ↔ (text.now ≡ None) }
     ensures gives { Gives (left_of text.now done.old) (left_of text.now done.new)
         into.old into.new result }
 {

@@ -1,6 +1,6 @@
 //! The files and standard streams of the system as a folder.
 ghost use Rattle.std.proofs.Common.{refl};
-ghost use Rattle.std.specs.Prelude.{◌≡◌, false, true, None};
+ghost use Rattle.std.specs.Prelude.{false, true, None};
 
 use crate::folders::{Folder, Origin, Target};
 use std::alloc::{AllocError, Global};

@@ -71,7 +71,7 @@ impl Sink for MemorySink {
 }
 
 /// A folder in memory. Each sink has the same room and takes at most `piece` bytes a write, and each
-/// source gives at most as many a read.
+/// source gives at most as many a read. A source of a file that is not there fails at each read.
 #[derive(Drop)]
 pub struct MemoryFolder {
     files: Files,
