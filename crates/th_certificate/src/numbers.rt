@@ -9,9 +9,6 @@ use crate::faults::CertKind;
 use crate::limits::{MAX_COST_DIGITS, MAX_DIGITS, MAX_FLOWS};
 use th_units::{LenFault, are_digits, parse_metres, short_number};
 
-/// What no cost reaches: the least number of more digits than a cost has.
-const COST_LIMIT: u128 = 1_000_000_000_000_000_000_000_000_000_000;
-
 /// The height that a field has in metres.
 pub(crate) fn height_in(field: &[u8]) -> Result<i64, CertKind>
     ensures { result ≡ height_in field.now }
@@ -76,15 +73,17 @@ fn writes(field: &[u8], number: u32) -> bool
     }
 }
 
-/// The number that digits write, or `COST_LIMIT` where it is larger.
+/// The number that digits write, or the least number of more digits than a cost has, if that is
+/// less.
 fn capped_number(digits: &[u8]) -> u128
     requires { list_all is_digit digits.now ≡ true }
     ensures { result ≡ min (number digits.now) cost_limit }
 {
+    let limit = 10u128.pow(MAX_COST_DIGITS as u32);
     let mut number = 0;
     for digit in digits {
         let more = 10 * number + u128::from(*digit - b'0');
-        number = if more < COST_LIMIT { more } else { COST_LIMIT };
+        number = more.min(limit);
     }
     number
 }
