@@ -8,9 +8,6 @@ use crate::faults::CertKind;
 use crate::limits::{MAX_COST_DIGITS, MAX_DIGITS, MAX_FLOWS};
 use th_units::{LenFault, are_digits, has_minus, parse_metres, short_number, without_sign};
 
-/// The least number that has more digits than a cost may have.
-const COST_LIMIT: u128 = 1_000_000_000_000_000_000_000_000_000_000;
-
 /// Reads a field in metres as a height in units of 10 nm.
 pub(crate) fn height_in(field: &[u8]) -> Result<i64, CertKind>
     ensures { result ≡ height_in field.now }
@@ -75,15 +72,17 @@ fn writes(field: &[u8], number: u32) -> bool
     }
 }
 
-/// The number that digits write, but at most `COST_LIMIT`.
+/// The number that digits write, but at most the least number that has more digits than a cost may
+/// have.
 fn capped_number(digits: &[u8]) -> u128
     requires { list_all is_digit digits.now ≡ true }
     ensures { result ≡ min (number digits.now) cost_limit }
 {
+    let limit = 10u128.pow(MAX_COST_DIGITS as u32);
     let mut number = 0;
     for digit in digits {
         let more = 10 * number + u128::from(*digit - b'0');
-        number = if more < COST_LIMIT { more } else { COST_LIMIT };
+        number = more.min(limit);
     }
     number
 }

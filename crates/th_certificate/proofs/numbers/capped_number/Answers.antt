@@ -1,7 +1,6 @@
 use Rattle.std.proofs.Common.{arith}
 use Rattle.th_units.proofs.Digits.{number_more}
 use Rattle.th_certificate.proofs.numbers.capped_number.Goals as goal
-use Rattle.th_certificate.proofs.numbers.capped_number.Goals.{then-more-lt-COST_LIMIT, else-more-lt-COST_LIMIT}
 
 pub overflow_mul-more : goal.overflow_mul-more
 overflow_mul-more c = omega (arith, c.loop-digit.invariant)
@@ -12,7 +11,4 @@ overflow_add-more c = omega (arith, c.loop-digit.invariant, c.from.ensures, c.ty
 pub loop-digit-preserved : goal.loop-digit-preserved
 loop-digit-preserved c =
     let more = number_more c.args.digits.now c.loop-digit.digit-index c.requires c.loop-digit-test.true in
-    elim c.if-more-lt-COST_LIMIT.branch [
-      | then-more-lt-COST_LIMIT w ↦ omega (arith, more, c.loop-digit.invariant, c.from.ensures)
-      | else-more-lt-COST_LIMIT w ↦ omega (arith, more, c.loop-digit.invariant, c.from.ensures)
-    ]
+    omega (arith, more, c.loop-digit.invariant, c.from.ensures, c.min-number.ensures)
