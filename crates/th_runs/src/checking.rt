@@ -13,7 +13,7 @@ use crate::inputs::certificate_from;
 use crate::outputs::write_out;
 use crate::readers::ObservationReader;
 use crate::refusals::{Input, Output, Refusal};
-use crate::surveys::{Inputs, network_of, read_inputs};
+use crate::surveys::{Survey, network_of, read_inputs};
 use std::alloc::{AllocError, Global};
 use std::marker::Model;
 use th_certificate::Certificate;
@@ -62,10 +62,10 @@ pub fn run_check<B: Source, T: Source, W: Source, C: Source, K: Sink>(
     Ok(judged.verdict)
 }
 
-/// What is checked: the inputs of a run, and a certificate for them.
+/// What is checked: a survey, and a certificate for it.
 #[derive(Drop)]
 struct Stated {
-    inputs: Inputs,
+    survey: Survey,
     certificate: Certificate,
 }
 
@@ -74,7 +74,7 @@ impl Model for Stated {
 
     ghost Value = { Claim };
 
-    ghost view = { λ stated. record { survey = stated.inputs; certificate = stated.certificate } };
+    ghost view = { λ stated. record { survey = stated.survey; certificate = stated.certificate } };
 }
 
 /// Reads the inputs of a check, up to the first that is refused.
@@ -100,7 +100,7 @@ fn read_stated<B: Source, T: Source, W: Source, C: Source>(
     let inputs = read_inputs(alloc, &mut ObservationReader, books, benchmarks, weights)?;
     let certificate = certificate_from(alloc, certificate)?;
     Ok(Stated {
-        inputs,
+        survey: inputs,
         certificate,
     })
 }
@@ -117,21 +117,21 @@ fn judge(alloc: Global, stated: Stated) -> Result<Judged, Refusal>
     ensures { IsOfNetwork stated.survey (IsJudged stated) result }
 {
     let Stated {
-        inputs,
+        survey,
         certificate,
     } = stated;
-    judge_inputs(alloc, inputs, &certificate)
+    judge_survey(alloc, survey, &certificate)
 }
 
-/// The verdict on a certificate for these inputs, or the first fault of their network.
-fn judge_inputs(alloc: Global, inputs: Inputs, certificate: &Certificate) -> Result<Judged, Refusal>
-    ensures { IsOfNetwork inputs
-        (IsJudged (record { survey = inputs; certificate = certificate.now })) result }
+/// The verdict on a certificate for this survey, or the first fault of its network.
+fn judge_survey(alloc: Global, survey: Survey, certificate: &Certificate) -> Result<Judged, Refusal>
+    ensures { IsOfNetwork survey
+        (IsJudged (record { survey = survey; certificate = certificate.now })) result }
 {
-    let Inputs {
+    let Survey {
         observations,
         tables,
-    } = inputs;
+    } = survey;
     let network = network_of(alloc, observations, &tables.benchmarks, &tables.weights)?;
     Ok(judge_network(alloc, &network, certificate)?)
 }

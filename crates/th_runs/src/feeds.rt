@@ -1,5 +1,5 @@
 //! A book that is read in pieces, and what takes them.
-ghost use Rattle.std.specs.Prelude.{◌≡◌, ◌++◌, ◌+◌, ℕ, List, IfSome, IfErr, OnOk, [], length, take};
+ghost use Rattle.std.specs.Prelude.{◌≡◌, ◌++◌, ◌+◌, ℕ, List, IfSome, IfErr, OnOk, take};
 ghost use Rattle.th_book.specs.Limits.{max_book};
 ghost use Rattle.th_runs.specs.Inside.Readers.{AreTaken};
 ghost use Rattle.th_runs.specs.Inputs.{MeetsRefusal, given, owed_for_book};

@@ -10,7 +10,7 @@ ghost use Rattle.th_reliability.specs.SharedMistakes.{IsSharedMistake};
 ghost use Rattle.th_reliability.specs.Sights.{in_sights};
 ghost use Rattle.th_review.specs.Entries.{entries_of, sights_of};
 ghost use Rattle.th_review.specs.Texts.{ReviewOutTexts, bytes_of, found_in};
-ghost use Rattle.th_runs.specs.Inputs.{MakesNetwork, owed_by_sources, surveyed, told_by};
+ghost use Rattle.th_runs.specs.Inputs.{MakesNetwork, owed_by_sources, told_by};
 ghost use Rattle.th_runs.specs.Inside.Refused.{IsOfNetwork};
 ghost use Rattle.th_runs.specs.Reads.{AreRead, AreReady, IsNamed, Reviewing, refused};
 ghost use Rattle.th_runs.specs.Reviewed.{AreFound, AreReviewed, AreReviewsOf, in_order, outputs, sinks_of};
@@ -21,7 +21,7 @@ ghost use Rattle.th_tables.specs.Rows.{AreWeights};
 use crate::outputs::{ReviewOuts, write_review_outs};
 use crate::readers::ReviewReader;
 use crate::refusals::Refusal;
-use crate::surveys::{Inputs, Tables, network_of, read_inputs};
+use crate::surveys::{Survey, network_of, read_inputs};
 use std::alloc::{AllocError, Global};
 use th_circulation::best_heights;
 use th_devices::{Sink, Source};
@@ -77,7 +77,7 @@ pub fn run_review<B: Source, T: Source, W: Source, P: Sink, O: Sink, E: Sink, R:
 /// The texts of what is reviewed, or the first fault of its network.
 fn texts_of(
     alloc: Global,
-    inputs: Inputs,
+    inputs: Survey,
     reviews: &[BookReview],
     spellings: &[Spelling],
     limit: i64,
@@ -87,7 +87,7 @@ fn texts_of(
     ensures { IsOfNetwork inputs (λ texts.
         AreReviewed inputs reviews.now spellings.now limit (bytes_of texts)) result }
 {
-    let Inputs {
+    let Survey {
         observations,
         tables,
     } = inputs;

@@ -1,8 +1,8 @@
 use Rattle.std.proofs.Common.{◌≡◌, ◌∙◌, Err, ap, rules, subst}
-use Rattle.th_network.specs.Networks.{Survey}
-use Rattle.th_runs.specs.Inputs.{TableRows, surveyed}
+use Rattle.th_network.specs.Networks.{Survey, surveyed}
+use Rattle.th_runs.specs.Inputs.{TableRows}
 use Rattle.th_runs.specs.Inside.Refused.{IsNetRefusal}
-use Rattle.th_runs.proofs.checking.judge_inputs.Goals as goal
+use Rattle.th_runs.proofs.adjusting.texts_of.Goals as goal
 
 pub returns-in_err-network : goal.returns-in_err-network
 returns-in_err-network c =
