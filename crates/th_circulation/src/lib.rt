@@ -17,6 +17,7 @@ mod graphs;
 mod limits;
 mod listings;
 mod slots;
+mod states;
 
 // How flows change, phase by phase.
 mod cancels;

@@ -1,12 +1,13 @@
 ghost use Rattle.std.specs.Prelude.{◌≡◌, ◌+◌, ◌*◌, ◌<◌, ◌≤◌, ◌++◌, ◌∷◌, [], Contains, IfOk, length};
 ghost use Rattle.std.specs.Vec.{vec_capacity, vec_len};
 ghost use Rattle.th_circulation.specs.Inside.Cycles.{HasRoom};
-ghost use Rattle.th_circulation.specs.Inside.Listings.{AreListable, Fits, HasAllBefore, KeepsRoom, Lists};
+ghost use Rattle.th_circulation.specs.Inside.Listings.{Fits, HasAllBefore, IsListable, KeepsRoom, Lists};
 ghost use Rattle.th_circulation.specs.declared.slots.Slot.{Slot as ASlot};
 ghost use Rattle.th_network.specs.Limits.{max_observations};
 
 use crate::graphs::LinkGraph;
 use crate::slots::Slot;
+use crate::states::State;
 use std::alloc::{AllocError, Global};
 use th_guide::ResidualArc;
 use th_search::Arc;
@@ -43,45 +44,32 @@ impl Listing {
     }
 
     /// Adds the residual arc of a slot, where it has room.
-    fn list(
-        &mut self,
-        graph: &LinkGraph,
-        differences: &[i64],
-        heights: &[i64],
-        flows: &[i64],
-        slot: Slot,
-    )
+    fn list(&mut self, graph: &LinkGraph, state: &State, slot: Slot)
         requires place { slot.place < length graph.now.links.now }
-        requires from { AreListable graph.now differences.now heights.now flows.now }
+        requires from { IsListable graph.now state.now }
         requires arcs { vec_len self.old.slots < vec_capacity self.old.arcs }
         requires slots { vec_len self.old.slots < vec_capacity self.old.slots }
-        requires listed { Lists graph.now differences.now heights.now flows.now self.old }
+        requires listed { Lists graph.now state.now self.old }
         ensures few { vec_len self.new.slots ≤ vec_len self.old.slots + 1 }
         ensures room { KeepsRoom self.old self.new }
-        ensures listed { Lists graph.now differences.now heights.now flows.now self.new }
-        ensures slot { HasRoom graph.now.weights.now 1 flows.now slot → Contains self.new.slots.items slot }
+        ensures listed { Lists graph.now state.now self.new }
+        ensures slot { HasRoom graph.now.weights.now 1 state.now.flows.items slot → Contains self.new.slots.items slot }
         ensures kept { (other : ASlot) → Contains self.old.slots.items other
             → Contains self.new.slots.items other }
     {
-        if graph.room(flows, slot) > 0 {
-            self.add(slot, graph.arc(differences, heights, slot));
+        if graph.room(&state.flows, slot) > 0 {
+            self.add(slot, graph.arc(&state.differences, &state.heights, slot));
         }
     }
 
     /// Lists all residual arcs, at costs that the heights reduce.
-    pub fn list_all(
-        &mut self,
-        graph: &LinkGraph,
-        differences: &[i64],
-        heights: &[i64],
-        flows: &[i64],
-    )
-        requires from { AreListable graph.now differences.now heights.now flows.now }
+    pub fn list_all(&mut self, graph: &LinkGraph, state: &State)
+        requires from { IsListable graph.now state.now }
         requires fits { Fits graph.now self.old }
         ensures few { length self.new.slots.items ≤ 2 * length graph.now.links.now }
         ensures room { KeepsRoom self.old self.new }
-        ensures listed { Lists graph.now differences.now heights.now flows.now self.new }
-        ensures all { HasAllBefore graph.now.weights.now flows.now self.new.slots.items
+        ensures listed { Lists graph.now state.now self.new }
+        ensures all { HasAllBefore graph.now.weights.now state.now.flows.items self.new.slots.items
             (length graph.now.links.now) }
     {
         self.arcs.clear();
@@ -96,26 +84,19 @@ impl Listing {
                 place,
                 is_forward: false,
             };
-            self.list(graph, differences, heights, flows, along);
-            self.list(graph, differences, heights, flows, against);
+            self.list(graph, state, along);
+            self.list(graph, state, against);
         }
     }
 
     /// Lists the residual arcs that a guide proposes, in their order, at costs that the heights
     /// reduce; those that are not in the graph or have no room are left out.
-    pub fn list_these(
-        &mut self,
-        graph: &LinkGraph,
-        differences: &[i64],
-        heights: &[i64],
-        flows: &[i64],
-        proposed: &[ResidualArc],
-    )
-        requires from { AreListable graph.now differences.now heights.now flows.now }
+    pub fn list_these(&mut self, graph: &LinkGraph, state: &State, proposed: &[ResidualArc])
+        requires from { IsListable graph.now state.now }
         requires fits { Fits graph.now self.old }
         ensures few { length self.new.slots.items ≤ 2 * length graph.now.links.now }
         ensures room { KeepsRoom self.old self.new }
-        ensures listed { Lists graph.now differences.now heights.now flows.now self.new }
+        ensures listed { Lists graph.now state.now self.new }
     {
         self.arcs.clear();
         self.slots.clear();
@@ -126,7 +107,7 @@ impl Listing {
                 is_forward: arc.is_forward(),
             };
             if (slot.place as usize) < graph.links.len() && self.slots.len() < most {
-                self.list(graph, differences, heights, flows, slot);
+                self.list(graph, state, slot);
             }
         }
     }

@@ -37,9 +37,9 @@ pub fn settle<S: Search>(
     let graph = LinkGraph::of(network);
     let mut work = Workspace::new(alloc, &graph)?;
     work.settle(alloc, &graph, search, steps)?;
-    set_point_heights(network, &work.heights, &mut heights);
+    set_point_heights(network, &work.state.heights, &mut heights);
     Ok(Settled {
         heights,
-        flows: work.flows,
+        flows: work.state.flows,
     })
 }

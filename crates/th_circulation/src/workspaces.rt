@@ -17,6 +17,7 @@ use crate::limits::{MOST_ROOM, PHASES};
 use crate::listings::Listing;
 use crate::proposals::closes_below_zero;
 use crate::proposing::start_guide;
+use crate::states::State;
 use crate::steps::Steps;
 use std::alloc::{AllocError, Global};
 use th_guide::Guide;
@@ -25,12 +26,8 @@ use th_search::{Arc, Found, Search};
 /// What a settling works on.
 #[derive(Drop)]
 pub(crate) struct Workspace {
-    /// The difference of each link in this phase.
-    pub differences: Vec<i64>,
-    /// The height of each vertex.
-    pub heights: Vec<i64>,
-    /// The flow of each link.
-    pub flows: Vec<i64>,
+    /// The flows and heights so far.
+    pub state: State,
     /// The residual arcs.
     pub listing: Listing,
     /// What proposes cycles.
@@ -50,9 +47,11 @@ impl Workspace {
         let listing = Listing::new(alloc, graph.links.len())?;
         let guide = Guide::new(alloc, graph.vertices, graph.links.len())?;
         Ok(Workspace {
-            differences,
-            heights,
-            flows,
+            state: State {
+                differences,
+                heights,
+                flows,
+            },
             listing,
             guide,
             most: MOST_ROOM,
@@ -77,7 +76,7 @@ impl Workspace {
             search.old search.new steps.old steps.new }
     {
         if self.settle_at_once(alloc, graph, search, steps)? {
-            self.flows.fill(0);
+            self.state.flows.fill(0);
             self.settle_by_halves(alloc, graph, search, steps)
         } else {
             skip_phases(alloc, graph.vertices, search)
@@ -122,7 +121,7 @@ impl Workspace {
         steps: &mut Steps,
     ) -> Result<(), AllocError>
         requires rested { IsRested graph.now self.old }
-        requires none { self.old.flows.items ≡ replicate (length graph.now.links.now) (pos 0) }
+        requires none { self.old.state.flows.items ≡ replicate (length graph.now.links.now) (pos 0) }
         requires calls { S.calls search.old ≤ 2 * max_counted }
         requires steps { steps.old ≤ 2 * max_counted }
         ensures done { OnOk result (IsDone graph.now self.new) }
@@ -152,9 +151,9 @@ impl Workspace {
         requires steps { steps.old < max_calls }
         ensures goes_on { GoesOn graph.now self.old self.new (steps.new - steps.old) }
         ensures answer { IfOk result (λ cancelled. MatchBool cancelled
-            (AreWithin graph.now.vertices height_bound self.new.heights.items
+            (AreWithin graph.now.vertices height_bound self.new.state.heights.items
             × (steps.new ≡ steps.old + 1))
-            (AreShownFor graph.now self.old.differences.items self.new)) }
+            (AreShownFor graph.now self.old.state.differences.items self.new)) }
         ensures few { steps.new ≤ steps.old + 1 }
         ensures counts { Counts S.calls S.refusals S.cycles (others_in result) result
             search.old search.new steps.old steps.new }
@@ -163,12 +162,18 @@ impl Workspace {
         match search.search(alloc, graph.vertices, &self.listing.arcs)? {
             Found::Cycle(cycle) => {
                 let most = self.most;
-                cancel(graph, &self.listing.slots, &cycle, most, &mut self.flows);
+                cancel(
+                    graph,
+                    &self.listing.slots,
+                    &cycle,
+                    most,
+                    &mut self.state.flows,
+                );
                 steps.tick();
                 Ok(true)
             }
             Found::Potentials(potentials) => {
-                raise(&mut self.heights, &potentials, graph.vertices);
+                raise(&mut self.state.heights, &potentials, graph.vertices);
                 Ok(false)
             }
         }
@@ -178,14 +183,13 @@ impl Workspace {
     /// which costs less than 0; else all residual arcs, at costs that the guide's heights reduce.
     fn list_next(&mut self, graph: &LinkGraph)
         requires ready { IsReady graph.now self.old }
-        ensures differences { self.new.differences.items ≡ self.old.differences.items }
-        ensures flows { self.new.flows.items ≡ self.old.flows.items }
+        ensures differences { self.new.state.differences.items ≡ self.old.state.differences.items }
+        ensures flows { self.new.state.flows.items ≡ self.old.state.flows.items }
         ensures ready { IsReady graph.now self.new }
         ensures few { length self.new.listing.slots.items ≤ 2 * length graph.now.links.now }
-        ensures listed { Lists graph.now self.old.differences.items self.new.heights.items
-            self.old.flows.items self.new.listing }
+        ensures listed { Lists graph.now self.new.state self.new.listing }
         ensures next { HasNoPotentials self.new.listing.arcs.items
-            ⊎ HasAllBefore graph.now.weights.now self.old.flows.items self.new.listing.slots.items
+            ⊎ HasAllBefore graph.now.weights.now self.old.state.flows.items self.new.listing.slots.items
             (length graph.now.links.now) }
     {
         if self.guide.is_at_work() {
@@ -193,37 +197,28 @@ impl Workspace {
                 return;
             }
             self.guide.stop();
-            take(&mut self.heights, &self.guide, graph.vertices);
+            take(&mut self.state.heights, &self.guide, graph.vertices);
         }
         self.most = MOST_ROOM;
-        self.listing
-            .list_all(graph, &self.differences, &self.heights, &self.flows);
+        self.listing.list_all(graph, &self.state);
     }
 
     /// Lists the arcs round a cycle that the guide proposes; true where they cost less than 0.
     fn list_proposal(&mut self, graph: &LinkGraph) -> bool
         requires ready { IsReady graph.now self.old }
-        ensures differences { self.new.differences.items ≡ self.old.differences.items }
-        ensures flows { self.new.flows.items ≡ self.old.flows.items }
-        ensures heights { self.new.heights.items ≡ self.old.heights.items }
+        ensures state { self.new.state ≡ self.old.state }
         ensures fits { Fits graph.now self.new.listing }
         ensures few { OnTrue result (length self.new.listing.slots.items
             ≤ 2 * length graph.now.links.now) }
-        ensures listed { OnTrue result (Lists graph.now self.old.differences.items
-            self.old.heights.items self.old.flows.items self.new.listing) }
+        ensures listed { OnTrue result (Lists graph.now self.new.state self.new.listing) }
         ensures cycle { OnTrue result (HasNoPotentials self.new.listing.arcs.items) }
     {
         let Some(amount) = self.guide.propose() else {
             return false;
         };
         self.most = amount;
-        self.listing.list_these(
-            graph,
-            &self.differences,
-            &self.heights,
-            &self.flows,
-            self.guide.cycle(),
-        );
+        self.listing
+            .list_these(graph, &self.state, self.guide.cycle());
         closes_below_zero(&self.listing.arcs)
     }
 
@@ -232,12 +227,12 @@ impl Workspace {
         requires phase { phase < phases }
         requires rested { IsRested graph.now self.old }
         ensures ready { IsReady graph.now self.new }
-        ensures differences { self.new.differences.items ≡ differences_in phase graph.now.links.now }
-        ensures flows { self.new.flows.items ≡ self.old.flows.items }
+        ensures differences { self.new.state.differences.items ≡ differences_in phase graph.now.links.now }
+        ensures flows { self.new.state.flows.items ≡ self.old.state.flows.items }
     {
-        set_differences(graph.links, phase, &mut self.differences);
-        double(&mut self.heights, graph.vertices);
-        start_guide(&mut self.guide, graph, &self.differences, &self.flows);
+        set_differences(graph.links, phase, &mut self.state.differences);
+        double(&mut self.state.heights, graph.vertices);
+        start_guide(&mut self.guide, graph, &self.state);
     }
 
     /// Cancels cycles until the search answers potentials: then the flows show the heights for these
@@ -250,12 +245,12 @@ impl Workspace {
         steps: &mut Steps,
     ) -> Result<(), AllocError>
         requires ready { IsReady graph.now self.old }
-        requires near { IsNear graph.now.links.now graph.now.weights.now self.old.differences.items
-            self.old.flows.items }
+        requires near { IsNear graph.now.links.now graph.now.weights.now self.old.state.differences.items
+            self.old.state.flows.items }
         requires calls { S.calls search.old + 2 * sum graph.now.weights.now < max_calls }
         requires steps { steps.old + 2 * sum graph.now.weights.now < max_calls }
         ensures goes_on { GoesOn graph.now self.old self.new (steps.new - steps.old) }
-        ensures shown { OnOk result (AreShownFor graph.now self.old.differences.items self.new) }
+        ensures shown { OnOk result (AreShownFor graph.now self.old.state.differences.items self.new) }
         ensures few { steps.new ≤ steps.old + 2 * sum graph.now.weights.now }
         ensures counts { Counts S.calls S.refusals S.cycles 1 result
             search.old search.new steps.old steps.new }

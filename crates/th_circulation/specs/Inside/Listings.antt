@@ -11,6 +11,7 @@ use Rattle.th_circulation.specs.Inside.Cycles.{HasRoom, head_of, link_at, tail_o
 use Rattle.th_circulation.specs.declared.graphs.LinkGraph.{LinkGraph}
 use Rattle.th_circulation.specs.declared.listings.Listing.{Listing}
 use Rattle.th_circulation.specs.declared.slots.Slot.{Slot}
+use Rattle.th_circulation.specs.declared.states.State.{State}
 
 -- the arc of a slot, with its reduced cost at these heights
 abbrev pub arc_of : List Link → List ℤ → (ℕ → ℤ) → Slot → Arc
@@ -44,15 +45,15 @@ pub record AreOpen (graph : LinkGraph) (slots : List Slot) (numbers : List ℕ) 
   pub room : All (HasRoom graph.weights.now 1 flows) slots
   pub numbered : All (λ number. number < length slots) numbers
 
--- differences, heights and flows of a graph from which residual arcs can be listed
-pub record AreListable (graph : LinkGraph) (diffs heights flows : List ℤ) : Type 0 where
-  pub near_differences : AreWithin (length graph.links.now) largest_link_difference diffs
-  pub near_heights : AreWithin graph.vertices height_bound heights
-  pub bounded : AreBounded graph.weights.now flows
+-- a state of a graph from which residual arcs can be listed
+pub record IsListable (graph : LinkGraph) (state : State) : Type 0 where
+  pub near_differences : AreWithin (length graph.links.now) largest_link_difference state.differences.items
+  pub near_heights : AreWithin graph.vertices height_bound state.heights.items
+  pub bounded : AreBounded graph.weights.now state.flows.items
 
--- the listing has residual arcs of the graph, with their reduced costs at these heights
-abbrev pub Lists : LinkGraph → List ℤ → List ℤ → List ℤ → Listing → Type 0
-Lists graph diffs heights flows listing = AreResidual graph.links.now graph.weights.now diffs (value_at heights) flows listing.arcs.items listing.slots.items
+-- the listing has residual arcs of the graph, with their reduced costs at the heights of the state
+abbrev pub Lists : LinkGraph → State → Listing → Type 0
+Lists graph state listing = AreResidual graph.links.now graph.weights.now state.differences.items (value_at state.heights.items) state.flows.items listing.arcs.items listing.slots.items
 
 -- the listing has capacity for all residual arcs of a graph
 pub record Fits (graph : LinkGraph) (listing : Listing) : Type 0 where

@@ -13,33 +13,33 @@ use Rattle.th_circulation.specs.declared.workspaces.Workspace.{Workspace}
 
 -- the state between two phases: a flow, and heights within the bound of raised ones
 pub record IsRested (graph : LinkGraph) (work : Workspace) : Type 0 where
-  pub differences : length work.differences.items ≡ length graph.links.now
-  pub heights : AreWithin graph.vertices raised_bound work.heights.items
-  pub flow : IsFlow graph.links.now graph.weights.now work.flows.items
+  pub differences : length work.state.differences.items ≡ length graph.links.now
+  pub heights : AreWithin graph.vertices raised_bound work.state.heights.items
+  pub flow : IsFlow graph.links.now graph.weights.now work.state.flows.items
   pub fits : Fits graph work.listing
 
 -- the state within a phase: a flow, and differences and heights for which reduced costs can be listed
 pub record IsReady (graph : LinkGraph) (work : Workspace) : Type 0 where
-  pub differences : AreWithin (length graph.links.now) largest_link_difference work.differences.items
-  pub heights : AreWithin graph.vertices height_bound work.heights.items
-  pub flow : IsFlow graph.links.now graph.weights.now work.flows.items
+  pub differences : AreWithin (length graph.links.now) largest_link_difference work.state.differences.items
+  pub heights : AreWithin graph.vertices height_bound work.state.heights.items
+  pub flow : IsFlow graph.links.now graph.weights.now work.state.flows.items
   pub fits : Fits graph work.listing
 
 -- what a phase does in this many steps: each of them gains at least 1 for the phase's differences
 pub record GoesOn (graph : LinkGraph) (old new : Workspace) (steps : ℕ) : Type 0 where
-  pub differences : new.differences.items ≡ old.differences.items
-  pub flow : IsFlow graph.links.now graph.weights.now new.flows.items
+  pub differences : new.state.differences.items ≡ old.state.differences.items
+  pub flow : IsFlow graph.links.now graph.weights.now new.state.flows.items
   pub fits : Fits graph new.listing
-  pub gained : (gain old.flows.items old.differences.items +ℤ pos steps) ≤ℤ gain new.flows.items old.differences.items
+  pub gained : (gain old.state.flows.items old.state.differences.items +ℤ pos steps) ≤ℤ gain new.state.flows.items old.state.differences.items
 
 -- the flows show the heights, which are within the bound of raised ones, for these differences
 pub record AreShownFor (graph : LinkGraph) (diffs : List ℤ) (work : Workspace) : Type 0 where
-  pub heights : AreWithin graph.vertices raised_bound work.heights.items
-  pub shown : ShowsLinks graph.weights.now work.flows.items (residuals graph.links.now diffs (value_at work.heights.items))
+  pub heights : AreWithin graph.vertices raised_bound work.state.heights.items
+  pub shown : ShowsLinks graph.weights.now work.state.flows.items (residuals graph.links.now diffs (value_at work.state.heights.items))
 
 -- the last phase is done: a flow shows the heights for the links' own differences
 pub record IsDone (graph : LinkGraph) (work : Workspace) : Type 0 where
-  pub flow : IsFlow graph.links.now graph.weights.now work.flows.items
+  pub flow : IsFlow graph.links.now graph.weights.now work.state.flows.items
   pub shown : AreShownFor graph (differences_in 0 graph.links.now) work
 
 -- no flow gains more than these flows by over twice the sum of the weights

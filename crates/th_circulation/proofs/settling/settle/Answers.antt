@@ -21,5 +21,5 @@ returns-clause-settled g c =
     let is = written c.in_ok-heights.heights.len c.set_point_heights.new.listed c.in_ok-heights.heights.items (omega arith) (omega arith) in
     let point_heights = subst (λ (hs : List ℤ). ArePointHeights survey.observations survey.benchmarks (value_at hs) c.set_point_heights.new.listed) c.deref.ensures.value c.set_point_heights.ensures.point_heights in
     let light = subst (All (λ (weight : ℕ). weight ≤ max_weight)) graph.ensures.weights graph.result.graph.light in
-    let settled = is_settled survey graph.result.links.now graph.result.weights.now c.set_point_heights.new.listed work.flows.items (value_at work.heights.items) graph.ensures.links graph.ensures.weights light done.flow done.shown.shown point_heights (record { each = omega arith; in_range = c.set_point_heights.ensures.in_range }) in
-    subst (λ (hs : List ℤ). IsSettled survey hs work.flows.items) (sym is) settled
+    let settled = is_settled survey graph.result.links.now graph.result.weights.now c.set_point_heights.new.listed work.state.flows.items (value_at work.state.heights.items) graph.ensures.links graph.ensures.weights light done.flow done.shown.shown point_heights (record { each = omega arith; in_range = c.set_point_heights.ensures.in_range }) in
+    subst (λ (hs : List ℤ). IsSettled survey hs work.state.flows.items) (sym is) settled

@@ -11,5 +11,5 @@ links-preserved c =
       few = omega arith;
       room = record { arcs = omega arith; slots = omega arith };
       listed = second.listed;
-      all = all_more c.args.graph.now.weights.now c.args.flows.now c.links.self.slots.items c.list-in-links.new.self.slots.items c.links.place i.all (λ other there. second.kept other (first.kept other there)) (λ room. second.kept _ (first.slot room)) second.slot;
+      all = all_more c.args.graph.now.weights.now c.args.state.now.flows.items c.links.self.slots.items c.list-in-links.new.self.slots.items c.links.place i.all (λ other there. second.kept other (first.kept other there)) (λ room. second.kept _ (first.slot room)) second.slot;
     }

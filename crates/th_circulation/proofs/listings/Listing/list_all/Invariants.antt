@@ -7,6 +7,6 @@ abbrev pub invariant-links : goal.invariant-links
 invariant-links l = record {
   few : vec_len l.self.slots ≤ 2 * l.place;
   room : KeepsRoom l.fn.self l.self;
-  listed : Lists l.graph l.differences l.heights l.flows l.self;
-  all : HasAllBefore l.graph.weights.now l.flows l.self.slots.items l.place;
+  listed : Lists l.graph l.state l.self;
+  all : HasAllBefore l.graph.weights.now l.state.flows.items l.self.slots.items l.place;
 }

@@ -7,5 +7,5 @@ abbrev pub invariant-slots : goal.invariant-slots
 invariant-slots l = record {
   few : vec_len l.self.slots ≤ 2 * length l.graph.links.now;
   room : KeepsRoom l.fn.self l.self;
-  listed : Lists l.graph l.differences l.heights l.flows l.self;
+  listed : Lists l.graph l.state l.self;
 }

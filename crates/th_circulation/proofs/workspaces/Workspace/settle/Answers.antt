@@ -25,9 +25,9 @@ pub settle_by_halves-requires-clause-none : goal.settle_by_halves-requires-claus
 settle_by_halves-requires-clause-none g c =
     let graph = c.args.graph.now in
     let flow = c.in_ok-settle_at_once.ensures.rested.flow in
-    let long = flows_long graph.weights.now c.settle_at_once.new.self.flows.items flow.bounded in
+    let long = flows_long graph.weights.now c.settle_at_once.new.self.state.flows.items flow.bounded in
     let sized = flow.sized in
-    let full = c.settle_at_once.new.self.flows.ok in
+    let full = c.settle_at_once.new.self.state.flows.ok in
     c.fill.ensures.items (λ y e. e) ∙ ap (λ (n : ℕ). replicate n (pos 0)) (omega arith)
 
 pub settle_by_halves-requires-clause-rested : goal.settle_by_halves-requires-clause-rested

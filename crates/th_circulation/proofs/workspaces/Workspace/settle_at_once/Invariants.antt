@@ -6,7 +6,7 @@ use Rattle.th_circulation.proofs.workspaces.Workspace.settle_at_once.Given as go
 abbrev pub invariant-steps : goal.invariant-steps
 invariant-steps g l = record {
   ready : IsReady l.graph l.self;
-  differences : l.self.differences.items ≡ differences_in 0 l.graph.links.now;
+  differences : l.self.state.differences.items ≡ differences_in 0 l.graph.links.now;
   more : l.fn.steps ≤ l.steps;
   few : l.steps ≤ l.fn.steps + l.done;
   calls : g.S.Search.calls l.search + l.fn.steps ≡ g.S.Search.calls l.fn.search + l.steps;

@@ -42,7 +42,7 @@ returns-in_err-settle_phase-clause-few g c =
     let w = sum graph.weights.now in
     let i = c.phases.invariant in
     let e = c.settle_phase.ensures in
-    let more = few_after graph.vertices graph.links.now graph.weights.now c.phases.self.flows.items c.start_phase.new.self.flows.items c.settle_phase.new.self.flows.items c.start_phase.new.self.differences.items c.phases.done c.args.steps.now c.phases.steps c.settle_phase.new.steps graph.graph c.start_phase.ensures.differences c.start_phase.ensures.flows i.none e.goes_on.flow e.goes_on.gained e.counts.more_steps e.few i.few i.fewer in
+    let more = few_after graph.vertices graph.links.now graph.weights.now c.phases.self.state.flows.items c.start_phase.new.self.state.flows.items c.settle_phase.new.self.state.flows.items c.start_phase.new.self.state.differences.items c.phases.done c.args.steps.now c.phases.steps c.settle_phase.new.steps graph.graph c.start_phase.ensures.differences c.start_phase.ensures.flows i.none e.goes_on.flow e.goes_on.gained e.counts.more_steps e.few i.few i.fewer in
     let most = phases_most w (c.phases.done + 1) (omega arith) in
     omega arith
 
@@ -77,7 +77,7 @@ phases-preserved g c =
     let rise = e.few in
     let kept = ap (λ (ds : List ℤ). length ds) e.goes_on.differences in
     let long = c.start_phase.ensures.ready.differences.each in
-    let after = few_after graph.vertices links weights c.phases.self.flows.items c.start_phase.new.self.flows.items c.settle_phase.new.self.flows.items c.start_phase.new.self.differences.items done c.args.steps.now c.phases.steps c.settle_phase.new.steps graph.graph c.start_phase.ensures.differences c.start_phase.ensures.flows i.none e.goes_on.flow e.goes_on.gained e.counts.more_steps e.few i.few i.fewer in
+    let after = few_after graph.vertices links weights c.phases.self.state.flows.items c.start_phase.new.self.state.flows.items c.settle_phase.new.self.state.flows.items c.start_phase.new.self.state.differences.items done c.args.steps.now c.phases.steps c.settle_phase.new.steps graph.graph c.start_phase.ensures.differences c.start_phase.ensures.flows i.none e.goes_on.flow e.goes_on.gained e.counts.more_steps e.few i.few i.fewer in
     let shown : AreShownFor graph (differences_in (phases - 1 - done) links) c.settle_phase.new.self = subst (λ (ds : List ℤ). AreShownFor graph ds c.settle_phase.new.self) c.start_phase.ensures.differences c.in_ok-settle_phase.ensures.shown in
     let calls = c.in_ok-settle_phase.ensures.counts.all_calls in
     let cycles = e.counts.one_step_each in
@@ -90,7 +90,7 @@ phases-preserved g c =
         flow = e.goes_on.flow;
         fits = e.goes_on.fits;
       };
-      near = λ less. let earlier : phases - 1 - done ≡ suc (phases - 1 - (done + 1)) = omega arith in next_near links weights c.settle_phase.new.self.flows.items (value_at c.settle_phase.new.self.heights.items) (phases - 1 - (done + 1)) e.goes_on.flow (subst (λ (k : ℕ). ShowsLinks weights c.settle_phase.new.self.flows.items (residuals links (differences_in k links) (value_at c.settle_phase.new.self.heights.items))) earlier shown.shown);
+      near = λ less. let earlier : phases - 1 - done ≡ suc (phases - 1 - (done + 1)) = omega arith in next_near links weights c.settle_phase.new.self.state.flows.items (value_at c.settle_phase.new.self.state.heights.items) (phases - 1 - (done + 1)) e.goes_on.flow (subst (λ (k : ℕ). ShowsLinks weights c.settle_phase.new.self.state.flows.items (residuals links (differences_in k links) (value_at c.settle_phase.new.self.state.heights.items))) earlier shown.shown);
       none = λ e. absurd (omega arith);
       shown = λ some. let same : phases - 1 - done ≡ phases - (done + 1) = omega arith in subst (λ (k : ℕ). AreShownFor graph (differences_in k links) c.settle_phase.new.self) same shown;
       more = omega arith;

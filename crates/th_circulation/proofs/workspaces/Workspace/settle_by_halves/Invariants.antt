@@ -7,8 +7,8 @@ use Rattle.th_circulation.proofs.workspaces.Workspace.settle_by_halves.Given as 
 abbrev pub invariant-phases : goal.invariant-phases
 invariant-phases g l = record {
   rested : IsRested l.graph l.self;
-  near : l.done < phases → IsNear l.graph.links.now l.graph.weights.now (differences_in (phases - 1 - l.done) l.graph.links.now) l.self.flows.items;
-  none : l.done ≡ 0 → l.self.flows.items ≡ replicate (length l.graph.links.now) (pos 0);
+  near : l.done < phases → IsNear l.graph.links.now l.graph.weights.now (differences_in (phases - 1 - l.done) l.graph.links.now) l.self.state.flows.items;
+  none : l.done ≡ 0 → l.self.state.flows.items ≡ replicate (length l.graph.links.now) (pos 0);
   shown : 0 < l.done → AreShownFor l.graph (differences_in (phases - l.done) l.graph.links.now) l.self;
   more : l.fn.steps ≤ l.steps;
   few : l.steps ≤ l.fn.steps + 2 * sum l.graph.weights.now * l.done;

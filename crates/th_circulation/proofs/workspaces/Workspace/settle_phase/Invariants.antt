@@ -14,4 +14,4 @@ invariant-cycles g l = record {
 }
 
 abbrev pub decreases-cycles : goal.decreases-cycles
-decreases-cycles g l = unsigned_abs ((gain l.fn.self.flows.items l.fn.self.differences.items +ℤ pos (2 * sum l.graph.weights.now)) -ℤ gain l.self.flows.items l.fn.self.differences.items)
+decreases-cycles g l = unsigned_abs ((gain l.fn.self.state.flows.items l.fn.self.state.differences.items +ℤ pos (2 * sum l.graph.weights.now)) -ℤ gain l.self.state.flows.items l.fn.self.state.differences.items)

@@ -11,7 +11,7 @@ returns-clause-differences c =
     let lent = ap (λ (ds : List ℤ). length ds) c.deref_mut.ensures.value in
     let kept = c.set_differences.auto.differences in
     let long = c.deref_mut.ensures.len in
-    written c.args.self.now.differences.len c.set_differences.new.differences c.args.self.now.differences.items (omega arith) (omega arith) ∙ c.set_differences.ensures
+    written c.args.self.now.state.differences.len c.set_differences.new.differences c.args.self.now.state.differences.items (omega arith) (omega arith) ∙ c.set_differences.ensures
 
 pub returns-clause-ready : goal.returns-clause-ready
 returns-clause-ready c =
@@ -21,7 +21,7 @@ returns-clause-ready c =
     let long = c.deref_mut-2.ensures.len in
     record {
       differences = subst (AreWithin (length graph.links.now) largest_link_difference) (sym (returns-clause-differences c)) (differences_within graph.links.now c.args.phase graph.graph.near);
-      heights = subst (AreWithin graph.vertices height_bound) (sym (written c.args.self.now.heights.len c.double.new.heights c.args.self.now.heights.items (omega arith) (omega arith))) c.double.ensures.within;
+      heights = subst (AreWithin graph.vertices height_bound) (sym (written c.args.self.now.state.heights.len c.double.new.heights c.args.self.now.state.heights.items (omega arith) (omega arith))) c.double.ensures.within;
       flow = c.requires.rested.flow;
       fits = c.requires.rested.fits;
     }
