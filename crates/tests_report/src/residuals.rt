@@ -1,4 +1,5 @@
-ghost use Rattle.std.specs.Prelude.{◌<◌, ◌^◌, All, unsigned_abs};
+ghost use Rattle.std.specs.Prelude.{◌<◌, All, unsigned_abs};
+ghost use Rattle.th_blunders.specs.Residuals.{residual_limit};
 
 use crate::networks::{
     AT_A, THERE_AND_BACK, THREE_SIGHTS, heights_at, long_book, network_of, observations_of,
@@ -7,6 +8,7 @@ use crate::networks::{
 use std::alloc::Global;
 use std::process::Abort;
 use th_blunders::{Opposite, blunders, cost, opposites, residuals};
+use th_network::MAX_OBSERVATIONS;
 
 /// A sight to B twice, one back to A, and one to B again.
 const TWICE_AND_BACK: &[u8] = b"110001+0000000A 84..10+00000000 88..10+00001500
@@ -30,7 +32,7 @@ const THREE_POINTS: &[u8] = b"110001+0000000A 84..10+00000000 88..10+00001500
 
 /// The residuals of a book's observations at some heights, in the network in which A is 100 m high.
 fn residuals_at(rt: &impl Abort, alloc: Global, book: &[u8], units: &[i64]) -> Vec<i64>
-    ensures { All (λ residual. unsigned_abs residual < 10 ^ 18) result.items }
+    ensures { All (λ residual. unsigned_abs residual < residual_limit) result.items }
 {
     let tables = tables_of(rt, alloc, AT_A, b"");
     let network = network_of(rt, alloc, book, &tables);
@@ -127,7 +129,7 @@ const PAIRINGS: [Pairing; 5] = [
 
 fn opposites_are(rt: &impl Abort, alloc: Global, book: &[u8], wanted: &[Opposite]) {
     let observations = observations_of(rt, alloc, book);
-    assert!(rt; observations.len() <= 40_000);
+    assert!(rt; observations.len() <= MAX_OBSERVATIONS);
     let found = opposites(alloc, &observations).expect(rt, "memory");
     assert!(rt; found.as_slice() == wanted);
 }
@@ -179,7 +181,7 @@ const COSTS: [Cost; 4] = [
 
 /// Residuals that are small.
 fn residuals_of(rt: &impl Abort, alloc: Global, units: &[i64]) -> Vec<i64>
-    ensures { All (λ residual. unsigned_abs residual < 10 ^ 18) result.items }
+    ensures { All (λ residual. unsigned_abs residual < residual_limit) result.items }
 {
     let mut residuals = Vec::new(alloc);
     for residual in units {

@@ -1,5 +1,5 @@
 ghost use Rattle.std.specs.Prelude.{◌≡◌, ◌<◌, All, length, unsigned_abs};
-ghost use Rattle.th_circulation.specs.Inside.Bounds.{raised_bound};
+ghost use Rattle.th_circulation.specs.Inside.Bounds.{HaveSmallRises, raised_bound};
 ghost use Rattle.th_circulation.specs.Inside.Graphs.{AreWithin};
 ghost use Rattle.th_circulation.specs.Inside.PointHeights.{ArePointHeights};
 ghost use Rattle.th_network.specs.Limits.{height_limit};
@@ -12,6 +12,7 @@ use th_network::Network;
 /// vertex 0.
 pub(crate) fn set_point_heights(network: &Network, heights: &[i64], listed: &mut [i64])
     requires heights { AreWithin (vertices_of network.now) raised_bound heights.now }
+    requires rises { HaveSmallRises (vertices_of network.now) heights.now }
     requires each { length listed.old ≡ length (points_of network.now) }
     ensures point_heights { ArePointHeights network.now.observations network.now.benchmarks (value_at heights.now)
         listed.new }

@@ -3,7 +3,7 @@ use Rattle.th_network.specs.Links.{largest_link_difference}
 use Rattle.th_network.specs.declared.links.Link.{Link}
 use Rattle.th_search.specs.Answers.{refusals_in}
 use Rattle.th_search.specs.Potentials.{value_at}
-use Rattle.th_circulation.specs.Inside.Bounds.{height_bound, raised_bound}
+use Rattle.th_circulation.specs.Inside.Bounds.{HaveSmallRises, height_bound, raised_bound}
 use Rattle.th_circulation.specs.Inside.Flows.{IsFlow, ShowsLinks, gain, residuals}
 use Rattle.th_circulation.specs.Inside.Graphs.{AreWithin}
 use Rattle.th_circulation.specs.Inside.Listings.{Fits}
@@ -32,9 +32,10 @@ pub record GoesOn (graph : LinkGraph) (old new : Workspace) (steps : ℕ) : Type
   pub fits : Fits graph new.listing
   pub gained : (gain old.state.flows.items old.state.differences.items +ℤ pos steps) ≤ℤ gain new.state.flows.items old.state.differences.items
 
--- the flows show the heights, which are within the bound of raised ones, for these differences
+-- the flows show the heights, which are within the bounds of raised ones, for these differences
 pub record AreShownFor (graph : LinkGraph) (diffs : List ℤ) (work : Workspace) : Type 0 where
   pub heights : AreWithin graph.vertices raised_bound work.state.heights.items
+  pub rises : HaveSmallRises graph.vertices work.state.heights.items
   pub shown : ShowsLinks graph.weights.now work.state.flows.items (residuals graph.links.now diffs (value_at work.state.heights.items))
 
 -- the last phase is done: a flow shows the heights for the links' own differences

@@ -1,4 +1,4 @@
-use Rattle.std.proofs.Common.{ℕ, ◌≡◌, ◌<◌, ◌+◌, ◌-◌, ◌-ℤ◌, pos, ℤ, List, Some, None, length, slice_get, unsigned_abs, ap, ◌∙◌, refl, arith}
+use Rattle.std.proofs.Common.{ℕ, ◌≡◌, ◌<◌, ◌+◌, ◌-◌, ◌-ℤ◌, ℤ, List, Some, None, length, slice_get, unsigned_abs, ap, ◌∙◌, refl, arith}
 use Rattle.std.proofs.lemmas.Option.{slice_get_within}
 use Rattle.std.proofs.lemmas.Int.{ints}
 use Rattle.th_network.specs.Limits.{height_limit}
@@ -43,8 +43,7 @@ loop-place-preserved c =
           let more = free_more network.benchmarks (points_of network) i found in
           let most = free_most network.observations network.benchmarks (i + 1) in
           let each = c.requires.heights.each in
-          let high = c.requires.heights.small (c.loop-place.vertex + 1) (pos 0) (omega arith) in
-          let level = c.requires.heights.small 0 (pos 0) (omega arith) in
+          let rise = c.requires.rises (c.loop-place.vertex + 1) (omega arith) in
           let rank = ap (λ (v : ℕ). value_at c.args.heights.now (v + 1) -ℤ value_at c.args.heights.now 0) inv.0 in
           (omega arith, set_more Small c.loop-place.listed i _ place inv.1 (omega (arith, ints)), set_more Right c.loop-place.listed i _ place inv.2 (λ name at. let right = point_height_free network.observations network.benchmarks (value_at c.args.heights.now) i name at (found_at network.benchmarks (points_of network) i name None found at) in omega (arith, ints)))
     ]

@@ -16,7 +16,7 @@ use Rattle.th_circulation.specs.declared.listings.Listing.{Listing}
 use Rattle.th_circulation.specs.declared.states.State.{State}
 use Rattle.th_circulation.proofs.AdvanceLemmas.{all_listed, sent_flow, sent_gain_more, sent_retold}
 use Rattle.th_circulation.proofs.ArcLemmas.{arcs_are, potentials_within}
-use Rattle.th_circulation.proofs.HeightLemmas.{written}
+use Rattle.th_circulation.proofs.HeightLemmas.{raised_rises, written}
 use Rattle.th_circulation.proofs.NegativeCycles.{cycle_enters_once, numbers_of_cycle}
 use Rattle.th_circulation.proofs.PotentialLemmas.{potentials_show}
 use Rattle.th_circulation.proofs.workspaces.Workspace.advance.Goals as goal
@@ -101,6 +101,7 @@ returns-in-Potentials-clause-answer g c =
     let next = c.list_next.new.self in
     let residual = listed_before graph work.state next.state next.listing c.list_next.ensures.differences c.list_next.ensures.flows c.list_next.ensures.listed in
     let found = subst (λ (arcs : List Arc). ArePotentials graph.vertices arcs c.in-Potentials.potentials.items) c.deref.ensures.value (subst (IsAnswer graph.vertices c.deref.result.now) c.in-Potentials.is c.in_ok-cycle.ensures.answer) in
+    let far = potentials_within graph.vertices next.listing.arcs.items c.in-Potentials.potentials.items graph.graph.few_vertices (arcs_are graph.vertices graph.links.now graph.weights.now work.state.differences.items next.state.heights.items work.state.flows.items next.listing.arcs.items next.listing.slots.items graph.graph c.requires.ready.differences c.list_next.ensures.ready.heights residual) found in
     let lent = ap (λ (hs : List ℤ). length hs) c.deref_mut-in-Potentials.ensures.value in
     let kept = c.raise.auto.heights in
     let long = c.deref_mut-in-Potentials.ensures.len in
@@ -111,5 +112,6 @@ returns-in-Potentials-clause-answer g c =
     let raised = λ (v : ℕ). ap (λ (hs : List ℤ). value_at hs v) back ∙ c.raise.ensures.each v ∙ ap (λ (z : ℤ). z -ℤ value_at c.deref-in-Potentials.result.now v) (old v) ∙ ap (λ (ps : List ℤ). value_at next.state.heights.items v -ℤ value_at ps v) c.deref-in-Potentials.ensures.value in
     record {
       heights = subst (AreWithin graph.vertices raised_bound) (sym back) c.raise.ensures.within;
+      rises = raised_rises graph.vertices next.state.heights.items c.in-Potentials.potentials.items raised_heights graph.graph.some c.list_next.ensures.ready.heights far found.high raised;
       shown = subst (λ (fs : List ℤ). ShowsLinks graph.weights.now fs (residuals graph.links.now work.state.differences.items (value_at raised_heights))) (sym c.list_next.ensures.flows) (potentials_show graph.links.now graph.weights.now work.state.differences.items (value_at next.state.heights.items) work.state.flows.items next.listing.arcs.items next.listing.slots.items c.in-Potentials.potentials.items raised_heights c.requires.ready.flow c.requires.ready.differences.each residual all found.feasible raised);
     }
