@@ -7,7 +7,7 @@ use Rattle.std.proofs.lemmas.Int.{fits_signed_from_abs, to_z-of_z}
 use Rattle.std.proofs.lemmas.List.{append-nil, drop_all, drop_more, take_all, take_more}
 use Rattle.std.proofs.lemmas.List.Concat.{flat_map-append}
 use Rattle.std.proofs.lemmas.List.Elements.{All-push}
-use Rattle.std.proofs.lemmas.List.Sums.{position_or_len_is}
+use Rattle.std.proofs.lemmas.Option.{slice_get-get_or}
 use Rattle.std.proofs.lemmas.Map.Keys.{IsDistinct-tail, apart_from_distinct}
 use Rattle.std.proofs.lemmas.Slice.Eq.{bytes_eq-Decides}
 use Rattle.gsi_word.specs.Names.{name_of}
@@ -15,6 +15,7 @@ use Rattle.th_csv.specs.Texts.{csv_text, row_text}
 use Rattle.th_network.specs.Heights.{heights_at}
 use Rattle.th_network.specs.Limits.{height_limit}
 use Rattle.th_points.specs.Places.{place_of}
+use Rattle.th_points.proofs.PlaceLemmas.{place_of_at}
 use Rattle.th_certificate.specs.Certified.{rows_at, stated_height}
 use Rattle.th_certificate.specs.Texts.{height_row}
 
@@ -22,15 +23,10 @@ use Rattle.th_certificate.specs.Texts.{height_row}
 pub bytes_eq_flip : (a b : List ℕ) → bytes_eq a b ≡ bytes_eq b a
 bytes_eq_flip a b = nat_list_eq_equiv.symm a b
 
-pub bytes_eq_itself : (name : List ℕ) → bytes_eq name name ≡ true
-bytes_eq_itself name = (bytes_eq-Decides name name).1 refl
-
 -- the place of a name in a list that has each name once
 pub place_of-get_or : (names : List (List ℕ)) (k : ℕ) (d : List ℕ) → IsDistinct bytes_eq names → k < length names → place_of names (get_or names k d) ≡ k
 place_of-get_or names k d distinct within =
-    position_or_len_is (bytes_eq (get_or names k d)) names k d (omega arith)
-    (λ j before. bytes_eq_flip (get_or names k d) (get_or names j d) ∙ apart_from_distinct bytes_eq names j k d distinct before within)
-    (λ _. bytes_eq_itself (get_or names k d))
+    place_of_at names k (get_or names k d) distinct (slice_get-get_or names k d within)
 
 -- the names before a place have no row of the name at the place
 pub lookup-rows_before : (names : List (List ℕ)) (k : ℕ) (heights : List ℕ → ℤ) (d : List ℕ) → IsDistinct bytes_eq names → k < length names

@@ -51,7 +51,7 @@ decimal_written n most some few small fits =
 short_test : (text : List ℕ) (most : ℕ) → length text ≤ most → nat_le (length text) most ≡ true
 short_test text most short = grind (arith, nat_tests)
 
-same_test : (m n : ℕ) → m ≡ n → (m == n) ≡ true
+pub same_test : (m n : ℕ) → m ≡ n → (m == n) ≡ true
 same_test m n same = grind (arith, nat_tests)
 
 pub count_in-decimal : (n : ℕ) → n ≤ max_flows → count_in (decimal n) ≡ Ok n

@@ -1,7 +1,6 @@
 -- What is written is accepted.
 use Rattle.std.proofs.Common.{◌≡◌, ◌&&◌, ◌==◌, ◌||◌, ℕ, ℤ, Bool, true, false, List, [], ◌∷◌, ◌++◌, length, map, Option, Some, None, Result, Ok, bytes_eq, refl, sym, ap, subst, ◌∙◌, arith}
 use Rattle.std.specs.List.{AllByRecursion, list_any}
-use Rattle.std.proofs.lemmas.Bool.Decides.{nat_tests}
 use Rattle.std.proofs.lemmas.List.Elements.{recursion_from_All}
 use Rattle.std.proofs.lemmas.Slice.Eq.{bytes_eq-Decides}
 use Rattle.th_book.specs.Observed.{Observed}
@@ -17,6 +16,7 @@ use Rattle.th_certificate.specs.declared.faults.CertFault.{CertFault}
 use Rattle.th_certificate.specs.Texts.{IsCertifiable, cost_of, heights_at_points, text_of_version_1, text_of_version_2}
 use Rattle.th_certificate.proofs.PointLemmas.{stated_height-rows_at}
 use Rattle.th_certificate.proofs.RoundTrip.{read_version_1, read_version_2}
+use Rattle.th_certificate.proofs.ReadNumbers.{same_test}
 use Rattle.th_checker.specs.Accepted.{AreShownRows, IsShown}
 use Rattle.std.specs.Prelude.{IfSome, ◌≤◌, unsigned_abs}
 use Rattle.std.specs.List.{AllZip}
@@ -75,9 +75,6 @@ slack_rows : (survey : Survey) (heights : List ℕ → ℤ) (flows : List ℤ) �
 slack_rows survey heights flows shows =
     none_not_slack survey.weights (stated_height (heights_at_points survey heights)) heights survey.observations flows 1
     (rows_agree (points_of survey) heights survey.observations (ends_are_points survey.observations survey.benchmarks)) shows
-
-same_test : (m n : ℕ) → m ≡ n → (m == n) ≡ true
-same_test m n same = grind (arith, nat_tests)
 
 -- the verdict where each test passes
 all_pass : (survey : Survey) (certificate : Certified) → of_all_maps (names_are (points_of survey)) certificate ≡ true → of_all_maps (keeps survey.benchmarks) certificate ≡ true → (length certificate.flows == length survey.observations) ≡ true

@@ -12,7 +12,7 @@ use Rattle.th_book.specs.Observed.{Observed}
 use Rattle.th_tables.specs.Rows.{BenchmarkRows, WeightRows, height_of, weight_of}
 use Rattle.th_network.specs.Circulation.{Shows, arriving, leaving}
 use Rattle.th_network.specs.Heights.{IsHeights, cost, residual}
-use Rattle.th_points.proofs.PointLemmas.{EndsAmong}
+use Rattle.th_points.proofs.PointLemmas.{EndsAmong, bytes_eq_same}
 use Rattle.th_certificate.specs.Certified.{HeightRows, rows_at, stated_height}
 use Rattle.th_certificate.proofs.PointLemmas.{stated_height-rows_at}
 use Rattle.th_checker.specs.Verdicts.{is_slack, keeps, names_are}
@@ -24,9 +24,6 @@ either_true false b h = h
 or_first : (a b : Bool) → a ≡ true → (a || b) ≡ true
 or_first a b h = ap (λ t. t || b) h
 
-bytes_eq_itself : (name : List ℕ) → bytes_eq name name ≡ true
-bytes_eq_itself name = (bytes_eq-Decides name name).1 refl
-
 -- ---- names
 
 keys_of-rows_at : (names : List (List ℕ)) (heights : List ℕ → ℤ) → keys_of (rows_at names heights) ≡ names
@@ -37,7 +34,7 @@ keys_of-rows_at (name ∷ names) heights = ap (λ rest. name ∷ rest) (keys_of-
 all_among : (names all : List (List ℕ)) → ((name : List ℕ) → list_any (bytes_eq name) names ≡ true → list_any (bytes_eq name) all ≡ true) → list_all (λ name. list_any (bytes_eq name) all) names ≡ true
 all_among [] all has = refl
 all_among (name ∷ names) all has =
-    ap (λ b. b && list_all (λ name. list_any (bytes_eq name) all) names) (has name (or_first (bytes_eq name name) (list_any (bytes_eq name) names) (bytes_eq_itself name)))
+    ap (λ b. b && list_all (λ name. list_any (bytes_eq name) all) names) (has name (or_first (bytes_eq name name) (list_any (bytes_eq name) names) (bytes_eq_same name)))
     ∙ all_among names all (λ other among. has other (either_true (bytes_eq other name) (list_any (bytes_eq other) names) among))
 
 rows_among : (names all : List (List ℕ)) (heights : List ℕ → ℤ) → list_all (λ row. list_any (bytes_eq row.0) all) (rows_at names heights) ≡ list_all (λ name. list_any (bytes_eq name) all) names
@@ -54,7 +51,7 @@ names_are-rows_at names heights =
 
 -- the height of a benchmark by its row
 found_first : (benchmarks : BenchmarkRows) (row : List ℕ × ℤ) → height_of (row ∷ benchmarks) row.0 ≡ Some row.1
-found_first benchmarks row = ap (λ same. if same then Some row.1 else height_of benchmarks row.0) (bytes_eq_itself row.0)
+found_first benchmarks row = ap (λ same. if same then Some row.1 else height_of benchmarks row.0) (bytes_eq_same row.0)
 
 pub keeps-rows : (benchmarks : BenchmarkRows) (rows : HeightRows) (heights : List ℕ → ℤ) → AllByRecursion (λ row. stated_height rows row.0 ≡ heights row.0) benchmarks → AllByRecursion (λ row. heights row.0 ≡ row.1) benchmarks → keeps benchmarks rows ≡ true
 keeps-rows [] rows heights states keeps_each = refl

@@ -12,6 +12,7 @@ use Rattle.th_network.specs.Heights.{IsHeights, LeastFine, cost, residual}
 use Rattle.th_points.specs.Points.{points}
 use Rattle.th_network.proofs.Slackness.{slackness}
 use Rattle.th_certificate.specs.Certified.{Certified, HeightRows, stated_height}
+use Rattle.th_certificate.proofs.NumberLemmas.{first_of, second_of}
 use Rattle.th_checker.specs.Accepted.{AreShownRows, IsShown}
 use Rattle.std.specs.Prelude.{IfSome}
 use Rattle.th_checker.specs.Verdicts.{first_not_slack, first_too_large, first_unbalanced, flow_verdict, if_found, if_there, is_slack, keeps, map_verdict, names_are, not_slack_in, of_all_maps, slack_verdict, unless, verdict_of}
@@ -29,14 +30,6 @@ unless_yes false reason later h = cc h
 if_found_yes : {A : Type 0} (found : Option A) (make : A → Reason) (later : Verdict) → if_found found make later ≡ Yes → (found ≡ None) × (later ≡ Yes)
 if_found_yes None make later h = (refl, h)
 if_found_yes (Some it) make later h = cc h
-
-first_of : (a b : Bool) → (a && b) ≡ true → a ≡ true
-first_of true b h = refl
-first_of false b h = cc h
-
-second_of : (a b : Bool) → (a && b) ≡ true → b ≡ true
-second_of true b h = h
-second_of false b h = cc h
 
 same_number : (m n : ℕ) → (m == n) ≡ true → m ≡ n
 same_number m n h = grind (arith, nat_tests)
