@@ -1,4 +1,5 @@
 ghost use Rattle.std.specs.Prelude.{◌<◌, unsigned_abs};
+ghost use Rattle.th_network.specs.Limits.{max_points};
 
 use crate::texts::Texts;
 use std::alloc::{AllocError, Global};
@@ -69,7 +70,7 @@ impl Large {
 
     /// Adds the setup at a point: an exact sight, pairs of blunders, and another exact sight.
     fn add_setup(&mut self, alloc: Global, point: usize) -> Result<(), AllocError>
-        requires { point < 4000 }
+        requires { point < max_points }
     {
         let setup = format!(in alloc;
             "110001+000P{point:04} 84..10+00000000 85..10+00000000 86..10+00100000 88..10+00001500 \n"

@@ -6,6 +6,7 @@ use anyhow::{Result, anyhow};
 use std::alloc::Global;
 use th_certificate::write_certificate;
 use th_circulation::{Settled, Spans};
+use th_limits::MAX_WEIGHT;
 use th_network::Network;
 
 /// The text of the certificate of a network, whose lowest and highest best heights are the heights.
@@ -44,7 +45,7 @@ pub fn flows_of(alloc: Global, network: &Network, units: &[i64]) -> Result<Vec<i
 {
     let mut flows = Vec::new(alloc);
     for flow in units {
-        if flow.unsigned_abs() > 1_000 {
+        if flow.unsigned_abs() > u64::from(MAX_WEIGHT) {
             return Err(anyhow!("a flow"));
         }
         flows.push(*flow)?;

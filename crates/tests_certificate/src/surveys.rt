@@ -3,6 +3,7 @@ use std::process::Abort;
 use th_book::{Observation, read_book};
 use th_certificate::{Certificate, read_certificate};
 use th_checker::check;
+use th_network::MAX_OBSERVATIONS;
 use th_tables::{Benchmarks, Weights, read_benchmarks, read_weights};
 
 /// A book, and the tables of its benchmarks and its weights.
@@ -107,7 +108,7 @@ fn verdict_of(
     certificate: &Certificate,
 ) -> String {
     let (benchmarks, weights) = tables_of(rt, alloc, tables);
-    assert!(rt; observations.len() <= 40_000);
+    assert!(rt; observations.len() <= MAX_OBSERVATIONS);
     let verdict = check(alloc, observations, &benchmarks, &weights, certificate);
     verdict
         .expect(rt, "memory")

@@ -1,4 +1,5 @@
 ghost use Rattle.std.specs.Prelude.{◌<◌, ◌≤◌, All, unsigned_abs};
+ghost use Rattle.th_limits.specs.Limits.{max_weight};
 ghost use Rattle.th_network.specs.Limits.{height_limit};
 ghost use Rattle.th_network.specs.Networks.{AreAtPoints, AreOfObservations};
 
@@ -9,7 +10,7 @@ use std::process::Abort;
 use th_certificate::write_certificate;
 use th_circulation::{Settled, Spans};
 use th_network::Network;
-use th_tables::{Benchmarks, Weights};
+use th_tables::{Benchmarks, MAX_WEIGHT, Weights};
 
 /// Lowest heights, highest heights and flows, in the order of the points and of the observations.
 #[derive(Drop)]
@@ -83,11 +84,11 @@ fn heights_of(rt: &impl Abort, alloc: Global, units: &[i64]) -> Vec<i64>
 
 /// Flows that are in range.
 fn flows_of(rt: &impl Abort, alloc: Global, units: &[i64]) -> Vec<i64>
-    ensures { All (λ flow. unsigned_abs flow ≤ 1000) result.items }
+    ensures { All (λ flow. unsigned_abs flow ≤ max_weight) result.items }
 {
     let mut flows = Vec::new(alloc);
     for flow in units {
-        assert!(rt; flow.unsigned_abs() <= 1000);
+        assert!(rt; flow.unsigned_abs() <= u64::from(MAX_WEIGHT));
         flows.push(*flow).expect(rt, "memory");
     }
     flows

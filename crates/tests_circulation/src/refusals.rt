@@ -3,10 +3,8 @@ use crate::surveys::{A_AT_100, LONGER, SETUP, SIGHT, joined, network_of, tables_
 use std::alloc::Global;
 use std::process::Abort;
 use th_circulation::{Steps, settle};
+use th_limits::CALLS_BEFORE;
 use th_network::Network;
-
-/// How many calls and steps a settling may start with.
-const MAX_COUNTED: u128 = 1_000_000_000_000_000_000_000_000_000_000;
 
 /// Settles a network over a search that refuses one call, and again over the same search; whether the
 /// first settling was refused.
@@ -26,7 +24,7 @@ fn settle_twice(rt: &impl Abort, alloc: Global, network: &Network, refused: u128
     assert_eq!(rt; calls, refused.wrapping_add(1));
     assert_eq!(rt; search.refusals, 1);
     assert_eq!(rt; search.cycles, counted);
-    assert!(rt; calls <= MAX_COUNTED && counted <= MAX_COUNTED);
+    assert!(rt; calls <= CALLS_BEFORE && counted <= CALLS_BEFORE);
     let settled = settle(alloc, network, &mut search, &mut steps).expect(rt, "memory");
     let rise = steps.count().wrapping_sub(counted);
     assert_eq!(rt; search.calls.wrapping_sub(calls), rise.wrapping_add(44));
@@ -65,17 +63,17 @@ fn the_largest_counts_are_counted_on(rt: HostRuntime) {
     let network = network_of(&rt, rt.alloc(), &book, &tables);
     let mut search = RefusingSearch {
         refused: 0,
-        calls: MAX_COUNTED,
+        calls: CALLS_BEFORE,
         refusals: 0,
-        cycles: MAX_COUNTED,
+        cycles: CALLS_BEFORE,
     };
-    let mut steps = Steps::after(MAX_COUNTED);
+    let mut steps = Steps::after(CALLS_BEFORE);
     let settled = settle(rt.alloc(), &network, &mut search, &mut steps).expect(&rt, "memory");
-    let rise = steps.count().wrapping_sub(MAX_COUNTED);
+    let rise = steps.count().wrapping_sub(CALLS_BEFORE);
     assert!(rt; 1 <= rise);
     assert_eq!(rt; search.cycles, steps.count());
     assert_eq!(rt;
-        search.calls.wrapping_sub(MAX_COUNTED),
+        search.calls.wrapping_sub(CALLS_BEFORE),
         rise.wrapping_add(44)
     );
     assert_eq!(rt; settled.flows.as_slice(), [-1i64, 1].as_slice());

@@ -1,5 +1,6 @@
 use Rattle.std.proofs.Common.{◌≤◌, All, unsigned_abs}
+use Rattle.th_limits.specs.Limits.{max_weight}
 use Rattle.benches.proofs.writing.flows_of.Given as goal
 
 abbrev pub invariant-loop-flow : goal.invariant-loop-flow
-invariant-loop-flow l = All (λ flow. unsigned_abs flow ≤ 1000) l.flows.items
+invariant-loop-flow l = All (λ flow. unsigned_abs flow ≤ max_weight) l.flows.items
