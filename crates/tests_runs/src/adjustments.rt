@@ -1,10 +1,15 @@
 //! Projects that are adjusted, and what is printed is checked.
 ghost use Rattle.std.specs.Prelude.{◌≤◌};
+ghost use Rattle.th_devices.specs.Memory.{text_sink};
+ghost use Rattle.th_runs.specs.Adjusted.{sinks_of};
+ghost use Rattle.th_runs.specs.Writes.{AreWritable};
 
+use crate::helpers::{
+    Sinks, Texts, add, adjust, adjust_books, adjust_into, are_same, is_accepted, source,
+};
 use crate::projects::{
-    A_AT_100, FAR_MISREAD_SIGHT, LIMIT, LONGEST_SIGHT, LOOP, LOOP_BEGINNING, LOOP_END,
-    MISREAD_SIGHT, ONE_SIGHT, SETUP, SIGHT, SPAN_AND_ON, Sinks, THERE_AND_BACK, TWO_SIGHTS, Texts,
-    WIDE_SIGHT, adjust, adjust_books, adjust_into, are_same, is_accepted, source,
+    A_AT_100, FAR_MISREAD_SIGHT, HEIGHTS, LIMIT, LONGEST_SIGHT, LOOP, LOOP_BEGINNING, LOOP_END,
+    MISREAD_SIGHT, ONE_SIGHT, SETUP, SIGHT, SPAN_AND_ON, THERE_AND_BACK, TWO_SIGHTS, WIDE_SIGHT,
 };
 use std::process::Abort;
 use th_devices::TextSink;
@@ -166,10 +171,6 @@ fn joins_two_books_without_weights(rt: HostRuntime) {
     is_accepted(&rt, (LOOP, A_AT_100, b""), outs.certificate.bytes());
 }
 
-/// The heights of A and B.
-const HEIGHTS: &[u8] =
-    b"point,height,low,high\nA,100.00000000,100.00000000,100.00000000\nB,102.54500000,102.54500000,102.54500000\n";
-
 #[test]
 fn adjusts_sixteen_books(rt: HostRuntime) {
     let mut books = [
@@ -204,10 +205,7 @@ fn large_sink<R: AllocGlobal + Abort>(rt: &R) -> TextSink
 
 /// Four of these.
 fn large_sinks<R: AllocGlobal + Abort>(rt: &R) -> Sinks
-    ensures heights { result.heights.counts.calls ≤ 15 }
-    ensures certificate { result.certificate.counts.calls ≤ 15 }
-    ensures report { result.report.counts.calls ≤ 15 }
-    ensures gsi { result.gsi.counts.calls ≤ 15 }
+    ensures { AreWritable text_sink text_sink text_sink text_sink (sinks_of result) }
 {
     Outs {
         heights: large_sink(rt),
@@ -227,13 +225,6 @@ fn adjust_large<R: AllocGlobal + Abort>(rt: &R, book: &[u8], heights: &[u8]) {
     let printed = outs.certificate.bytes();
     assert!(rt; printed.ends_with(b"Z,cost,0\n"));
     is_accepted(rt, texts, printed);
-}
-
-/// Adds a line to a text so many times.
-fn add<R: Abort>(rt: &R, text: &mut Vec<u8>, line: &[u8], times: u32) {
-    for _ in 0..times {
-        text.extend_from_slice(line).expect(rt, "memory");
-    }
 }
 
 #[test]

@@ -1,4 +1,5 @@
 //! Books that are cut short or changed in one byte, read in each of the three ways.
+use crate::helpers::put;
 use crate::projects::ONE_SIGHT;
 use gsi_block::{BlockFault, LineCursor};
 use gsi_word::WordFault;
@@ -93,13 +94,6 @@ fn each_beginning_of_a_book_is_read(rt: HostRuntime) {
     for count in 0..131_usize {
         let beginning = ONE_SIGHT.get(..count).expect(&rt, "a beginning");
         assert_eq!(rt; read(&rt, beginning), of_beginning(count), "{count} bytes");
-    }
-}
-
-/// Puts a byte in the place of another.
-fn put(bytes: &mut [u8], place: usize, byte: u8) {
-    if let Some(old) = bytes.get_mut(place) {
-        *old = byte;
     }
 }
 

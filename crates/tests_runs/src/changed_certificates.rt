@@ -1,5 +1,6 @@
 //! Certificates that are changed in one byte: whatever is accepted costs least.
-use crate::projects::{A_AT_100, LOOP, source};
+use crate::helpers::{put, source};
+use crate::projects::{A_AT_100, LOOP};
 use std::process::Abort;
 use th_book::{Observation, read_book};
 use th_certificate::{Certificate, StatedHeights, read_certificate};
@@ -69,13 +70,6 @@ fn costs_least<R: AllocGlobal + Abort>(rt: &R, observations: &[Observation], tex
     }
     if let Some(high) = certificate.high() {
         cost_least(rt, observations, high);
-    }
-}
-
-/// Puts a byte in the place of another.
-fn put(bytes: &mut [u8], place: usize, byte: u8) {
-    if let Some(old) = bytes.get_mut(place) {
-        *old = byte;
     }
 }
 

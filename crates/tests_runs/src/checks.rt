@@ -1,7 +1,6 @@
 //! Certificates of the loop that are checked, as they were printed and changed.
-use crate::projects::{
-    A_AT_100, HELD_BEFORE, LOOP, LOOP_BEGINNING, LOOP_END, Texts, check, is_accepted, sink, source,
-};
+use crate::helpers::{HELD_BEFORE, Texts, check, is_accepted, sink, source};
+use crate::projects::{A_AT_100, LOOP, LOOP_BEGINNING, LOOP_END};
 use gsi_word::name_of;
 use std::process::Abort;
 use th_certificate::{CertFault, CertKind};

@@ -1,51 +1,18 @@
 //! Each read and each write of an adjustment and of a check, refused in turn.
-ghost use Rattle.std.specs.Prelude.{◌≡◌, ◌≤◌};
+ghost use Rattle.std.specs.Prelude.{◌≤◌};
+ghost use Rattle.th_devices.specs.Memory.{text_sink};
+ghost use Rattle.th_runs.specs.Adjusted.{sinks_of};
+ghost use Rattle.th_runs.specs.Writes.{AreWritable};
 
-use crate::projects::{A_AT_100, HELD_BEFORE, LIMIT, ONE_SIGHT, Sinks, sink};
+use crate::helpers::{
+    Device, HELD_BEFORE, Sinks, are_left, failing_sink, failing_source, failing_sources,
+    held_before, refusal_of,
+};
+use crate::projects::{CERTIFICATE, HEIGHTS, LIMIT};
 use std::process::Abort;
 use th_checker::Verdict;
-use th_devices::{TextSink, TextSource};
-use th_runs::{Input, Output, Outs, Refusal, run_adjust, run_check};
-
-/// The devices of the runs; `Stated` is the certificate that a check reads, and the last four are what a
-/// review writes.
-#[derive(Clone, Copy, Debug, PartialEq, Eq)]
-pub enum Device {
-    FirstBook,
-    SecondBook,
-    Benchmarks,
-    Weights,
-    Stated,
-    Heights,
-    Certificate,
-    Report,
-    Gsi,
-    Verdict,
-    Points,
-    Observations,
-    Entries,
-    Review,
-}
-
-/// What a run answers where a device fails.
-pub fn refusal_of(device: Device) -> Refusal {
-    match device {
-        Device::FirstBook => Refusal::Read(Input::Book(1)),
-        Device::SecondBook => Refusal::Read(Input::Book(2)),
-        Device::Benchmarks => Refusal::Read(Input::Benchmarks),
-        Device::Weights => Refusal::Read(Input::Weights),
-        Device::Stated => Refusal::Read(Input::Certificate),
-        Device::Heights => Refusal::Write(Output::Heights),
-        Device::Certificate => Refusal::Write(Output::Certificate),
-        Device::Report => Refusal::Write(Output::Report),
-        Device::Gsi => Refusal::Write(Output::Gsi),
-        Device::Verdict => Refusal::Write(Output::Verdict),
-        Device::Points => Refusal::Write(Output::Points),
-        Device::Observations => Refusal::Write(Output::Observations),
-        Device::Entries => Refusal::Write(Output::Entries),
-        Device::Review => Refusal::Write(Output::Review),
-    }
-}
+use th_devices::TextSink;
+use th_runs::{Outs, Refusal, run_adjust, run_check};
 
 /// The devices of an adjustment, and how often each is called: a source gives 50 bytes a read, and
 /// the last read finds its end; a sink takes 20 bytes a write, beside `begin` and `finish`.
@@ -61,61 +28,18 @@ const OF_ADJUSTMENT: [(Device, u8); 8] = [
 ];
 
 /// The devices of a check.
-const OF_CHECK: [(Device, u8); 5] = [
+const OF_CHECK: [(Device, u8); 6] = [
     (Device::FirstBook, 4),
+    (Device::SecondBook, 1),
     (Device::Benchmarks, 2),
     (Device::Weights, 2),
     (Device::Stated, 4),
     (Device::Verdict, 3),
 ];
 
-/// A weight of a pair that is not observed.
-pub const WEIGHTS: &[u8] = b"from,to,weight\nB,A,7\n";
-
-/// The heights of the book of one sight.
-pub const HEIGHTS: &[u8] =
-    b"point,height,low,high\nA,100.00000000,100.00000000,100.00000000\nB,102.54500000,102.54500000,102.54500000\n";
-
-/// Its certificate.
-pub const CERTIFICATE: &[u8] =
-    b"kind,key,value\nV,2,1\nH,A,100.00000000\nH,B,102.54500000\nL,A,100.00000000\nL,B,102.54500000\nU,A,100.00000000\nU,B,102.54500000\nF,1,0\nZ,cost,0\n";
-
-/// A source of a text, whose read of this number fails where it is the device that is to fail.
-pub fn failing_source(
-    text: &'static [u8],
-    own: Device,
-    failing: Device,
-    call: u8,
-) -> TextSource<'static>
-    ensures { result.counts.calls ≡ 0 }
-{
-    let fail_at = if own == failing {
-        Some(u128::from(call))
-    } else {
-        None
-    };
-    TextSource::new(text, 50, fail_at)
-}
-
-/// A sink that holds a text, whose call of this number fails where it is the device that is to fail.
-pub fn failing_sink<R: AllocGlobal + Abort>(
-    rt: &R,
-    own: Device,
-    failing: Device,
-    call: u8,
-) -> TextSink
-    ensures { result.counts.calls ≤ 15 }
-{
-    let fail_at = if own == failing { Some(call) } else { None };
-    sink(rt, fail_at)
-}
-
 /// Four sinks, one of whose calls may fail.
 fn failing_sinks<R: AllocGlobal + Abort>(rt: &R, failing: Device, call: u8) -> Sinks
-    ensures heights { result.heights.counts.calls ≤ 15 }
-    ensures certificate { result.certificate.counts.calls ≤ 15 }
-    ensures report { result.report.counts.calls ≤ 15 }
-    ensures gsi { result.gsi.counts.calls ≤ 15 }
+    ensures { AreWritable text_sink text_sink text_sink text_sink (sinks_of result) }
 {
     Outs {
         heights: failing_sink(rt, Device::Heights, failing, call),
@@ -125,68 +49,22 @@ fn failing_sinks<R: AllocGlobal + Abort>(rt: &R, failing: Device, call: u8) -> S
     }
 }
 
-/// Adjusts two books, the second of them empty, where one call fails.
-fn adjust_failing<R: AllocGlobal + Abort>(
-    rt: &R,
-    failing: Device,
-    call: u8,
-    outs: &mut Sinks,
-) -> Result<(), Refusal>
-    requires heights { outs.old.heights.counts.calls ≤ 15 }
-    requires certificate { outs.old.certificate.counts.calls ≤ 15 }
-    requires report { outs.old.report.counts.calls ≤ 15 }
-    requires gsi { outs.old.gsi.counts.calls ≤ 15 }
-{
-    let mut books = [
-        failing_source(ONE_SIGHT, Device::FirstBook, failing, call),
-        failing_source(b"", Device::SecondBook, failing, call),
-    ];
-    let mut benchmarks = failing_source(A_AT_100, Device::Benchmarks, failing, call);
-    let mut weights = Some(failing_source(WEIGHTS, Device::Weights, failing, call));
-    run_adjust(
-        rt.alloc(),
-        &mut books,
-        &mut benchmarks,
-        &mut weights,
-        LIMIT,
-        outs,
-    )
-}
-
-/// What a sink holds of its text where this call of it fails.
-fn held_before(text: &[u8], call: u8) -> &[u8] {
-    let written = usize::from(call).saturating_sub(2).saturating_mul(20);
-    if call == 1 {
-        HELD_BEFORE
-    } else {
-        text.get(..written).unwrap_or(text)
-    }
-}
-
-/// Looks at what a run leaves where a call fails: each output, what it holds, and its text. Outputs
-/// before the one that failed are whole, that one has a beginning, and those behind it, or all where
-/// a read failed, are untouched.
-pub fn are_left<R: Abort>(rt: &R, outputs: [(Device, &[u8], &[u8]); 4], failing: Device, call: u8) {
-    let mut is_whole = matches!(refusal_of(failing), Refusal::Write(_));
-    for (output, held, text) in outputs {
-        if failing == output {
-            assert!(rt; held == held_before(text, call), "{failing:?} call {call}");
-            is_whole = false;
-        } else {
-            let wanted = if is_whole { text } else { HELD_BEFORE };
-            assert!(rt; held == wanted, "{failing:?} call {call}: {output:?}");
-        }
-    }
-}
-
 /// Adjusts with a call that fails or never comes. Returns the answer and the sinks.
 fn adjust_where<R: AllocGlobal + Abort>(
     rt: &R,
     failing: Device,
     call: u8,
 ) -> (Result<(), Refusal>, Sinks) {
+    let (mut books, mut table, mut weights) = failing_sources(failing, call);
     let mut outs = failing_sinks(rt, failing, call);
-    let answer = adjust_failing(rt, failing, call, &mut outs);
+    let answer = run_adjust(
+        rt.alloc(),
+        &mut books,
+        &mut table,
+        &mut weights,
+        LIMIT,
+        &mut outs,
+    );
     (answer, outs)
 }
 
@@ -243,9 +121,7 @@ fn check_failing<R: AllocGlobal + Abort>(
 ) -> Result<Verdict, Refusal>
     requires { out.old.counts.calls ≤ 15 }
 {
-    let mut books = [failing_source(ONE_SIGHT, Device::FirstBook, failing, call)];
-    let mut benchmarks = failing_source(A_AT_100, Device::Benchmarks, failing, call);
-    let mut weights = Some(failing_source(WEIGHTS, Device::Weights, failing, call));
+    let (mut books, mut benchmarks, mut weights) = failing_sources(failing, call);
     let mut certificate = failing_source(CERTIFICATE, Device::Stated, failing, call);
     run_check(
         rt.alloc(),

@@ -1,15 +1,19 @@
 //! Inputs that are refused in the order in which they are read, and devices that fail.
-use crate::devices::{CERTIFICATE, Device, HEIGHTS, refuse_in_adjustment, refuse_nothing};
-use crate::projects::{
-    A_AT_100, FAULTY_BOOK, FAULTY_TABLE, HELD_BEFORE, LIMIT, ONE_SIGHT, Sinks, adjust_books,
-    are_untouched, is_refused, sink, sinks, source,
+ghost use Rattle.std.specs.Prelude.{Option};
+ghost use Rattle.th_devices.specs.Memory.{text_source};
+ghost use Rattle.th_runs.specs.Reads.{AreRead, AreReady};
+
+use crate::devices::{refuse_in_adjustment, refuse_nothing};
+use crate::helpers::{
+    Device, HELD_BEFORE, Sinks, adjust_books, adjust_from, are_untouched, is_refused, sink, source,
 };
+use crate::projects::{A_AT_100, CERTIFICATE, FAULTY_BOOK, FAULTY_TABLE, HEIGHTS, ONE_SIGHT};
 use gsi_word::name_of;
 use std::process::Abort;
 use th_book::{BookFault, BookKind};
 use th_devices::TextSource;
 use th_network::NetFault;
-use th_runs::{Input, Output, Refusal, run_adjust, run_check};
+use th_runs::{Input, Output, Refusal, run_check};
 use th_tables::{TableFault, TableKind};
 
 /// The fault of the faulty book.
@@ -33,47 +37,39 @@ fn is_answer<R: Abort>(rt: &R, answer: Result<(), Refusal>, outs: &Sinks, refusa
     assert!(rt; are_untouched(outs), "{refusal}");
 }
 
+/// Adjusts books over tables, which has to be refused so before an output is touched.
+fn refuse_books<R: AllocGlobal + Abort>(
+    rt: &R,
+    books: &mut [TextSource<'_>],
+    benchmarks: &mut TextSource<'_>,
+    weights: &mut Option<TextSource<'_>>,
+    refusal: Refusal,
+)
+    requires { AreReady text_source text_source text_source books.old benchmarks.old weights.old }
+    ensures { (answer : Option Refusal) × AreRead text_source text_source text_source answer
+        books.old books.new benchmarks.old benchmarks.new weights.old weights.new }
+{
+    let (answer, outs) = adjust_from(rt, books, benchmarks, weights);
+    is_answer(rt, answer, &outs, refusal);
+}
+
 #[test]
 fn the_first_input_that_is_refused_decides(rt: HostRuntime) {
     let mut books = [source(ONE_SIGHT), source(FAULTY_BOOK)];
     let mut benchmarks = TextSource::new(A_AT_100, 50, Some(1));
     let mut weights = Some(source(FAULTY_TABLE));
-    let mut outs = sinks(&rt);
-    let answer = run_adjust(
-        rt.alloc(),
-        &mut books,
-        &mut benchmarks,
-        &mut weights,
-        LIMIT,
-        &mut outs,
-    );
-    is_answer(&rt, answer, &outs, Refusal::Book(2, BOOK_FAULT));
+    let of_book = Refusal::Book(2, BOOK_FAULT);
+    refuse_books(&rt, &mut books, &mut benchmarks, &mut weights, of_book);
 
     // The benchmarks were not read: their first read is still to fail.
     let mut books = [source(ONE_SIGHT)];
-    let mut outs = sinks(&rt);
-    let answer = run_adjust(
-        rt.alloc(),
-        &mut books,
-        &mut benchmarks,
-        &mut weights,
-        LIMIT,
-        &mut outs,
-    );
-    is_answer(&rt, answer, &outs, Refusal::Read(Input::Benchmarks));
+    let of_read = Refusal::Read(Input::Benchmarks);
+    refuse_books(&rt, &mut books, &mut benchmarks, &mut weights, of_read);
 
     // The weights were not read: they still have their fault.
     let mut books = [source(ONE_SIGHT)];
-    let mut outs = sinks(&rt);
-    let answer = run_adjust(
-        rt.alloc(),
-        &mut books,
-        &mut benchmarks,
-        &mut weights,
-        LIMIT,
-        &mut outs,
-    );
-    is_answer(&rt, answer, &outs, Refusal::Weights(BAD_HEADER));
+    let of_weights = Refusal::Weights(BAD_HEADER);
+    refuse_books(&rt, &mut books, &mut benchmarks, &mut weights, of_weights);
 }
 
 #[test]

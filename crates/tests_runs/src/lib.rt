@@ -15,6 +15,8 @@ mod devices;
 #[cfg(test)]
 mod failures;
 #[cfg(test)]
+mod helpers;
+#[cfg(test)]
 mod lists;
 #[cfg(test)]
 mod projects;

@@ -1,10 +1,9 @@
 //! Books listed from memory to memory: their lists, the lines of their faults, and the state after a
 //! device fails.
-ghost use Rattle.std.specs.Prelude.{◌≤◌};
-
+use crate::helpers::{HELD_BEFORE, add, sink};
 use std::process::Abort;
 use th_book::MAX_BOOK;
-use th_devices::{TextSink, TextSource, write_all};
+use th_devices::{TextSink, TextSource};
 use th_runs::{Input, Output, Refusal, run_list};
 
 /// A setup on A.
@@ -19,9 +18,6 @@ const LIST: &[u8] = b"number,from,to,difference\n1,A,B,2.54500000\n";
 
 /// The list of a book without a sight.
 const HEADER: &[u8] = b"number,from,to,difference\n";
-
-/// What a sink holds before a run, which it took in three calls.
-const HELD_BEFORE: &[u8] = b"an older list";
 
 /// The most bytes that a device gives or takes a call where the number of its calls matters.
 const PIECE: usize = 20;
@@ -48,19 +44,9 @@ fn list<R: AllocGlobal + Abort>(
     };
     assert!(rt; piece >= 1);
     let mut source = TextSource::new(book, piece, read);
-    let mut sink = sink_before_run(rt, write);
+    let mut sink = sink(rt, write);
     let answer = run_list(rt.alloc(), &mut source, &mut sink);
     (answer, sink)
-}
-
-/// A sink that holds a text, and whose call with this number fails, counted from then on.
-fn sink_before_run<R: AllocGlobal + Abort>(rt: &R, fail_at: Option<u8>) -> TextSink
-    ensures { result.counts.calls ≤ 15 }
-{
-    let fail_at = fail_at.map(|call| u128::from(call) + 3);
-    let mut sink = TextSink::new(rt.alloc(), 1_000, PIECE, fail_at).expect(rt, "memory");
-    let _ = write_all(&mut sink, HELD_BEFORE);
-    sink
 }
 
 /// Lists a book that comes in pieces, which has to give this list.
@@ -77,13 +63,6 @@ fn is_refused<R: AllocGlobal + Abort>(rt: &R, book: &[u8], piece: usize, line: &
     let said = format!(in rt.alloc(); "{refusal}").expect(rt, "memory");
     assert!(rt; said.as_str() == line, "{refusal}");
     assert!(rt; sink.bytes() == HELD_BEFORE, "{refusal}");
-}
-
-/// Adds bytes to a book so many times.
-fn add<R: Abort>(rt: &R, book: &mut Vec<u8>, bytes: &[u8], times: u32) {
-    for _ in 0..times {
-        book.extend_from_slice(bytes).expect(rt, "memory");
-    }
 }
 
 /// A book of two parts, each ended by these bytes.

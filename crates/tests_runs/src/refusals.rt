@@ -1,7 +1,6 @@
 //! The line of each refusal, and its status.
-use crate::projects::{
-    A_AT_100, FAULTY_BOOK, FAULTY_TABLE, ONE_SIGHT, Texts, adjust, are_untouched,
-};
+use crate::helpers::{Texts, adjust, are_untouched};
+use crate::projects::{A_AT_100, FAULTY_BOOK, FAULTY_TABLE, ONE_SIGHT};
 use gsi_word::name_of;
 use std::process::Abort;
 use th_book::{BookFault, BookKind};

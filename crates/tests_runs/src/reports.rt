@@ -1,7 +1,7 @@
 //! Projects that are adjusted, with the reports and the blocks that are printed.
+use crate::helpers::{adjust_into, are_same, sinks};
 use crate::projects::{
     A_AT_100, LIMIT, LONGEST_SIGHT, MISREAD_SIGHT, ONE_SIGHT, THERE_AND_BACK, TWICE_AND_BACK,
-    adjust_into, are_same, sinks,
 };
 use std::process::Abort;
 
@@ -14,6 +14,16 @@ type Printed = (
     &'static str,
     &'static str,
 );
+
+/// The blocks of A at 100 m and B at 102.545 m.
+const B_AT_102_545: &str = "*110001+000000000000000A 83..48+0000000010000000 \r
+*110002+000000000000000B 83..48+0000000010254500 \r
+";
+
+/// The blocks of A at 100 m and B at 102.546 m.
+const B_AT_102_546: &str = "*110001+000000000000000A 83..48+0000000010000000 \r
+*110002+000000000000000B 83..48+0000000010254600 \r
+";
 
 const PRINTED: [Printed; 10] = [
     // One sight.
@@ -40,9 +50,7 @@ blunders                               0
 
 opposites                              0
 ",
-        "*110001+000000000000000A 83..48+0000000010000000 \r
-*110002+000000000000000B 83..48+0000000010254500 \r
-",
+        B_AT_102_545,
     ),
     // Of three sights the last is a blunder above 2 cm, and above a hair less than its residual,
     // but not above just that.
@@ -72,9 +80,7 @@ blunders                               1
 
 opposites                              0
 ",
-        "*110001+000000000000000A 83..48+0000000010000000 \r
-*110002+000000000000000B 83..48+0000000010254600 \r
-",
+        B_AT_102_546,
     ),
     (
         MISREAD_SIGHT,
@@ -102,9 +108,7 @@ blunders                               1
 
 opposites                              0
 ",
-        "*110001+000000000000000A 83..48+0000000010000000 \r
-*110002+000000000000000B 83..48+0000000010254600 \r
-",
+        B_AT_102_546,
     ),
     (
         MISREAD_SIGHT,
@@ -131,9 +135,7 @@ blunders                               0
 
 opposites                              0
 ",
-        "*110001+000000000000000A 83..48+0000000010000000 \r
-*110002+000000000000000B 83..48+0000000010254600 \r
-",
+        B_AT_102_546,
     ),
     // The least limit.
     (
@@ -163,9 +165,7 @@ blunders                               2
 
 opposites                              0
 ",
-        "*110001+000000000000000A 83..48+0000000010000000 \r
-*110002+000000000000000B 83..48+0000000010254600 \r
-",
+        B_AT_102_546,
     ),
     // A sight back is set beside the one there.
     (
@@ -193,9 +193,7 @@ blunders                               0
 opposites                              1
     2      1  B                 A                          -0.01000000
 ",
-        "*110001+000000000000000A 83..48+0000000010000000 \r
-*110002+000000000000000B 83..48+0000000010254500 \r
-",
+        B_AT_102_545,
     ),
     // Each sight is set beside the last one the other way round. The limit is the largest.
     (
@@ -226,9 +224,7 @@ opposites                              2
     3      2  B                 A                          -0.01000000
     4      3  A                 B                          -0.01000000
 ",
-        "*110001+000000000000000A 83..48+0000000010000000 \r
-*110002+000000000000000B 83..48+0000000010254500 \r
-",
+        B_AT_102_545,
     ),
     // The longest difference, and the largest residual.
     (

@@ -1,9 +1,14 @@
 //! Reviews over devices in memory: what they write of small networks, and each read and each write
 //! refused in turn.
-ghost use Rattle.std.specs.Prelude.{◌≡◌, ◌≤◌};
+ghost use Rattle.std.specs.Prelude.{◌≤◌};
+ghost use Rattle.th_devices.specs.Memory.{text_sink};
+ghost use Rattle.th_runs.specs.Reviewed.{sinks_of};
+ghost use Rattle.th_runs.specs.Writes.{AreWritable};
 
-use crate::devices::{Device, WEIGHTS, are_left, failing_sink, failing_source, refusal_of};
-use crate::projects::{A_AT_100, LIMIT, ONE_SIGHT, TWO_SIGHTS, Texts, source};
+use crate::helpers::{
+    Device, Texts, add, are_left, failing_sink, failing_sources, refusal_of, source,
+};
+use crate::projects::{A_AT_100, LIMIT, TWO_SIGHTS};
 use std::process::Abort;
 use th_devices::{TextSink, TextSource};
 use th_runs::{Refusal, ReviewOuts, run_review};
@@ -237,10 +242,7 @@ const OUTPUTS: [Device; 4] = [
 
 /// Four sinks, one of whose calls may fail.
 fn failing_sinks<R: AllocGlobal + Abort>(rt: &R, failing: Device, call: u8) -> Sinks
-    ensures points { result.points.counts.calls ≤ 15 }
-    ensures observations { result.observations.counts.calls ≤ 15 }
-    ensures entries { result.entries.counts.calls ≤ 15 }
-    ensures review { result.review.counts.calls ≤ 15 }
+    ensures { AreWritable text_sink text_sink text_sink text_sink (sinks_of result) }
 {
     ReviewOuts {
         points: failing_sink(rt, Device::Points, failing, call),
@@ -270,9 +272,9 @@ fn are_written<R: Abort>(rt: &R, outs: &Sinks, written: &Written) {
 /// Reviews one book, whose review has to be this.
 fn try_row<R: AllocGlobal + Abort>(rt: &R, row: &Row) {
     let (book, benchmarks, weights) = row.texts;
-    let mut books = [failing_source(book, Device::FirstBook, Device::Verdict, 1)];
-    let mut table = failing_source(benchmarks, Device::Benchmarks, Device::Verdict, 1);
-    let mut factors = Some(failing_source(weights, Device::Weights, Device::Verdict, 1));
+    let mut books = [source(book)];
+    let mut table = source(benchmarks);
+    let mut factors = Some(source(weights));
     let mut outs = failing_sinks(rt, Device::Verdict, 1);
     let answer = run_review(
         rt.alloc(),
@@ -299,17 +301,12 @@ fn review_where<R: AllocGlobal + Abort>(
     failing: Device,
     call: u8,
 ) -> (Result<(), Refusal>, Sinks) {
-    let mut books = [
-        failing_source(ONE_SIGHT, Device::FirstBook, failing, call),
-        failing_source(b"", Device::SecondBook, failing, call),
-    ];
-    let mut benchmarks = failing_source(A_AT_100, Device::Benchmarks, failing, call);
-    let mut weights = Some(failing_source(WEIGHTS, Device::Weights, failing, call));
+    let (mut books, mut table, mut weights) = failing_sources(failing, call);
     let mut outs = failing_sinks(rt, failing, call);
     let answer = run_review(
         rt.alloc(),
         &mut books,
-        &mut benchmarks,
+        &mut table,
         &mut weights,
         LIMIT,
         &mut outs,
@@ -361,10 +358,7 @@ fn wide_sink<R: AllocGlobal + Abort>(rt: &R) -> TextSink
 fn one_pair<R: AllocGlobal + Abort>(rt: &R) -> Vec<u8> {
     let setup = b"110001+0000000A 84..10+00000000 88..10+00001500 87..10+00001300 \n";
     let mut book = setup.to_vec(rt.alloc()).expect(rt, "memory");
-    for _sight in 0..SIGHTS {
-        book.extend_from_slice(b"110002+0000000B 33..00+00002345 \n")
-            .expect(rt, "memory");
-    }
+    add(rt, &mut book, b"110002+0000000B 33..00+00002345 \n", SIGHTS);
     book
 }
 
