@@ -1,5 +1,5 @@
 //! Runs that succeed.
-use crate::folders::{LIST, ROOM, file, project, put, run, same, shown};
+use crate::folders::{ADJUST_BACK, ADJUST_SITE, LIST, ROOM, file, project, put, run, same, shown};
 
 /// The heights file of one sight, and of two with the weights.
 const WEIGHTED: &[u8] =
@@ -12,7 +12,7 @@ const CERTIFICATE: &[u8] =
 #[test]
 fn standard_input_is_listed(rt: HostRuntime) {
     let mut folder = project(&rt, ROOM);
-    assert_eq!(rt; run(&rt, &mut folder, &[]), 0);
+    assert_eq!(rt; run(&rt, &mut folder, ""), 0);
     assert!(rt; same(shown(folder.output()), LIST));
     assert!(rt; folder.errors().is_none());
 }
@@ -20,7 +20,7 @@ fn standard_input_is_listed(rt: HostRuntime) {
 #[test]
 fn a_file_is_listed(rt: HostRuntime) {
     let mut folder = project(&rt, ROOM);
-    assert_eq!(rt; run(&rt, &mut folder, &["list", "site.gsi"]), 0);
+    assert_eq!(rt; run(&rt, &mut folder, "list site.gsi"), 0);
     assert!(rt; same(shown(folder.output()), LIST));
     assert!(rt; folder.errors().is_none());
 }
@@ -28,17 +28,7 @@ fn a_file_is_listed(rt: HostRuntime) {
 #[test]
 fn a_network_is_adjusted_and_its_certificate_is_accepted(rt: HostRuntime) {
     let mut folder = project(&rt, ROOM);
-    let adjust = [
-        "adjust",
-        "--benchmarks",
-        "heights",
-        "--weights",
-        "weights",
-        "--out",
-        "out",
-        "back.gsi",
-    ];
-    assert_eq!(rt; run(&rt, &mut folder, &adjust), 0);
+    assert_eq!(rt; run(&rt, &mut folder, ADJUST_BACK), 0);
     assert!(rt; same(file(&folder, "out.heights.csv"), WEIGHTED));
     assert!(rt; same(file(&folder, "out.certificate.csv"), CERTIFICATE));
     assert!(rt; file(&folder, "out.report.txt").len() > 0);
@@ -46,17 +36,9 @@ fn a_network_is_adjusted_and_its_certificate_is_accepted(rt: HostRuntime) {
     assert!(rt; folder.output().is_none());
     assert!(rt; folder.errors().is_none());
 
-    let check = [
-        "check",
-        "--benchmarks",
-        "heights",
-        "--weights",
-        "weights",
-        "--certificate",
-        "out.certificate.csv",
-        "back.gsi",
-    ];
-    assert_eq!(rt; run(&rt, &mut folder, &check), 0);
+    let check =
+        "check --benchmarks heights --weights weights --certificate out.certificate.csv back.gsi";
+    assert_eq!(rt; run(&rt, &mut folder, check), 0);
     assert!(rt; same(shown(folder.output()), b"yes\n"));
     assert!(rt; folder.errors().is_none());
 }
@@ -66,17 +48,8 @@ fn weights_count(rt: HostRuntime) {
     let mut folder = project(&rt, ROOM);
     put(&rt, &mut folder, "certificate", CERTIFICATE);
     put(&rt, &mut folder, "heavier", b"from,to,weight\nB,A,3\n");
-    let check = [
-        "check",
-        "--benchmarks",
-        "heights",
-        "--weights",
-        "heavier",
-        "--certificate",
-        "certificate",
-        "back.gsi",
-    ];
-    assert_eq!(rt; run(&rt, &mut folder, &check), 1);
+    let check = "check --benchmarks heights --weights heavier --certificate certificate back.gsi";
+    assert_eq!(rt; run(&rt, &mut folder, check), 1);
     assert!(rt; shown(folder.output()).starts_with(b"no: "));
     assert!(rt; folder.errors().is_none());
 }
@@ -85,14 +58,6 @@ fn weights_count(rt: HostRuntime) {
 fn outputs_replace_old_files(rt: HostRuntime) {
     let mut folder = project(&rt, ROOM);
     put(&rt, &mut folder, "out.heights.csv", &[b'x'; 2_000]);
-    let adjust = [
-        "adjust",
-        "--benchmarks",
-        "heights",
-        "--out",
-        "out",
-        "site.gsi",
-    ];
-    assert_eq!(rt; run(&rt, &mut folder, &adjust), 0);
+    assert_eq!(rt; run(&rt, &mut folder, ADJUST_SITE), 0);
     assert!(rt; same(file(&folder, "out.heights.csv"), WEIGHTED));
 }

@@ -14,6 +14,28 @@ pub const THERE_AND_BACK: &[u8] =
 /// The list of the book with one sight.
 pub const LIST: &[u8] = b"number,from,to,difference\n1,A,B,2.54500000\n";
 
+/// The arguments that adjust the book with one sight.
+pub const ADJUST_SITE: &str = "adjust --benchmarks heights --out out site.gsi";
+
+/// The arguments that adjust the book with a sight there and one back.
+pub const ADJUST_BACK: &str = "adjust --benchmarks heights --weights weights --out out back.gsi";
+
+/// The files that an adjustment writes with these arguments, in order.
+pub const ADJUSTED: [&str; 4] = [
+    "out.heights.csv",
+    "out.certificate.csv",
+    "out.report.txt",
+    "out.heights.gsi",
+];
+
+/// The files that a review with the prefix `out` writes, in order.
+pub const REVIEWED: [&str; 4] = [
+    "out.points.csv",
+    "out.observations.csv",
+    "out.entries.csv",
+    "out.review.txt",
+];
+
 /// No bytes.
 const NOTHING: &[u8] = b"";
 
@@ -40,14 +62,14 @@ pub fn put(rt: &(impl AllocGlobal + Abort), folder: &mut MemoryFolder, name: &st
         .expect(rt, "the file");
 }
 
-/// Runs the program with these words behind its own name, and answers its status.
-pub fn run(rt: &(impl AllocGlobal + Abort), folder: &mut MemoryFolder, words: &[&str]) -> u8 {
-    let mut all = Vec::new(rt.alloc());
-    all.push("height_office").ok().expect(rt, "the name");
-    for word in words {
-        all.push(*word).ok().expect(rt, "the word");
+/// Runs the program with the words of a line behind its own name, and answers its status.
+pub fn run(rt: &(impl AllocGlobal + Abort), folder: &mut MemoryFolder, line: &str) -> u8 {
+    let mut words = Vec::new(rt.alloc());
+    words.push("height_office").ok().expect(rt, "the name");
+    for word in line.split_whitespace() {
+        words.push(word).ok().expect(rt, "the word");
     }
-    run_words(rt.alloc(), folder, all.as_slice())
+    run_words(rt.alloc(), folder, words.as_slice())
 }
 
 /// The bytes of the file of this name, none where there is no file.

@@ -1,47 +1,25 @@
 //! Commands whose outputs would overwrite an input: they are refused, and nothing is read or written.
-use crate::folders::{BOOK, ROOM, file, project, put, run, same, shown};
+use crate::folders::{ADJUSTED, BOOK, REVIEWED, ROOM, file, project, put, run, same, shown};
 use std::process::Abort;
 
 /// The commands, each with the four outputs that it writes.
-const COMMANDS: [(&str, [&str; 4]); 2] = [
-    (
-        "adjust",
-        [
-            "out.heights.csv",
-            "out.certificate.csv",
-            "out.report.txt",
-            "out.heights.gsi",
-        ],
-    ),
-    (
-        "review",
-        [
-            "out.points.csv",
-            "out.observations.csv",
-            "out.entries.csv",
-            "out.review.txt",
-        ],
-    ),
-];
+const COMMANDS: [(&str, [&str; 4]); 2] = [("adjust", ADJUSTED), ("review", REVIEWED)];
 
-/// The arguments behind a command and its prefix with an input of the name that `NAME` stands for, and
-/// how that input is reported. Other inputs are missing, so they are not read.
-const INPUTS: [(&[&str], &str); 4] = [
-    (&["--benchmarks", "none", "NAME", "none.gsi"], "book 1"),
-    (&["--benchmarks", "none", "none.gsi", "NAME"], "book 2"),
-    (&["--benchmarks", "NAME", "none.gsi"], "benchmarks"),
-    (
-        &["--benchmarks", "none", "--weights", "NAME", "none.gsi"],
-        "weights",
-    ),
+/// The arguments behind a command and its prefix, up to an input and behind it, and how that input is
+/// reported. Other inputs are missing, so they are not read.
+const INPUTS: [(&str, &str, &str); 4] = [
+    ("--benchmarks none", "none.gsi", "book 1"),
+    ("--benchmarks none none.gsi", "", "book 2"),
+    ("--benchmarks", "none.gsi", "benchmarks"),
+    ("--benchmarks none --weights", "none.gsi", "weights"),
 ];
 
 #[test]
 fn no_input_is_overwritten(rt: HostRuntime) {
     for (command, outputs) in COMMANDS {
         for output in outputs {
-            for (words, input) in INPUTS {
-                is_refused(&rt, command, output, words, input);
+            for input in INPUTS {
+                is_refused(&rt, command, output, input);
             }
         }
     }
@@ -52,20 +30,16 @@ fn is_refused(
     rt: &(impl AllocGlobal + Abort),
     command: &str,
     output: &str,
-    words: &[&str],
-    input: &str,
+    input: (&str, &str, &str),
 ) {
     let mut folder = project(rt, ROOM);
     put(rt, &mut folder, output, BOOK);
-    let mut all = Vec::new(rt.alloc());
-    for word in [command, "--out", "out"] {
-        all.push(word).ok().expect(rt, "the word");
-    }
-    for word in words {
-        let word = if *word == "NAME" { output } else { *word };
-        all.push(word).ok().expect(rt, "the word");
-    }
-    assert_eq!(rt; run(rt, &mut folder, all.as_slice()), 3);
+    let (before, behind, input) = input;
+    let words = format!(in rt.alloc(); "{command} --out out {before} {output} {behind}").expect(
+        rt,
+        "the words",
+    );
+    assert_eq!(rt; run(rt, &mut folder, words.as_str()), 3);
     let line = format!(in rt.alloc();
         "error: output {output} would overwrite {input} {output}\n"
     ).expect(rt, "the line");
@@ -79,15 +53,10 @@ fn an_input_beside_the_outputs_is_read(rt: HostRuntime) {
     let mut folder = project(&rt, ROOM);
     put(&rt, &mut folder, "out.gsi", BOOK);
     for (command, outputs) in COMMANDS {
-        let words = [
-            command,
-            "--benchmarks",
-            "heights",
-            "--out",
-            "out",
-            "out.gsi",
-        ];
-        assert_eq!(rt; run(&rt, &mut folder, &words), 0);
+        let words = format!(in rt.alloc();
+            "{command} --benchmarks heights --out out out.gsi"
+        ).expect(&rt, "the words");
+        assert_eq!(rt; run(&rt, &mut folder, words.as_str()), 0);
         for output in outputs {
             assert!(rt; folder.file(output).is_some(), "{output}");
         }
@@ -99,14 +68,7 @@ fn an_input_beside_the_outputs_is_read(rt: HostRuntime) {
 fn an_output_of_the_other_command_is_read(rt: HostRuntime) {
     let mut folder = project(&rt, ROOM);
     put(&rt, &mut folder, "out.points.csv", BOOK);
-    let words = [
-        "adjust",
-        "--benchmarks",
-        "heights",
-        "--out",
-        "out",
-        "out.points.csv",
-    ];
-    assert_eq!(rt; run(&rt, &mut folder, &words), 0);
+    let words = "adjust --benchmarks heights --out out out.points.csv";
+    assert_eq!(rt; run(&rt, &mut folder, words), 0);
     assert!(rt; same(file(&folder, "out.points.csv"), BOOK));
 }

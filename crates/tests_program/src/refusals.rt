@@ -1,17 +1,12 @@
 //! Runs that are refused: the status, the line on standard error, and what files hold then.
-use crate::folders::{BOOK, ROOM, file, project, put, run, same, shown};
+use crate::folders::{ADJUST_SITE, BOOK, ROOM, file, project, put, run, same, shown};
 
 #[test]
 fn a_fault_has_its_line(rt: HostRuntime) {
     let mut folder = project(&rt, ROOM);
     put(&rt, &mut folder, "faulty.gsi", b"no block\n");
-    assert_eq!(rt; run(&rt, &mut folder, &["list", "faulty.gsi"]), 2);
-    assert!(rt;
-        folder
-            .errors()
-            .unwrap_or(b"")
-            .starts_with(b"book 1 line 1: B1 ")
-    );
+    assert_eq!(rt; run(&rt, &mut folder, "list faulty.gsi"), 2);
+    assert!(rt; shown(folder.errors()).starts_with(b"book 1 line 1: B1 "));
     assert!(rt; shown(folder.errors()).ends_with(b"\n"));
     assert!(rt; folder.output().is_none());
 }
@@ -20,29 +15,16 @@ fn a_fault_has_its_line(rt: HostRuntime) {
 fn a_fault_of_the_second_book_has_its_number(rt: HostRuntime) {
     let mut folder = project(&rt, ROOM);
     put(&rt, &mut folder, "faulty.gsi", b"no block\n");
-    let adjust = [
-        "adjust",
-        "--benchmarks",
-        "heights",
-        "--out",
-        "out",
-        "site.gsi",
-        "faulty.gsi",
-    ];
-    assert_eq!(rt; run(&rt, &mut folder, &adjust), 2);
-    assert!(rt;
-        folder
-            .errors()
-            .unwrap_or(b"")
-            .starts_with(b"book 2 line 1: B1 ")
-    );
+    let two = "adjust --benchmarks heights --out out site.gsi faulty.gsi";
+    assert_eq!(rt; run(&rt, &mut folder, two), 2);
+    assert!(rt; shown(folder.errors()).starts_with(b"book 2 line 1: B1 "));
     assert!(rt; folder.file("out.heights.csv").is_none());
 }
 
 #[test]
 fn a_file_that_is_not_there_is_not_read(rt: HostRuntime) {
     let mut folder = project(&rt, ROOM);
-    assert_eq!(rt; run(&rt, &mut folder, &["list", "none.gsi"]), 5);
+    assert_eq!(rt; run(&rt, &mut folder, "list none.gsi"), 5);
     assert!(rt; same(shown(folder.errors()), b"read failed: book 1\n"));
     assert!(rt; folder.output().is_none());
 }
@@ -51,21 +33,9 @@ fn a_file_that_is_not_there_is_not_read(rt: HostRuntime) {
 fn a_table_that_is_a_book_is_refused(rt: HostRuntime) {
     let mut folder = project(&rt, ROOM);
     put(&rt, &mut folder, "certificate", BOOK);
-    let check = [
-        "check",
-        "--benchmarks",
-        "heights",
-        "--certificate",
-        "certificate",
-        "site.gsi",
-    ];
-    assert_eq!(rt; run(&rt, &mut folder, &check), 2);
-    assert!(rt;
-        folder
-            .errors()
-            .unwrap_or(b"")
-            .starts_with(b"certificate record 1: ")
-    );
+    let check = "check --benchmarks heights --certificate certificate site.gsi";
+    assert_eq!(rt; run(&rt, &mut folder, check), 2);
+    assert!(rt; shown(folder.errors()).starts_with(b"certificate record 1: "));
     assert!(rt; folder.output().is_none());
 }
 
@@ -76,15 +46,7 @@ fn a_write_that_fails_leaves_the_files_before_it_whole(rt: HostRuntime) {
     put(&rt, &mut folder, "out.heights.csv", b"old heights");
     put(&rt, &mut folder, "out.certificate.csv", b"old certificate");
     put(&rt, &mut folder, "out.report.txt", b"old report");
-    let adjust = [
-        "adjust",
-        "--benchmarks",
-        "heights",
-        "--out",
-        "out",
-        "site.gsi",
-    ];
-    assert_eq!(rt; run(&rt, &mut folder, &adjust), 5);
+    assert_eq!(rt; run(&rt, &mut folder, ADJUST_SITE), 5);
     assert!(rt; same(shown(folder.errors()), b"write failed: certificate\n"));
     assert!(rt;
         file(&folder, "out.heights.csv").ends_with(b"B,102.54500000,102.54500000,102.54500000\n")
@@ -97,14 +59,14 @@ fn a_write_that_fails_leaves_the_files_before_it_whole(rt: HostRuntime) {
 #[test]
 fn a_status_is_answered_where_standard_error_is_full(rt: HostRuntime) {
     let mut folder = project(&rt, 5);
-    assert_eq!(rt; run(&rt, &mut folder, &["list", "none.gsi"]), 5);
+    assert_eq!(rt; run(&rt, &mut folder, "list none.gsi"), 5);
     assert!(rt; same(shown(folder.errors()), b"read "));
 }
 
 #[test]
 fn words_that_are_no_plan_change_nothing(rt: HostRuntime) {
     let mut folder = project(&rt, ROOM);
-    assert_eq!(rt; run(&rt, &mut folder, &["adjust", "site.gsi"]), 3);
+    assert_eq!(rt; run(&rt, &mut folder, "adjust site.gsi"), 3);
     assert!(rt; shown(folder.errors()).starts_with(b"error: "));
     assert!(rt; folder.output().is_none());
     assert!(rt; same(file(&folder, "site.gsi"), BOOK));
@@ -114,7 +76,7 @@ fn words_that_are_no_plan_change_nothing(rt: HostRuntime) {
 fn help_and_version_are_printed(rt: HostRuntime) {
     for word in ["--help", "--version"] {
         let mut folder = project(&rt, ROOM);
-        assert_eq!(rt; run(&rt, &mut folder, &[word]), 3);
+        assert_eq!(rt; run(&rt, &mut folder, word), 3);
         assert!(rt; shown(folder.output()).ends_with(b"\n"));
         assert!(rt; folder.errors().is_none());
     }

@@ -1,5 +1,5 @@
 //! Reviews: what they leave in the four files, and what remains where they are refused.
-use crate::folders::{ROOM, file, project, put, run, same, shown};
+use crate::folders::{ADJUST_BACK, ADJUSTED, REVIEWED, ROOM, file, project, put, run, same, shown};
 use std::process::Abort;
 use th_folders::MemoryFolder;
 
@@ -73,36 +73,10 @@ benchmarks record 3: X was never observed
 ";
 
 /// The arguments that review the book with three sights.
-const FIVE: [&str; 8] = [
-    "review",
-    "--benchmarks",
-    "marks",
-    "--weights",
-    "unused",
-    "--out",
-    "out",
-    "five.gsi",
-];
+const FIVE: &str = "review --benchmarks marks --weights unused --out out five.gsi";
 
 /// The arguments that review a sight there and one back.
-const BACK: [&str; 8] = [
-    "review",
-    "--benchmarks",
-    "heights",
-    "--weights",
-    "weights",
-    "--out",
-    "out",
-    "back.gsi",
-];
-
-/// The ends of the names of the files that a review writes, in order.
-const ENDS: [&str; 4] = [
-    "out.points.csv",
-    "out.observations.csv",
-    "out.entries.csv",
-    "out.review.txt",
-];
+const BACK: &str = "review --benchmarks heights --weights weights --out out back.gsi";
 
 /// The folder with the book of three sights and its tables.
 fn five(rt: &(impl AllocGlobal + Abort)) -> MemoryFolder {
@@ -115,13 +89,13 @@ fn five(rt: &(impl AllocGlobal + Abort)) -> MemoryFolder {
 
 /// No file of a review is there.
 fn has_no_review(folder: &MemoryFolder) -> bool {
-    ENDS.iter().all(|name| folder.file(name).is_none())
+    REVIEWED.iter().all(|name| folder.file(name).is_none())
 }
 
 #[test]
 fn a_network_is_reviewed(rt: HostRuntime) {
     let mut folder = five(&rt);
-    assert_eq!(rt; run(&rt, &mut folder, &FIVE), 0);
+    assert_eq!(rt; run(&rt, &mut folder, FIVE), 0);
     assert!(rt; same(file(&folder, "out.points.csv"), POINTS));
     assert!(rt; same(file(&folder, "out.observations.csv"), OBSERVATIONS));
     assert!(rt; same(file(&folder, "out.entries.csv"), ENTRIES));
@@ -130,27 +104,24 @@ fn a_network_is_reviewed(rt: HostRuntime) {
     assert!(rt; folder.errors().is_none());
 }
 
-/// The residual of the sight back is -0.01 m, so a limit of 10,000 micrometres is no smaller.
+/// Reviews with a limit, and how the line of the sight back ends. Its residual is -0.01 m, so a limit of
+/// 10,000 micrometres is no smaller.
+const MARKS: [(&str, &str); 2] = [
+    (
+        "review --benchmarks heights --weights weights --blunder 10000 --out out back.gsi",
+        "-0.01000000         3\n",
+    ),
+    (
+        "review --benchmarks heights --weights weights --blunder 9999 --out out back.gsi",
+        "-0.01000000         3  *\n",
+    ),
+];
+
 #[test]
 fn a_residual_above_the_limit_is_marked(rt: HostRuntime) {
-    for (limit, mark) in [
-        ("10000", "-0.01000000         3\n"),
-        ("9999", "-0.01000000         3  *\n"),
-    ] {
+    for (review, mark) in MARKS {
         let mut folder = project(&rt, ROOM);
-        let review = [
-            "review",
-            "--benchmarks",
-            "heights",
-            "--weights",
-            "weights",
-            "--blunder",
-            limit,
-            "--out",
-            "out",
-            "back.gsi",
-        ];
-        assert_eq!(rt; run(&rt, &mut folder, &review), 0);
+        assert_eq!(rt; run(&rt, &mut folder, review), 0);
         let text = str::from_utf8(file(&folder, "out.review.txt")).unwrap_or("");
         assert!(rt; text.contains(mark), "{text}");
     }
@@ -159,30 +130,15 @@ fn a_residual_above_the_limit_is_marked(rt: HostRuntime) {
 #[test]
 fn an_adjustment_stays_beside_its_review(rt: HostRuntime) {
     let mut folder = project(&rt, ROOM);
-    let adjust = [
-        "adjust",
-        "--benchmarks",
-        "heights",
-        "--weights",
-        "weights",
-        "--out",
-        "out",
-        "back.gsi",
-    ];
     let mut adjusted = project(&rt, ROOM);
-    assert_eq!(rt; run(&rt, &mut adjusted, &adjust), 0);
-    assert_eq!(rt; run(&rt, &mut folder, &adjust), 0);
-    assert_eq!(rt; run(&rt, &mut folder, &BACK), 0);
-    for name in [
-        "out.heights.csv",
-        "out.certificate.csv",
-        "out.report.txt",
-        "out.heights.gsi",
-    ] {
+    assert_eq!(rt; run(&rt, &mut adjusted, ADJUST_BACK), 0);
+    assert_eq!(rt; run(&rt, &mut folder, ADJUST_BACK), 0);
+    assert_eq!(rt; run(&rt, &mut folder, BACK), 0);
+    for name in ADJUSTED {
         assert!(rt; file(&folder, name).len() > 0, "{name}");
         assert!(rt; same(file(&folder, name), file(&adjusted, name)), "{name}");
     }
-    for name in ENDS {
+    for name in REVIEWED {
         assert!(rt; file(&folder, name).len() > 0, "{name}");
         assert!(rt; adjusted.file(name).is_none(), "{name}");
     }
@@ -224,15 +180,11 @@ const REFUSED: [(&str, u8, &[u8]); 6] = [
 
 #[test]
 fn a_refused_input_leaves_no_review(rt: HostRuntime) {
-    for (words, status, line) in REFUSED {
+    for (review, status, line) in REFUSED {
         let mut folder = project(&rt, ROOM);
         put(&rt, &mut folder, "faulty.gsi", b"no block\n");
         put(&rt, &mut folder, "elsewhere", b"point,height\nX,50\n");
-        let mut review = Vec::new(rt.alloc());
-        for word in words.split(' ') {
-            review.push(word).expect(&rt, "memory");
-        }
-        assert_eq!(rt; run(&rt, &mut folder, review.as_slice()), status);
+        assert_eq!(rt; run(&rt, &mut folder, review), status);
         assert!(rt; shown(folder.errors()).starts_with(line));
         assert!(rt; shown(folder.errors()).ends_with(b"\n"));
         assert!(rt; folder.output().is_none());
@@ -252,12 +204,12 @@ const TOO_LITTLE: [(usize, &[u8]); 4] = [
 #[test]
 fn a_write_that_fails_leaves_the_files_before_it_whole(rt: HostRuntime) {
     let mut whole = project(&rt, 1_854);
-    assert_eq!(rt; run(&rt, &mut whole, &BACK), 0);
+    assert_eq!(rt; run(&rt, &mut whole, BACK), 0);
     for (failing, (room, line)) in TOO_LITTLE.into_iter().enumerate() {
         let mut folder = project(&rt, room);
-        assert_eq!(rt; run(&rt, &mut folder, &BACK), 5);
+        assert_eq!(rt; run(&rt, &mut folder, BACK), 5);
         assert!(rt; same(shown(folder.errors()), line));
-        for (place, name) in ENDS.into_iter().enumerate() {
+        for (place, name) in REVIEWED.into_iter().enumerate() {
             let text = file(&whole, name);
             if place < failing {
                 assert!(rt; same(file(&folder, name), text), "{name}");
