@@ -2,7 +2,6 @@
 use Rattle.std.proofs.Common.{◌≡◌, ℕ, ◌+◌, Bool, true, false, cond, ◌&&◌, ◌||◌, List, [], ◌∷◌, ◌++◌, Option, Some, None, refl, sym, ap, ◌∙◌, arith}
 use Rattle.std.specs.Prelude.{count_by, find, is_some, nat_lt, option_map}
 use Rattle.std.specs.Option.{option_or}
-use Rattle.std.specs.Result.{result_ok}
 use Rattle.std.specs.List.{list_any}
 use Rattle.std.proofs.lemmas.List.Folds.{find-append, list_any-append}
 use Rattle.std.proofs.lemmas.List.Sums.{sum_by-append, sum_by-cons}
@@ -24,16 +23,16 @@ pub first_length-there : (index : ℕ) (words : List Parts) → is_some (first_l
 first_length-there index [] = refl
 first_length-there index (word ∷ words) = go (counts_for index word) (first_length-there index words)
   where
-    go : (counts : Bool) → is_some (first_length index words) ≡ holds index words → is_some (option_map (λ (own : Parts). result_ok (length_of own)) (cond counts (Some word) (find (counts_for index) words))) ≡ (counts || holds index words)
+    go : (counts : Bool) → is_some (first_length index words) ≡ holds index words → is_some (option_map length_of (cond counts (Some word) (find (counts_for index) words))) ≡ (counts || holds index words)
     go true later = refl
     go false later = later
 
 -- one more word at the end: the first length
 first_length-more : (index : ℕ) (words : List Parts) (word : Parts) → first_length index (words ++ word ∷ []) ≡ first_kept (counts_for index word) (first_length index words) word
 first_length-more index words word =
-    ap (option_map (λ (own : Parts). result_ok (length_of own))) (find-append (counts_for index) words (word ∷ [])) ∙ go (counts_for index word) (find (counts_for index) words)
+    ap (option_map length_of) (find-append (counts_for index) words (word ∷ [])) ∙ go (counts_for index word) (find (counts_for index) words)
   where
-    go : (counts : Bool) (found : Option Parts) → option_map (λ (own : Parts). result_ok (length_of own)) (option_or found (cond counts (Some word) None)) ≡ first_kept counts (option_map (λ (own : Parts). result_ok (length_of own)) found) word
+    go : (counts : Bool) (found : Option Parts) → option_map length_of (option_or found (cond counts (Some word) None)) ≡ first_kept counts (option_map length_of found) word
     go true None = refl
     go true (Some first) = refl
     go false None = refl

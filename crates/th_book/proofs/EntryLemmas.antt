@@ -1,7 +1,7 @@
 -- What a block enters, and the first fault of its own words.
 use Rattle.std.proofs.Common.{◌≡◌, ℕ, Bool, true, false, not, cond, ◌&&◌, ◌||◌, List, [], ◌∷◌, ◌++◌, Option, Some, None, refl, sym, ap, ◌∙◌}
 use Rattle.std.specs.Prelude.{find, option_and_then, option_map}
-use Rattle.std.specs.Option.{option_flatten, option_or}
+use Rattle.std.specs.Option.{option_or}
 use Rattle.std.specs.Result.{result_ok}
 use Rattle.std.proofs.lemmas.Bool.{cond-false}
 use Rattle.gsi_word.specs.Words.{Parts}
@@ -41,10 +41,10 @@ own_fault words sight setup once is_sight_too is_setup_too =
     ∙ ap (λ own. option_or (first_applying (point_faults (sight || own) words)) (first_applying (length_faults words))) (sym is_setup_too)
 
 -- a length that was counted is that of its first word
-pub read_same : (index : ℕ) (words : List Parts) → option_flatten (first_length index words) ≡ length_in index words
+pub read_same : (index : ℕ) (words : List Parts) → option_and_then result_ok (first_length index words) ≡ length_in index words
 read_same index words = go (find (counts_for index) words)
   where
-    go : (found : Option Parts) → option_flatten (option_map (λ (word : Parts). result_ok (length_of word)) found) ≡ option_and_then (λ (word : Parts). result_ok (length_of word)) found
+    go : (found : Option Parts) → option_and_then result_ok (option_map length_of found) ≡ option_and_then (λ (word : Parts). result_ok (length_of word)) found
     go None = refl
     go (Some word) = refl
 
@@ -53,14 +53,14 @@ pub entry_same : (words : List Parts) (counted : Counted) (sight setup : Bool) (
     → entered_by words ≡ record {
       station = cond setup point None;
       target = cond sight point None;
-      sighted = option_flatten counted.sighted;
-      reflector = option_flatten counted.reflector;
-      instrument = option_flatten counted.instrument;
+      sighted = option_and_then result_ok counted.sighted;
+      reflector = option_and_then result_ok counted.reflector;
+      instrument = option_and_then result_ok counted.instrument;
     }
 entry_same words counted sight setup point e is_sight_too is_setup_too named =
-    let sighted = ap (λ (own : Counted). option_flatten own.sighted) e ∙ read_same height_difference words in
-    let reflector = ap (λ (own : Counted). option_flatten own.reflector) e ∙ read_same reflector_height words in
-    let instrument = ap (λ (own : Counted). option_flatten own.instrument) e ∙ read_same instrument_height words in
+    let sighted = ap (λ (own : Counted). option_and_then result_ok own.sighted) e ∙ read_same height_difference words in
+    let reflector = ap (λ (own : Counted). option_and_then result_ok own.reflector) e ∙ read_same reflector_height words in
+    let instrument = ap (λ (own : Counted). option_and_then result_ok own.instrument) e ∙ read_same instrument_height words in
     let station : cond setup point None ≡ cond (is_setup words) (point_name words) None = ap (λ own. cond setup own None) named ∙ as_setup sight setup ∙ ap (λ own. cond own (point_name words) None) is_setup_too in
     let target : cond sight point None ≡ cond (is_sight words) (point_name words) None = ap (λ own. cond sight own None) named ∙ as_sight sight setup ∙ ap (λ own. cond own (point_name words) None) is_sight_too in
     cc

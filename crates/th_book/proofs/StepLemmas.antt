@@ -1,9 +1,11 @@
 -- A block without a fault of its own words leaves what the running setup and the block's own heights give.
 use Rattle.std.proofs.Common.{◌≡◌, ℕ, ℤ, Bool, true, false, not, cond, ◌&&◌, ◌||◌, List, [], Option, Some, None, refl, sym, ap, ◌∙◌}
-use Rattle.std.specs.Prelude.{is_none, is_some, option_map}
-use Rattle.std.specs.Option.{option_flatten, option_or}
+use Rattle.std.specs.Prelude.{Result, is_none, is_some, option_and_then, option_map}
+use Rattle.std.specs.Option.{option_or}
+use Rattle.std.specs.Result.{result_ok}
 use Rattle.std.proofs.lemmas.Bool.{false≢true, true≢false, or_left, or_right}
 use Rattle.gsi_word.specs.Words.{Parts}
+use Rattle.gsi_word.specs.declared.faults.LengthFault.{LengthFault}
 use Rattle.th_book.specs.Lines.{holds, is_setup, is_sight, length_in, point_name}
 use Rattle.th_book.specs.Faults.{first_applying, own_faults, sight_faults}
 use Rattle.th_book.specs.Books.{known, known_name}
@@ -38,7 +40,7 @@ named words fine is = go (is_sight words || is_setup words) (point_name words) i
 pub none_read : (index : ℕ) (words : List Parts) → holds index words ≡ false → length_in index words ≡ None
 none_read index words none = sym (read_same index words) ∙ go (first_length index words) (first_length-there index words ∙ none)
   where
-    go : (length : Option (Option ℤ)) → is_some length ≡ false → option_flatten length ≡ None
+    go : (length : Option (Result ℤ LengthFault)) → is_some length ≡ false → option_and_then result_ok length ≡ None
     go None e = refl
     go (Some length) e = absurd (true≢false e)
 

@@ -9,17 +9,17 @@ use crate::indexes::{
 use gsi_word::{LengthFault, Word, length_of, two_digit};
 use th_units::Len;
 
-/// The counting words of a block. For each index with a length: whether the block has it, and the
-/// first length if it can be read. For the others: whether the block has them. Also whether an
-/// index is repeated, and which defects the lengths have.
+/// The counting words of a block. For each index with a length: the length of its first word, or why
+/// that is refused. For the others: whether the block has them. Also whether an index is repeated,
+/// and which defects the lengths have.
 #[derive(Clone, Copy, Debug)]
 pub struct Counted {
-    pub sighted: Option<Option<Len>>,
+    pub sighted: Option<Result<Len, LengthFault>>,
     pub easting: bool,
     pub northing: bool,
     pub height: bool,
-    pub reflector: Option<Option<Len>>,
-    pub instrument: Option<Option<Len>>,
+    pub reflector: Option<Result<Len, LengthFault>>,
+    pub instrument: Option<Result<Len, LengthFault>>,
     pub repeated: bool,
     pub bad_number: bool,
     pub bad_unit: bool,
@@ -27,7 +27,7 @@ pub struct Counted {
 }
 
 impl Counted {
-    ghost use Rattle.std.specs.Result.{result_err, result_ok};
+    ghost use Rattle.std.specs.Result.{result_err};
     ghost use Rattle.gsi_word.specs.Values.{length_of};
     ghost use Rattle.th_book.specs.Inside.Countings.{counted_fault, counted_in, counted_with, counts_setup, counts_sight, with_defect};
 
@@ -119,17 +119,18 @@ impl Counted {
         }
     }
 
-    /// The length of a word that counts for one; why it is refused is kept.
-    fn length(&mut self, word: &Word<'_>) -> Option<Len>
-        ensures read { result ≡ result_ok (length_of (parts_of word.now)) }
-        ensures kept { self.new ≡ with_defect (length_of (parts_of word.now)) self.old }
+    /// The length of a word that counts for one; a defect is kept.
+    fn length(&mut self, word: &Word<'_>) -> Result<Len, LengthFault>
+        ensures read { result ≡ length_of (parts_of word.now) }
+        ensures kept { self.new ≡ with_defect result self.old }
     {
-        match length_of(word) {
-            Ok(length) => return Some(length),
+        let length = length_of(word);
+        match length {
+            Ok(_) => {}
             Err(LengthFault::BadNumber) => self.bad_number = true,
             Err(LengthFault::BadUnit) => self.bad_unit = true,
             Err(LengthFault::TooLarge) => self.too_large = true,
         }
-        None
+        length
     }
 }

@@ -1,5 +1,5 @@
-ghost use Rattle.std.specs.Prelude.{◌≡◌, ◌||◌, None, Some, if◌then◌else◌, map, IfErr, IfOk};
-ghost use Rattle.std.specs.Result.{result_err};
+ghost use Rattle.std.specs.Prelude.{◌≡◌, ◌||◌, None, Some, if◌then◌else◌, map, option_and_then, IfErr, IfOk};
+ghost use Rattle.std.specs.Result.{result_err, result_ok};
 ghost use Rattle.gsi_word.specs.Words.{parts_of};
 ghost use Rattle.th_book.specs.Lines.{point_name};
 ghost use Rattle.th_book.specs.Faults.{begins_with_point, first_applying, own_faults, point_faults};
@@ -7,7 +7,7 @@ ghost use Rattle.th_book.specs.Faults.{begins_with_point, first_applying, own_fa
 use crate::countings::Counted;
 use crate::faults::BookKind;
 use crate::indexes::POINT_NUMBER;
-use gsi_word::{Name, Word, name_of};
+use gsi_word::{LengthFault, Name, Word, name_of};
 use th_units::Len;
 
 /// What a block enters into its book: the station of a setup, the target of a sight, and the lengths
@@ -55,10 +55,20 @@ impl Entered {
         Ok(Entered {
             station: if is_setup { point } else { None },
             target: if is_sight { point } else { None },
-            sighted: counted.sighted.flatten(),
-            reflector: counted.reflector.flatten(),
-            instrument: counted.instrument.flatten(),
+            sighted: readable(counted.sighted),
+            reflector: readable(counted.reflector),
+            instrument: readable(counted.instrument),
         })
+    }
+}
+
+/// The length of a word that counts, if there is one and its length can be read.
+fn readable(length: Option<Result<Len, LengthFault>>) -> Option<Len>
+    ensures { result ≡ option_and_then result_ok length }
+{
+    match length {
+        Some(Ok(length)) => Some(length),
+        _ => None,
     }
 }
 

@@ -1,7 +1,6 @@
 -- What one pass over a block's words collects.
 use Rattle.std.specs.Prelude.{ℕ, ℤ, ◌&&◌, ◌||◌, not, Bool, List, Option, Some, None, Result, find, if◌then◌else◌, is_some, option_map}
 use Rattle.std.specs.Option.{option_or}
-use Rattle.std.specs.Result.{result_ok}
 use Rattle.gsi_word.specs.Words.{Parts}
 use Rattle.gsi_word.specs.Values.{length_of}
 use Rattle.gsi_word.specs.declared.faults.LengthFault.{LengthFault}
@@ -13,9 +12,9 @@ use Rattle.th_book.specs.declared.faults.BookKind.{BookKind}
 use Rattle.th_book.specs.declared.faults.BookKind.TheVariants as book_kind
 use Rattle.th_book.specs.Indexes.{height_difference, station_easting, station_northing, station_height, reflector_height, instrument_height}
 
--- the length of the first word that counts for an index: none if no word does, and an inner none if that length has a fault
-abbrev pub first_length : ℕ → List Parts → Option (Option ℤ)
-first_length index words = option_map (λ word. result_ok (length_of word)) (find (counts_for index) words)
+-- the length of the first word that counts for an index, or why it is refused: none if no word does
+abbrev pub first_length : ℕ → List Parts → Option (Result ℤ LengthFault)
+first_length index words = option_map length_of (find (counts_for index) words)
 
 -- a word's length is refused with this fault
 abbrev pub is_refused_for : LengthFault → Parts → Bool
@@ -37,8 +36,8 @@ counted_in words = record {
 }
 
 -- the first length so far: a counting word's length is kept only if none was kept before
-abbrev pub first_kept : Bool → Option (Option ℤ) → Parts → Option (Option ℤ)
-first_kept counts kept word = if counts then option_or kept (Some (result_ok (length_of word))) else kept
+abbrev pub first_kept : Bool → Option (Result ℤ LengthFault) → Parts → Option (Result ℤ LengthFault)
+first_kept counts kept word = if counts then option_or kept (Some (length_of word)) else kept
 
 -- a word counts for an index for which an earlier word counted
 abbrev pub repeats : Parts → Counted → Bool
