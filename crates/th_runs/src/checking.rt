@@ -13,7 +13,7 @@ use crate::inputs::certificate_from;
 use crate::outputs::write_out;
 use crate::readers::ObservationReader;
 use crate::refusals::{Input, Output, Refusal};
-use crate::surveys::{Survey, network_of, read_inputs};
+use crate::surveys::{Survey, network_of, read_survey};
 use std::alloc::{AllocError, Global};
 use std::marker::Model;
 use th_certificate::Certificate;
@@ -97,10 +97,10 @@ fn read_stated<B: Source, T: Source, W: Source, C: Source>(
     ensures certificate { IsReadFor C.state Input.Certificate (refused result)
         certificate.old certificate.new }
 {
-    let inputs = read_inputs(alloc, &mut ObservationReader, books, benchmarks, weights)?;
+    let survey = read_survey(alloc, &mut ObservationReader, books, benchmarks, weights)?;
     let certificate = certificate_from(alloc, certificate)?;
     Ok(Stated {
-        survey: inputs,
+        survey,
         certificate,
     })
 }

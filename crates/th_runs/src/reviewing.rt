@@ -21,7 +21,7 @@ ghost use Rattle.th_tables.specs.Rows.{AreWeights};
 use crate::outputs::{ReviewOuts, write_review_outs};
 use crate::readers::ReviewReader;
 use crate::refusals::Refusal;
-use crate::surveys::{Survey, network_of, read_inputs};
+use crate::surveys::{Survey, network_of, read_survey};
 use std::alloc::{AllocError, Global};
 use th_circulation::best_heights;
 use th_devices::{Sink, Source};
@@ -68,29 +68,29 @@ pub fn run_review<B: Source, T: Source, W: Source, P: Sink, O: Sink, E: Sink, R:
 {
     entry_of_several_books_has_one_station();
     let mut reader = ReviewReader::new(alloc);
-    let inputs = read_inputs(alloc, &mut reader, books, benchmarks, weights)?;
+    let survey = read_survey(alloc, &mut reader, books, benchmarks, weights)?;
     let reviews = reader.reviews.as_slice();
-    let texts = texts_of(alloc, inputs, reviews, reader.names.found(), limit)?;
+    let texts = texts_of(alloc, survey, reviews, reader.names.found(), limit)?;
     write_review_outs(outs, &texts)
 }
 
 /// The texts of what is reviewed, or the first fault of its network.
 fn texts_of(
     alloc: Global,
-    inputs: Survey,
+    survey: Survey,
     reviews: &[BookReview],
     spellings: &[Spelling],
     limit: i64,
 ) -> Result<ReviewTexts, Refusal>
     requires few { length reviews.now ≤ max_books }
-    requires stations { All (HasOneStation inputs.observations) (entries_of reviews.now) }
-    ensures { IsOfNetwork inputs (λ texts.
-        AreReviewed inputs reviews.now spellings.now limit (bytes_of texts)) result }
+    requires stations { All (HasOneStation survey.observations) (entries_of reviews.now) }
+    ensures { IsOfNetwork survey (λ texts.
+        AreReviewed survey reviews.now spellings.now limit (bytes_of texts)) result }
 {
     let Survey {
         observations,
         tables,
-    } = inputs;
+    } = survey;
     let network = network_of(alloc, observations, &tables.benchmarks, &tables.weights)?;
     texts_of_network(alloc, &network, reviews, spellings, limit)
 }

@@ -17,59 +17,59 @@ use Rattle.th_runs.proofs.RunLemmas.{begun_of, network_refused, network_within, 
 use Rattle.th_runs.proofs.SourceLemmas.{all_before}
 use Rattle.th_runs.proofs.reviewing.run_review.Goals as goal
 
-pub returns-in_err-inputs-clause-outcome : goal.returns-in_err-inputs-clause-outcome
-returns-in_err-inputs-clause-outcome g c =
-    let is : c.from_residual.result ≡ Err c.in_err-inputs.field-0.0 = search rules in
-    rw is (survey_refused (λ (survey : Survey). survey) _ _ c.in_err-inputs.field-0.0 1 (place input.Certificate) _ _ c.in_err-inputs.ensures.at (omega arith) c.in_err-inputs.ensures.answer (search rules))
+pub returns-in_err-survey-clause-outcome : goal.returns-in_err-survey-clause-outcome
+returns-in_err-survey-clause-outcome g c =
+    let is : c.from_residual.result ≡ Err c.in_err-survey.field-0.0 = search rules in
+    rw is (survey_refused (λ (survey : Survey). survey) _ _ c.in_err-survey.field-0.0 1 (place input.Certificate) _ _ c.in_err-survey.ensures.at (omega arith) c.in_err-survey.ensures.answer (search rules))
 
-pub returns-in_err-inputs-clause-sources : goal.returns-in_err-inputs-clause-sources
-returns-in_err-inputs-clause-sources g c =
-    let is : c.from_residual.result ≡ Err c.in_err-inputs.field-0.0 = search rules in rw is c.in_err-inputs.ensures.sources
+pub returns-in_err-survey-clause-sources : goal.returns-in_err-survey-clause-sources
+returns-in_err-survey-clause-sources g c =
+    let is : c.from_residual.result ≡ Err c.in_err-survey.field-0.0 = search rules in rw is c.in_err-survey.ensures.sources
 
 pub returns-in_err-texts-clause-outcome : goal.returns-in_err-texts-clause-outcome
 returns-in_err-texts-clause-outcome g c =
     let is : c.from_residual-in_err-texts.result ≡ Err c.in_err-texts.field-0.0 = search rules in
-    rw is (network_refused (λ (survey : Survey). survey) _ _ c.in_ok-inputs.inputs c.in_err-texts.field-0.0 _ _ c.in_ok-inputs.ensures.answer c.in_err-texts.ensures (search rules))
+    rw is (network_refused (λ (survey : Survey). survey) _ _ c.in_ok-survey.survey c.in_err-texts.field-0.0 _ _ c.in_ok-survey.ensures.answer c.in_err-texts.ensures (search rules))
 
 pub returns-in_err-texts-clause-sources : goal.returns-in_err-texts-clause-sources
 returns-in_err-texts-clause-sources g c =
     let is : c.from_residual-in_err-texts.result ≡ Err c.in_err-texts.field-0.0 = search rules in
-    rw is (all_before _ _ _ _ network_place (network_place + 1) _ _ _ _ _ _ (network_within c.in_ok-inputs.inputs c.in_err-texts.field-0.0 c.in_err-texts.ensures) (omega arith)
-    c.requires.ready.few_books c.in_ok-inputs.ensures.sources)
+    rw is (all_before _ _ _ _ network_place (network_place + 1) _ _ _ _ _ _ (network_within c.in_ok-survey.survey c.in_err-texts.field-0.0 c.in_err-texts.ensures) (omega arith)
+    c.requires.ready.few_books c.in_ok-survey.ensures.sources)
 
 pub returns-clause-sources : goal.returns-clause-sources
 returns-clause-sources g c =
     all_before _ _ _ (refused c.write_review_outs.result) outputs_place (outputs_place + 1) _ _ _ _ _ _ (written_within c.write_review_outs.result (begun_of Reviewing c.write_review_outs.result c.write_review_outs.ensures.named)) (omega arith)
-    c.requires.ready.few_books c.in_ok-inputs.ensures.sources
+    c.requires.ready.few_books c.in_ok-survey.ensures.sources
 
 pub texts_of-requires-clause-few : goal.texts_of-requires-clause-few
 texts_of-requires-clause-few g c =
-    let same = as_many 1 (told_by g.B.Source.state c.args.books.now) c.in_ok-inputs.inputs.observations c.read_inputs.new.reader.reviews.items c.new-reader.result.names c.read_inputs.new.reader.names
-    (subst (λ (old : List BookReview). AreAllRead 1 (told_by g.B.Source.state c.args.books.now) [] c.in_ok-inputs.inputs.observations old c.read_inputs.new.reader.reviews.items c.new-reader.result.names c.read_inputs.new.reader.names)
-    c.new-reader.ensures.reviews (all_read (λ (own : ReviewReader). own.reviews.items) (λ (own : ReviewReader). own.names) 1 _ _ _ c.new-reader.result c.read_inputs.new.reader c.in_ok-inputs.ensures.read)) in
+    let same = as_many 1 (told_by g.B.Source.state c.args.books.now) c.in_ok-survey.survey.observations c.read_survey.new.reader.reviews.items c.new-reader.result.names c.read_survey.new.reader.names
+    (subst (λ (old : List BookReview). AreAllRead 1 (told_by g.B.Source.state c.args.books.now) [] c.in_ok-survey.survey.observations old c.read_survey.new.reader.reviews.items c.new-reader.result.names c.read_survey.new.reader.names)
+    c.new-reader.ensures.reviews (all_read (λ (own : ReviewReader). own.reviews.items) (λ (own : ReviewReader). own.names) 1 _ _ _ c.new-reader.result c.read_survey.new.reader c.in_ok-survey.ensures.read)) in
     let number = ap length c.as_slice-reviews.ensures.value ∙ same ∙ length-map c.args.books.now (λ book. (g.B.Source.state book).left) in
     omega (arith, number, c.requires.ready.few_books)
 
 pub texts_of-requires-clause-stations : goal.texts_of-requires-clause-stations
 texts_of-requires-clause-stations g c =
-    subst (λ (own : List BookReview). All (HasOneStation c.in_ok-inputs.inputs.observations) (entries_of own)) (sym c.as_slice-reviews.ensures.value)
-    (all_stationed 1 (told_by g.B.Source.state c.args.books.now) c.in_ok-inputs.inputs.observations c.read_inputs.new.reader.reviews.items c.new-reader.result.names c.read_inputs.new.reader.names
-    (subst (λ (old : List BookReview). AreAllRead 1 (told_by g.B.Source.state c.args.books.now) [] c.in_ok-inputs.inputs.observations old c.read_inputs.new.reader.reviews.items c.new-reader.result.names c.read_inputs.new.reader.names)
-    c.new-reader.ensures.reviews (all_read (λ (own : ReviewReader). own.reviews.items) (λ (own : ReviewReader). own.names) 1 _ _ _ c.new-reader.result c.read_inputs.new.reader c.in_ok-inputs.ensures.read))
+    subst (λ (own : List BookReview). All (HasOneStation c.in_ok-survey.survey.observations) (entries_of own)) (sym c.as_slice-reviews.ensures.value)
+    (all_stationed 1 (told_by g.B.Source.state c.args.books.now) c.in_ok-survey.survey.observations c.read_survey.new.reader.reviews.items c.new-reader.result.names c.read_survey.new.reader.names
+    (subst (λ (old : List BookReview). AreAllRead 1 (told_by g.B.Source.state c.args.books.now) [] c.in_ok-survey.survey.observations old c.read_survey.new.reader.reviews.items c.new-reader.result.names c.read_survey.new.reader.names)
+    c.new-reader.ensures.reviews (all_read (λ (own : ReviewReader). own.reviews.items) (λ (own : ReviewReader). own.names) 1 _ _ _ c.new-reader.result c.read_survey.new.reader c.in_ok-survey.ensures.read))
     c.entry_of_several_books_has_one_station.ensures)
 
 pub returns-clause-outcome : goal.returns-clause-outcome
 returns-clause-outcome g c =
-    survey_begun (λ (survey : Survey). survey) _ _ c.in_ok-inputs.inputs c.write_review_outs.result _ _ (begun_of Reviewing c.write_review_outs.result c.write_review_outs.ensures.named) c.in_ok-inputs.ensures.answer c.in_ok-texts.ensures.0 (
+    survey_begun (λ (survey : Survey). survey) _ _ c.in_ok-survey.survey c.write_review_outs.result _ _ (begun_of Reviewing c.write_review_outs.result c.write_review_outs.ensures.named) c.in_ok-survey.ensures.answer c.in_ok-texts.ensures.0 (
       c.as_slice-reviews.result.now,
       c.found.result.now,
       bytes_of c.in_ok-texts.texts,
       subst (λ (own : List BookReview). AreReviewsOf 1 (told_by g.B.Source.state c.args.books.now) own c.found.result.now) (sym c.as_slice-reviews.ensures.value)
-          (reviews_of_all 1 (told_by g.B.Source.state c.args.books.now) c.in_ok-inputs.inputs.observations c.read_inputs.new.reader.reviews.items c.new-reader.result.names c.read_inputs.new.reader.names c.found.result.now
-          (subst (λ (old : List BookReview). AreAllRead 1 (told_by g.B.Source.state c.args.books.now) [] c.in_ok-inputs.inputs.observations old c.read_inputs.new.reader.reviews.items c.new-reader.result.names c.read_inputs.new.reader.names)
-          c.new-reader.ensures.reviews (all_read (λ (own : ReviewReader). own.reviews.items) (λ (own : ReviewReader). own.names) 1 _ _ _ c.new-reader.result c.read_inputs.new.reader c.in_ok-inputs.ensures.read))
+          (reviews_of_all 1 (told_by g.B.Source.state c.args.books.now) c.in_ok-survey.survey.observations c.read_survey.new.reader.reviews.items c.new-reader.result.names c.read_survey.new.reader.names c.found.result.now
+          (subst (λ (old : List BookReview). AreAllRead 1 (told_by g.B.Source.state c.args.books.now) [] c.in_ok-survey.survey.observations old c.read_survey.new.reader.reviews.items c.new-reader.result.names c.read_survey.new.reader.names)
+          c.new-reader.ensures.reviews (all_read (λ (own : ReviewReader). own.reviews.items) (λ (own : ReviewReader). own.names) 1 _ _ _ c.new-reader.result c.read_survey.new.reader c.in_ok-survey.ensures.read))
           c.new-reader.ensures.names c.found.ensures),
-      subst (λ (limit : ℤ). AreReviewed c.in_ok-inputs.inputs c.as_slice-reviews.result.now c.found.result.now limit (bytes_of c.in_ok-texts.texts)) (to_z-of_z w64 c.args.limit c.ranges.limit)
+      subst (λ (limit : ℤ). AreReviewed c.in_ok-survey.survey c.as_slice-reviews.result.now c.found.result.now limit (bytes_of c.in_ok-texts.texts)) (to_z-of_z w64 c.args.limit c.ranges.limit)
           c.in_ok-texts.ensures.1,
       c.write_review_outs.ensures.written,
     )
