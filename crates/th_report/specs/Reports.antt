@@ -36,10 +36,14 @@ count_lines survey =
     ++ label_line (codes "benchmarks") (decimal (benchmark_count survey))
     ++ label_line (codes "observations") (decimal (length survey.observations))
 
--- the title, and the numbers of the adjustment: the counts, the cost in units of 10 nm, and the limit of blunders in metres
+-- the limit of blunders, in metres
+abbrev pub limit_line : ℤ → List ℕ
+limit_line limit = label_line (codes "blunder limit") (metres limit)
+
+-- the title, and the numbers of the adjustment: the counts, the cost in units of 10 nm, and the limit of blunders
 unfoldable pub head_lines : Survey → ℕ → ℤ → List ℕ
 head_lines survey cost limit =
-    title_line ++ count_lines survey ++ label_line (codes "cost") (decimal cost) ++ label_line (codes "blunder limit") (metres limit)
+    title_line ++ count_lines survey ++ label_line (codes "cost") (decimal cost) ++ limit_line limit
 
 -- the columns of points: name, height, and mark
 unfoldable pub point_columns : List ℕ → List ℕ → List ℕ → List ℕ

@@ -1,7 +1,6 @@
 //! The first lines of the report, and the lines that count what follows.
 ghost use Rattle.std.specs.Prelude.{◌≡◌, ◌++◌, OnOk, codes, decimal};
-ghost use Rattle.th_units.specs.Metres.{metres};
-ghost use Rattle.th_report.specs.Reports.{benchmark_count, count_lines, head_lines, label_line, title_line};
+ghost use Rattle.th_report.specs.Reports.{benchmark_count, count_lines, head_lines, label_line, limit_line, title_line};
 
 use crate::columns::Page;
 use itoa::Buffer;
@@ -51,9 +50,9 @@ fn write_cost(page: &mut Page, cost: u128) -> Result<(), AllocError>
     write_label(page, b"cost", digits.format(cost).as_bytes())
 }
 
-/// Writes the limit above which a residual is a blunder.
-fn write_limit(page: &mut Page, limit: i64) -> Result<(), AllocError>
-    ensures { OnOk result (page.new ≡ page.old ++ label_line (codes "blunder limit") (metres limit)) }
+/// Writes the limit above which a residual is a blunder. It is in units of 10 nm, and its text in metres.
+pub fn write_limit(page: &mut Page, limit: i64) -> Result<(), AllocError>
+    ensures { OnOk result (page.new ≡ page.old ++ limit_line limit) }
 {
     let text = metre_text(limit);
     write_label(page, b"blunder limit", text.as_bytes())

@@ -27,7 +27,7 @@ pub mod laws;
 // For texts of other crates: columns, label lines, and the columns of observations.
 pub use columns::{LINE, Page};
 pub use gsi::heights_gsi;
-pub use heads::{benchmark_count, write_count, write_label};
+pub use heads::{benchmark_count, write_count, write_label, write_limit};
 pub use heights::heights_csv;
 pub use lists::list_text;
 pub use reports::{report_on_fit, report_text};

@@ -6,7 +6,7 @@ use Rattle.th_units.specs.Metres.{metres}
 use Rattle.th_network.specs.Networks.{Survey}
 use Rattle.th_blunders.specs.Blunders.{is_blunder}
 use Rattle.th_report.specs.Columns.{gap, left_in, line_end, right_in}
-use Rattle.th_report.specs.Reports.{blunder_mark, end_columns, ends_of, label_line, place_columns, place_of}
+use Rattle.th_report.specs.Reports.{blunder_mark, end_columns, ends_of, label_line, limit_line, place_columns, place_of}
 use Rattle.th_review.specs.Heads.{head_lines}
 use Rattle.th_review.specs.Largest.{largest}
 use Rattle.th_notes.specs.Notes.{note_lines}
@@ -75,7 +75,7 @@ largest_line limit row = marked_line (blunder_mark (is_blunder limit row.residua
 unfoldable pub largest_lines : ℤ → List ObservationRow → List ℕ
 largest_lines limit observations =
     label_line (codes "largest") (decimal (length (largest observations)))
-    ++ label_line (codes "blunder limit") (metres limit)
+    ++ limit_line limit
     ++ observation_header ++ flat_map (largest_line limit) (largest observations)
 
 -- the line of an observation, with the mark of what a mistake in it would do

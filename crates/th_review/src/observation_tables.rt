@@ -1,8 +1,7 @@
 //! The table of observations, and that of the largest residuals.
-ghost use Rattle.std.specs.Prelude.{◌≡◌, ◌++◌, OnOk, codes, decimal};
+ghost use Rattle.std.specs.Prelude.{◌≡◌, ◌++◌, OnOk, decimal};
 ghost use Rattle.std.specs.List.{flat_map};
 ghost use Rattle.th_units.specs.Metres.{metres};
-ghost use Rattle.th_report.specs.Reports.{label_line};
 ghost use Rattle.th_review.specs.Words.{number_or_dash};
 ghost use Rattle.th_review.specs.Reviews.{checked_columns, largest_line, largest_lines, marked_line, observation_header, observation_line, observation_lines};
 
@@ -12,7 +11,7 @@ use crate::words::{mistake_mark, number_or_dash};
 use itoa::Buffer;
 use std::alloc::{AllocError, Global};
 use th_report::{
-    Page, blunder_mark, write_count, write_end_columns, write_ends, write_label, write_place,
+    Page, blunder_mark, write_count, write_end_columns, write_ends, write_limit, write_place,
     write_place_columns,
 };
 use th_units::metre_text;
@@ -33,14 +32,6 @@ pub(crate) fn write_largest(
     write_limit(page, limit)?;
     write_header(page)?;
     write_largest_rows(page, &rows, limit)
-}
-
-/// Writes the limit above which a residual is a blunder.
-fn write_limit(page: &mut Page, limit: i64) -> Result<(), AllocError>
-    ensures { OnOk result (page.new ≡ page.old ++ label_line (codes "blunder limit") (metres limit)) }
-{
-    let text = metre_text(limit);
-    write_label(page, b"blunder limit", text.as_bytes())
 }
 
 /// Writes the line of each of the largest residuals.
