@@ -1,20 +1,12 @@
 -- A cycle that begins at its second arc.
-use Rattle.std.proofs.Common.{◌≡◌, ℕ, ◌<◌, ◌+ℤ◌, List, [], ◌∷◌, ◌++◌, drop, take, length, length-append, refl, sym, subst, ◌∙◌, arith}
+use Rattle.std.proofs.Common.{◌≡◌, ℕ, List, [], ◌∷◌, ◌++◌, drop, take, length, length-append, sym, subst, arith}
 use Rattle.std.specs.Prelude.{nat_eq}
 use Rattle.std.proofs.lemmas.Int.{ints}
 use Rattle.std.proofs.lemmas.List.Sorted.{IsPermutation-append_comm, IsPermutation-map}
 use Rattle.std.proofs.lemmas.Map.Keys.{IsDistinct-IsPermutation}
-use Rattle.th_search.specs.Walks.{IsNegativeCycle, IsWalk, arc_at, cost_of, entered_by}
+use Rattle.th_search.specs.Walks.{IsNegativeCycle, arc_at, entered_by}
 use Rattle.th_search.specs.declared.arcs.Arc.{Arc}
-
--- one more arc at the end
-walk_push : (arcs : List Arc) (start : ℕ) (walk : List ℕ) (vertex number : ℕ) → number < length arcs → vertex ≡ (arc_at arcs number).tail → IsWalk arcs start walk vertex → IsWalk arcs start (walk ++ number ∷ []) (arc_at arcs number).head
-walk_push arcs start [] vertex number within at leads = (within, leads ∙ at, refl)
-walk_push arcs start (first ∷ walk) vertex number within at leads = (leads.0, leads.1, walk_push arcs (arc_at arcs first).head walk vertex number within at leads.2)
-
-cost_push : (arcs : List Arc) (walk : List ℕ) (number : ℕ) → cost_of arcs (walk ++ number ∷ []) ≡ cost_of arcs walk +ℤ (arc_at arcs number).cost
-cost_push arcs [] number = omega (arith, ints)
-cost_push arcs (first ∷ walk) number = let rest = cost_push arcs walk number in omega (arith, ints)
+use Rattle.th_search.proofs.FrontLemmas.{cost_push, walk_push}
 
 nat_eq_same : (x y : ℕ) → nat_eq x y ≡ nat_eq y x
 nat_eq_same x y = grind arith

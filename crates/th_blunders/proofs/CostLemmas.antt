@@ -15,7 +15,7 @@ nothing : Observed
 nothing = record { station = []; target = []; difference = pos 0; book = 0; line = 0 }
 
 -- what an observation adds to the cost
-abbrev weighted : WeightRows → (List ℕ → ℤ) → Observed → ℕ
+abbrev pub weighted : WeightRows → (List ℕ → ℤ) → Observed → ℕ
 weighted weights heights o = weight_of weights o.station o.target * unsigned_abs (residual o heights)
 
 -- one more weighted size, in the sum

@@ -17,7 +17,7 @@ use Rattle.th_book.specs.declared.faults.BookKind.TheVariants.{NoMemory}
 use Rattle.th_book.proofs.Reading.{length-lines_of}
 
 -- lines that are cut are read as the lines themselves
-cut_read : ((line : List ℕ) → block_at (cut_line line) ≡ block_at line) → (lines : List (List ℕ)) → map block_at (cut_lines lines) ≡ map block_at lines
+pub cut_read : ((line : List ℕ) → block_at (cut_line line) ≡ block_at line) → (lines : List (List ℕ)) → map block_at (cut_lines lines) ≡ map block_at lines
 cut_read law [] = refl
 cut_read law (line ∷ lines) =
     ap (λ first. first ∷ map block_at (cut_lines lines)) (law line) ∙ ap (λ rest. block_at line ∷ rest) (cut_read law lines)

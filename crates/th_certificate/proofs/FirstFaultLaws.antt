@@ -1,11 +1,12 @@
 -- Records are read up to the first that has a fault.
 use Rattle.std.proofs.Common.{◌≡◌, ◌⊎◌, inl, inr, ◌<◌, ◌≤◌, ◌+◌, ◌==◌, ◌&&◌, ℕ, Bool, true, false, if◌then◌else◌, List, [], ◌∷◌, ◌++◌, length, slice_get, Option, Some, None, is_none, Result, Ok, Err, codes, nat_lt, suc, zero, refl, sym, ap, subst, ◌∙◌, append_assoc, length-append, arith}
 use Rattle.std.specs.Result.{result_err}
-use Rattle.std.proofs.Math.Seq.{get_or-append_seam, take-append_seam}
+use Rattle.std.proofs.Math.Seq.{take-append_seam}
 use Rattle.std.proofs.lemmas.Bool.Decides.{nat_tests}
 use Rattle.std.proofs.lemmas.List.{append-nil, take_all}
-use Rattle.std.proofs.lemmas.Option.{slice_get-get_or, slice_get_past}
+use Rattle.std.proofs.lemmas.Option.{slice_get_past}
 use Rattle.th_csv.specs.Records.{Fields, records_of}
+use Rattle.th_tables.proofs.FaultLaws.{slice_get_after}
 use Rattle.th_certificate.specs.Certified.{Certified}
 use Rattle.th_certificate.specs.Faults.{too_long}
 use Rattle.th_certificate.specs.FirstFaults.{IsFault, IsFaultless, IsFirstFault, count_of, kind_at, kind_under}
@@ -18,12 +19,7 @@ use Rattle.th_certificate.specs.declared.faults.CertKind.TheVariants.{BadHeader,
 use Rattle.th_certificate.specs.declared.statements.Statement.{Statement}
 use Rattle.th_certificate.proofs.FaultKinds.{Tells, begun_kind, statement_kind, tells_begun, tells_more}
 
--- the record after those that are done
-slice_get_after : (done : List Fields) (this : Fields) (later : List Fields) → slice_get (done ++ this ∷ later) (length done) ≡ Some this
-slice_get_after done this later =
-    slice_get-get_or (done ++ this ∷ later) (length done) this (omega (arith, length-append done (this ∷ later))) ∙ ap Some (get_or-append_seam done this later this)
-
--- its fault
+-- the fault of the record after those that are done
 kind_at_next : (done : List Fields) (this : Fields) (later : List Fields) → kind_at (done ++ this ∷ later) (length done + 0) ≡ kind_under done (Some this)
 kind_at_next done this later =
     let here : length done + 0 ≡ length done = omega arith in

@@ -1,30 +1,19 @@
 -- Numbers that are written are read again.
-use Rattle.std.proofs.Common.{◌≡◌, ◌<◌, ◌≤◌, ◌^◌, ℕ, ℤ, pos, negsuc, ◌&&◌, ◌||◌, ◌==◌, Bool, true, false, if◌then◌else◌, List, [], ◌∷◌, length, get_or, drop, decimal, Ok, Err, nat_le, nat_lt, unsigned_abs, suc, refl, ap, ◌∙◌, arith}
+use Rattle.std.proofs.Common.{◌≡◌, ◌<◌, ◌≤◌, ◌^◌, ℕ, ℤ, pos, negsuc, ◌&&◌, ◌||◌, ◌==◌, Bool, true, false, if◌then◌else◌, List, ◌∷◌, length, get_or, drop, decimal, Ok, Err, nat_le, nat_lt, unsigned_abs, suc, refl, ap, ◌∙◌, arith}
 use Rattle.std.specs.Fmt.{signed_decimal}
 use Rattle.std.specs.List.{list_all}
-use Rattle.std.specs.Str.Parse.{AllDigits}
 use Rattle.std.proofs.lemmas.Bool.Decides.{nat_tests}
 use Rattle.std.proofs.lemmas.Fmt.{decimal_is_IsNumeral_wide, length-decimal-le_wide}
-use Rattle.std.proofs.lemmas.Str.Parse.{digit_from_value}
 use Rattle.th_units.specs.Lengths.{are_digits, is_digit, number, signed}
 use Rattle.th_units.specs.Metres.{has_minus, metres, without_sign}
 use Rattle.th_units.proofs.Digits.{digit_bounds, list_all-get_or}
-use Rattle.th_units.proofs.MetreTexts.{value-metres}
+use Rattle.th_units.proofs.MetreTexts.{list_all-from_AllDigits, value-metres}
 use Rattle.th_certificate.specs.Certified.{cost_limit}
 use Rattle.th_network.specs.Limits.{height_limit}
 use Rattle.th_certificate.specs.Numbers.{cost_in, count_in, flow_in, height_from, height_in, writes}
 use Rattle.th_certificate.specs.Limits.{max_cost_digits, max_digits, max_flows}
 use Rattle.th_certificate.specs.declared.faults.CertKind.TheVariants.{BadNumber, TooLarge}
 use Rattle.th_tables.specs.Limits.{max_weight}
-
-is_digit_from_bounds : (byte : ℕ) → 48 ≤ byte → byte ≤ 57 → is_digit byte ≡ true
-is_digit_from_bounds byte low high = grind (arith, nat_tests)
-
-all_digits_of : (bytes : List ℕ) → AllDigits 10 bytes → list_all is_digit bytes ≡ true
-all_digits_of [] h = refl
-all_digits_of (byte ∷ bytes) h =
-    let bounds = digit_from_value byte h.0 in
-    ap (λ b. b && list_all is_digit bytes) (is_digit_from_bounds byte bounds.0 bounds.1) ∙ all_digits_of bytes h.1
 
 -- the digits of a number
 pub record IsWritten (n most : ℕ) (text : List ℕ) : Type 0 where
@@ -38,7 +27,7 @@ pub decimal_written : (n most : ℕ) → 0 < most → most ≤ 60 → n < 10 ^ m
 decimal_written n most some few small fits =
     let numeral = decimal_is_IsNumeral_wide n fits in
     let there : nat_lt 0 (length (decimal n)) ≡ true = let h = numeral.0.0 in grind (arith, nat_tests) in
-    let digits = all_digits_of (decimal n) numeral.0.1 in
+    let digits = list_all-from_AllDigits (decimal n) numeral.0.1 in
     record {
       some = numeral.0.0;
       digits = digits;

@@ -7,6 +7,7 @@ use Rattle.std.proofs.lemmas.Slice.Eq.{bytes_eq-Decides}
 use Rattle.std.proofs.lemmas.List.{nil_from_length}
 use Rattle.gsi_word.specs.Names.{name_of}
 use Rattle.th_csv.specs.Records.{Fields, records_of}
+use Rattle.th_tables.proofs.TableLemmas.{none_from_test}
 use Rattle.th_certificate.specs.Certified.{Certified, HeightRows}
 use Rattle.th_certificate.specs.Faults.{too_long}
 use Rattle.th_certificate.specs.Numbers.{cost_in, count_in, flow_in, height_in}
@@ -20,7 +21,7 @@ use Rattle.th_certificate.specs.declared.faults.CertKind.TheVariants.{BadHeader,
 use Rattle.th_certificate.specs.declared.statements.Statement.{Statement}
 use Rattle.th_certificate.specs.declared.statements.Statement.TheVariants.{Height, Low, High, Flow, Cost}
 use Rattle.th_certificate.proofs.NumberLemmas.{first_of, second_of}
-use Rattle.th_certificate.proofs.StatementLemmas.{either_of, none_there, states_of}
+use Rattle.th_certificate.proofs.StatementLemmas.{either_of, states_of}
 use Rattle.th_certificate.proofs.RowLemmas.{AllZip-none, SayFlows-more, SayHeights-more, distinct-none, more_before_none, none_and_none}
 
 -- a field that is just this text
@@ -52,7 +53,7 @@ next_row letter kind key number earlier it same h = by (name_of key) refl h
         let same_row : (name, height) ≡ it = cc in
         subst (IsNext letter earlier (kind ∷ key ∷ number ∷ [])) same_row (record {
           reads = record { key = key; number = number; fields = ap (λ kind. kind ∷ key ∷ number ∷ []) same; name = is; height = is'' };
-          new = none_there (lookup (bytes_eq name) earlier) is';
+          new = none_from_test (lookup (bytes_eq name) earlier) is';
         })
 
     by : (name : Option (List ℕ)) → name_of key ≡ name → row_of (new_name earlier name) (height_in number) ≡ Ok it → IsNext letter earlier (kind ∷ key ∷ number ∷ []) it

@@ -3,6 +3,7 @@ use Rattle.std.proofs.Common.{◌≡◌, ◌<◌, ◌+◌, ◌&&◌, ℕ, ℤ, B
 use Rattle.std.proofs.lemmas.Bool.Decides.{nat_tests}
 use Rattle.std.specs.Map.{lookup}
 use Rattle.gsi_word.specs.Names.{name_of}
+use Rattle.th_tables.proofs.TableLemmas.{none_from_test}
 use Rattle.th_certificate.specs.Certified.{HeightRows}
 use Rattle.th_certificate.specs.Numbers.{cost_in, flow_in, height_in}
 use Rattle.th_certificate.specs.Statements.{Draft, may_have_cost, may_have_flow, may_have_height, may_have_high, may_have_low, new_name, row_in, row_of, said, states}
@@ -12,10 +13,6 @@ use Rattle.th_certificate.specs.declared.faults.CertKind.TheVariants.{BadName}
 use Rattle.th_certificate.specs.declared.statements.Statement.{Statement}
 use Rattle.th_certificate.specs.declared.statements.Statement.TheVariants.{Flow, Cost}
 use Rattle.th_certificate.proofs.NumberLemmas.{cost_small, flow_small, height_small, second_of}
-
-pub none_there : {X : Type 0} (found : Option X) → is_some found ≡ false → found ≡ None
-none_there None h = refl
-none_there (Some x) h = cc h
 
 new_row : (rows : HeightRows) (name : Option (List ℕ)) (number : List ℕ) (row : List ℕ × ℤ) → row_of (new_name rows name) (height_in number) ≡ Ok row → IsNewRow rows row.0 row.1
 new_row rows None number row h = cc h
@@ -27,7 +24,7 @@ new_row rows (Some name) number row h = by (is_some (lookup (bytes_eq name) rows
     by false (Err kind) is is' h = cc h
     by false (Ok height) is is' h =
         let same : (name, height) ≡ row = cc in
-        subst (λ (row : List ℕ × ℤ). IsNewRow rows row.0 row.1) same (record { new = none_there (lookup (bytes_eq name) rows) is; in_range = height_small number height is' })
+        subst (λ (row : List ℕ × ℤ). IsNewRow rows row.0 row.1) same (record { new = none_from_test (lookup (bytes_eq name) rows) is; in_range = height_small number height is' })
 
 -- what holds of each thing that is read holds of the statement of it
 pub states_of : {A : Type 0} (make : A → Statement) (read : Result A CertKind) (statement : Statement) (P : Statement → Type 0) → states make read ≡ Ok statement → ((it : A) → read ≡ Ok it → P (make it)) → P statement

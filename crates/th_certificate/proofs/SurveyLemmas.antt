@@ -8,19 +8,15 @@ use Rattle.std.proofs.lemmas.List.Sums.{sum_by-le}
 use Rattle.std.proofs.lemmas.Slice.Eq.{bytes_eq-Decides}
 use Rattle.th_book.specs.Observed.{IsBetweenPoints, Observed, largest_difference}
 use Rattle.th_tables.specs.Limits.{max_weight}
-use Rattle.th_tables.specs.Rows.{AreWeights, WeightRows, weight_of}
+use Rattle.th_tables.specs.Rows.{AreWeights, WeightRows}
 use Rattle.th_tables.proofs.WeightLemmas.{weight_is}
-use Rattle.th_network.specs.Heights.{residual}
 use Rattle.th_network.specs.Networks.{AreInRange, Survey, points_of}
 use Rattle.th_points.proofs.PointLemmas.{EndsAmong, ends_are_points}
+use Rattle.th_blunders.proofs.CostLemmas.{weighted}
 use Rattle.th_certificate.specs.Certified.{cost_limit}
 use Rattle.th_network.specs.Limits.{height_limit}
 use Rattle.th_certificate.specs.Texts.{IsCertifiable, cost_of}
 use Rattle.th_certificate.specs.Limits.{most_residual}
-
--- what an observation adds to the cost
-abbrev weighted : WeightRows → (List ℕ → ℤ) → Observed → ℕ
-weighted weights heights o = weight_of weights o.station o.target * unsigned_abs (residual o heights)
 
 -- what holds of each point holds of a name that is one
 pub at_point : (P : List ℕ → Type 0) (names : List (List ℕ)) (name : List ℕ) → AllByRecursion P names → list_any (bytes_eq name) names ≡ true → P name

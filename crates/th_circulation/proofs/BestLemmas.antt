@@ -61,7 +61,7 @@ same_gain observations benchmarks weights heights others flows kept others_kept 
     let parts = gained_parts heights others observations flows in
     omega (arith, ints)
 
-abbrev IsBounded : WeightRows → List Observed → List ℤ → Type 0
+abbrev pub IsBounded : WeightRows → List Observed → List ℤ → Type 0
 IsBounded weights observations flows = AllZip (λ o flow. unsigned_abs flow ≤ weight_of weights o.station o.target) observations flows
 
 -- what an observation costs

@@ -3,7 +3,7 @@ use Rattle.std.proofs.Common.{◌≡◌, ℕ, zero, suc, Bool, true, false, ◌+
 use Rattle.std.proofs.lemmas.Int.{ints}
 use Rattle.std.proofs.lemmas.Bool.{eqb-true, eqb-false}
 use Rattle.std.proofs.Math.IntN.{*ℤ_comm, *ℤ-zero}
-use Rattle.th_network.proofs.Products.{times-plus, times-minus}
+use Rattle.th_network.proofs.Products.{rise_split, times-plus}
 use Rattle.th_network.proofs.Balance.{total_by-cons}
 use Rattle.th_network.specs.declared.links.Link.{Link}
 use Rattle.th_circulation.specs.Inside.Flows.{arriving, leaving}
@@ -66,17 +66,6 @@ end_more flow low at false =
     plus_zero : (z : ℤ) → z +ℤ pos 0 ≡ z
     plus_zero z = omega (arith, ints)
 
--- what one link adds, where each end is split in this way
-one_more : (flow high low high' low' at arrived left rest rest' sum gone sum' gone' : ℤ) → flow *ℤ high ≡ flow *ℤ high' +ℤ at *ℤ arrived → flow *ℤ low ≡ flow *ℤ low' +ℤ at *ℤ left → rest ≡ rest' +ℤ at *ℤ (sum -ℤ gone) → sum' ≡ arrived +ℤ sum → gone' ≡ left +ℤ gone → flow *ℤ (high -ℤ low) +ℤ rest ≡ flow *ℤ (high' -ℤ low') +ℤ rest' +ℤ at *ℤ (sum' -ℤ gone')
-one_more flow high low high' low' at arrived left rest rest' sum gone sum' gone' h l r s g =
-    let p = times-minus flow high low in
-    let q = times-minus flow high' low' in
-    let t = times-minus at sum gone in
-    let t' = times-minus at sum' gone' in
-    let v = ap (λ z. at *ℤ z) s ∙ times-plus at arrived sum in
-    let w = ap (λ z. at *ℤ z) g ∙ times-plus at left gone in
-    omega (arith, ints)
-
 -- what one pair of a link and its flow brings to the vertex, and what it takes away
 abbrev pub arrives : ℕ → (Link × ℤ) → ℤ
 arrives vertex pair = if eqb pair.0.head vertex then pair.1 else pos 0
@@ -88,7 +77,7 @@ carried_more : (u : ℕ → ℤ) (n : ℕ) (links : List Link) (flows : List ℤ
 carried_more u n [] flows = let none = *ℤ-zero (u n) in omega (arith, ints)
 carried_more u n (link ∷ links) [] = let none = *ℤ-zero (u n) in omega (arith, ints)
 carried_more u n (link ∷ links) (flow ∷ flows) =
-    one_more flow (below (suc n) u link.head) (below (suc n) u link.tail) (below n u link.head) (below n u link.tail) (u n) (arrives n (link, flow)) (leaves n (link, flow)) (carried (below (suc n) u) links flows) (carried (below n u) links flows) (arriving links flows n) (leaving links flows n) (arriving (link ∷ links) (flow ∷ flows) n) (leaving (link ∷ links) (flow ∷ flows) n) (end_more flow (below n u link.head) (u n) (eqb link.head n)) (end_more flow (below n u link.tail) (u n) (eqb link.tail n)) (carried_more u n links flows) (total_by-cons (arrives n) (link, flow) (zip links flows)) (total_by-cons (leaves n) (link, flow) (zip links flows))
+    rise_split flow (below (suc n) u link.head) (below (suc n) u link.tail) (below n u link.head) (below n u link.tail) (u n) (arrives n (link, flow)) (leaves n (link, flow)) (carried (below (suc n) u) links flows) (carried (below n u) links flows) (arriving links flows n) (leaving links flows n) (arriving (link ∷ links) (flow ∷ flows) n) (leaving (link ∷ links) (flow ∷ flows) n) (end_more flow (below n u link.head) (u n) (eqb link.head n)) (end_more flow (below n u link.tail) (u n) (eqb link.tail n)) (carried_more u n links flows) (total_by-cons (arrives n) (link, flow) (zip links flows)) (total_by-cons (leaves n) (link, flow) (zip links flows))
 
 -- along u at the vertices below n they carry nothing
 carried_below : (u : ℕ → ℤ) (n : ℕ) (links : List Link) (flows : List ℤ) → ((v : ℕ) → arriving links flows v ≡ leaving links flows v) → carried (below n u) links flows ≡ pos 0

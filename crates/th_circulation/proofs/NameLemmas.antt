@@ -1,6 +1,6 @@
 -- From links back to observations: a flow of the links of observations is their circulation.
 use Rattle.std.proofs.lemmas.Int.{ints}
-use Rattle.std.proofs.Common.{◌≡◌, ℕ, Bool, true, false, ◌+◌, ◌<◌, ◌≤◌, ℤ, pos, ◌+ℤ◌, List, [], ◌∷◌, Option, Some, None, is_none, bytes_eq, eqb, map, zip, if◌then◌else◌, unsigned_abs, slice_get, refl, ap, sym, ◌∙◌, arith}
+use Rattle.std.proofs.Common.{◌≡◌, ℕ, Bool, true, false, ◌+◌, ◌≤◌, ℤ, pos, ◌+ℤ◌, List, [], ◌∷◌, Option, Some, None, bytes_eq, eqb, map, zip, if◌then◌else◌, unsigned_abs, slice_get, refl, ap, sym, ◌∙◌, arith}
 use Rattle.std.proofs.lemmas.Bool.{eq-eqb, eqb-true}
 use Rattle.std.proofs.lemmas.Slice.Eq.{bytes_eq-Decides}
 use Rattle.std.proofs.lemmas.Option.{slice_get-get_or}
@@ -10,7 +10,7 @@ use Rattle.th_book.specs.Observed.{Observed}
 use Rattle.th_tables.specs.Rows.{BenchmarkRows, WeightRows, height_of, weight_of}
 use Rattle.th_points.specs.Points.{points}
 use Rattle.th_points.specs.Places.{place_of}
-use Rattle.th_network.specs.Vertices.{free_before, vertex_of}
+use Rattle.th_network.specs.Vertices.{vertex_of}
 use Rattle.th_network.specs.Links.{link_of}
 use Rattle.th_network.specs.Circulation.{Circulation, arriving as arriving_at, leaving as leaving_at}
 use Rattle.th_network.specs.declared.links.Link.{Link}
@@ -23,20 +23,9 @@ use Rattle.th_network.specs.Heights.{residual, LeastFine}
 use Rattle.th_network.specs.Circulation.{Shows}
 use Rattle.th_network.specs.Links.{base, link_difference}
 use Rattle.th_network.proofs.Slackness.{slackness}
+use Rattle.th_network.proofs.FreePoints.{fixed_vertex, free_vertex}
 use Rattle.th_circulation.specs.Inside.Flows.{IsFlow, ShowsLinks, arriving, leaving, residual as link_residual, residuals}
 use Rattle.th_circulation.specs.Inside.PointHeights.{point_height}
-
--- a benchmark has vertex 0, another point has none of that number
-pub fixed_vertex : (observations : List Observed) (benchmarks : BenchmarkRows) (name : List ℕ) (height : ℤ) → height_of benchmarks name ≡ Some height → vertex_of observations benchmarks name ≡ 0
-fixed_vertex observations benchmarks name height e =
-    let names = points observations benchmarks in
-    ap (λ h. if is_none h then free_before benchmarks names (place_of names name) + 1 else 0) e
-
-pub free_vertex : (observations : List Observed) (benchmarks : BenchmarkRows) (name : List ℕ) → height_of benchmarks name ≡ None → 0 < vertex_of observations benchmarks name
-free_vertex observations benchmarks name e =
-    let names = points observations benchmarks in
-    let same : vertex_of observations benchmarks name ≡ free_before benchmarks names (place_of names name) + 1 = ap (λ h. if is_none h then free_before benchmarks names (place_of names name) + 1 else 0) e in
-    omega arith
 
 pub same_name : (observations : List Observed) (benchmarks : BenchmarkRows) (name point : List ℕ) → is_among (points observations benchmarks) name ≡ true → (k : ℕ) → slice_get (points observations benchmarks) k ≡ Some point → height_of benchmarks point ≡ None → vertex_of observations benchmarks name ≡ vertex_of observations benchmarks point → name ≡ point
 same_name observations benchmarks name point among k at free same = by (height_of benchmarks name) refl

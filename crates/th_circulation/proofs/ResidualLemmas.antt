@@ -16,6 +16,7 @@ use Rattle.th_search.specs.Walks.{IsArc}
 use Rattle.th_circulation.specs.Inside.Cuts.{LeavesFull}
 use Rattle.th_circulation.specs.Inside.Residuals.{against, along, residual_arcs, residual_arcs_of, turned}
 use Rattle.th_circulation.specs.Inside.Distances.{IsKept}
+use Rattle.th_circulation.proofs.BestLemmas.{IsBounded}
 use Rattle.th_circulation.proofs.ExtremeLemmas.{bounds_of}
 use Rattle.th_circulation.proofs.Bounds.{KeepsAll}
 use Rattle.th_circulation.proofs.MisreadLemmas.{lt_z-false}
@@ -93,10 +94,7 @@ all_mapped P (arc ∷ arcs) all = (all.0, all_mapped P arcs all.1)
 abbrev pub inside_at : List Observed → BenchmarkRows → (ℕ → Bool) → List ℕ → Bool
 inside_at all benchmarks inside name = inside (vertex_of all benchmarks name)
 
-abbrev AreBoundedBy : WeightRows → List Observed → List ℤ → Type 0
-AreBoundedBy weights observations flows = AllZip (λ o flow. unsigned_abs flow ≤ weight_of weights o.station o.target) observations flows
-
-leaves_full : (all : List Observed) (benchmarks : BenchmarkRows) (weights : WeightRows) (inside : ℕ → Bool) (observations : List Observed) (flows : List ℤ) → AreBoundedBy weights observations flows → AllByRecursion (λ arc. EntersNot inside (turned arc)) (residual_arcs (map (link_of all benchmarks) observations) (weights_in weights observations) flows) → AllZip (LeavesFull (inside_at all benchmarks inside) weights) observations flows
+leaves_full : (all : List Observed) (benchmarks : BenchmarkRows) (weights : WeightRows) (inside : ℕ → Bool) (observations : List Observed) (flows : List ℤ) → IsBounded weights observations flows → AllByRecursion (λ arc. EntersNot inside (turned arc)) (residual_arcs (map (link_of all benchmarks) observations) (weights_in weights observations) flows) → AllZip (LeavesFull (inside_at all benchmarks inside) weights) observations flows
 leaves_full all benchmarks weights inside [] [] bounded none = tt
 leaves_full all benchmarks weights inside [] (flow ∷ flows) bounded none = absurd bounded
 leaves_full all benchmarks weights inside (o ∷ observations) [] bounded none = absurd bounded
@@ -111,14 +109,14 @@ leaves_full all benchmarks weights inside (o ∷ observations) (flow ∷ flows) 
       leaves_full all benchmarks weights inside observations flows bounded.1 parts.others,
     )
 
-pub left_full : (all : List Observed) (benchmarks : BenchmarkRows) (weights : WeightRows) (inside : ℕ → Bool) (observations : List Observed) (flows : List ℤ) → AreBoundedBy weights observations flows → AllByRecursion (EntersNot inside) (map turned (residual_arcs (map (link_of all benchmarks) observations) (weights_in weights observations) flows)) → AllZip (LeavesFull (inside_at all benchmarks inside) weights) observations flows
+pub left_full : (all : List Observed) (benchmarks : BenchmarkRows) (weights : WeightRows) (inside : ℕ → Bool) (observations : List Observed) (flows : List ℤ) → IsBounded weights observations flows → AllByRecursion (EntersNot inside) (map turned (residual_arcs (map (link_of all benchmarks) observations) (weights_in weights observations) flows)) → AllZip (LeavesFull (inside_at all benchmarks inside) weights) observations flows
 left_full all benchmarks weights inside observations flows bounded none = leaves_full all benchmarks weights inside observations flows bounded (all_mapped (EntersNot inside) (residual_arcs (map (link_of all benchmarks) observations) (weights_in weights observations) flows) none)
 
 -- each flow with the other sign
 abbrev pub opposites : List ℤ → List ℤ
 opposites flows = map (λ flow. pos 0 -ℤ flow) flows
 
-pub entered_full : (all : List Observed) (benchmarks : BenchmarkRows) (weights : WeightRows) (inside : ℕ → Bool) (observations : List Observed) (flows : List ℤ) → AreBoundedBy weights observations flows → AllByRecursion (EntersNot inside) (residual_arcs (map (link_of all benchmarks) observations) (weights_in weights observations) flows) → AllZip (LeavesFull (inside_at all benchmarks inside) weights) observations (opposites flows)
+pub entered_full : (all : List Observed) (benchmarks : BenchmarkRows) (weights : WeightRows) (inside : ℕ → Bool) (observations : List Observed) (flows : List ℤ) → IsBounded weights observations flows → AllByRecursion (EntersNot inside) (residual_arcs (map (link_of all benchmarks) observations) (weights_in weights observations) flows) → AllZip (LeavesFull (inside_at all benchmarks inside) weights) observations (opposites flows)
 entered_full all benchmarks weights inside [] [] bounded none = tt
 entered_full all benchmarks weights inside [] (flow ∷ flows) bounded none = absurd bounded
 entered_full all benchmarks weights inside (o ∷ observations) [] bounded none = absurd bounded

@@ -1,18 +1,14 @@
 -- Distances of the residual arcs are how far the lowest and the highest best heights are from the benchmarks.
-use Rattle.std.proofs.Common.{◌≡◌, ℕ, Bool, true, ◌<◌, ◌≤◌, ◌+◌, ℤ, pos, List, Option, Some, None, All, if◌then◌else◌, is_none, option_map, map, slice_get, slice_index_or, refl, ap, sym, ◌∙◌, subst, arith}
+use Rattle.std.proofs.Common.{◌≡◌, ℕ, ◌≤◌, ℤ, pos, List, All, map, slice_index_or, sym, subst, arith}
 use Rattle.std.proofs.lemmas.Int.{ints}
 use Rattle.std.proofs.lemmas.List.Elements.{All-from_recursion, recursion_from_All}
-use Rattle.std.proofs.lemmas.Option.{slice_get-map}
-use Rattle.th_tables.specs.Rows.{height_of}
 use Rattle.th_network.specs.Circulation.{Circulation}
 use Rattle.th_network.specs.Faults.{IsNetwork}
 use Rattle.th_network.specs.Heights.{IsHeights, Least, heights_at}
 use Rattle.th_network.specs.Networks.{Survey, points_of, vertices_of, weights_of}
-use Rattle.th_points.specs.Places.{place_of}
-use Rattle.th_network.specs.Vertices.{free_before, vertex_of}
-use Rattle.th_network.proofs.NetworkLemmas.{vertex_by_place}
-use Rattle.th_points.proofs.PointLemmas.{ends_are_points, is_among}
-use Rattle.th_points.proofs.PlaceLemmas.{at_place_of}
+use Rattle.th_network.specs.Vertices.{vertex_of}
+use Rattle.th_network.proofs.NetworkLemmas.{vertex_within}
+use Rattle.th_points.proofs.PointLemmas.{ends_are_points}
 use Rattle.th_search.specs.declared.arcs.Arc.{Arc}
 use Rattle.th_search.specs.Potentials.{value_at}
 use Rattle.th_search.specs.Walks.{IsArc}
@@ -24,9 +20,8 @@ use Rattle.th_circulation.specs.Inside.Residuals.{turned}
 use Rattle.th_circulation.specs.Inside.Spans.{AreAbove, AreBelow}
 use Rattle.th_circulation.proofs.BestLemmas.{best_is_shown, shown_is_best}
 use Rattle.th_circulation.proofs.ExtremeLemmas.{among_at, full_of_kept, kept_of_full}
-use Rattle.th_circulation.proofs.NameLemmas.{fixed_vertex, point_height_parts}
+use Rattle.th_circulation.proofs.NameLemmas.{point_height_parts}
 use Rattle.th_circulation.proofs.NearLemmas.{keep_back, keep_turned, tight, tight_turned}
-use Rattle.th_circulation.proofs.PointHeightLemmas.{free_more, free_most}
 use Rattle.th_circulation.proofs.ResidualLemmas.{AreMatched, arcs_kept, bounds_kept}
 use Rattle.th_circulation.proofs.SettledLemmas.{listed_point_heights, settled_keeps}
 use Rattle.th_circulation.proofs.SideLemmas.{full_of_shows, shows_of_full}
@@ -59,24 +54,6 @@ others_keep survey flows heights others are best = numbers_keep survey flows oth
   shows = best_is_shown survey.observations survey.benchmarks survey.weights heights others flows are.kept are.circulation are.shows best;
 })
 
--- ---- the vertex of a point
-vertex_within : (survey : Survey) (name : List ℕ) → is_among (points_of survey) name ≡ true → vertex_of survey.observations survey.benchmarks name < vertices_of survey
-vertex_within survey name among = by (height_of survey.benchmarks name) refl
-  where
-    by : (found : Option ℤ) → height_of survey.benchmarks name ≡ found → vertex_of survey.observations survey.benchmarks name < vertices_of survey
-    by (Some height) e =
-        let zero_vertex = fixed_vertex survey.observations survey.benchmarks name height e in
-        omega arith
-    by None e =
-        let names = points_of survey in
-        let place = place_of names name in
-        let at = at_place_of names name among in
-        let found : slice_get (map (height_of survey.benchmarks) names) place ≡ Some None = slice_get-map (height_of survey.benchmarks) names place ∙ ap (option_map (height_of survey.benchmarks)) at ∙ ap Some e in
-        let more = free_more survey.benchmarks names place found in
-        let most = free_most survey.observations survey.benchmarks (place + 1) in
-        let vertex = vertex_by_place survey.observations survey.benchmarks place name at ∙ ap (λ (b : Bool). if b then free_before survey.benchmarks names place + 1 else 0) (ap is_none e) in
-        omega arith
-
 -- ---- listed by points
 matched_below : (survey : Survey) (numbers : ℕ → ℤ) (heights : List ℤ) → numbers 0 ≡ pos 0 → ArePointHeights survey.observations survey.benchmarks (opposite numbers) heights → AreMatched survey.observations survey.benchmarks (heights_at (points_of survey) heights) numbers
 matched_below survey numbers heights start are name among =
@@ -102,7 +79,7 @@ low_found survey flows known heights are below =
           let among = among_at names k d within in
           let here = matched name among in
           let there = matched_numbers survey.observations survey.benchmarks others best.kept name among in
-          let most = below.long.greatest (numbers_in survey others) (others_keep survey flows known others are best) (vertex_of survey.observations survey.benchmarks name) (vertex_within survey name among) in
+          let most = below.long.greatest (numbers_in survey others) (others_keep survey flows known others are best) (vertex_of survey.observations survey.benchmarks name) (vertex_within survey.observations survey.benchmarks name among) in
           omega (arith, ints);
     }
 
@@ -118,7 +95,7 @@ high_found survey flows known heights are above =
           let among = among_at names k d within in
           let here = matched name among in
           let there = matched_numbers survey.observations survey.benchmarks others best.kept name among in
-          let most = above.long.greatest (opposite (numbers_in survey others)) (keep_turned (numbers_in survey others) (arcs_in survey flows) (others_keep survey flows known others are best)) (vertex_of survey.observations survey.benchmarks name) (vertex_within survey name among) in
+          let most = above.long.greatest (opposite (numbers_in survey others)) (keep_turned (numbers_in survey others) (arcs_in survey flows) (others_keep survey flows known others are best)) (vertex_of survey.observations survey.benchmarks name) (vertex_within survey.observations survey.benchmarks name among) in
           omega (arith, ints);
     }
 

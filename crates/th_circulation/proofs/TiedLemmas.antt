@@ -19,7 +19,7 @@ use Rattle.th_search.specs.Walks.{IsArc}
 use Rattle.th_circulation.specs.Inside.Cuts.{LeavesFull}
 use Rattle.th_circulation.specs.Inside.Residuals.{residual_arcs}
 use Rattle.th_circulation.proofs.CutLemmas.{AreHeavy, untied_where_full}
-use Rattle.th_circulation.proofs.NameLemmas.{fixed_vertex}
+use Rattle.th_network.proofs.FreePoints.{fixed_vertex}
 use Rattle.th_circulation.proofs.NearLemmas.{AreTied}
 use Rattle.th_circulation.proofs.ResidualLemmas.{entered_full, inside_at, left_full, opposites}
 use Rattle.th_circulation.proofs.VertexNumbers.{named}

@@ -12,11 +12,12 @@ use Rattle.th_network.specs.Links.{base}
 use Rattle.th_points.specs.Places.{place_of}
 use Rattle.th_points.specs.Points.{points}
 use Rattle.th_network.specs.Vertices.{free_before, is_free, vertex_count, vertex_of}
-use Rattle.th_network.proofs.NetworkLemmas.{vertex_by_place}
+use Rattle.th_network.proofs.NetworkLemmas.{free_vertex_at}
 use Rattle.th_points.proofs.PointLemmas.{is_among}
 use Rattle.th_points.proofs.PlaceLemmas.{at_place_of}
 use Rattle.th_circulation.proofs.ExtremeLemmas.{all_among}
-use Rattle.th_circulation.proofs.NameLemmas.{fixed_vertex, free_vertex, same_name}
+use Rattle.th_network.proofs.FreePoints.{fixed_vertex, free_vertex}
+use Rattle.th_circulation.proofs.NameLemmas.{same_name}
 use Rattle.th_circulation.proofs.ResidualLemmas.{AreMatched}
 
 -- ---- the number of a vertex: how far the first of these names that has it is below the benchmark's part
@@ -115,5 +116,5 @@ named all benchmarks (suc v) some within =
     let names = points all benchmarks in
     let found = find_free benchmarks names v (omega arith) in
     let before = found.before in
-    let vertex = vertex_by_place all benchmarks found.place found.name found.at ∙ ap (λ (b : Bool). if b then free_before benchmarks names found.place + 1 else 0) found.free in
+    let vertex = free_vertex_at all benchmarks found.place found.name found.at found.free in
     record { place = found.place; name = found.name; at = found.at; vertex = omega arith }

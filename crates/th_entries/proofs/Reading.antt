@@ -10,6 +10,7 @@ use Rattle.th_book.specs.Places.{line_at}
 use Rattle.th_book.specs.Faults.{first_fault}
 use Rattle.th_book.specs.Books.{book_answer}
 use Rattle.th_book.specs.Limits.{max_book}
+use Rattle.th_book.proofs.FeedLemmas.{cut_read}
 use Rattle.th_entries.specs.Reviews.{IsFaultless, parsed_of}
 use Rattle.th_entries.specs.Spellings.{Mention}
 use Rattle.th_entries.specs.Seen.{AreSeenIn}
@@ -19,12 +20,6 @@ use Rattle.th_entries.specs.Inside.Tallies.{HasTaken, IsEmpty, IsEntering, IsTal
 use Rattle.th_entries.specs.Inside.Running.{Entering}
 use Rattle.th_entries.specs.declared.seen.SeenNames.{SeenNames}
 use Rattle.th_entries.specs.declared.tallies.Tally.{Tally}
-
--- lines that are cut are read as the lines themselves
-cut-read : ((line : List ℕ) → block_at (cut_line line) ≡ block_at line) → (lines : List (List ℕ)) → map block_at (cut_lines lines) ≡ map block_at lines
-cut-read law [] = refl
-cut-read law (line ∷ lines) =
-    ap (λ first. first ∷ map block_at (cut_lines lines)) (law line) ∙ ap (λ rest. block_at line ∷ rest) (cut-read law lines)
 
 -- before its first line nothing is known of a book
 empty-tallied : (names : SeenNames) (number : ℕ) (parsed : List ParsedLine) (tally : Tally) → IsEmpty names number tally → IsTallied names number parsed 0 tally
@@ -41,7 +36,7 @@ read-new names number tally lines law empty cut text = λ faultless. record {
   place = 0;
   within = omega arith;
   known = empty-tallied names number (parsed_of text) tally empty;
-  left = ap (map block_at) (cut text) ∙ cut-read law (lines_of text);
+  left = ap (map block_at) (cut text) ∙ cut_read law (lines_of text);
 }
 
 -- the line that is next is that at the place

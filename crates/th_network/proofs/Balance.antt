@@ -6,7 +6,7 @@ use Rattle.std.proofs.Math.IntN.{*ℤ_comm, *ℤ-zero, zero-*ℤ}
 use Rattle.std.specs.List.{list_any, AllByRecursion}
 use Rattle.th_book.specs.Observed.{Observed}
 use Rattle.th_network.specs.Circulation.{total_by, arriving, leaving}
-use Rattle.th_network.proofs.Products.{times-plus, times-minus}
+use Rattle.th_network.proofs.Products.{rise_split}
 
 -- the sum over the observations of the flow times the rise of u from station to target
 abbrev pub carried : (List ℕ → ℤ) → List Observed → List ℤ → ℤ
@@ -44,17 +44,6 @@ end_cleared u point name flow = by (bytes_eq name point) (bytes_eq-Decides name 
         let none = *ℤ-zero (u point) in
         omega (arith, ints)
 
--- what one observation adds, where each end is split in this way
-one_cleared : (flow high low high' low' at arrived left rest rest' sum gone sum' gone' : ℤ) → flow *ℤ high ≡ flow *ℤ high' +ℤ at *ℤ arrived → flow *ℤ low ≡ flow *ℤ low' +ℤ at *ℤ left → rest ≡ rest' +ℤ at *ℤ (sum -ℤ gone) → sum' ≡ arrived +ℤ sum → gone' ≡ left +ℤ gone → flow *ℤ (high -ℤ low) +ℤ rest ≡ flow *ℤ (high' -ℤ low') +ℤ rest' +ℤ at *ℤ (sum' -ℤ gone')
-one_cleared flow high low high' low' at arrived left rest rest' sum gone sum' gone' h l r s g =
-    let p = times-minus flow high low in
-    let q = times-minus flow high' low' in
-    let t = times-minus at sum gone in
-    let t' = times-minus at sum' gone' in
-    let v = ap (λ z. at *ℤ z) s ∙ times-plus at arrived sum in
-    let w = ap (λ z. at *ℤ z) g ∙ times-plus at left gone in
-    omega (arith, ints)
-
 -- u is zero at the name, unless the list has it
 abbrev pub ZeroUnlessIn : List (List ℕ) → (List ℕ → ℤ) → List ℕ → Type 0
 ZeroUnlessIn names u name = list_any (bytes_eq name) names ≡ false → u name ≡ pos 0
@@ -70,7 +59,7 @@ carried_cleared : (u : List ℕ → ℤ) (point : List ℕ) (observations : List
 carried_cleared u point [] flows = let none = *ℤ-zero (u point) in omega (arith, ints)
 carried_cleared u point (o ∷ observations) [] = let none = *ℤ-zero (u point) in omega (arith, ints)
 carried_cleared u point (o ∷ observations) (flow ∷ flows) =
-    one_cleared flow (u o.target) (u o.station) (cleared point u o.target) (cleared point u o.station) (u point) (arrives point (o, flow)) (leaves point (o, flow)) (carried u observations flows) (carried (cleared point u) observations flows) (arriving observations flows point) (leaving observations flows point) (arriving (o ∷ observations) (flow ∷ flows) point) (leaving (o ∷ observations) (flow ∷ flows) point) (end_cleared u point o.target flow) (end_cleared u point o.station flow) (carried_cleared u point observations flows) (total_by-cons (arrives point) (o, flow) (zip observations flows)) (total_by-cons (leaves point) (o, flow) (zip observations flows))
+    rise_split flow (u o.target) (u o.station) (cleared point u o.target) (cleared point u o.station) (u point) (arrives point (o, flow)) (leaves point (o, flow)) (carried u observations flows) (carried (cleared point u) observations flows) (arriving observations flows point) (leaving observations flows point) (arriving (o ∷ observations) (flow ∷ flows) point) (leaving (o ∷ observations) (flow ∷ flows) point) (end_cleared u point o.target flow) (end_cleared u point o.station flow) (carried_cleared u point observations flows) (total_by-cons (arrives point) (o, flow) (zip observations flows)) (total_by-cons (leaves point) (o, flow) (zip observations flows))
 
 zero_carried : (u : List ℕ → ℤ) (observations : List Observed) (flows : List ℤ) → AllByRecursion (λ o. ZeroUnlessIn [] u o.station × ZeroUnlessIn [] u o.target) observations → carried u observations flows ≡ pos 0
 zero_carried u [] flows e = refl

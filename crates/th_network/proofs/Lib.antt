@@ -7,6 +7,7 @@ pub mod AnchorLemmas
 pub mod TieLemmas
 pub mod VertexLemmas
 pub mod NetworkLemmas
+pub mod FreePoints
 pub mod SiteLemmas
 pub mod LinkLemmas
 pub mod Slackness

@@ -44,7 +44,8 @@ anchored_points observations benchmarks names ends h all =
     subst (All (IsTied observations benchmarks)) (take_all (length ps) ps (omega arith)) (tied_below observations benchmarks (length ps) found)
 
 -- ---- vertices
-vertex_within : (observations : List Observed) (benchmarks : BenchmarkRows) (name : List ℕ) → is_among (points observations benchmarks) name ≡ true → vertex_of observations benchmarks name < vertex_count observations benchmarks
+-- a point has a vertex
+pub vertex_within : (observations : List Observed) (benchmarks : BenchmarkRows) (name : List ℕ) → is_among (points observations benchmarks) name ≡ true → vertex_of observations benchmarks name < vertex_count observations benchmarks
 vertex_within observations benchmarks name there = by (is_free benchmarks name) refl
   where
     names : List (List ℕ)
@@ -74,8 +75,9 @@ vertex_by_place observations benchmarks place name at =
     let names = points observations benchmarks in
     ap (λ (k : ℕ). vertex_at benchmarks names k name) (place_of_at names place name (points_distinct observations benchmarks) at)
 
-free_vertex : (observations : List Observed) (benchmarks : BenchmarkRows) (place : ℕ) (name : List ℕ) → slice_get (points observations benchmarks) place ≡ Some name → is_free benchmarks name ≡ true → vertex_of observations benchmarks name ≡ free_before benchmarks (points observations benchmarks) place + 1
-free_vertex observations benchmarks place name at free =
+-- that of a point which is no benchmark
+pub free_vertex_at : (observations : List Observed) (benchmarks : BenchmarkRows) (place : ℕ) (name : List ℕ) → slice_get (points observations benchmarks) place ≡ Some name → is_free benchmarks name ≡ true → vertex_of observations benchmarks name ≡ free_before benchmarks (points observations benchmarks) place + 1
+free_vertex_at observations benchmarks place name at free =
     vertex_by_place observations benchmarks place name at ∙ ap (λ (b : Bool). if b then free_before benchmarks (points observations benchmarks) place + 1 else 0) free
 
 -- of two points that are no benchmark the later has the greater vertex
@@ -85,8 +87,8 @@ later_vertex observations benchmarks j k first second at_j at_k free_j free_k be
     let one = count_by_more_yes (is_free benchmarks) names j first (slice_get_within names j first at_j) (ap (is_free benchmarks) (get_or_from_slice_get names j first first at_j) ∙ free_j) in
     let front = sum_by-take-le (λ other. if is_free benchmarks other then 1 else 0) (take k names) (j + 1) in
     let same : count_by (is_free benchmarks) (take (j + 1) (take k names)) ≡ count_by (is_free benchmarks) (take (j + 1) names) = ap (count_by (is_free benchmarks)) (take-take (j + 1) k names (omega arith)) in
-    let lower = free_vertex observations benchmarks j first at_j free_j in
-    let upper = free_vertex observations benchmarks k second at_k free_k in
+    let lower = free_vertex_at observations benchmarks j first at_j free_j in
+    let upper = free_vertex_at observations benchmarks k second at_k free_k in
     omega arith
 
 pub vertices_apart : (observations : List Observed) (benchmarks : BenchmarkRows) (j k : ℕ) (first second : List ℕ) → slice_get (points observations benchmarks) j ≡ Some first → slice_get (points observations benchmarks) k ≡ Some second → height_of benchmarks first ≡ None → height_of benchmarks second ≡ None → vertex_of observations benchmarks first ≡ vertex_of observations benchmarks second → first ≡ second

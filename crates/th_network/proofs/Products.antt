@@ -45,3 +45,14 @@ times-le f r w bound =
     let size = unsigned_abs-mul f r in
     let more = mul-le-mul_right (unsigned_abs r) bound in
     omega (arith, ints)
+
+-- what a flow times a rise adds to a sum, where the height of each end is split in two
+pub rise_split : (flow high low high' low' at arrived left rest rest' sum gone sum' gone' : ℤ) → flow *ℤ high ≡ flow *ℤ high' +ℤ at *ℤ arrived → flow *ℤ low ≡ flow *ℤ low' +ℤ at *ℤ left → rest ≡ rest' +ℤ at *ℤ (sum -ℤ gone) → sum' ≡ arrived +ℤ sum → gone' ≡ left +ℤ gone → flow *ℤ (high -ℤ low) +ℤ rest ≡ flow *ℤ (high' -ℤ low') +ℤ rest' +ℤ at *ℤ (sum' -ℤ gone')
+rise_split flow high low high' low' at arrived left rest rest' sum gone sum' gone' h l r s g =
+    let p = times-minus flow high low in
+    let q = times-minus flow high' low' in
+    let t = times-minus at sum gone in
+    let t' = times-minus at sum' gone' in
+    let v = ap (λ z. at *ℤ z) s ∙ times-plus at arrived sum in
+    let w = ap (λ z. at *ℤ z) g ∙ times-plus at left gone in
+    omega (arith, ints)

@@ -4,7 +4,7 @@ use borrow.Author.Count.{below_more}
 use Rattle.std.specs.Prelude.{slice_index_or, sum_by}
 use Rattle.std.proofs.lemmas.Bool.{false≢true}
 use Rattle.std.proofs.lemmas.List.{get_or-map, get_or_default, get_or_append_left, get_or_push, length-append, length-map, map-append, take_more}
-use Rattle.std.proofs.lemmas.List.Sums.{sum_by-append, sum_by-cons, count_by_more_no, count_by_more_yes, get_or-le-sum_by, sum_by-take-le}
+use Rattle.std.proofs.lemmas.List.Sums.{sum_by-append, sum_by-cons, get_or-le-sum_by}
 use Rattle.std.proofs.lemmas.List.Elements.{All-push}
 use Rattle.std.proofs.lemmas.Option.{get_or_from_slice_get, slice_get-get_or, slice_get_within}
 use Rattle.th_tables.specs.Limits.{max_weight}
@@ -15,9 +15,10 @@ use Rattle.th_points.specs.Places.{place_of}
 use Rattle.th_points.proofs.PlaceLemmas.{ends_at_places, ends_contained}
 use Rattle.th_network.specs.Links.{link_of}
 use Rattle.th_network.specs.Networks.{Survey, arcs_of, heights_of, points_of, weights_of}
-use Rattle.th_network.specs.Vertices.{free_before, is_free, vertex_count, vertex_of}
+use Rattle.th_network.specs.Vertices.{free_before, vertex_of}
 use Rattle.th_network.specs.declared.links.Link.{Link}
-use Rattle.th_network.proofs.NetworkLemmas.{vertex_by_place, vertices_apart}
+use Rattle.th_network.proofs.NetworkLemmas.{free_vertex_at, vertices_apart}
+use Rattle.th_network.proofs.FreePoints.{found_at, free_vertex}
 use Rattle.th_cuts.specs.declared.edges.Edge.{Edge}
 use Rattle.th_cuts.specs.Cuts.{IsLeastCut, Weighted, cut_weight, separates}
 use Rattle.th_cuts.proofs.CutTreeLemmas.{mirrored, other_side, separated}
@@ -25,7 +26,7 @@ use Rattle.th_reliability.specs.Cuts.{IsControl, IsFreeSet, IsStrength, crosses,
 use Rattle.th_reliability.specs.Edges.{edge_of, names_in, vertices_in}
 use Rattle.th_reliability.specs.Inside.Graphs.{IsGraphOf}
 use Rattle.th_reliability.specs.Numbers.{HasControl, HasStrength}
-use Rattle.th_reliability.proofs.VertexLemmas.{crossing_same, fixed_vertex, free_vertex, names_are_free, names_cut, vertices_at, vertices_cut, vertices_without_0}
+use Rattle.th_reliability.proofs.VertexLemmas.{crossing_same, fixed_vertex, names_are_free, names_cut, vertices_at, vertices_cut, vertices_without_0}
 
 -- ---- lists that grow
 -- what holds of each item before, and of the next, holds of each item of the longer list
@@ -65,36 +66,6 @@ edges_more survey i arc weight edges more within read weighs so_far pushed =
     let same : made arc.tail arc.head weight ≡ f o = ap (λ (t : ℕ). made t arc.head weight) is.0 ∙ ap (λ (h : ℕ). made tail h weight) is.1 ∙ ap (made tail head) is.2 in
     let taken : take (i + 1) survey.observations ≡ take i survey.observations ++ o ∷ [] = take_more survey.observations i none within in
     pushed ∙ ap (λ (es : List Edge). es ++ made arc.tail arc.head weight ∷ []) so_far ∙ ap (λ (e : Edge). map f (take i survey.observations) ++ e ∷ []) same ∙ sym (map-append f (take i survey.observations) (o ∷ [])) ∙ ap (map f) (sym taken)
-
--- ---- the numbers of vertices
-found_at : (benchmarks : BenchmarkRows) (names : List (List ℕ)) (k : ℕ) (name : List ℕ) (found : Option ℤ) → slice_get (map (height_of benchmarks) names) k ≡ Some found → slice_get names k ≡ Some name → height_of benchmarks name ≡ found
-found_at benchmarks names k name found e at =
-    let f = height_of benchmarks in
-    sym (ap f (get_or_from_slice_get names k name name at)) ∙ sym (get_or-map f names k name found (slice_get_within names k name at)) ∙ get_or_from_slice_get (map f names) k found found e
-
-pub free_fixed : (benchmarks : BenchmarkRows) (names : List (List ℕ)) (k : ℕ) (height : ℤ) → slice_get (map (height_of benchmarks) names) k ≡ Some (Some height) → free_before benchmarks names (k + 1) ≡ free_before benchmarks names k
-free_fixed benchmarks names k height e =
-    let within = slice_get_within (map (height_of benchmarks) names) k (Some height) e in
-    let long = length-map names (height_of benchmarks) in
-    let found = sym (get_or-map (height_of benchmarks) names k [] None (omega arith)) ∙ get_or_from_slice_get (map (height_of benchmarks) names) k (Some height) None e in
-    count_by_more_no (is_free benchmarks) names k [] (omega arith) (ap is_none found)
-
-pub free_more : (benchmarks : BenchmarkRows) (names : List (List ℕ)) (k : ℕ) → slice_get (map (height_of benchmarks) names) k ≡ Some None → free_before benchmarks names (k + 1) ≡ free_before benchmarks names k + 1
-free_more benchmarks names k e =
-    let within = slice_get_within (map (height_of benchmarks) names) k None e in
-    let long = length-map names (height_of benchmarks) in
-    let found = sym (get_or-map (height_of benchmarks) names k [] (Some (pos 0)) (omega arith)) ∙ get_or_from_slice_get (map (height_of benchmarks) names) k None (Some (pos 0)) e in
-    count_by_more_yes (is_free benchmarks) names k [] (omega arith) (ap is_none found)
-
-pub free_most : (observations : List Observed) (benchmarks : BenchmarkRows) (k : ℕ) → free_before benchmarks (points observations benchmarks) k + 1 ≤ vertex_count observations benchmarks
-free_most observations benchmarks k =
-    let front = sum_by-take-le (λ other. if is_free benchmarks other then 1 else 0) (points observations benchmarks) k in
-    omega arith
-
-free_vertex_at : (observations : List Observed) (benchmarks : BenchmarkRows) (k : ℕ) (name : List ℕ) → slice_get (points observations benchmarks) k ≡ Some name → height_of benchmarks name ≡ None → vertex_of observations benchmarks name ≡ free_before benchmarks (points observations benchmarks) k + 1
-free_vertex_at observations benchmarks k name at e =
-    let free = ap is_none e in
-    vertex_by_place observations benchmarks k name at ∙ ap (λ (b : Bool). if b then free_before benchmarks (points observations benchmarks) k + 1 else 0) free
 
 -- ---- a side without vertex 0
 record IsOutside (edges : List Edge) (u v value : ℕ) : Type 0 where
@@ -150,7 +121,7 @@ strength_none survey k height e name at = ap is_some (found_at survey.benchmarks
 pub strength_some : (survey : Survey) (graph : Weighted) (k before value : ℕ) → IsGraphOf survey graph → slice_get (heights_of survey) k ≡ Some None → before ≡ free_before survey.benchmarks (points_of survey) k → IsLeastCut graph.edges (before + 1) 0 value → (name : List ℕ) → slice_get (points_of survey) k ≡ Some name → HasStrength survey name (Some value)
 strength_some survey graph k before value is e counted least name at =
     let free = found_at survey.benchmarks (points_of survey) k name None e at in
-    let vertex = free_vertex_at survey.observations survey.benchmarks k name at free in
+    let vertex = free_vertex_at survey.observations survey.benchmarks k name at (ap is_none free) in
     let same : before + 1 ≡ vertex_of survey.observations survey.benchmarks name = omega arith in
     strength_is survey graph name (before + 1) value is (k, slice_get_within (points_of survey) k name at, get_or_from_slice_get (points_of survey) k name name at) same least
 

@@ -1,5 +1,5 @@
 -- Sets of names and sets of vertices: each set of vertices without vertex 0 is a free set of names with the same cut, and the other way round.
-use Rattle.std.proofs.Common.{◌≡◌, ℕ, ◌+◌, ◌<◌, ◌&&◌, Bool, true, false, ℤ, List, [], ◌∷◌, get_or, slice_get, map, Option, Some, None, IsSome, All, Contains, is_none, eqb, if◌then◌else◌, refl, sym, ap, ◌∙◌, subst, arith}
+use Rattle.std.proofs.Common.{◌≡◌, ℕ, ◌&&◌, Bool, true, false, ℤ, List, [], ◌∷◌, get_or, slice_get, map, Option, Some, None, IsSome, All, Contains, eqb, if◌then◌else◌, refl, sym, ap, ◌∙◌, subst, arith}
 use Rattle.std.proofs.lemmas.Bool.{eq-eqb, eqb-true, false≢true}
 use Rattle.std.proofs.lemmas.List.Elements.{All-head, All-tail}
 use Rattle.std.specs.List.{list_any}
@@ -9,28 +9,22 @@ use Rattle.std.proofs.lemmas.Option.{slice_get-get_or}
 use Rattle.th_book.specs.Observed.{Observed}
 use Rattle.th_tables.specs.Rows.{BenchmarkRows, WeightRows, height_of, weight_of}
 use Rattle.th_points.specs.Points.{points}
-use Rattle.th_points.specs.Places.{place_of}
 use Rattle.th_points.proofs.PlaceLemmas.{ends_contained}
-use Rattle.th_network.specs.Vertices.{free_before, vertex_of}
+use Rattle.th_network.specs.Vertices.{vertex_of}
 use Rattle.th_network.proofs.NetworkLemmas.{vertices_apart}
+use Rattle.th_network.proofs.FreePoints.{fixed_vertex as vertex_of_fixed, free_vertex}
 use Rattle.th_cuts.specs.declared.edges.Edge.{Edge}
 use Rattle.th_cuts.specs.Cuts.{crosses as edge_crosses, cut_weight}
 use Rattle.th_reliability.specs.Cuts.{IsFreeSet, crosses, cut, differ}
 use Rattle.th_reliability.specs.Edges.{edge_of, edges_of, names_in, vertices_in}
 
--- a benchmark has vertex 0, another name has none of that number
+-- a benchmark has vertex 0
 pub fixed_vertex : (observations : List Observed) (benchmarks : BenchmarkRows) (name : List ℕ) → IsSome (height_of benchmarks name) → vertex_of observations benchmarks name ≡ 0
 fixed_vertex observations benchmarks name fixed = by (height_of benchmarks name) refl fixed
   where
     by : (found : Option ℤ) → height_of benchmarks name ≡ found → IsSome found → vertex_of observations benchmarks name ≡ 0
     by None e some = absurd (false≢true some)
-    by (Some height) e some = ap (λ (h : Option ℤ). if is_none h then free_before benchmarks (points observations benchmarks) (place_of (points observations benchmarks) name) + 1 else 0) e
-
-pub free_vertex : (observations : List Observed) (benchmarks : BenchmarkRows) (name : List ℕ) → height_of benchmarks name ≡ None → 0 < vertex_of observations benchmarks name
-free_vertex observations benchmarks name e =
-    let names = points observations benchmarks in
-    let same : vertex_of observations benchmarks name ≡ free_before benchmarks names (place_of names name) + 1 = ap (λ (h : Option ℤ). if is_none h then free_before benchmarks names (place_of names name) + 1 else 0) e in
-    omega arith
+    by (Some height) e some = vertex_of_fixed observations benchmarks name height e
 
 -- the names of vertices without vertex 0 are a free set
 pub names_are_free : (observations : List Observed) (benchmarks : BenchmarkRows) (inside : ℕ → Bool) → inside 0 ≡ false → IsFreeSet benchmarks (names_in observations benchmarks inside)

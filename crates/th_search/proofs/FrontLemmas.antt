@@ -24,11 +24,11 @@ pub record IsFront (n : ℕ) (arcs : List Arc) (start vertex : ℕ) (walk : List
   pub tells : (q : ℕ) → get_or entered q false ≡ list_any (eqb q) (entered_by arcs walk)
 
 -- one more arc at the end
-walk_push : (arcs : List Arc) (start : ℕ) (walk : List ℕ) (vertex number : ℕ) → number < length arcs → vertex ≡ (arc_at arcs number).tail → IsWalk arcs start walk vertex → IsWalk arcs start (walk ++ number ∷ []) (arc_at arcs number).head
+pub walk_push : (arcs : List Arc) (start : ℕ) (walk : List ℕ) (vertex number : ℕ) → number < length arcs → vertex ≡ (arc_at arcs number).tail → IsWalk arcs start walk vertex → IsWalk arcs start (walk ++ number ∷ []) (arc_at arcs number).head
 walk_push arcs start [] vertex number within at leads = (within, leads ∙ at, refl)
 walk_push arcs start (first ∷ walk) vertex number within at leads = (leads.0, leads.1, walk_push arcs (arc_at arcs first).head walk vertex number within at leads.2)
 
-cost_push : (arcs : List Arc) (walk : List ℕ) (number : ℕ) → cost_of arcs (walk ++ number ∷ []) ≡ cost_of arcs walk +ℤ (arc_at arcs number).cost
+pub cost_push : (arcs : List Arc) (walk : List ℕ) (number : ℕ) → cost_of arcs (walk ++ number ∷ []) ≡ cost_of arcs walk +ℤ (arc_at arcs number).cost
 cost_push arcs [] number = omega (arith, ints)
 cost_push arcs (first ∷ walk) number = let rest = cost_push arcs walk number in omega (arith, ints)
 

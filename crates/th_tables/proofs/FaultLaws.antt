@@ -12,7 +12,7 @@ use Rattle.th_tables.specs.declared.faults.TableKind.{TableKind}
 use Rattle.th_tables.specs.declared.faults.TableKind.TheVariants.{Repeated}
 
 -- the record after those that are done
-slice_get_after : (done : List Fields) (this : Fields) (later : List Fields) → slice_get (done ++ this ∷ later) (length done) ≡ Some this
+pub slice_get_after : (done : List Fields) (this : Fields) (later : List Fields) → slice_get (done ++ this ∷ later) (length done) ≡ Some this
 slice_get_after done this later =
     slice_get-get_or (done ++ this ∷ later) (length done) this (omega (arith, length-append done (this ∷ later))) ∙ ap Some (get_or-append_seam done this later this)
 

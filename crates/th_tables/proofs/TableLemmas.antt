@@ -117,7 +117,7 @@ module _ {K V : Type 0} (same : K → K → Bool) (row_in : Fields → Result (K
       read.so_far ∙ ap (λ left. rows_before rows (rows_after same row_in read.done left)) none ∙ ap Ok (append-nil rows)
 
 -- no value
-none_from_test : {X : Type 0} (found : Option X) → is_some found ≡ false → found ≡ None
+pub none_from_test : {X : Type 0} (found : Option X) → is_some found ≡ false → found ≡ None
 none_from_test None h = refl
 none_from_test (Some x) h = cc h
 

@@ -23,7 +23,7 @@ is_digit_from_bounds : (byte : ℕ) → 48 ≤ byte → byte ≤ 57 → is_digit
 is_digit_from_bounds byte low high = grind (arith, nat_tests)
 
 -- the bytes of a numeral are digits
-list_all-from_AllDigits : (bytes : List ℕ) → AllDigits 10 bytes → list_all is_digit bytes ≡ true
+pub list_all-from_AllDigits : (bytes : List ℕ) → AllDigits 10 bytes → list_all is_digit bytes ≡ true
 list_all-from_AllDigits [] h = refl
 list_all-from_AllDigits (byte ∷ bytes) h =
     let bounds = digit_from_value byte h.0 in

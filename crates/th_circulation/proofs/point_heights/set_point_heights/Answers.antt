@@ -6,7 +6,8 @@ use Rattle.th_network.specs.Networks.{points_of}
 use Rattle.th_search.specs.Potentials.{value_at}
 use Rattle.th_circulation.specs.Inside.PointHeights.{point_height}
 use Rattle.th_circulation.proofs.HeightLemmas.{all_within}
-use Rattle.th_circulation.proofs.PointHeightLemmas.{found_at, free_fixed, free_more, free_most, point_height_fixed, point_height_free, set_more}
+use Rattle.th_network.proofs.FreePoints.{found_at, free_fixed, free_more, free_most}
+use Rattle.th_circulation.proofs.PointHeightLemmas.{point_height_fixed, point_height_free, set_more}
 use Rattle.th_circulation.proofs.point_heights.set_point_heights.Goals as goal
 use Rattle.th_circulation.proofs.point_heights.set_point_heights.Goals.{in-Some, in-None}
 

@@ -1,6 +1,7 @@
 use Rattle.std.proofs.Common.{Some, ◌+◌, ap, sym, ◌∙◌, arith}
 use Rattle.th_network.specs.Networks.{points_of}
-use Rattle.th_reliability.proofs.NumberLemmas.{free_fixed, free_more, free_most, strength_none, strength_some}
+use Rattle.th_network.proofs.FreePoints.{free_fixed, free_more, free_most}
+use Rattle.th_reliability.proofs.NumberLemmas.{strength_none, strength_some}
 use Rattle.th_reliability.proofs.strengths.strength_at.Goals as goal
 
 pub overflow_add-vertex : goal.overflow_add-vertex
