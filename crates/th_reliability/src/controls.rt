@@ -1,5 +1,5 @@
-ghost use Rattle.std.specs.Prelude.{◌≡◌, ◌<◌, ℕ, IfOk, Some, length, slice_get};
-ghost use Rattle.th_book.specs.Observed.{Observed};
+ghost use Rattle.std.specs.Prelude.{◌≡◌, ◌<◌, ℕ, All, IfOk, Some, length, slice_get};
+ghost use Rattle.th_book.specs.Observed.{IsBetweenPoints, Observed};
 ghost use Rattle.th_reliability.specs.Inside.Graphs.{IsGraphOf};
 ghost use Rattle.th_reliability.specs.Numbers.{AreControls, HasControl};
 
@@ -16,9 +16,9 @@ pub(crate) fn controls_of(
     requires { IsGraphOf network.now tree.now }
     ensures { IfOk result (λ controls. AreControls network.now controls.items) }
 {
-    let observations = network.observations().len();
-    let mut controls = Vec::with_capacity(alloc, observations)?;
-    for number in 0..observations {
+    let observations = network.observations();
+    let mut controls = Vec::with_capacity(alloc, observations.len())?;
+    for number in 0..observations.len() {
         controls.push(control_of(alloc, network, tree, number)?)?;
     }
     Ok(controls)
@@ -32,11 +32,11 @@ fn control_of(
     number: usize,
 ) -> Result<Option<u32>, AllocError>
     requires graph { IsGraphOf network.now tree.now }
+    requires between { All IsBetweenPoints network.now.observations }
     requires number { number < length network.now.observations }
     ensures { IfOk result (λ control. (o : Observed)
         → slice_get network.now.observations number ≡ Some o → HasControl network.now o control) }
 {
-    let _between = network.observations();
     let arc = network.arcs()[number];
     if arc.tail == arc.head {
         return Ok(None);

@@ -2,7 +2,7 @@ use Rattle.th_reliability.proofs.NumberLemmas.{control_enough, control_fixed, co
 use Rattle.th_reliability.proofs.controls.control_of.Goals as goal
 
 pub returns-then-arc : goal.returns-then-arc
-returns-then-arc c = control_fixed c.args.network.now c.arcs.result.now c.args.number _ c.arcs.ensures.arcs c.observations-between.ensures.between c.if-arc.true
+returns-then-arc c = control_fixed c.args.network.now c.arcs.result.now c.args.number _ c.arcs.ensures.arcs c.requires.between c.if-arc.true
 
 pub overflow_sub-result : goal.overflow_sub-result
 overflow_sub-result c = control_enough c.args.network.now c.args.tree.now c.arcs.result.now c.args.number _ c.weight.result c.in_ok-total.total c.requires.graph c.arcs.ensures.arcs c.weight.ensures.weight c.in_ok-total.ensures c.requires.number
