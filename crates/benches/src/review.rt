@@ -58,7 +58,6 @@ fn sum_of(numbers: &[Option<u32>]) -> u64 {
 
 /// The sum of the least cuts that part the ends of observations: of each its control and its weight.
 fn cuts_between_ends(network: &Network, controls: &[Option<u32>]) -> u64 {
-    let _weights = network.observations();
     let mut sum = sum_of(controls);
     for (number, control) in controls.iter().enumerate() {
         if control.is_some() && number < network.observations().len() {
