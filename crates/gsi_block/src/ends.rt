@@ -32,6 +32,7 @@ pub(crate) fn line_len(text: &[u8]) -> usize
 }
 
 /// The same of a few bytes.
+#[inline(always)]
 fn line_len_within(window: &[u8]) -> usize
     ensures place { result ≡ prefix_len is_in_line window.now }
     ensures within { result ≤ length window.now }

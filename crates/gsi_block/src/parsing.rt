@@ -31,6 +31,7 @@ pub fn read_block(line: &[u8]) -> Result<Option<Block<'_>>, BlockFault>
 ///
 /// The array is borrowed and nothing is moved, so this is faster than `read_block`. After `None` or
 /// a fault the array may hold anything.
+#[inline(always)]
 pub fn read_words<'a>(
     line: &'a [u8],
     words: &mut ArrayVec<Word<'a>, MAX_WORDS>,

@@ -38,6 +38,7 @@ impl Entered {
     }
 
     /// What a block enters, or the first kind of fault that its own words have.
+    #[inline(always)]
     pub fn of(words: &[Word<'_>]) -> Result<Entered, BookKind>
         ensures fault { result_err result ≡ first_applying (own_faults (map parts_of words.now)) }
         ensures entry { IfOk result (λ entry. entry ≡ entered_by (map parts_of words.now)) }
