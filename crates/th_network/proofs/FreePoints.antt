@@ -15,7 +15,7 @@ found_at benchmarks names k name found e at =
     let f = height_of benchmarks in
     sym (ap f (get_or_from_slice_get names k name name at)) ∙ sym (get_or-map f names k name found (slice_get_within names k name at)) ∙ get_or_from_slice_get (map f names) k found found e
 
--- a benchmark at the place is not counted
+-- a benchmark at a place does not add to the count
 pub free_fixed : (benchmarks : BenchmarkRows) (names : List (List ℕ)) (k : ℕ) (height : ℤ) → slice_get (map (height_of benchmarks) names) k ≡ Some (Some height) → free_before benchmarks names (k + 1) ≡ free_before benchmarks names k
 free_fixed benchmarks names k height e =
     let within = slice_get_within (map (height_of benchmarks) names) k (Some height) e in
@@ -23,7 +23,7 @@ free_fixed benchmarks names k height e =
     let found = sym (get_or-map (height_of benchmarks) names k [] None (omega arith)) ∙ get_or_from_slice_get (map (height_of benchmarks) names) k (Some height) None e in
     count_by_more_no (is_free benchmarks) names k [] (omega arith) (ap is_none found)
 
--- another point at the place is
+-- another point at a place adds 1
 pub free_more : (benchmarks : BenchmarkRows) (names : List (List ℕ)) (k : ℕ) → slice_get (map (height_of benchmarks) names) k ≡ Some None → free_before benchmarks names (k + 1) ≡ free_before benchmarks names k + 1
 free_more benchmarks names k e =
     let within = slice_get_within (map (height_of benchmarks) names) k None e in
@@ -31,7 +31,7 @@ free_more benchmarks names k e =
     let found = sym (get_or-map (height_of benchmarks) names k [] (Some (pos 0)) (omega arith)) ∙ get_or_from_slice_get (map (height_of benchmarks) names) k None (Some (pos 0)) e in
     count_by_more_yes (is_free benchmarks) names k [] (omega arith) (ap is_none found)
 
--- there are fewer than vertices
+-- the count stays below the number of vertices
 pub free_most : (observations : List Observed) (benchmarks : BenchmarkRows) (k : ℕ) → free_before benchmarks (points observations benchmarks) k + 1 ≤ vertex_count observations benchmarks
 free_most observations benchmarks k =
     let front = sum_by-take-le (λ other. if is_free benchmarks other then 1 else 0) (points observations benchmarks) k in

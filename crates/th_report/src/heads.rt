@@ -50,7 +50,8 @@ fn write_cost(page: &mut Page, cost: u128) -> Result<(), AllocError>
     write_label(page, b"cost", digits.format(cost).as_bytes())
 }
 
-/// Writes the limit above which a residual is a blunder. It is in units of 10 nm, and its text in metres.
+/// Writes the limit above which a residual is a blunder. It is given in units of 10 nm and written in
+/// metres.
 pub fn write_limit(page: &mut Page, limit: i64) -> Result<(), AllocError>
     ensures { OnOk result (page.new ≡ page.old ++ limit_line limit) }
 {
