@@ -87,6 +87,10 @@ cut_line-append line more room fits =
     let all : max_kept ≡ length line + room = omega arith in
     rw all (take-append-add line more room) ∙ ap (λ part. line ++ part) (sym (take_min room more) ∙ ap (λ n. take n more) (min_comm room (length more)))
 
+-- what is kept of a line is as much of it as there may be
+pub cut_line-min : (line : List ℕ) → cut_line line ≡ take (min (length line) max_kept) line
+cut_line-min line = sym (take_min max_kept line) ∙ ap (λ n. take n line) (min_comm max_kept (length line))
+
 -- what is kept of a line stays the same where nothing comes behind it
 pub cut_line-none : (line none : List ℕ) → length line ≤ max_kept → length none ≡ 0 → cut_line (line ++ none) ≡ line
 cut_line-none line [] fits e = ap cut_line (append-nil line) ∙ take_all max_kept line fits
@@ -113,6 +117,13 @@ behind_return-feed_len : (after_return : Bool) (bytes text : List ℕ) → 0 < l
 behind_return-feed_len after_return [] text some = absurd (omega arith)
 behind_return-feed_len true (byte ∷ bytes) text some = grind (arith, nat_tests)
 behind_return-feed_len false (byte ∷ bytes) text some = refl
+
+-- bytes in which no line ends hold no end
+pub none_ended : (bytes : List ℕ) → length (drop (prefix_len is_in_line bytes) bytes) ≡ 0 → IsTrue (list_all is_in_line bytes)
+none_ended bytes none =
+    let n = prefix_len is_in_line bytes in
+    let whole : take n bytes ≡ bytes = take_all n bytes (omega (arith, none, length-drop n bytes)) in
+    rw (← whole) (in_line-front n bytes (omega arith))
 
 -- a text that goes on with a line and an end is cut into what is kept of that line, and the lines behind the end
 lines_due-ended : (line end text : List ℕ) → IsTrue (list_all is_in_line line) → 0 < length end → is_in_line (slice_index end 0) ≡ false → cut_lines (lines_of (line ++ (take (end_len end) end ++ text))) ≡ cut_line line ∷ cut_lines (lines_of (behind_return (is_lone_return end) text))
@@ -236,6 +247,15 @@ module _ (before begins keeps : LineState) (piece bytes front end : List ℕ) (s
       rw (long, end_at) (ap (λ held. cut_lines (lines_of (held ++ behind_return before.after_return (take (skipped + place + end_len (drop place (drop skipped piece))) piece ++ text)))) (sym takes.line)
       ∙ lines_due-take before.after_return begins.line piece text skipped place takes.in_line skips ends_at more
       ∙ ap (λ line. line ∷ cut_lines (lines_of (behind_return (is_lone_return (drop place (drop skipped piece))) text))) (sym keeps-line))
+
+  -- where no line had begun and an end came, what is kept of the bytes before it was due, and no line has begun behind it
+  pub due-whole : (text : List ℕ) → begins.line ≡ [] → 0 < length end → lines_due before (take (skipped + length front + end_len end) piece ++ text) ≡ cut_line front ∷ lines_due (record begins { after_return = is_lone_return end }) text
+  due-whole text none some =
+      let line : keeps.line ≡ cut_line front = ap (λ lines. lines.line) takes.kept ∙ ap (λ held. cut_line (held ++ front)) none in
+      let begun_none : begun (record begins { after_return = is_lone_return end }) ≡ [] = ap (λ complete. cond complete [] begins.line) takes.complete ∙ none in
+      due-taken text some
+      ∙ ap (λ line. line ∷ cut_lines (lines_of (behind_return (is_lone_return end) text))) line
+      ∙ ap (λ held. cut_line front ∷ cut_lines (lines_of (held ++ behind_return (is_lone_return end) text))) (sym begun_none)
 
 -- with nothing to come nothing stands behind a CR
 behind_return-none : (after_return : Bool) → behind_return after_return [] ≡ []

@@ -1,7 +1,7 @@
-ghost use Rattle.std.specs.Prelude.{◌≡◌, ◌<◌, ◌≤◌, ℕ, List, [], ◌∷◌, ◌++◌, length, take, IsTrue, false};
+ghost use Rattle.std.specs.Prelude.{◌≡◌, ◌<◌, ◌≤◌, ℕ, List, [], ◌∷◌, ◌++◌, length, take, IfSome, IsNone, IsTrue, false};
 ghost use Rattle.std.specs.List.{list_all};
 ghost use Rattle.gsi_block.specs.Lines.{is_in_line, lines_of, GivesNext};
-ghost use Rattle.gsi_block.specs.Pieces.{cut_line, cut_lines, begun, lines_due};
+ghost use Rattle.gsi_block.specs.Pieces.{behind_return, begun, cut_line, cut_lines, lines_due};
 
 use crate::ends::{end_len, feed_len, is_lone_return, line_len};
 use crate::limits::MAX_KEPT;
@@ -44,13 +44,11 @@ impl Lines {
         }
     }
 
-    // Inlined with what it calls: two readers call it for every line, and a call would double its cost.
     /// Takes bytes of the next piece, up to and including the first line end. Returns how many it
     /// took, and whether a line is complete now, which `line` then gives. If none is, it took the
     /// whole piece. Pass the bytes that are left to the next call.
     ///
     /// An LF right behind a CR that ended a line belongs to that end, also in a later piece.
-    #[inline(always)]
     pub fn take(&mut self, piece: &[u8]) -> (usize, bool)
         ensures within { result.0 ≤ length piece.now }
         ensures complete { result.1 ≡ self.new.complete }
@@ -73,6 +71,38 @@ impl Lines {
         self.after_return = is_lone_return(end);
         self.complete = true;
         (skipped + front.len() + end_len(end), true)
+    }
+
+    // Inlined: two readers call it for every line.
+    /// The next line if the next piece holds the whole of it, with its end, and how many bytes it
+    /// took. Nothing is copied: the line borrows from the piece. `None` if a line has begun, if the
+    /// piece ends none, or if it begins with an LF that belongs to the end before. Then nothing was
+    /// taken, and `take` goes on.
+    ///
+    /// Like `line` it gives the first `MAX_KEPT` bytes of a longer line.
+    #[inline(always)]
+    pub fn take_whole<'p>(&mut self, piece: &'p [u8]) -> Option<(&'p [u8], usize)>
+        ensures gives { IfSome result (λ taken. (later : List ℕ) →
+            lines_due self.old (take taken.1 piece.now ++ later) ≡ taken.0.now ∷ lines_due self.new later) }
+        ensures within { IfSome result (λ taken. (0 < taken.1) × (taken.1 ≤ length piece.now)) }
+        ensures none { IsNone result → self.new ≡ self.old }
+        ensures missing { IsNone result → begun self.old ≡ [] →
+            behind_return self.old.after_return piece.now ≡ piece.now → IsTrue (list_all is_in_line piece.now) }
+    {
+        let has_begun = !self.complete && !self.line.is_empty();
+        if has_begun || feed_len(self.after_return, piece) > 0 {
+            return None;
+        }
+        let (front, end) = piece.split_at(line_len(piece));
+        if end.is_empty() {
+            return None;
+        }
+        let taken = front.len() + end_len(end);
+        let after_return = is_lone_return(end);
+        let (line, _) = front.split_at(front.len().min(MAX_KEPT));
+        self.begin();
+        self.after_return = after_return;
+        Some((line, taken))
     }
 
     /// The complete line, without its end; of a longer line the first `MAX_KEPT` bytes.

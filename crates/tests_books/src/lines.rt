@@ -96,15 +96,22 @@ fn lines_of_pieces(rt: HostRuntime) {
     }
 }
 
-/// Takes a piece whole, and adds each line that is complete on the way, with a stroke behind it.
+/// Takes all of a piece, and adds each line that ends in it, with a stroke behind it.
 fn take_piece(lines: &mut Lines, piece: &[u8], given: &mut Vec<u8>) -> Result<(), AllocError> {
     let mut rest = piece;
     while !rest.is_empty() {
-        let (taken, complete) = lines.take(rest);
-        if complete {
-            given.extend_from_slice(lines.line())?;
+        let taken = if let Some((line, taken)) = lines.take_whole(rest) {
+            given.extend_from_slice(line)?;
             given.push(b'/')?;
-        }
+            taken
+        } else {
+            let (taken, complete) = lines.take(rest);
+            if complete {
+                given.extend_from_slice(lines.line())?;
+                given.push(b'/')?;
+            }
+            taken
+        };
         (_, rest) = rest.split_at(taken);
     }
     Ok(())

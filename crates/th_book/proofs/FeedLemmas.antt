@@ -116,15 +116,29 @@ IsTaking-wanting old_book old_lines book after lines new piece rest line many fa
       kind = kind;
     })
 
--- where the rest ends no line, the piece is taken
-pub IsTaking-end : (old_book : BookState) (old_lines : LineState) (book : BookState) (lines new : LineState) (piece rest : List ℕ) → IsTaking old_book old_lines book lines piece rest → ((later : List ℕ) → lines_due lines (rest ++ later) ≡ lines_due new later) → AreTaken old_book old_lines book new piece
-IsTaking-end old_book old_lines book lines new piece rest is keeps = record {
-  keeps = λ later. ap (due book) (sym (keeps later)) ∙ is.keeps (rest ++ later) ∙ ap (λ (text : List ℕ). due old_book (lines_due old_lines text)) (whole later);
-  counted = λ later. omega (arith, ap length (keeps later), is.counted (rest ++ later), ap (λ (text : List ℕ). length (lines_due old_lines text)) (whole later));
+-- a part of the rest is taken
+pub IsTaking-then : (old_book : BookState) (old_lines : LineState) (book after : BookState) (lines new : LineState) (piece rest : List ℕ) (many : ℕ) → IsTaking old_book old_lines book lines piece rest → AreTaken book lines after new (take many rest) → IsTaking old_book old_lines after new piece (drop many rest)
+IsTaking-then old_book old_lines book after lines new piece rest many is taken = record {
+  front = is.front ++ take many rest;
+  cut = next_cut piece is.front rest many is.cut;
+  keeps = λ later. taken.keeps later ∙ is.keeps (take many rest ++ later) ∙ ap (λ (text : List ℕ). due old_book (lines_due old_lines text)) (sym (append_assoc is.front (take many rest) later));
+  counted = λ later.
+      let text = ap (λ (own : List ℕ). length (lines_due old_lines own)) (append_assoc is.front (take many rest) later) in
+      omega (arith, text, taken.counted later, is.counted (take many rest ++ later));
 }
-  where
-    whole : (later : List ℕ) → is.front ++ (rest ++ later) ≡ piece ++ later
-    whole later = sym (append_assoc is.front rest later) ∙ ap (λ (own : List ℕ). own ++ later) (sym is.cut)
+
+-- memory was wanting in the rest
+pub IsTaking-wanting_in : (old_book : BookState) (old_lines : LineState) (book after : BookState) (lines new : LineState) (piece rest : List ℕ) (fault : BookFault) → IsTaking old_book old_lines book lines piece rest → IsWantingIn book lines after new rest fault → IsWantingIn old_book old_lines after new piece fault
+IsTaking-wanting_in old_book old_lines book after lines new piece rest fault is wanting = record {
+  line = wanting.line;
+  front = is.front ++ wanting.front;
+  rest = wanting.rest;
+  cut = is.cut ∙ ap (λ (own : List ℕ). is.front ++ own) wanting.cut ∙ sym (append_assoc is.front wanting.front wanting.rest);
+  keeps = λ later. wanting.keeps later ∙ is.keeps (wanting.front ++ later) ∙ ap (λ (text : List ℕ). due old_book (lines_due old_lines text)) (sym (append_assoc is.front wanting.front later));
+  observes = wanting.observes;
+  full = wanting.full;
+  kind = wanting.kind;
+}
 
 -- a book that is too long stays so
 pub fed_long : (old new : FeedState) (piece : List ℕ) → max_book < old.bytes + length piece → max_book < new.bytes → (later : List ℕ) → feed_due new later ≡ feed_due old (piece ++ later)

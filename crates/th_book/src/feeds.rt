@@ -1,8 +1,8 @@
-ghost use Rattle.std.specs.Prelude.{◌≡◌, ◌≢◌, ◌<◌, ◌≤◌, ◌+◌, [], List, ℕ, None, length, IfErr, IfOk, IfSome, IsErr, OnErr, OnOk, OnSome};
+ghost use Rattle.std.specs.Prelude.{◌≡◌, ◌≢◌, ◌<◌, ◌≤◌, ◌+◌, [], List, ℕ, None, length, take, IfErr, IfOk, IfSome, IsErr, OnErr, OnOk, OnSome};
 ghost use Rattle.gsi_block.specs.Pieces.{lines_due};
 ghost use Rattle.th_book.specs.Books.{book_answer, too_long};
 ghost use Rattle.th_book.specs.Limits.{max_book};
-ghost use Rattle.th_book.specs.Due.{EndsWithSight, IsAnswered, IsWanting};
+ghost use Rattle.th_book.specs.Due.{EndsWithSight, IsWanting};
 ghost use Rattle.th_book.specs.Feeds.{feed_due, IsFed, IsWantingIn, StopsAt};
 ghost use Rattle.th_book.specs.Inside.Feeds.{AreTaken, IsGiven};
 
@@ -115,7 +115,8 @@ impl BookFeed {
     }
 }
 
-/// Gives a book each line that ends in a piece.
+/// Gives a book each line that ends in a piece. Most lines lie whole in the piece that ends them: there
+/// the words borrow from the piece, and one array serves for all of them.
 fn take_lines(book: &mut Book, lines: &mut Lines, piece: &[u8]) -> Result<(), BookFault>
     requires { book.old.lines + length (lines_due lines.old piece.now) ≤ max_book }
     ensures taken { OnOk result (AreTaken book.old lines.old book.new lines.new piece.now) }
@@ -123,55 +124,57 @@ fn take_lines(book: &mut Book, lines: &mut Lines, piece: &[u8]) -> Result<(), Bo
 {
     let mut words = ArrayVec::new();
     let mut rest = piece;
-    'pieces: loop {
-        let (taken, complete) = lines.take(rest);
-        if !complete {
-            return Ok(());
-        }
-        give(book, lines.line(), rest, &mut words)?;
+    'pieces: while !rest.is_empty() {
+        let taken = if let Some((line, taken)) = lines.take_whole(rest) {
+            if line.is_empty() {
+                book.pass_empty();
+            } else {
+                give(book, line, &mut words)?;
+            }
+            taken
+        } else {
+            take_part(book, lines, rest)?
+        };
         (_, rest) = rest.split_at(taken);
     }
+    Ok(())
+}
+
+// Not inlined: few lines begin in one piece and end in another, and the loop over the others is shorter.
+/// Gives a book the line that ends first in a piece, if one does. Returns how many bytes it took, which
+/// are all if none does.
+#[inline(never)]
+fn take_part(book: &mut Book, lines: &mut Lines, piece: &[u8]) -> Result<usize, BookFault>
+    requires { book.old.lines + length (lines_due lines.old piece.now) ≤ max_book }
+    ensures within { IfOk result (λ count. count ≤ length piece.now) }
+    ensures some { IfOk result (λ count. 0 < length piece.now → 0 < count) }
+    ensures taken { IfOk result (λ count.
+        AreTaken book.old lines.old book.new lines.new (take count piece.now)) }
+    ensures wanting { IfErr result (IsWantingIn book.old lines.old book.new lines.new piece.now) }
+{
+    let (taken, complete) = lines.take(piece);
+    if complete {
+        give(book, lines.line(), &mut ArrayVec::new())?;
+    }
+    Ok(taken)
 }
 
 /// Gives a book its next line. A fault other than `NoMemory` stays in the book.
-fn give<'p>(
+fn give<'a>(
     book: &mut Book,
-    line: &[u8],
-    rest: &'p [u8],
-    words: &mut ArrayVec<Word<'p>, MAX_WORDS>,
+    line: &'a [u8],
+    words: &mut ArrayVec<Word<'a>, MAX_WORDS>,
 ) -> Result<(), BookFault>
     requires { book.old.lines < max_book }
     ensures given { OnOk result (IsGiven book.old book.new line.now) }
     ensures kind { IfErr result (λ fault. fault.kind ≡ BookKind.NoMemory) }
     ensures wanting { IfErr result (IsWanting book.old book.new line.now) }
 {
-    if line.is_empty() {
-        book.pass_empty();
-        return Ok(());
-    }
-    match read_line(book, line, rest, words) {
+    match book.read(line, words) {
         Ok(()) => Ok(()),
         Err(fault) => match fault.kind {
             BookKind::NoMemory => Err(fault),
             _ => Ok(()),
         },
     }
-}
-
-/// Has a book read its next line. Most lines lie whole in the piece that ends them: there the words
-/// lend from the piece, and one array serves for all of them.
-fn read_line<'p>(
-    book: &mut Book,
-    line: &[u8],
-    rest: &'p [u8],
-    words: &mut ArrayVec<Word<'p>, MAX_WORDS>,
-) -> Result<(), BookFault>
-    requires { book.old.lines < max_book }
-    ensures { IsAnswered book.old book.new line.now result }
-{
-    let (front, _) = rest.split_at(line.len().min(rest.len()));
-    if front == line {
-        return book.read(front, words);
-    }
-    book.line(line)
 }

@@ -84,11 +84,6 @@ taken-more old_tally old_lines piece tally new lines after rest line many none s
     let whole : rest ++ later ≡ take many rest ++ (drop many rest ++ later) = ap (λ (own : List ℕ). own ++ later) (sym (take-append-drop many rest)) ∙ append_assoc (take many rest) (drop many rest) later in
     read-line names number text (rest ++ later) (drop many rest ++ later) tally new lines after line none short (ap (lines_due lines) whole ∙ gives (drop many rest ++ later)) taken (are names number text later was)
 
-pub taken-end : (old_tally : Tally) (old_lines : LineState) (piece : List ℕ) (tally : Tally) (lines after : LineState) (rest : List ℕ) → AreTaken old_tally old_lines piece tally lines rest → ((later : List ℕ) → lines_due lines (rest ++ later) ≡ lines_due after later) → AreTaken old_tally old_lines piece tally after []
-taken-end old_tally old_lines piece tally lines after rest are keeps = λ names number text later was faultless.
-    let is = are names number text later was faultless in
-    record { place = is.place; within = is.within; known = is.known; left = ap (map block_at) (sym (keeps later)) ∙ is.left }
-
 -- where no line is left, all were taken
 pub read-end : (names : SeenNames) (number : ℕ) (text : List ℕ) (tally : Tally) (lines : LineState) → lines_due lines [] ≡ [] → IsReadUpTo names number text [] tally lines → IsFaultless number text → IsTallied names number (parsed_of text) (length (parsed_of text)) tally
 read-end names number text tally lines left was faultless =

@@ -1,8 +1,7 @@
-ghost use Rattle.std.specs.Prelude.{◌++◌, [], List, ℕ, IfOk, OnOk};
+ghost use Rattle.std.specs.Prelude.{◌++◌, ◌<◌, ◌≤◌, [], List, ℕ, drop, length, IfOk, OnOk};
 ghost use Rattle.th_entries.specs.declared.seen.SeenNames.{SeenNames};
 ghost use Rattle.th_entries.specs.Feeds.{IsReading};
 ghost use Rattle.th_entries.specs.Inside.Feeds.{AreTaken};
-ghost use Rattle.th_entries.specs.Inside.Tallies.{HasTaken};
 ghost use Rattle.th_entries.specs.Reviews.{IsFaultless, Reviews, parsed_of};
 ghost use Rattle.th_entries.specs.Seen.{AddsBook};
 
@@ -12,7 +11,6 @@ use crate::tallies::Tally;
 use arrayvec::ArrayVec;
 use gsi_block::laws::cut_line_is_read_as_its_line;
 use gsi_block::{Lines, MAX_WORDS};
-use gsi_word::Word;
 use std::alloc::{AllocError, Global};
 use th_book::laws::answered_book_is_faultless;
 
@@ -73,36 +71,38 @@ pub fn read_review(alloc: Global, book: u32, bytes: &[u8]) -> Result<BookReview,
     Ok(review)
 }
 
-/// Gives a tally each line that ends in a piece.
+/// Gives a tally each line that ends in a piece. Most lines lie whole in the piece that ends them: there
+/// the words borrow from the piece, and one array serves for all of them.
 fn take_lines(tally: &mut Tally, lines: &mut Lines, piece: &[u8]) -> Result<(), AllocError>
     ensures { OnOk result (AreTaken tally.old lines.old piece.now tally.new lines.new []) }
 {
     answered_book_is_faultless();
     let mut words = ArrayVec::new();
     let mut rest = piece;
-    'pieces: loop {
-        let (taken, complete) = lines.take(rest);
-        if !complete {
-            return Ok(());
-        }
-        give(tally, lines.line(), rest, &mut words)?;
+    'pieces: while !rest.is_empty() {
+        let taken = if let Some((line, taken)) = lines.take_whole(rest) {
+            tally.take(line, &mut words)?;
+            taken
+        } else {
+            take_part(tally, lines, rest)?
+        };
         (_, rest) = rest.split_at(taken);
     }
+    Ok(())
 }
 
-/// Gives a tally its next line. Most lines lie whole in the piece that ends them: there the words lend
-/// from the piece, and one array serves for all of them.
-fn give<'p>(
-    tally: &mut Tally,
-    line: &[u8],
-    rest: &'p [u8],
-    words: &mut ArrayVec<Word<'p>, MAX_WORDS>,
-) -> Result<(), AllocError>
-    ensures { OnOk result (HasTaken tally.old tally.new line.now) }
+/// Gives a tally the line that ends first in a piece, if one does. Returns how many bytes it took, which
+/// are all if none does.
+fn take_part(tally: &mut Tally, lines: &mut Lines, piece: &[u8]) -> Result<usize, AllocError>
+    ensures within { IfOk result (λ count. count ≤ length piece.now) }
+    ensures some { IfOk result (λ count. 0 < length piece.now → 0 < count) }
+    ensures taken { IfOk result (λ count.
+        AreTaken tally.old lines.old piece.now tally.new lines.new (drop count piece.now)) }
 {
-    let (front, _) = rest.split_at(line.len().min(rest.len()));
-    if front == line {
-        return tally.take(front, words);
+    answered_book_is_faultless();
+    let (taken, complete) = lines.take(piece);
+    if complete {
+        tally.take(lines.line(), &mut ArrayVec::new())?;
     }
-    tally.take(line, &mut ArrayVec::new())
+    Ok(taken)
 }
