@@ -8,7 +8,7 @@ use Rattle.gsi_word.specs.Words.{Parts}
 use Rattle.gsi_word.specs.Values.{length_of}
 use Rattle.th_book.specs.Lines.{counts_for, holds, is_setup, is_sight, length_in, point_name}
 use Rattle.th_book.specs.Faults.{Row, first_applying, length_faults, own_faults, point_faults, repeats_word}
-use Rattle.th_book.specs.Inside.Countings.{counted_in, counts_setup, counts_sight, first_length}
+use Rattle.th_book.specs.Inside.Countings.{counted_in, counts_setup, counts_sight, first_length, lengths_with}
 use Rattle.th_book.specs.Entered.{entered_by}
 use Rattle.th_book.specs.declared.countings.Counted.{Counted}
 use Rattle.th_book.specs.Indexes.{height_difference, station_easting, station_northing, station_height, reflector_height, instrument_height}
@@ -50,13 +50,7 @@ read_same index words = go (find (counts_for index) words)
 
 -- what was counted, and the point where there is one, are the entry
 pub entry_same : (words : List Parts) (counted : Counted) (sight setup : Bool) (point : Option (List ℕ)) → counted ≡ counted_in words → sight ≡ is_sight words → setup ≡ is_setup words → point ≡ cond (sight || setup) (point_name words) None
-    → entered_by words ≡ record {
-      station = cond setup point None;
-      target = cond sight point None;
-      sighted = option_and_then result_ok counted.sighted;
-      reflector = option_and_then result_ok counted.reflector;
-      instrument = option_and_then result_ok counted.instrument;
-    }
+    → entered_by words ≡ lengths_with (cond setup point None) (cond sight point None) counted
 entry_same words counted sight setup point e is_sight_too is_setup_too named =
     let sighted = ap (λ (own : Counted). option_and_then result_ok own.sighted) e ∙ read_same height_difference words in
     let reflector = ap (λ (own : Counted). option_and_then result_ok own.reflector) e ∙ read_same reflector_height words in

@@ -1,5 +1,5 @@
 -- What a book holds after one more line.
-use Rattle.std.proofs.Common.{◌≡◌, ◌≢◌, ◌≤◌, ℕ, ◌+◌, Bool, true, false, cond, List, [], ◌∷◌, ◌++◌, length, map, Option, Some, None, Result, Ok, Err, refl, sym, ap, ◌∙◌, subst}
+use Rattle.std.proofs.Common.{◌≡◌, ◌≢◌, ◌≤◌, ℕ, ◌+◌, Bool, true, false, cond, List, [], ◌∷◌, ◌++◌, length, map, Option, Some, None, Result, Ok, Err, refl, sym, ap, ◌∙◌, append-nil, arith, subst}
 use Rattle.std.specs.Prelude.{IsSome, is_none, is_some, option_map, option_to_list}
 use Rattle.std.specs.List.{list_all}
 use Rattle.std.proofs.lemmas.Bool.{false≢true, and_parts}
@@ -10,7 +10,10 @@ use Rattle.th_book.specs.Lines.{ParsedLine, is_sight, point_name, words_in}
 use Rattle.th_book.specs.Faults.{Row, Standing, block_faults, fault_in, first_applying, kind_of, own_faults, sight_faults}
 use Rattle.th_book.specs.Books.{answer}
 use Rattle.th_book.specs.Due.{BookState, EndsWithSight, IsRefused, IsTaken, IsWanting, after, after_parsed, after_unless, after_words, due, due_parsed, standing_in}
-use Rattle.th_book.specs.Inside.Steps.{IsLeft, line_fault, stamped, state_refusing, state_with}
+use Rattle.th_book.specs.Entered.{nothing}
+use Rattle.th_book.specs.Inside.Entries.{setup_by}
+use Rattle.th_book.specs.Inside.Steps.{IsLeft, line_fault, no_step, stamped, state_refusing, state_with}
+use Rattle.th_book.specs.declared.setups.Setup.{Setup}
 use Rattle.th_book.specs.declared.setups.Sight.{Sight}
 use Rattle.th_book.specs.declared.steps.Step.{Step}
 use Rattle.th_book.specs.declared.faults.BookFault.{BookFault}
@@ -89,6 +92,21 @@ IsTaken-step state line step room sound none left more = record {
   lines = refl;
   room = more;
 }
+
+-- a line without a fault that has no effect is taken when it is counted
+pub IsTaken-none : (state : BookState) (line : List ℕ) → state.fault ≡ None → None ≡ line_fault state.setup (block_at line) → IsLeft state.setup (words_in (block_at line)) no_step → IsTaken state (record state { lines = state.lines + 1 }) line
+IsTaken-none state line sound none left =
+    subst (λ (own : BookState). IsTaken state own line) counted (IsTaken-step state line no_step state.room sound none left (omega arith))
+  where
+    unchanged : (running : Option Setup) → setup_by nothing running ≡ running
+    unchanged None = refl
+    unchanged (Some setup) = refl
+
+    counted : state_with state no_step state.room ≡ record state { lines = state.lines + 1 }
+    counted =
+        let setup = unchanged state.setup in
+        let observations = append-nil state.observations in
+        cc
 
 -- the fault of a line is answered
 pub IsRefused-step : (state : BookState) (line : List ℕ) (kind : BookKind) → state.fault ≡ None → Some kind ≡ line_fault state.setup (block_at line) → IsRefused state (state_refusing state kind) line (fault_in state.lines kind)

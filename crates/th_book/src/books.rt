@@ -88,12 +88,12 @@ impl Book {
         if let Some(fault) = self.fault {
             return Err(fault);
         }
-        if line.is_empty() {
-            self.lines += 1;
-            return Ok(());
-        }
         match step_of_line(&self.setup, line, words) {
-            Ok(step) => self.take(&step),
+            Ok(Some(step)) => self.take(&step),
+            Ok(None) => {
+                self.lines += 1;
+                Ok(())
+            }
             Err(kind) => Err(self.refuse(kind)),
         }
     }

@@ -1,4 +1,4 @@
-ghost use Rattle.std.specs.Prelude.{◌≡◌, ◌||◌, None, Some, if◌then◌else◌, map, option_and_then, IfErr, IfOk};
+ghost use Rattle.std.specs.Prelude.{◌≡◌, ◌↔◌, ◌||◌, IsTrue, true, None, Some, map, option_and_then, IfErr, IfOk};
 ghost use Rattle.std.specs.Result.{result_err, result_ok};
 ghost use Rattle.gsi_word.specs.Words.{parts_of};
 ghost use Rattle.th_book.specs.Lines.{point_name};
@@ -23,18 +23,18 @@ pub struct Entered {
 
 impl Entered {
     ghost use Rattle.th_book.specs.Entered.{entered_by, nothing};
+    ghost use Rattle.th_book.specs.Inside.Countings.{lengths_with};
 
-    /// What a blank line enters: nothing.
-    pub fn empty() -> Entered
-        ensures { result ≡ nothing }
+    /// Whether nothing is entered, as by a blank line.
+    #[inline(always)]
+    pub fn is_nothing(&self) -> bool
+        ensures { IsTrue result ↔ (self.now ≡ nothing) }
     {
-        Entered {
-            station: None,
-            target: None,
-            sighted: None,
-            reflector: None,
-            instrument: None,
-        }
+        self.station.is_none()
+            && self.target.is_none()
+            && self.sighted.is_none()
+            && self.reflector.is_none()
+            && self.instrument.is_none()
     }
 
     /// What a block enters, or the first kind of fault that its own words have.
@@ -50,16 +50,30 @@ impl Entered {
         let is_sight = counted.is_sight();
         let is_setup = counted.is_setup();
         let named = is_sight | is_setup;
-        let point = if named { point_name(words) } else { None };
-        check_point(named, &point, words)?;
+        if !named {
+            counted.check_lengths()?;
+            return Ok(Entered::with_names(&counted, None, None));
+        }
+        let point = point_name(words);
+        check_point(&point, words)?;
         counted.check_lengths()?;
-        Ok(Entered {
-            station: if is_setup { point } else { None },
-            target: if is_sight { point } else { None },
+        let station = if is_setup { point } else { None };
+        let target = if is_sight { point } else { None };
+        Ok(Entered::with_names(&counted, station, target))
+    }
+
+    /// The lengths that were counted, beside the names that a block enters.
+    #[inline(always)]
+    fn with_names(counted: &Counted, station: Option<Name>, target: Option<Name>) -> Entered
+        ensures { result ≡ lengths_with station target counted.now }
+    {
+        Entered {
+            station,
+            target,
             sighted: readable(counted.sighted),
             reflector: readable(counted.reflector),
             instrument: readable(counted.instrument),
-        })
+        }
     }
 }
 
@@ -83,14 +97,11 @@ fn point_name(words: &[Word<'_>]) -> Option<Name>
     }
 }
 
-/// Refuses a block that has to begin with a named point, and does not.
-fn check_point(named: bool, point: &Option<Name>, words: &[Word<'_>]) -> Result<(), BookKind>
-    requires { point.now ≡ (if named then point_name (map parts_of words.now) else None) }
-    ensures { result_err result ≡ first_applying (point_faults named (map parts_of words.now)) }
+/// Refuses a block that does not begin with a named point.
+fn check_point(point: &Option<Name>, words: &[Word<'_>]) -> Result<(), BookKind>
+    requires { point.now ≡ point_name (map parts_of words.now) }
+    ensures { result_err result ≡ first_applying (point_faults true (map parts_of words.now)) }
 {
-    if !named {
-        return Ok(());
-    }
     match words.first() {
         Some(word) if word.index() == POINT_NUMBER => {}
         _ => return Err(BookKind::NoPointNumber),

@@ -1,10 +1,10 @@
-ghost use Rattle.std.specs.Prelude.{◌≡◌, map, IfOk};
+ghost use Rattle.std.specs.Prelude.{◌≡◌, map, unwrap_or, IfOk};
 ghost use Rattle.std.specs.Result.{result_err};
 ghost use Rattle.gsi_word.specs.Words.{parts_of};
 ghost use Rattle.gsi_block.specs.Blocks.{block_at};
 ghost use Rattle.th_book.specs.Lines.{words_in};
 ghost use Rattle.th_book.specs.Inside.Entries.{setup_by};
-ghost use Rattle.th_book.specs.Inside.Steps.{AreSeen, IsLeft, block_fault, entry_fault, line_fault};
+ghost use Rattle.th_book.specs.Inside.Steps.{AreSeen, IsLeft, block_fault, entry_fault, line_fault, no_step};
 
 use crate::entries::Entered;
 use crate::faults::BookKind;
@@ -20,34 +20,37 @@ pub struct Step {
     pub sight: Option<Sight>,
 }
 
-/// The effect of a line in a running setup, or the first kind of its faults. Its words are read
-/// into the caller's array.
+/// The effect of a line in a running setup, `None` if it has none, or the first kind of its faults.
+/// Its words are read into the caller's array.
 pub fn step_of_line<'a>(
     running: &Option<Setup>,
     line: &'a [u8],
     words: &mut ArrayVec<Word<'a>, MAX_WORDS>,
-) -> Result<Step, BookKind>
+) -> Result<Option<Step>, BookKind>
     ensures fault { result_err result ≡ line_fault running.now (block_at line.now) }
-    ensures left { IfOk result (IsLeft running.now (words_in (block_at line.now))) }
+    ensures left { IfOk result (λ step.
+        IsLeft running.now (words_in (block_at line.now)) (unwrap_or step no_step)) }
 {
     match read_words(line, words) {
         Ok(Some(_)) => step_of_block(running, words.as_slice()),
-        Ok(None) => Ok(Step {
-            entry: Entered::empty(),
-            sight: None,
-        }),
+        Ok(None) => Ok(None),
         Err(fault) => Err(BookKind::Block(fault)),
     }
 }
 
-/// What the words of a block leave in a running setup, or the first kind of their faults.
-fn step_of_block(running: &Option<Setup>, words: &[Word<'_>]) -> Result<Step, BookKind>
+/// The effect of a block's words in a running setup, `None` if they have none, or the first kind of
+/// their faults.
+fn step_of_block(running: &Option<Setup>, words: &[Word<'_>]) -> Result<Option<Step>, BookKind>
     ensures fault { result_err result ≡ block_fault running.now (map parts_of words.now) }
-    ensures left { IfOk result (IsLeft running.now (map parts_of words.now)) }
+    ensures left { IfOk result (λ step.
+        IsLeft running.now (map parts_of words.now) (unwrap_or step no_step)) }
 {
     let entry = Entered::of(words)?;
+    if entry.is_nothing() {
+        return Ok(None);
+    }
     let sight = sight_in(running, &entry)?;
-    Ok(Step { entry, sight })
+    Ok(Some(Step { entry, sight }))
 }
 
 /// The sight where a block enters a target and a height difference, from the running setup with the

@@ -1,6 +1,7 @@
 -- What one pass over a block's words collects.
-use Rattle.std.specs.Prelude.{ℕ, ℤ, ◌&&◌, ◌||◌, not, Bool, List, Option, Some, None, Result, find, if◌then◌else◌, is_some, option_map}
+use Rattle.std.specs.Prelude.{ℕ, ℤ, ◌&&◌, ◌||◌, not, Bool, List, Option, Some, None, Result, find, if◌then◌else◌, is_some, option_and_then, option_map}
 use Rattle.std.specs.Option.{option_or}
+use Rattle.std.specs.Result.{result_ok}
 use Rattle.gsi_word.specs.Words.{Parts}
 use Rattle.gsi_word.specs.Values.{length_of}
 use Rattle.gsi_word.specs.declared.faults.LengthFault.{LengthFault}
@@ -8,6 +9,7 @@ use Rattle.gsi_word.specs.declared.faults.LengthFault.TheVariants.{BadNumber, Ba
 use Rattle.th_book.specs.Lines.{counts_for, holds}
 use Rattle.th_book.specs.Faults.{is_length, is_refused, repeats_word, some_length}
 use Rattle.th_book.specs.declared.countings.Counted.{Counted}
+use Rattle.th_book.specs.declared.entries.Entered.{Entered}
 use Rattle.th_book.specs.declared.faults.BookKind.{BookKind}
 use Rattle.th_book.specs.declared.faults.BookKind.TheVariants as book_kind
 use Rattle.th_book.specs.Indexes.{height_difference, station_easting, station_northing, station_height, reflector_height, instrument_height}
@@ -85,4 +87,14 @@ counted_with word counted = record {
   bad_number = counted.bad_number || (is_length word && is_refused_for BadNumber word);
   bad_unit = counted.bad_unit || (is_length word && is_refused_for BadUnit word);
   too_large = counted.too_large || (is_length word && is_refused_for TooLarge word);
+}
+
+-- the lengths that were counted and can be read, with the names of a station and a target
+abbrev pub lengths_with : Option (List ℕ) → Option (List ℕ) → Counted → Entered
+lengths_with station target counted = record {
+  station = station;
+  target = target;
+  sighted = option_and_then result_ok counted.sighted;
+  reflector = option_and_then result_ok counted.reflector;
+  instrument = option_and_then result_ok counted.instrument;
 }

@@ -6,6 +6,7 @@ use Rattle.th_book.specs.Lines.{ParsedLine, words_in}
 use Rattle.th_book.specs.Faults.{Standing, block_faults, fault_in, first_applying, kind_of, sight_faults}
 use Rattle.th_book.specs.Books.{difference, known, known_name}
 use Rattle.th_book.specs.Due.{BookState, observation_in, setup_after, standing_in}
+use Rattle.th_book.specs.Entered.{nothing}
 use Rattle.th_book.specs.Inside.Entries.{setup_by}
 use Rattle.th_book.specs.declared.entries.Entered.{Entered}
 use Rattle.th_book.specs.declared.setups.Setup.{Setup}
@@ -70,6 +71,10 @@ block_fault running words = first_applying (block_faults (standing_in running wo
 -- the first kind of fault of a line in a running setup
 abbrev pub line_fault : Option Setup → ParsedLine → Option BookKind
 line_fault running parsed = kind_of (standing_in running (words_in parsed)) parsed
+
+-- the step of a line that has no effect
+abbrev pub no_step : Step
+no_step = record { entry = nothing; sight = None }
 
 -- the step of words without a fault: its entry leads to the running setup after them, and its sight is theirs if they are one
 pub record IsLeft (running : Option Setup) (words : List Parts) (step : Step) : Type 0 where
