@@ -12,8 +12,7 @@ use std::rt::{Clock, Files};
 use std::time::Duration;
 use th_book::{Observation, read_book};
 use th_certificate::write_certificate;
-use th_circulation::Settled;
-use th_network::Network;
+use th_network::{Network, Settled};
 use th_report::{heights_csv, heights_gsi, list_text, report_text};
 
 /// What is timed.

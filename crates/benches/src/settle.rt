@@ -7,8 +7,7 @@ use std::alloc::Global;
 use std::fs;
 use std::rt::{Clock, Files};
 use std::time::Duration;
-use th_circulation::Settled;
-use th_network::Network;
+use th_network::{Network, Settled};
 
 /// How often a search is called more than steps are counted.
 const PHASES: u128 = 44;

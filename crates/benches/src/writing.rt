@@ -5,9 +5,8 @@ use crate::large::Large;
 use anyhow::{Result, anyhow};
 use std::alloc::Global;
 use th_certificate::write_certificate;
-use th_circulation::{Settled, Spans};
 use th_limits::MAX_WEIGHT;
-use th_network::Network;
+use th_network::{Network, Settled, Spans};
 
 /// The text of the certificate of a network, whose lowest and highest best heights are the heights.
 pub fn text_of(alloc: Global, network: &Network, large: &Large) -> Result<Vec<u8>> {

@@ -8,8 +8,7 @@ use crate::surveys::{NOTHING, PAIR, Survey, observations_of, tables_of};
 use std::alloc::Global;
 use std::process::Abort;
 use th_certificate::write_certificate;
-use th_circulation::{Settled, Spans};
-use th_network::Network;
+use th_network::{Network, Settled, Spans};
 use th_tables::{Benchmarks, MAX_WEIGHT, Weights};
 
 /// Lowest heights, highest heights and flows, in the order of the points and of the observations.

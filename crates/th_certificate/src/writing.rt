@@ -11,9 +11,8 @@ use gsi_word::Name;
 use itoa::Buffer;
 use std::alloc::{AllocError, Global};
 use th_blunders::Fit;
-use th_circulation::{Settled, Spans};
 use th_csv::RowWriter;
-use th_network::Network;
+use th_network::{Network, Settled, Spans};
 use th_units::metre_text;
 
 /// The text of `certificate_text` for settled heights, their circulation and their spans.

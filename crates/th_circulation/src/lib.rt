@@ -7,8 +7,7 @@
 //! as right.
 #![tactic(auto)]
 
-// What is settled.
-mod settled;
+// What is counted.
 mod steps;
 
 // The links of a network, the slots of their residual arcs, and lists of these.
@@ -41,7 +40,7 @@ mod best;
 pub mod laws;
 
 pub use best::{BestHeights, best_heights};
-pub use settled::{Settled, Spans};
 pub use settling::settle;
 pub use spanning::spans;
 pub use steps::Steps;
+pub use th_network::{Settled, Spans};

@@ -5,11 +5,10 @@ ghost use Rattle.th_circulation.specs.Settled.{IsSettled};
 
 use crate::graphs::LinkGraph;
 use crate::point_heights::set_point_heights;
-use crate::settled::Settled;
 use crate::steps::Steps;
 use crate::workspaces::Workspace;
 use std::alloc::{AllocError, Global};
-use th_network::Network;
+use th_network::{Network, Settled};
 use th_search::Search;
 
 /// Finds heights of the points of a network that cost least, and the circulation that shows it.

@@ -11,9 +11,8 @@ use crate::distances::TightArcs;
 use crate::heights::raise;
 use crate::point_heights::set_point_heights;
 use crate::residuals::{residual_arcs, turned};
-use crate::settled::{Settled, Spans};
 use std::alloc::{AllocError, Global};
-use th_network::Network;
+use th_network::{Network, Settled, Spans};
 use th_search::Arc;
 
 /// Finds the lowest and the highest of all heights that cost least, from flows that show some of

@@ -33,10 +33,14 @@ mod weights;
 // The network.
 mod networks;
 
+// What is found in it: heights with the circulation that shows them, and the span of each point.
+mod settled;
+
 // Laws of the definitions.
 pub mod laws;
 
 pub use faults::NetFault;
 pub use links::Link;
 pub use networks::Network;
+pub use settled::{Settled, Spans};
 pub use th_limits::{MAX_OBSERVATIONS, MAX_POINTS};
