@@ -15,6 +15,7 @@ use Rattle.std.proofs.lemmas.List.Folds.{list_all-append}
 use Rattle.std.proofs.lemmas.Str.{digit_value_digit}
 use Rattle.std.proofs.lemmas.Str.Parse.{digit_from_value}
 use Rattle.th_units.specs.Lengths.{is_digit, are_digits, number, signed}
+use Rattle.th_units.specs.Limits.{size_limit}
 use Rattle.th_units.specs.Metres.{last_digits, metres, size_in_metres, is_dot, whole, decimals, are_decimals, units_of, size_value, value, has_minus, has_sign, without_sign, metre}
 use Rattle.th_units.proofs.Digits.{length-last_digits, list_all-get_or, digit_bounds}
 
@@ -89,7 +90,7 @@ size_value-parts text digits places first second digits_are places_are short =
     rw (first, second, digits_are, places_are, fits) refl
 
 -- a size in metres is read as that size
-size_value-size_in_metres : (size : ℕ) → size < 10 ^ 17 → size_value (size_in_metres size) ≡ Ok size
+size_value-size_in_metres : (size : ℕ) → size < size_limit → size_value (size_in_metres size) ≡ Ok size
 size_value-size_in_metres size small =
     let digits = decimal (size / metre) in
     let places = last_digits 8 (size % metre) in
@@ -115,7 +116,7 @@ not_negative : (n : ℕ) → is_negative (pos n) ≡ false
 not_negative n = grind (arith, nat_tests)
 
 -- a size in metres begins with a digit, which is no sign
-no_sign : (size : ℕ) → size < 10 ^ 17 → (has_minus (size_in_metres size) ≡ false) × (without_sign (size_in_metres size) ≡ size_in_metres size)
+no_sign : (size : ℕ) → size < size_limit → (has_minus (size_in_metres size) ≡ false) × (without_sign (size_in_metres size) ≡ size_in_metres size)
 no_sign size small =
     let digits = decimal (size / metre) in
     let text = size_in_metres size in
@@ -129,7 +130,7 @@ no_sign size small =
     (no_minus, ap (λ b. drop (if b then 1 else 0) text) none)
 
 -- the text of a length is read as that length
-pub value-metres : (units : ℤ) → unsigned_abs units < 10 ^ 17 → value (metres units) ≡ Ok units
+pub value-metres : (units : ℤ) → unsigned_abs units < size_limit → value (metres units) ≡ Ok units
 value-metres (pos n) small =
     ap (λ b. value (if b then 45 ∷ size_in_metres n else size_in_metres n)) (not_negative n)
     ∙ value-parts (size_in_metres n) false n (no_sign n small).0 (ap size_value (no_sign n small).1 ∙ size_value-size_in_metres n small)

@@ -1,7 +1,8 @@
-ghost use Rattle.std.specs.Prelude.{◌≡◌, ◌+◌, ◌<◌, ◌≤◌, ◌^◌, IfOk, true, [], ◌∷◌, ◌++◌, length, decimal};
+ghost use Rattle.std.specs.Prelude.{◌≡◌, ◌+◌, ◌<◌, ◌≤◌, IfOk, true, [], ◌∷◌, ◌++◌, length, decimal};
 ghost use Rattle.std.specs.List.{list_all};
 ghost use Rattle.std.specs.Option.{option_copied};
 ghost use Rattle.th_units.specs.Lengths.{is_digit, number};
+ghost use Rattle.th_units.specs.Limits.{size_limit};
 ghost use Rattle.th_units.specs.Metres.{metres, last_digits, are_decimals, decimals, size_value, units_of, value, whole};
 
 use crate::faults::LenFault;
@@ -120,7 +121,7 @@ pub fn parse_metres(text: &[u8]) -> Result<i64, LenFault>
 /// Reads a text in metres without a sign as a size in units of 10 nm.
 fn parse_size(text: &[u8]) -> Result<u64, LenFault>
     ensures value { result ≡ size_value text.now }
-    ensures bound { IfOk result (λ size. size < 10 ^ 17) }
+    ensures bound { IfOk result (λ size. size < size_limit) }
 {
     let (whole, decimals) = split_at_dot(text);
     if !are_digits(whole) || !decimals.is_none_or(are_decimals) {
@@ -157,7 +158,7 @@ fn units_of(whole: &[u8], decimals: &[u8]) -> u64
     requires decimal_digits { list_all is_digit decimals.now ≡ true }
     requires decimals_short { length decimals.now ≤ MAX_DECIMALS }
     ensures value { result ≡ units_of whole.now decimals.now }
-    ensures bound { result < 10 ^ 17 }
+    ensures bound { result < size_limit }
 {
     let tens = 10_u64.pow((MAX_DECIMALS - decimals.len()) as u32);
     u64::from(number(whole)) * UNITS_PER_METRE + u64::from(number(decimals)) * tens
