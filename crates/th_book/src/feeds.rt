@@ -140,7 +140,7 @@ fn take_lines(book: &mut Book, lines: &mut Lines, piece: &[u8]) -> Result<(), Bo
     Ok(())
 }
 
-// Not inlined: few lines begin in one piece and end in another, and the loop over the others is shorter.
+// Not inlined, so that the loop over whole lines is short.
 /// Gives a book the line that ends first in a piece, if one does. Returns how many bytes it took, which
 /// are all if none does.
 #[inline(never)]

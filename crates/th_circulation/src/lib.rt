@@ -7,7 +7,7 @@
 //! as right.
 #![tactic(auto)]
 
-// What is counted.
+// The count of steps.
 mod steps;
 
 // The links of a network, the slots of their residual arcs, and lists of these.
