@@ -6,15 +6,16 @@ PREFIX ?= /usr/local
 BOOK ?= examples/building_site.gsi
 LOG := build.log
 
-.PHONY: help run list toolchain build built calls check test gate examples statuses killed completions documents \
+.PHONY: help try run list toolchain build built calls check test gate examples statuses killed completions documents \
 	made-up edits guides reserved compare office mutated each-byte memory attacks hostile bench install uninstall clean
 
 help:
+	@echo 'make try       adjust an example project and show its report in a minute or two: nothing is proved, and no program is kept'
 	@echo 'make run       prove and build the program, adjust an example project, show its report and check its certificate'
 	@echo 'make list      prove and build the program, and list a book (BOOK=$(BOOK))'
 	@echo 'make build     prove and build the program: $(PROGRAM)'
 	@echo 'make check     while you work: prove what changed, then all of the below down to memory but the gate, guides and each-byte'
-	@echo 'make test      the gate (every proof from nothing, must-fail edits, tests, program runs), and then the same'
+	@echo 'make test      the gate (every proof from nothing, must-fail edits, tests, program runs), then try, guides and the same'
 	@echo 'make gate      rt ci alone'
 	@echo 'make examples  compare what the built program gives for examples/ with the files there'
 	@echo 'make statuses  run the built program on command lines that fail, and compare status and lines'
@@ -36,6 +37,10 @@ help:
 	@echo 'make install   copy the built program, its manual page and completions below $(PREFIX); proves nothing'
 	@echo 'make uninstall remove them'
 	@echo 'make clean     remove what was built'
+
+try: toolchain
+	@echo 'compiling the program, which is not proved yet: a minute or two'
+	@tests/try_example
 
 run: build
 	@tests/adjust_example $(PROGRAM)
@@ -65,7 +70,7 @@ check:
 	@$(MAKE) --no-print-directory build calls examples statuses killed completions documents made-up edits reserved compare office mutated memory
 
 # The gate leaves the program that it proved and built, so nothing is proved again after it.
-test: gate examples statuses killed completions documents made-up edits guides reserved compare office mutated memory
+test: gate try examples statuses killed completions documents made-up edits guides reserved compare office mutated memory
 
 gate:
 	@rt ci
