@@ -10,12 +10,12 @@ LOG := build.log
 	made-up edits guides reserved compare office mutated each-byte memory attacks hostile bench install uninstall clean
 
 help:
-	@echo 'make try       adjust an example project and show its report in a minute or two: nothing is proved, and no program is kept'
+	@echo 'make try       adjust an example project and show its report in a minute or two, with nothing proved and no program kept'
 	@echo 'make run       prove and build the program, adjust an example project, show its report and check its certificate'
 	@echo 'make list      prove and build the program, and list a book (BOOK=$(BOOK))'
 	@echo 'make build     prove and build the program: $(PROGRAM)'
 	@echo 'make check     while you work: prove what changed, then all of the below down to memory but the gate, guides and each-byte'
-	@echo 'make test      the gate (every proof from nothing, must-fail edits, tests, program runs), then try, guides and the same'
+	@echo 'make test      the gate (every proof from nothing, must-fail edits, tests, program runs), then try, guides and what make check tests'
 	@echo 'make gate      rt ci alone'
 	@echo 'make examples  compare what the built program gives for examples/ with the files there'
 	@echo 'make statuses  run the built program on command lines that fail, and compare status and lines'
