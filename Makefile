@@ -6,20 +6,23 @@ PREFIX ?= /usr/local
 BOOK ?= examples/building_site.gsi
 LOG := build.log
 
-.PHONY: help try run list toolchain build built calls check test gate examples statuses killed completions documents \
-	made-up edits guides reserved compare office mutated each-byte memory attacks hostile bench install uninstall clean
+.PHONY: help try run refuse list toolchain build built calls check test gate examples statuses killed files completions documents \
+	made-up edits guides reserved compare office mutated each-byte planted memory attacks attacks-of-today \
+	hostile bench install uninstall clean
 
 help:
 	@echo 'make try       adjust an example project and show its report in a minute or two, with nothing proved and no program kept'
 	@echo 'make run       prove and build the program, adjust an example project, show its report and check its certificate'
+	@echo 'make refuse    break one line of the checker in a copy, and show that the prover refuses it'
 	@echo 'make list      prove and build the program, and list a book (BOOK=$(BOOK))'
 	@echo 'make build     prove and build the program: $(PROGRAM)'
 	@echo 'make check     while you work: prove what changed, then all of the below down to memory but the gate, guides and each-byte'
 	@echo 'make test      the gate (every proof from nothing, must-fail edits, tests, program runs), then try, guides and what make check tests'
 	@echo 'make gate      rt ci alone'
 	@echo 'make examples  compare what the built program gives for examples/ with the files there'
-	@echo 'make statuses  run the built program on command lines that fail, and compare status and lines'
+	@echo 'make statuses  run the built program on command lines and inputs that fail, and compare status and lines'
 	@echo 'make killed    kill runs over existing outputs, which must stay whole files, old or new (RUNS=$(RUNS))'
+	@echo 'make files     run the built program with each call on files refused in turn, and two runs at once (PAIRS=$(PAIRS))'
 	@echo 'make completions  test the completions for bash, zsh and fish'
 	@echo 'make documents test the pages: commands, links, sizes, and docs/THEOREM.md against the definitions'
 	@echo 'make made-up   fail where product code creates an allocation failure itself, but in the listed places'
@@ -30,8 +33,10 @@ help:
 	@echo 'make office    compare the built program with the second office on random projects (PROJECTS=$(PROJECTS) SEED=$(SEED))'
 	@echo 'make mutated   the same on mutated books, tables and certificates (INPUTS=$(INPUTS) SEED=$(SEED)); a million take hours'
 	@echo 'make each-byte the same on each beginning and each changed byte of a book, a table and two certificates (some minutes)'
+	@echo 'make planted   plant wrong numbers in surveys, and compare what comes of them with explain and review (every one in EVERY=$(EVERY))'
 	@echo 'make memory    run the built program, and the calls that `make calls` builds, with each allocation refused in turn'
-	@echo 'make attacks   try the edits of attacks/, more mistakes that the prover must refuse (an hour); no part of make test'
+	@echo 'make attacks   try the edits of attacks/, more mistakes that the prover must refuse (hours); make test tries those of today'
+	@echo 'make attacks-of-today  try some of them, other ones each day (ATTACKS=$(ATTACKS))'
 	@echo 'make hostile   time and memory of books, tables, certificates and networks that are made to cost time'
 	@echo 'make bench     throughput and peak memory: listing, networks, certificates, settling beside other solvers, adjusting, reviewing'
 	@echo 'make install   copy the built program, its manual page and completions below $(PREFIX); proves nothing'
@@ -44,6 +49,9 @@ try: toolchain
 
 run: build
 	@tests/adjust_example $(PROGRAM)
+
+refuse: toolchain
+	@tests/refuse
 
 list: build
 	@$(PROGRAM) list $(BOOK)
@@ -67,10 +75,10 @@ calls:
 check:
 	@echo 'proving what changed; the log is $(LOG)'
 	@rt all check > $(LOG) 2>&1 || { tail -n 40 $(LOG); exit 1; }
-	@$(MAKE) --no-print-directory build calls examples statuses killed completions documents made-up edits reserved compare office mutated memory
+	@$(MAKE) --no-print-directory build calls examples statuses killed files completions documents made-up edits reserved compare office mutated planted memory
 
 # The gate leaves the program that it proved and built, so nothing is proved again after it.
-test: gate try examples statuses killed completions documents made-up edits guides reserved compare office mutated memory
+test: gate try examples statuses killed files completions documents made-up edits guides reserved compare office mutated planted memory
 
 gate:
 	@rt ci
@@ -80,10 +88,17 @@ examples: built
 
 statuses: built
 	@tests/statuses
+	@tests/first_contact
+	@tests/shown_bytes
+	@tests/books_of_tables
 
 RUNS ?= 100
 killed: built
 	@tests/killed --program $(PROGRAM) --runs $(RUNS)
+
+PAIRS ?= 100
+files: built
+	@tests/refused_files/run.py --program $(PROGRAM) --pairs $(PAIRS)
 
 completions: built
 	@tests/completions $(PROGRAM)
@@ -123,11 +138,20 @@ mutated: built
 each-byte: built
 	@python3 tests/second_office/compare_mutated.py --program $(PROGRAM) --each-byte
 
+EVERY ?= 10
+planted: built
+	@tests/planted/explained.py --program $(PROGRAM) --share $(EVERY)
+	@tests/planted/reviewed.py --program $(PROGRAM) --share $(EVERY)
+
 memory: built
 	@tests/refused_memory/run.py --program $(PROGRAM) --calls $(CALLS)
 
 attacks:
 	@tests/attacks
+
+ATTACKS ?= 10
+attacks-of-today:
+	@tests/attacks --today $(ATTACKS)
 
 hostile: built
 	@bench/hostile/run --program $(PROGRAM)

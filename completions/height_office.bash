@@ -3,7 +3,7 @@ _height_office() {
     local word=${COMP_WORDS[COMP_CWORD]} before=${COMP_WORDS[COMP_CWORD - 1]} options=
     COMPREPLY=()
     if [ "$COMP_CWORD" = 1 ]; then
-        mapfile -t COMPREPLY < <(compgen -W 'list adjust review check help --help --version' -- "$word")
+        mapfile -t COMPREPLY < <(compgen -W 'list adjust review explain check book help --help --version' -- "$word")
         return
     fi
     case $before in
@@ -17,10 +17,11 @@ _height_office() {
             ;;
     esac
     case ${COMP_WORDS[1]} in
-        list) options='--help' ;;
+        list | book) options='--help' ;;
         adjust | review) options='--benchmarks --weights --blunder --out --help' ;;
+        explain) options='--benchmarks --weights --blunder --csv --help' ;;
         check) options='--benchmarks --weights --certificate --help' ;;
-        help) options='list adjust review check' ;;
+        help) options='list adjust review explain check book' ;;
     esac
     if [[ $word == -* || ${COMP_WORDS[1]} == help ]]; then
         mapfile -t COMPREPLY < <(compgen -W "$options" -- "$word")

@@ -1,12 +1,12 @@
 #!/usr/bin/env python3
 """Makes the networks of the benchmark.
 
-    make_networks.py FOLDER [--points N] [--observations N]
+    make_networks.py FOLDER [--points N] [--observations N] [--towers]
 
 Writes a folder for each network into FOLDER: `book.gsi`, `benchmarks.csv` and `weights.csv`, which `settle` is given, and `network.txt`,
 the same network by vertices, for other solvers: the numbers of vertices and links, and then a line 'tail head difference weight' for each
 link (vertex 0 stands for all benchmarks; lengths in units of 10 nm). Each kind is made with weights of 1 and with weights of 1 to 1,000.
-One observation in twenty is a blunder.
+One observation in twenty is a blunder. With --towers it makes two networks that are hard for the guide.
 """
 
 import argparse
@@ -20,9 +20,13 @@ UNITS_PER_METRE = 100_000_000
 # A word of a book with the unit digit 8 counts hundredths of a millimetre.
 UNITS_PER_STEP = 1_000
 STEPS_PER_METRE = UNITS_PER_METRE // UNITS_PER_STEP
+# The greatest height of an instrument or reflector, and the greatest height difference of a word 33.
+MOST_IN_WORD = 10_000 * STEPS_PER_METRE
 SPREAD_IN_STEPS = 60
 BLUNDERS_IN = 20
 MAX_WEIGHT = 1_000
+# The sights of a tower.
+TOWER = 100
 
 Pair = Tuple[int, int]
 
@@ -183,20 +187,27 @@ def word(index: str, steps: int) -> str:
     return f"{index}..08{'-' if steps < 0 else '+'}{abs(steps):016}"
 
 
+def in_word(rise: int) -> int:
+    """As much of a rise as a word takes."""
+    return max(-MOST_IN_WORD, min(MOST_IN_WORD, rise))
+
+
 def book_of(network: Network) -> str:
-    """A GSI-16 book: each sight after a setup on its station, where that changes."""
-    lines, station = [], None
+    """A GSI-16 book: each sight after a setup on its station, where that or the height of its instrument changes."""
+    lines, setup = [], None
     for (tail, head), rise in zip(network.pairs, network.rises):
-        if tail != station:
-            station = tail
-            lines.append(f"*110001+{name_of(tail):0>16} {word('84', 0)} {word('85', 0)} {word('86', 0)} {word('88', 0)} ")
-        lines.append(f"*110002+{name_of(head):0>16} {word('33', rise)} {word('87', 0)} ")
+        sighted_rise = in_word(rise)
+        reflector = -in_word(rise - sighted_rise)
+        instrument = rise - sighted_rise + reflector
+        if (tail, instrument) != setup:
+            setup = (tail, instrument)
+            lines.append(f"*110001+{name_of(tail):0>16} {word('84', 0)} {word('85', 0)} {word('86', 0)} {word('88', instrument)} ")
+        lines.append(f"*110002+{name_of(head):0>16} {word('33', sighted_rise)} {word('87', reflector)} ")
     return "\n".join(lines) + "\n"
 
 
-def write(folder: Path, network: Network, most: int, rng: Random) -> None:
+def write(folder: Path, network: Network, weights: Dict[Pair, int]) -> None:
     folder.mkdir(parents=True, exist_ok=True)
-    weights = {pair: rng.randint(1, most) for pair in sorted(set(network.pairs))}
     (folder / "book.gsi").write_text(book_of(network))
     heights = [f"{name_of(point)},{height // STEPS_PER_METRE}.{height % STEPS_PER_METRE:05}\n" for point, height in network.benchmarks.items()]
     (folder / "benchmarks.csv").write_text("point,height\n" + "".join(heights))
@@ -222,8 +233,32 @@ def make(folder: Path, points: int, observations: int) -> List[Path]:
         network = connected(build(points, observations, rng))
         for most in (1, MAX_WEIGHT):
             folders.append(folder / f"{kind}, weights to {most}")
-            write(folders[-1], network, most, rng)
+            write(folders[-1], network, {pair: rng.randint(1, most) for pair in sorted(set(network.pairs))})
     return folders
+
+
+def with_tower(network: Network, first: int) -> Network:
+    """A network with a tower: 100 sights of 30 km, one upon another, over points from the first of these numbers on. Its benchmark has each of
+    these points at its own height, those with even numbers first: so a first tree has no height above 30 km in the tower, and heights grow
+    by the number of its sights."""
+    points = range(first, first + TOWER + 1)
+    flat = [(0, point) for odd in (0, 1) for point in points if point % 2 == odd]
+    sights = [(point, point + 1) for point in points[:-1]]
+    rises = [0] * len(flat) + [3 * MOST_IN_WORD] * len(sights)
+    return Network(network.pairs + flat + sights, network.rises + rises, network.benchmarks)
+
+
+def make_towers(folder: Path, points: int, observations: int) -> None:
+    """Two networks with a tower, which made a guide give up for the whole network: in one all other observations agree but for blunders, in
+    the other a second set of them contradicts the first. The sights of the tower have the greatest weight, and weight 1 holds it down."""
+    first = points - TOWER - 1
+    for kind in ("anywhere", "conflict"):
+        rng = Random(SEED)
+        ordinary = connected(KINDS[kind](first, observations - 2 * TOWER - 1, rng))
+        network = with_tower(ordinary, first)
+        weights = {pair: rng.randint(1, MAX_WEIGHT) for pair in sorted(set(ordinary.pairs))}
+        weights.update({(tail, head): MAX_WEIGHT if tail else 1 for tail, head in network.pairs if head >= first})
+        write(folder / f"{kind}, with a tower", network, weights)
 
 
 def main() -> int:
@@ -231,8 +266,12 @@ def main() -> int:
     parser.add_argument("folder", type=Path)
     parser.add_argument("--points", type=int, default=400)
     parser.add_argument("--observations", type=int, default=4_000)
+    parser.add_argument("--towers", action="store_true", help="towers in place of the networks of all kinds")
     chosen = parser.parse_args()
-    make(chosen.folder, chosen.points, chosen.observations)
+    if chosen.towers:
+        make_towers(chosen.folder, chosen.points, chosen.observations)
+    else:
+        make(chosen.folder, chosen.points, chosen.observations)
     return 0
 
 

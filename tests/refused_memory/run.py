@@ -3,8 +3,8 @@
 
     run.py [--program PATH] [--calls PATH]
 
-The program lists, adjusts, reviews and checks two projects; of each run request 1 is refused, then request 2, and so on until
-a run asks for less: once that request alone, and once it and all behind it. A run that wants memory has to say `out
+The program lists, adjusts, reviews, explains and checks two projects, and makes a book of a table; of each run request 1 is refused,
+then request 2, and so on until a run asks for less: once that request alone, and once it and all behind it. A run that wants memory has to say `out
 of memory` and nothing else, to end with status 4 and to begin no file. Where the library makes up for a refusal, as
 of room that it only asks for ahead, the answer has to be the right one, all of it. The program `tests_memory` makes
 calls and makes them once more where they want memory: it has to say so, and the rest of what it prints may not
@@ -59,6 +59,25 @@ MISREAD_MISTAKES = (b"number,book,line,from,to,difference,weight,residual,contro
 TRIANGLE_MISTAKES = (b"number,book,line,from,to,difference,weight,residual,control,mistake\n"
                      b"1,1,2,A,B,1.00000000,1,0.00000000,1,ties\n2,1,4,B,C,1.00000000,1,0.00000000,1,ties\n"
                      b"3,1,6,C,A,-2.00000000,1,0.00000000,2,shows\n4,1,8,A,C,2.50000000,1,0.50000000,2,shows\n")
+DIFFERENCES_BOOK = (b"*110001+000000000000000A 84..40+0000000000000000 87..48+0000000000000000 88..48+0000000000000000 \r\n"
+                    b"*110002+000000000000000B 33..48+0000000000150000 \r\n"
+                    b"*110003+000000000000000C 33..48-0000000000000001 \r\n")
+# What explains them, as the second office prints it.
+MISREAD_EXPLAINED = (b"number,kind,book,line,word,from,to,sights,given,low,high,explains,left,blunders\n"
+                        b"1,sight,1,4,,A,B,1,3.54500000,2.54500000,2.54600000,0.99900000,0.00100000,0\n")
+TRIANGLE_EXPLAINED = (b"cost                          0.50000000\n"
+                        b"blunder limit                 0.02000000\n"
+                        b"marked                                 1\n"
+                        b"sights                                 4\n"
+                        b"entries                                0\n"
+                        b"changes                                0\n"
+                        b"benchmarks                             0\n"
+                        b"books                                  1\n"
+                        b"explanations                           1\n"
+                        b"  NO  BK    LINE  WORD  FROM              TO                     PROPOSED     COST LEFT BLUNDERS\n"
+                        b"   1   1       8        A                 C                    2.00000000    0.00000000        0\n"
+                        b"\n"
+                        b"One wrong number explains this: the sight of line 8.\n")
 INPUTS = {
     "misread.gsi": MISREAD,
     "triangle.gsi": TRIANGLE,
@@ -66,6 +85,7 @@ INPUTS = {
     "weights.csv": b"from,to,weight\nB,A,7\n",
     "misread.csv": MISREAD_CERTIFICATE,
     "triangle.csv": TRIANGLE_CERTIFICATE,
+    "differences.csv": b"from,to,difference\nA,B,1.5\nA,C,-0.00001\n",
 }
 # The calls that are refused memory in turn.
 CALLS = {f"{call} wants memory\n".encode("ascii")
@@ -104,10 +124,13 @@ SERIES = (
            ("own.observations.csv", MISREAD_MISTAKES)),
     Series("review of a triangle", ["review"] + TABLES + ["--out", "own", "triangle.gsi"], b"",
            ("own.observations.csv", TRIANGLE_MISTAKES)),
+    Series("explanation of a misread sight", ["explain"] + TABLES + ["--csv", "misread.gsi"], MISREAD_EXPLAINED, None),
+    Series("explanation of a triangle", ["explain"] + TABLES + ["triangle.gsi"], TRIANGLE_EXPLAINED, None),
     Series("check of a misread sight", ["check"] + TABLES + ["--certificate", "misread.csv", "misread.gsi"], b"yes\n",
            None),
     Series("check of a triangle", ["check"] + TABLES + ["--certificate", "triangle.csv", "triangle.gsi"], b"yes\n",
            None),
+    Series("book of a table", ["book", "differences.csv"], DIFFERENCES_BOOK, None),
 )
 
 

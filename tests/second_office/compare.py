@@ -6,8 +6,9 @@
 Each project is adjusted and reviewed by both. Standard output, standard error and status have to be the same, and so have the four
 files of the review, the heights file, the report, the GSI file, and all records of the certificate but the flows, byte by byte. Which
 of several best flows is written is open: the program's have to keep their weights, balance and be slack with the heights, and have
-the cost. Then the program checks its own certificate, and changed ones, with the second office's verdict, line and status. Prints the
-seed, how many came out which way, and every difference, with the project saved in a folder that it names. Status 0 only without a
+the cost. Then the program checks its own certificate, and changed ones, with the second office's verdict, line and status. Where the
+program has `explain`, both forms of what it prints have to be the second office's, byte by byte; where it has not, that is said. Prints
+the seed, how many came out which way, and every difference, with the project saved in a folder that it names. Status 0 only without a
 difference; 2 where the comparison could not be made.
 """
 
@@ -25,8 +26,8 @@ from typing import Dict, List, NamedTuple, Optional, Tuple
 
 import office
 from projects import Project, changed_certificate, random_project
-from runs import (DEFAULT_PROGRAM, ENDS, REVIEW_ENDS, Files, compare_files, differ, network_words, outcome_of, saved,
-                  second_adjustment, second_review, written)
+from runs import (DEFAULT_PROGRAM, ENDS, EXPLAIN_FORMS, REVIEW_ENDS, Files, compare_files, differ, explain_words, has_explain,
+                  network_words, outcome_of, saved, second_adjustment, second_explanations, second_review, written)
 
 DEFAULT_PROJECTS = 1_000
 DEFAULT_SEED = 20_240_607
@@ -51,7 +52,7 @@ def run(program: Path, folder: Path, words: List[str]) -> Tuple[int, bytes, byte
                               timeout=PATIENCE_IN_SECONDS, check=False)
     except subprocess.TimeoutExpired:
         return -1, b"", f"(no end within {PATIENCE_IN_SECONDS} s)".encode("ascii")
-    return done.returncode, done.stdout, done.stderr
+    return done.returncode, done.stdout, office.reader.without_help(done.stderr)
 
 
 # Comparing
@@ -65,8 +66,16 @@ def compare_review(program: Path, project: Project, files: Files) -> Tuple[str, 
     own = run(program, files.folder, network_words("review", project, files))
     second = second_review(project)
     differences = differ("review", own, (second.status, second.standard_output, second.standard_error))
-    differences += compare_files(project, some_of(written(files.folder), REVIEW_ENDS), second.files)
+    differences += compare_files(project, some_of(written(files.folder), REVIEW_ENDS), second)
     return outcome_of("review", second), differences
+
+
+def compare_explain(program: Path, project: Project, files: Files) -> Tuple[str, List[str]]:
+    differences = []
+    for form, second in zip(EXPLAIN_FORMS, second_explanations(project, *EXPLAIN_FORMS)):
+        own = run(program, files.folder, explain_words(project, files, form))
+        differences += differ(f"explain, {form}", own, (second.status, second.standard_output, second.standard_error))
+    return outcome_of("explain", second), differences
 
 
 def compare_check(program: Path, project: Project, files: Files, title: str, certificate: bytes) -> Tuple[str, List[str]]:
@@ -77,7 +86,7 @@ def compare_check(program: Path, project: Project, files: Files, title: str, cer
     return outcome_of("check", second), differences
 
 
-def compare_project(program: Path, folder: Path, seed: int, number: int) -> Comparison:
+def compare_project(program: Path, explains: bool, folder: Path, seed: int, number: int) -> Comparison:
     """Compares project `number`, which hangs on the seed and the number alone."""
     rng = Random(f"{seed} {number}")
     project = random_project(rng)
@@ -85,10 +94,14 @@ def compare_project(program: Path, folder: Path, seed: int, number: int) -> Comp
     own = run(program, folder, network_words("adjust", project, files))
     second = second_adjustment(project)
     differences = differ("adjust", own, (second.status, second.standard_output, second.standard_error))
-    differences += compare_files(project, some_of(written(folder), ENDS), second.files)
+    differences += compare_files(project, some_of(written(folder), ENDS), second)
     outcome, found = compare_review(program, project, files)
     outcomes = [outcome_of("adjust", second), outcome]
     differences += found
+    if explains:
+        outcome, found = compare_explain(program, project, files)
+        outcomes.append(outcome)
+        differences += found
     # Where a table was refused there is no certificate of one's own, but somebody else's is still checked.
     certificate = written(folder).get(".certificate.csv", b"kind,key,value\nV,2,0\nZ,cost,0\n")
     changed = [changed_certificate(rng, certificate) for _ in range(CHANGED_CERTIFICATES)]
@@ -102,10 +115,10 @@ def compare_project(program: Path, folder: Path, seed: int, number: int) -> Comp
 # The report
 
 
-def compare_in(scratch: Path, program: Path, seed: int, number: int) -> Comparison:
+def compare_in(scratch: Path, program: Path, explains: bool, seed: int, number: int) -> Comparison:
     folder = scratch / f"project_{number:06}"
     folder.mkdir()
-    comparison = compare_project(program, folder, seed, number)
+    comparison = compare_project(program, explains, folder, seed, number)
     if not comparison.differences:
         shutil.rmtree(folder)
     return comparison
@@ -144,10 +157,13 @@ def main() -> int:
         print(f"there is no program at {chosen.program}: build it, or name it with --program", file=sys.stderr)
         return 2
     print(f"seed {chosen.seed}")
-    scratch = Path(tempfile.mkdtemp(prefix="second_office_"))
     program = chosen.program.resolve()
+    explains = has_explain(program)
+    if not explains:
+        print("the program has no command explain, which is not compared")
+    scratch = Path(tempfile.mkdtemp(prefix="second_office_"))
     with ThreadPoolExecutor(max_workers=chosen.workers) as executor:
-        comparisons = executor.map(lambda number: compare_in(scratch, program, chosen.seed, number), range(chosen.projects))
+        comparisons = executor.map(lambda number: compare_in(scratch, program, explains, chosen.seed, number), range(chosen.projects))
         differing = report(comparisons)
     if not differing:
         shutil.rmtree(scratch)

@@ -4,8 +4,8 @@
     compare_mutated.py [--program PATH] [--inputs N] [--first K] [--seed S] [--workers W] [--minutes M]
     compare_mutated.py --each-byte [--program PATH] [--first K] [--workers W] [--minutes M]
 
-Each input is a small project with a mutated text, which the program lists, adjusts, reviews or checks: one run an
-input. Standard output, standard error, status and files have to be the second office's (of the certificate all but
+Each input is a small project with a mutated text, which the program lists, adjusts, reviews, checks or explains: one run
+an input. A program that has no `explain` reviews in its place. Standard output, standard error, status and files have to be the second office's (of the certificate all but
 the flows, which have to show the heights). Whatever the second office says, a status is 0 to 5, a run that is refused
 prints nothing and begins no file, and no run takes more than a second of processor time. Input K of a seed is the
 same in every run, so a long series can be run in parts: inputs --first to --first + --inputs - 1, or as many as
@@ -30,8 +30,8 @@ from typing import Dict, Iterator, List, NamedTuple, Optional, Tuple
 
 import office
 from mutated import COUNT_OF_CHANGES, Case, changed_case, random_case
-from runs import (DEFAULT_PROGRAM, ENDS, REVIEW_ENDS, compare_files, differ, network_words, outcome_of, saved,
-                  second_adjustment, second_review, written)
+from runs import (DEFAULT_PROGRAM, ENDS, REVIEW_ENDS, compare_files, differ, explain_words, has_explain, network_words,
+                  outcome_of, saved, second_adjustment, second_explanations, second_review, written)
 
 DEFAULT_INPUTS = 1_000
 DEFAULT_SEED = 20_240_607
@@ -73,7 +73,7 @@ def run(program: str, words: List[str]) -> Run:
     with suppress(OSError):
         resource.prlimit(process, resource.RLIMIT_CPU, (PATIENCE_IN_SECONDS, PATIENCE_IN_SECONDS))
     _, ended, usage = os.wait4(process, 0)
-    printed, said = Path("stdout").read_bytes(), Path("stderr").read_bytes()
+    printed, said = Path("stdout").read_bytes(), office.reader.without_help(Path("stderr").read_bytes())
     answer = office.Answer(os.waitstatus_to_exitcode(ended), printed, said, written(HERE))
     return Run(answer, usage.ru_utime + usage.ru_stime)
 
@@ -88,6 +88,8 @@ def save_case(case: Case) -> List[str]:
         return ["list", files.words[-1]]
     if case.command in ("adjust", "review"):
         return network_words(case.command, case.project, files)
+    if case.command == "explain":
+        return explain_words(case.project, files, "table")
     (HERE / "certificate.csv").write_bytes(case.certificate or b"")
     return ["check", "--certificate", "certificate.csv"] + files.words
 
@@ -100,6 +102,8 @@ def second_answer(case: Case) -> office.Answer:
         return second_adjustment(case.project)
     if case.command == "review":
         return second_review(case.project)
+    if case.command == "explain":
+        return second_explanations(case.project, "table")[0]
     if case.command == "check":
         return office.check(case.project.inputs, case.certificate or b"")
     listed = office.reader.answer(case.project.inputs.books[0])
@@ -123,13 +127,19 @@ def compare_case(program: str, case: Case) -> Tuple[str, float, List[str]]:
     second = second_answer(case)
     differences = broken_rules(own) + differ(
         case.command, own.answer[:3], (second.status, second.standard_output, second.standard_error))
-    differences += compare_files(case.project, own.answer.files, second.files)
+    differences += compare_files(case.project, own.answer.files, second)
     return outcome_of(case.command, second), own.seconds, differences
 
 
-def compare_inputs(task: Tuple[str, str, Optional[int], range]) -> Tally:
-    """Compares a row of inputs, in a folder of its own: those of a seed, or those of --each-byte."""
-    scratch, program, seed, numbers = task
+def case_of(seed: Optional[int], number: int, explains: bool) -> Case:
+    """The case of a number, of a seed or of --each-byte."""
+    case = changed_case(number) if seed is None else random_case(seed, number)
+    return case._replace(command="review") if case.command == "explain" and not explains else case
+
+
+def compare_inputs(task: Tuple[str, str, Optional[int], bool, range]) -> Tally:
+    """Compares a row of inputs, in a folder of its own."""
+    scratch, program, seed, explains, numbers = task
     folder = Path(scratch) / f"worker_{os.getpid()}"
     folder.mkdir(exist_ok=True)
     os.chdir(folder)
@@ -137,7 +147,7 @@ def compare_inputs(task: Tuple[str, str, Optional[int], range]) -> Tally:
     slowest = 0.0
     differences = []
     for number in numbers:
-        case = changed_case(number) if seed is None else random_case(seed, number)
+        case = case_of(seed, number, explains)
         outcome, seconds, found = compare_case(program, case)
         outcomes[outcome] += 1
         slowest = max(slowest, seconds)
@@ -200,7 +210,8 @@ def main() -> int:
     scratch = tempfile.mkdtemp(prefix="mutated_inputs_")
     program = str(chosen.program.resolve())
     last = chosen.first + chosen.inputs
-    tasks = ((scratch, program, chosen.seed, range(start, min(last, start + INPUTS_AT_A_TIME)))
+    explains = has_explain(Path(program))
+    tasks = ((scratch, program, chosen.seed, explains, range(start, min(last, start + INPUTS_AT_A_TIME)))
              for start in range(chosen.first, last, INPUTS_AT_A_TIME))
     end = None if chosen.minutes is None else time.monotonic() + 60 * chosen.minutes
     with Pool(chosen.workers) as pool:

@@ -162,6 +162,10 @@ def reviewed_project(rng: Random, project: Project) -> Case:
     return adjusted_project(rng, project)._replace(command="review")
 
 
+def explained_project(rng: Random, project: Project) -> Case:
+    return adjusted_project(rng, project)._replace(command="explain")
+
+
 def checked_certificate(rng: Random, project: Project) -> Case:
     """A check of a mutated certificate, or of a good one beside mutated inputs."""
     certificate = second_adjustment(project).files.get(".certificate.csv", NO_CERTIFICATE)
@@ -173,8 +177,9 @@ def checked_certificate(rng: Random, project: Project) -> Case:
     return Case("check", project, changed)
 
 
-CASES: Tuple[Callable[[Random, Project], Case], ...] = (listed_book, adjusted_project, checked_certificate, reviewed_project)
-CASE_WEIGHTS = (20, 25, 20, 35)
+CASES: Tuple[Callable[[Random, Project], Case], ...] = (listed_book, adjusted_project, checked_certificate, reviewed_project,
+                                                            explained_project)
+CASE_WEIGHTS = (20, 20, 20, 30, 10)
 
 
 def random_case(seed: int, number: int) -> Case:

@@ -176,9 +176,14 @@ def best_flows(network: Network) -> List[int]:
             flows[bound.observation] += bound.step * room
 
 
-def least_labels(bounds: List[Tuple[Optional[bytes], Optional[bytes], int]]) -> Dict[Optional[bytes], int]:
-    """The length of the shortest walk from the ground to each vertex, none of whose rounds is below zero."""
-    labels: Dict[Optional[bytes], int] = {None: 0}
+def value_of(network: Network, flows: List[int]) -> int:
+    """The cost of the best heights, from flows that show them. It needs no heights, and exists also where a point has no benchmark."""
+    return sum(flow * rise_of(network, observation) for observation, flow in zip(network.observations, flows))
+
+
+def least_labels(bounds: List[Tuple[Optional[bytes], Optional[bytes], int]], start: Optional[bytes] = None) -> Dict[Optional[bytes], int]:
+    """The length of the shortest walk from a vertex, the ground, to each other, none of whose rounds is below zero."""
+    labels: Dict[Optional[bytes], int] = {start: 0}
     changed = True
     while changed:
         changed = False

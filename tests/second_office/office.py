@@ -4,6 +4,7 @@
     office.py adjust --benchmarks F [--weights F] [--blunder MICROMETRES] --out PREFIX BOOK...
     office.py review --benchmarks F [--weights F] [--blunder MICROMETRES] --out PREFIX BOOK...
     office.py check --benchmarks F [--weights F] --certificate F BOOK...
+    office.py explain --benchmarks F [--weights F] [--blunder MICROMETRES] [--csv] BOOK...
 
 Gives what the program gives: the same files, the same lines, the same statuses. It shares nothing with the program, so that where
 the two differ one of them, or the page, is at fault. Which of several best flows a certificate carries is left open: the program's
@@ -16,6 +17,7 @@ from pathlib import Path
 from typing import Dict, List, NamedTuple, Optional
 
 from certificates import CertificateFault, certificate_text, read_certificate, verdict_line
+from explain import csv_text, explanation_of, people_text
 from network import Heights, Network, NetworkFault, Sight, best_flows, cost_of, highest_heights, lowest_heights, make_network
 import review as reviews
 from tables import TableFault, read_benchmarks, read_weights, reader
@@ -53,6 +55,7 @@ class Answer(NamedTuple):
     standard_output: bytes
     standard_error: bytes
     files: Dict[str, bytes]
+    review: Optional[reviews.Review] = None
 
 
 # Inputs
@@ -133,7 +136,8 @@ def review(inputs: Inputs, limit: int) -> Answer:
         return refused(fault)
     answer = adjusted(network)
     weights = read_weights(inputs.weights or b"")
-    return Answer(0, b"", b"", reviews.files_of(reviews.review_of(network, answer.low, answer.high, limit, inputs.books, weights)))
+    found = reviews.review_of(network, answer.low, answer.high, limit, inputs.books, weights)
+    return Answer(0, b"", b"", reviews.files_of(found), found)
 
 
 def check(inputs: Inputs, certificate: bytes) -> Answer:
@@ -145,20 +149,32 @@ def check(inputs: Inputs, certificate: bytes) -> Answer:
     return Answer(0 if line == b"yes\n" else 1, line, b"", {})
 
 
+def explain(inputs: Inputs, limit: int, *texts) -> List[Answer]:
+    """What is printed in each of some forms: the text for people, the table."""
+    try:
+        network, _ = read_inputs(inputs, None)
+    except Refused as fault:
+        return [refused(fault) for _ in texts]
+    explanation = explanation_of(network, adjusted(network).low, limit, inputs.books)
+    return [Answer(0, text(explanation), b"", {}) for text in texts]
+
+
 # The command line
 
 
 def arguments(words: Optional[List[str]] = None) -> argparse.Namespace:
     parser = argparse.ArgumentParser(description="A second office, to be compared with the program.")
     commands = parser.add_subparsers(dest="command", required=True)
-    for name in ("adjust", "review", "check"):
+    for name in ("adjust", "review", "check", "explain"):
         command = commands.add_parser(name)
         command.add_argument("--benchmarks", type=Path, required=True)
         command.add_argument("--weights", type=Path)
         command.add_argument("books", type=Path, nargs="+", metavar="BOOK")
-    for name in ("adjust", "review"):
+    for name in ("adjust", "review", "explain"):
         commands.choices[name].add_argument("--blunder", type=int, default=DEFAULT_BLUNDER)
+    for name in ("adjust", "review"):
         commands.choices[name].add_argument("--out", required=True)
+    commands.choices["explain"].add_argument("--csv", action="store_const", const=csv_text, default=people_text)
     commands.choices["check"].add_argument("--certificate", type=Path, required=True)
     return parser.parse_args(words)
 
@@ -169,6 +185,8 @@ def run(chosen: argparse.Namespace) -> Answer:
     inputs = Inputs(books, chosen.benchmarks.read_bytes(), weights)
     if chosen.command == "check":
         return check(inputs, chosen.certificate.read_bytes())
+    if chosen.command == "explain":
+        return explain(inputs, UNITS_IN_MICROMETRE * chosen.blunder, chosen.csv)[0]
     command = review if chosen.command == "review" else adjust
     return command(inputs, UNITS_IN_MICROMETRE * chosen.blunder)
 

@@ -33,13 +33,20 @@ def spelled(width: int, index: str, information: str, length: int, step: int) ->
     return f"{index}{information}{sign}{abs(length) // step:0{width}}".encode("ascii")
 
 
+UNITS = (("0", MILLIMETRE), ("6", MILLIMETRE // 10), ("8", MILLIMETRE // 100))
+
+
 class BookWriter:
-    """Writes setups and sights as an instrument does, with GSI-8 or GSI-16 words."""
+    """Writes setups and sights as an instrument does, with GSI-8 or GSI-16 words. Some instruments write the heights in force into
+    every sight, others once."""
 
     def __init__(self, rng: Random) -> None:
         self.rng = rng
         self.width = rng.choice((8, 8, 16))
         self.end = rng.choice((b"\n", b"\r\n"))
+        self.repeats = rng.choice((0.0, 0.0, 0.3, 1.0))
+        # Some write a word 33 that holds the heights already.
+        self.from_mark_to_mark = rng.random() < 0.05
         self.lines: List[bytes] = []
         self.instrument = 0
         self.reflector: Optional[int] = None
@@ -52,16 +59,23 @@ class BookWriter:
         number = len(self.lines) + 1
         return f"11{number:04}+".encode("ascii") + name.rjust(self.width, self.rng.choice((b"0", b"0", b"0", b"0", b" ")))
 
+    def height_word(self, index: str, height: int) -> bytes:
+        """A height in one of the units that it is a multiple of."""
+        unit, step = self.rng.choice(UNITS)
+        return spelled(self.width, index, f"..1{unit}", height, step)
+
     def setup(self, station: bytes) -> None:
         self.instrument = self.rng.choice((0, 1_450, 1_500, 1_545)) * MILLIMETRE
         self.reflector = None
-        height = spelled(self.width, "88", "..10", self.instrument, MILLIMETRE)
-        self.add([self.point_word(station), b"84..10+" + b"0" * self.width, height])
+        self.add([self.point_word(station), b"84..10+" + b"0" * self.width, self.height_word("88", self.instrument)])
 
     def instrument_alone(self, point: bytes) -> None:
         """A block that looks like a setup and is none: the instrument height counts, the station stays."""
         self.instrument = self.rng.choice((1_450, 1_500)) * MILLIMETRE
-        self.add([self.point_word(point), spelled(self.width, "88", "..10", self.instrument, MILLIMETRE)])
+        words = [self.point_word(point), self.height_word("88", self.instrument)]
+        if self.rng.random() < 0.3:
+            words.append(f"{self.rng.choice((21, 22, 31, 32))}..00+".encode("ascii") + b"0" * self.width)
+        self.add(words)
 
     def sight(self, target: bytes, difference: int) -> None:
         words = [self.point_word(target)]
@@ -69,11 +83,13 @@ class BookWriter:
         if reflector is None or self.rng.random() < 0.2:
             reflector = self.rng.choice((0, 1_300, 1_600)) * MILLIMETRE
         unit, step = self.rng.choice((("0", MILLIMETRE), ("8", 1_000)))
-        read = difference - self.instrument + reflector
+        read = difference if self.from_mark_to_mark else difference - self.instrument + reflector
         words.append(spelled(self.width, "33", f"..1{unit}", read - read % step, step))
-        if reflector != self.reflector:
-            words.append(spelled(self.width, "87", "..10", reflector, MILLIMETRE))
+        if reflector != self.reflector or self.rng.random() < self.repeats:
+            words.append(self.height_word("87", reflector))
             self.reflector = reflector
+        if self.rng.random() < self.repeats:
+            words.append(self.height_word("88", self.instrument))
         self.add(words)
 
     def text(self) -> bytes:

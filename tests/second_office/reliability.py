@@ -17,7 +17,7 @@ KINDS = ((reader.REFLECTOR_HEIGHT, "reflector"), (reader.INSTRUMENT_HEIGHT, "ins
 
 
 class Entry(NamedTuple):
-    """A keyed-in height that at least one sight uses: where it stands, and the lines of its sights."""
+    """A keyed-in height that at least one sight uses: where its first word is, and the lines of its sights."""
 
     book: int
     line: int
@@ -126,12 +126,31 @@ def entries_of(number: int, book: bytes) -> List[Entry]:
             station, last = reader.name_of(words[0].data), {}
         for word, _ in KINDS:
             if station is not None and reader.has_counting_word(words, word):
-                last[word] = (line, reader.length_of(reader.counting_words(words, word)[0]))
+                length = reader.length_of(reader.counting_words(words, word)[0])
+                if word not in last or last[word][1] != length:
+                    last[word] = (line, length)
         if reader.is_sight(words):
             for word, (own, length) in last.items():
                 entry = used.setdefault((own, word), Entry(number, own, word, station, length, []))
                 entry.sights.append(line)
     return [used[key] for key in sorted(used)]
+
+
+def crosses_alone(network: Network, entry: Entry, own: List[Observation], rest: List[Edge]) -> bool:
+    """Whether all sights of an entry cross some free set and no other observation does. Then that set has whole parts of the network
+    without the sights: the station's part alone, or all parts of the targets."""
+    part: Dict[Vertex, Vertex] = {}
+
+    def top(vertex: Vertex) -> Vertex:
+        while vertex in part:
+            vertex = part[vertex]
+        return vertex
+    for one, other, _ in rest:
+        if top(one) != top(other):
+            part[top(one)] = top(other)
+    station = top(vertex_of(network, entry.station))
+    targets = {top(vertex_of(network, observation.target)) for observation in own}
+    return station not in targets and (station != top(None) or top(None) not in targets)
 
 
 def shared_mistake_of(network: Network, entry: Entry) -> str:
@@ -156,7 +175,7 @@ def shared_mistake_of(network: Network, entry: Entry) -> str:
         for edges in ways:
             value = least_cut(edges, SOURCE, None)
             if value < weight:
-                return "drags"
+                return "unchecked" if crosses_alone(network, entry, own, rest) else "drags"
             if value == weight:
                 worst = "ties"
     return worst

@@ -1,8 +1,9 @@
 """The four texts of a review, and its notes: the section of docs/FORMATS.md on what `review` writes."""
 
-from typing import Dict, List, NamedTuple, Optional, Tuple
+from typing import Dict, Iterator, List, NamedTuple, Optional, Set, Tuple
 
 from certificates import csv_row, number_text
+from moves import Blame, blames_of, free_sets
 from network import Heights, Network, Observation, anchored_points
 from reliability import Entry, controls_of, entries_of, mistake_of, shared_mistake_of, strengths_of
 from tables import Pair, reader
@@ -10,8 +11,10 @@ from texts import label_line, metres, residual_line
 
 MOST_LARGEST = 20
 OBSERVATION_MARKS = {"shows": "", "ties": "  =", "hides": "  <", "unchecked": "  0"}
-ENTRY_MARKS = {"shows": "", "ties": "  =", "drags": "  <"}
+ENTRY_MARKS = {"shows": "", "ties": "  =", "drags": "  <", "unchecked": "  0"}
+ANY_BLAME = Blame(0, 0, None)  # where the network is too large for all of its sets to be tried
 FIRST_RECORD = 2  # the header is record 1
+MEASURED_INDEXES = (b"21", b"22", b"31", b"32")  # angles and distances
 
 
 class BookCount(NamedTuple):
@@ -35,6 +38,8 @@ class Review(NamedTuple):
     entries: List[Entry]
     books: List[BookCount]
     notes: List[str]
+    own_blames: List[Set[Blame]]  # of each observation, what the least sets would move; none where it shows
+    shared_blames: List[Set[Blame]]  # of each entry
 
     def mistakes(self) -> List[str]:
         return [mistake_of(control, own.weight) for control, own in zip(self.controls, self.network.observations)]
@@ -44,6 +49,20 @@ class Review(NamedTuple):
 
     def shared_mistakes(self) -> List[str]:
         return [shared_mistake_of(self.network, entry) for entry in self.entries]
+
+
+# What moves
+
+
+def places_of(network: Network, entry: Entry) -> Set[int]:
+    return {place for place, own in enumerate(network.observations) if own.book == entry.book and own.line in entry.sights}
+
+
+def blames_of_all(network: Network, mistakes: List[str], mistaken: List[Set[int]]) -> List[Set[Blame]]:
+    """What each mistake would move: all that the definition allows, or `ANY_BLAME` where there are too many sets."""
+    sets = free_sets(network)
+    return [set() if word == "shows" else {ANY_BLAME} if sets is None else blames_of(network, sets, own)
+            for word, own in zip(mistakes, mistaken)]
 
 
 # Books
@@ -82,6 +101,7 @@ def looks_like_setup(words: List[reader.Word], station: Optional[bytes]) -> bool
     indexes = (reader.HEIGHT_DIFFERENCE,) + reader.STATION_INDEXES
     return (words[0].index == reader.POINT_NUMBER and reader.has_counting_word(words, reader.INSTRUMENT_HEIGHT)
             and not any(reader.has_counting_word(words, index) for index in indexes)
+            and not any(word.index in MEASURED_INDEXES for word in words)
             and (station is None or reader.name_of(words[0].data) != station))
 
 
@@ -136,7 +156,10 @@ def review_of(network: Network, low: Heights, high: Heights, limit: int, books: 
     entries = [entry for number, book in enumerate(books, start=1) for entry in entries_of(number, book)]
     notes = (without_sight(counts) + repeated_books(network, len(books)) + lookalikes(books) + unused_weights(network, weights)
              + unseen_benchmarks(network) + other_spellings(books))
-    return Review(network, low, high, limit, strengths_of(network), controls_of(network), entries, counts, notes)
+    review = Review(network, low, high, limit, strengths_of(network), controls_of(network), entries, counts, notes, [], [])
+    places = [{place} for place in range(len(network.observations))]
+    return review._replace(own_blames=blames_of_all(network, review.mistakes(), places),
+                           shared_blames=blames_of_all(network, review.shared_mistakes(), [places_of(network, own) for own in entries]))
 
 
 # Tables
@@ -154,21 +177,34 @@ def points_text(review: Review) -> bytes:
     return b"".join(rows)
 
 
+def first_of(blames: Set[Blame]) -> Optional[Blame]:
+    return min(blames, key=lambda own: (own.moves, own.blames, own.blamed or 0), default=None)
+
+
+def blame_fields(blame: Optional[Blame]) -> List[bytes]:
+    return [optional(None if blame is None else part).encode("ascii") for part in blame or (None, None, None)]
+
+
+def blame_columns(blame: Optional[Blame]) -> str:
+    return "".join(f"  {optional(part, '-'):>6}" for part in (blame or (None, None))[:2])
+
+
 def observations_text(review: Review) -> bytes:
-    rows = [b"number,book,line,from,to,difference,weight,residual,control,mistake\n"]
-    parts = zip(review.network.observations, review.controls, review.mistakes())
-    for number, (own, control, mistake) in enumerate(parts, start=1):
+    rows = [b"number,book,line,from,to,difference,weight,residual,control,mistake,moves,blames,blamed\n"]
+    parts = zip(review.network.observations, review.controls, review.mistakes(), map(first_of, review.own_blames))
+    for number, (own, control, mistake, blame) in enumerate(parts, start=1):
         rows.append(csv_row(*(number_text(part) for part in (number, own.book, own.line)), own.station, own.target,
                             reader.metres(own.difference), number_text(own.weight), reader.metres(own.residual(review.low)),
-                            optional(control).encode("ascii"), mistake.encode("ascii")))
+                            optional(control).encode("ascii"), mistake.encode("ascii"), *blame_fields(blame)))
     return b"".join(rows)
 
 
 def entries_text(review: Review) -> bytes:
-    rows = [b"book,line,word,station,length,sights,weight,mistake\n"]
-    for entry, mistake in zip(review.entries, review.shared_mistakes()):
+    rows = [b"book,line,word,station,length,sights,weight,mistake,moves,blames,blamed\n"]
+    for entry, mistake, blame in zip(review.entries, review.shared_mistakes(), map(first_of, review.shared_blames)):
         rows.append(csv_row(number_text(entry.book), number_text(entry.line), entry.word, entry.station, reader.metres(entry.length),
-                            number_text(len(entry.sights)), number_text(review.weight_of(entry)), mistake.encode("ascii")))
+                            number_text(len(entry.sights)), number_text(review.weight_of(entry)), mistake.encode("ascii"),
+                            *blame_fields(blame)))
     return b"".join(rows)
 
 
@@ -194,6 +230,7 @@ def book_lines(review: Review) -> List[str]:
 
 
 OBSERVATION_HEADER = residual_line("NO", "BK", "LINE", "FROM", "TO", "WT", "RESIDUAL") + f"  {'CONTROL':>8}"
+MOVED_HEADER = f"  {'MOVES':>6}  {'BLAMES':>6}"
 
 
 def observation_line(review: Review, number: int) -> str:
@@ -226,19 +263,21 @@ def point_line(name: str, height: str, play: str, strength: str, withstands: str
 def point_lines(review: Review) -> List[str]:
     lines = [point_line("POINT", "HEIGHT", "HIGH-LOW", "STRENGTH", "WITHSTANDS")]
     single = held_by_one(review.network)
+    largest = max((own.weight for own in review.network.observations), default=1)
     for point in review.network.points:
         strength = review.strengths[point]
         play = review.high[point] - review.low[point]
         mark = ("1" if point in single else "") + ("=" if play else "")
-        withstands = None if strength is None else (strength - 1) // 2
+        withstands = None if strength is None else (strength - 1) // 2 // largest
         line = point_line(point.decode("ascii"), metres(review.low[point]), metres(play), optional(strength, "-"), optional(withstands, "-"))
         lines.append(line + (f"  {mark}" if mark else ""))
     return lines
 
 
 def observation_lines(review: Review) -> List[str]:
-    return [OBSERVATION_HEADER] + [observation_line(review, number) + OBSERVATION_MARKS[mistake]
-                                   for number, mistake in enumerate(review.mistakes(), start=1)]
+    parts = enumerate(zip(review.mistakes(), map(first_of, review.own_blames)), start=1)
+    return [OBSERVATION_HEADER + MOVED_HEADER] + [observation_line(review, number) + blame_columns(blame) + OBSERVATION_MARKS[mistake]
+                                                  for number, (mistake, blame) in parts]
 
 
 def entry_line(book: str, line: str, word: str, station: str, length: str, sights: str, weight: str) -> str:
@@ -246,11 +285,11 @@ def entry_line(book: str, line: str, word: str, station: str, length: str, sight
 
 
 def entry_lines(review: Review) -> List[str]:
-    lines = [entry_line("BK", "LINE", "WORD", "STATION", "LENGTH", "SIGHTS", "WEIGHT")]
-    for entry, mistake in zip(review.entries, review.shared_mistakes()):
+    lines = [entry_line("BK", "LINE", "WORD", "STATION", "LENGTH", "SIGHTS", "WEIGHT") + MOVED_HEADER]
+    for entry, mistake, blame in zip(review.entries, review.shared_mistakes(), map(first_of, review.shared_blames)):
         line = entry_line(str(entry.book), str(entry.line), entry.word.decode("ascii"), entry.station.decode("ascii"), metres(entry.length),
                           str(len(entry.sights)), str(review.weight_of(entry)))
-        lines.append(line + ENTRY_MARKS[mistake])
+        lines.append(line + blame_columns(blame) + ENTRY_MARKS[mistake])
     return lines
 
 
@@ -267,3 +306,27 @@ def files_of(review: Review) -> Dict[str, bytes]:
         ".entries.csv": entries_text(review),
         ".review.txt": review_text(review),
     }
+
+
+# What another office chose
+
+
+def said_in(text: bytes) -> Iterator[Optional[Blame]]:
+    """The last three fields of each row of a table, none where they are empty."""
+    for row in text.decode("ascii").splitlines()[1:]:
+        moves, blames, blamed = row.split(",")[-3:]
+        yield Blame(int(moves), int(blames), int(blamed) if blamed else None) if moves else None
+
+
+def chosen(allowed: List[Set[Blame]], text: bytes) -> List[Set[Blame]]:
+    """Of what the definition allows, what a table says where it is allowed."""
+    rows = list(said_in(text))
+    if len(rows) != len(allowed):
+        return allowed
+    return [{own} if own is not None and (own in blames or blames == {ANY_BLAME}) else blames for own, blames in zip(rows, allowed)]
+
+
+def as_chosen(review: Review, files: Dict[str, bytes]) -> Dict[str, bytes]:
+    """The four texts with the sets that the texts of another office have chosen among those of the least value."""
+    return files_of(review._replace(own_blames=chosen(review.own_blames, files.get(".observations.csv", b"")),
+                                    shared_blames=chosen(review.shared_blames, files.get(".entries.csv", b""))))

@@ -1,18 +1,24 @@
 """Runs of the program on a project, and how their answers are compared with the second office's."""
 
 import re
+import subprocess
 from contextlib import suppress
 from pathlib import Path
 from typing import Dict, List, NamedTuple
 
 import office
+from explain import csv_text, people_text
 from projects import DEFAULT_LIMIT, Project
+from review import as_chosen
 
 ROOT = Path(__file__).resolve().parents[2]
 DEFAULT_PROGRAM = ROOT / "crates" / "height_office" / "out" / "height_office"
 LONGEST_PRINTED_TEXT = 300
 ENDS = (".heights.csv", ".certificate.csv", ".report.txt", ".heights.gsi")
 REVIEW_ENDS = (".points.csv", ".observations.csv", ".entries.csv", ".review.txt")
+LINE_FEED = b"\n"
+# The forms of what `explain` prints: the option, and the second office's text.
+EXPLAIN_FORMS = {"text": ([], people_text), "table": (["--csv"], csv_text)}
 
 
 class Files(NamedTuple):
@@ -44,6 +50,18 @@ def network_words(command: str, project: Project, files: Files) -> List[str]:
     return [command, "--out", "own"] + limit + files.words
 
 
+def explain_words(project: Project, files: Files, form: str) -> List[str]:
+    """The words of `explain`, for one of its two forms."""
+    limit = [] if project.limit is None else ["--blunder", str(project.limit)]
+    return ["explain"] + limit + EXPLAIN_FORMS[form][0] + files.words
+
+
+def has_explain(program: Path) -> bool:
+    """Whether the help of a program lists the command."""
+    shown = subprocess.run([str(program), "--help"], stdout=subprocess.PIPE, stderr=subprocess.PIPE, check=False)
+    return b"explain" in shown.stdout + shown.stderr
+
+
 def written(folder: Path) -> Dict[str, bytes]:
     files = {}
     for end in ENDS + REVIEW_ENDS:
@@ -64,6 +82,11 @@ def second_adjustment(project: Project) -> office.Answer:
 def second_review(project: Project) -> office.Answer:
     """What the second office says that a mistake would do in a project."""
     return office.review(project.inputs, limit_of(project))
+
+
+def second_explanations(project: Project, *forms: str) -> List[office.Answer]:
+    """What the second office says that would explain a project, in some of the two forms."""
+    return office.explain(project.inputs, limit_of(project), *(EXPLAIN_FORMS[form][1] for form in forms))
 
 
 # Comparing
@@ -87,11 +110,14 @@ def without_flows(certificate: bytes) -> bytes:
     return re.sub(rb"^(F,[0-9]+),.*$", rb"\1,?", certificate, flags=re.MULTILINE)
 
 
-def compare_files(project: Project, own: Dict[str, bytes], second: Dict[str, bytes]) -> List[str]:
+def compare_files(project: Project, own: Dict[str, bytes], answer: office.Answer) -> List[str]:
+    """Compares files byte by byte. What a mistake would move has to be what the definition allows, where it allows several."""
+    second = answer.files
     differences = differ("files", sorted(own), sorted(second))
     if differences or not second:
         return differences
-    if ".review.txt" in second:
+    if answer.review is not None:
+        second = as_chosen(answer.review, own)
         return [difference for end in REVIEW_ENDS for difference in differ(end, own[end], second[end])]
     for end in (".heights.csv", ".report.txt", ".heights.gsi"):
         differences += differ(end, own[end], second[end])
@@ -103,8 +129,8 @@ def compare_files(project: Project, own: Dict[str, bytes], second: Dict[str, byt
 
 def outcome_of(command: str, answer: office.Answer) -> str:
     """The command with its line, without the numbers and names in it."""
-    if command == "list" and answer.status == 0:
-        return "list: observations" if answer.standard_output.count(b"\n") > 1 else "list: header"
+    if command in ("list", "explain") and answer.status == 0:
+        return f"{command}: {'rows' if answer.standard_output.count(LINE_FEED) > 1 else 'header'}"
     line = (answer.standard_output + answer.standard_error).decode("ascii").rstrip("\n")
     line = re.sub(r" at .*| for .*", "", re.sub(r"(book|line|record|word) [0-9]+", r"\1 K", line))
     return f"{command}: {line or 'files'}"

@@ -8,9 +8,10 @@ Status 0 only where every row comes out.
 
 import sys
 from pathlib import Path
-from typing import Dict, List, NamedTuple, Optional
+from typing import Callable, Dict, List, NamedTuple, Optional
 
 import office
+from explain import csv_text, people_text
 from office import Inputs
 from reliability import controls_of, strengths_of
 
@@ -257,8 +258,164 @@ def test_review(failures: List[str], project: str, books: tuple, benchmarks: str
     expect(failures, f"{project}: controls", controls_of(network), controls)
 
 
+# Examples with one wrong number, and what explains it. Costs were found with `adjust` on books that were changed by hand.
+BUILDING_SITE = (EXAMPLES / "building_site" / "monday.gsi").read_bytes().replace(b"33..10-00000027", b"33..10-00001027")
+TYPED_AT_KO1 = Inputs([BUILDING_SITE.replace(b"88..10+00001545", b"88..10+00001645")],
+                      (EXAMPLES / "building_site" / "marks.csv").read_bytes(), None)
+TYPED_AT_KO1_TEXT = b"""cost                          0.20000000
+blunder limit                 0.02000000
+marked                                 2
+sights                                11
+entries                                6
+changes                                9
+benchmarks                             0
+books                                  1
+explanations                           4
+  NO  BK    LINE  WORD  FROM              TO                     PROPOSED     COST LEFT BLUNDERS
+   1   1       2    88  KO1                                    1.54600000    0.00200000        0
+   1   1       2    87  KO1                                    1.59900000    0.00200000        0
+   2   1       8        KO2               KO1                 -2.89500000    0.10100000        1
+   2   1      15        KO3               KO1                 -1.64300000    0.10100000        1
+
+One wrong number explains this: word 88 of line 2 or word 87 of line 2.
+The books do not say which of them.
+The next best leaves 0.10100000.
+"""
+TYPED_AT_KO1_TABLE = b"""number,kind,book,line,word,from,to,sights,given,low,high,explains,left,blunders
+1,instrument,1,2,88,KO1,,4,1.64500000,1.54600000,1.54600000,0.19800000,0.00200000,0
+1,reflector,1,2,87,KO1,,4,1.50000000,1.59900000,1.59900000,0.19800000,0.00200000,0
+2,sight,1,8,,KO2,KO1,1,-2.79600000,-2.89500000,-2.89500000,0.09900000,0.10100000,1
+2,sight,1,15,,KO3,KO1,1,-1.54400000,-1.64300000,-1.64300000,0.09900000,0.10100000,1
+"""
+FORGOTTEN_POLE = Inputs([(EXAMPLES / "building_site" / "monday.gsi").read_bytes()], TYPED_AT_KO1.benchmarks, None)
+FORGOTTEN_POLE_TABLE = b"""number,kind,book,line,word,from,to,sights,given,low,high,explains,left,blunders
+1,sight,1,14,,KO3,D1,1,0.07500000,-0.92600000,-0.92500000,1.00000000,0.00400000,0
+"""
+DAM = (EXAMPLES / "dam" / "crest.gsi").read_bytes().splitlines(True)
+TYPED_AT_P1 = Inputs([b"".join(DAM[:7] + DAM[8:18]).replace(b"88..10+00001612", b"88..10+00001712")],
+                     (EXAMPLES / "dam" / "rocks.csv").read_bytes(), None)
+TYPED_AT_P1_TABLE = b"""number,kind,book,line,word,from,to,sights,given,low,high,explains,left,blunders
+1,instrument,1,2,88,P1,,5,1.71200000,1.61200000,1.61300000,0.09900000,0.01000000,0
+1,reflector,1,2,87,P1,,5,1.30000000,1.39900000,1.40000000,0.09900000,0.01000000,0
+1,sight,1,9,,C1,P1,1,-0.80200000,-0.90200000,-0.90100000,0.09900000,0.01000000,0
+"""
+LINE = EXAMPLES / "levelling_line"
+ONE_WAY = Inputs([(LINE / "there.gsi").read_bytes()], (LINE / "marks.csv").read_bytes(), (LINE / "weights.csv").read_bytes())
+ONE_WAY_TEXT = b"""cost                         11.50690000
+blunder limit                 0.02000000
+marked                                 1
+sights                                 6
+entries                                0
+changes                                0
+benchmarks                             2
+books                                  1
+explanations                           9
+  NO  BK    LINE  WORD  FROM              TO                     PROPOSED     COST LEFT BLUNDERS
+   1   1       4        BM 41             T1                  -1.21680000    0.00000000        0
+   1   1       7        T1                T2                   1.27080000    0.00000000        0
+   1   1      10        T2                T3                   0.88310000    0.00000000        0
+   1   1      13        T3                T4                  -1.33960000    0.00000000        0
+   1   1      16        T4                T5                   1.07380000    0.00000000        0
+   1   1      19        T5                BM 47                0.59650000    0.00000000        0
+   1           2        BM 41                                511.84770000    0.00000000        0
+   1           3        BM 47                                516.61760000    0.00000000        0
+   2   1            33                                                       0.36340000        0
+
+8 numbers explain this equally well: any one of them may be wrong. The books do not say which. Measure one of them again.
+The next best leaves 0.36340000.
+"""
+BOTH_WAYS = ONE_WAY._replace(books=ONE_WAY.books + [(LINE / "back.gsi").read_bytes()])
+BOTH_WAYS_TEXT = b"""cost                         24.10090000
+blunder limit                 0.02000000
+marked                                 1
+sights                                12
+entries                                0
+changes                                0
+benchmarks                             2
+books                                  2
+explanations                           2
+  NO  BK    LINE  WORD  FROM              TO                     PROPOSED     COST LEFT BLUNDERS
+   1   1       7        T1                T2                   1.27120000    0.10570000        0
+   2   2      16        T2                T1                  -1.77110000   23.02750000        2
+
+One wrong number explains this: the sight of line 7 of book 1.
+The next best leaves 23.02750000.
+"""
+NOTHING_TEXT = b"""cost                          0.00000000
+blunder limit                 0.02000000
+marked                                 0
+sights                                 0
+entries                                0
+changes                                0
+benchmarks                             0
+books                                  0
+explanations                           0
+  NO  BK    LINE  WORD  FROM              TO                     PROPOSED     COST LEFT BLUNDERS
+
+Nothing to explain: no number has to be wrong by more than 0.02000000 m.
+"""
+# The pole was read at 2.500 m in the last two sights of A, and 1.500 m stays keyed in: a change that was forgotten.
+FORGOTTEN = (
+    b"110001+0000000A 84..10+00000000 88..10+00001500 87..10+00001500 \n"
+    b"110002+0000000B 33..00+00001000 \n110003+0000000C 33..00+00003000 \n110004+0000000D 33..00+00004000 \n"
+    b"110005+0000000B 84..10+00000000 88..10+00001500 87..10+00001500 \n"
+    b"110006+0000000A 33..00-00001000 \n110007+0000000C 33..00+00001000 \n110008+0000000D 33..00+00002000 \n"
+    b"110009+0000000C 84..10+00000000 88..10+00001500 87..10+00001500 \n"
+    b"110010+0000000A 33..00-00002000 \n110011+0000000B 33..00-00001000 \n110012+0000000D 33..00+00001000 \n")
+FORGOTTEN_LINES = (
+    "   1   1       3    88  A                                      0.50000000    0.00000000        0  since\n"
+    "   1   1       3    87  A                                      2.50000000    0.00000000        0  since\n").encode("ascii")
+# Words 88 and 87 written again in each sight are still one entry each.
+REPEATED = FORGOTTEN.replace(b"33..", b"88..10+00001500 87..10+00001500 33..")
+# A benchmark, D, that is 30 mm wrong. Nothing ties C twice, so that the last two sights could be wrong together.
+SUNK = S + b"110002+0000000B 33..00+00000000 87..10+00001500 \n110003+0000000C 33..00+00000000 \n110004+0000000D 33..00+00000000 \n"
+SUNK_TABLE = b"""number,kind,book,line,word,from,to,sights,given,low,high,explains,left,blunders
+1,instrument since,1,3,88,A,,2,1.50000000,1.53000000,1.53000000,0.03000000,0.00000000,0
+1,reflector since,1,3,87,A,,2,1.50000000,1.47000000,1.47000000,0.03000000,0.00000000,0
+1,sight,1,4,,A,D,1,0.00000000,0.03000000,0.03000000,0.03000000,0.00000000,0
+1,benchmark,,4,,D,,1,100.03000000,100.00000000,100.00000000,0.03000000,0.00000000,0
+"""
+# A book whose word 33 holds the heights already.
+MARK_TO_MARK = S + b"".join(b"1100%02d+0000000%s 33..00+00001000 87..10+0000%04d \n" % (2 + k, name, 1300 - 200 * k)
+                            for k, name in enumerate((b"B", b"C", b"D")))
+# A triangle of 12, 12 and -4 km that misses by 20 km: with the whole change, only the last difference would stay below 30 km.
+FAR = (b"110001+0000000A 84..10+00000000 88..10+06000000 87..10+00000000 \n110002+0000000B 33..00+06000000 \n"
+       b"110003+0000000B 84..10+00000000 88..10+06000000 87..10+00000000 \n110004+0000000C 33..00+06000000 \n"
+       b"110005+0000000C 84..10+00000000 88..10+00000000 87..10+00000000 \n110006+0000000A 33..00-04000000 \n")
+FAR_TABLE = b"""number,kind,book,line,word,from,to,sights,given,low,high,explains,left,blunders
+1,sight,1,6,,C,A,1,-4000.00000000,-24000.00000000,-24000.00000000,20000.00000000,0.00000000,0
+"""
+EXPLAINED = (
+    ("an instrument height keyed in wrongly", TYPED_AT_KO1, people_text, TYPED_AT_KO1_TEXT),
+    ("the same as a table", TYPED_AT_KO1, csv_text, TYPED_AT_KO1_TABLE),
+    ("one sight with a wrong pole", FORGOTTEN_POLE, csv_text, FORGOTTEN_POLE_TABLE),
+    ("three that explain equally", TYPED_AT_P1, csv_text, TYPED_AT_P1_TABLE),
+    ("a line one way", ONE_WAY, people_text, ONE_WAY_TEXT),
+    ("a line both ways", BOTH_WAYS, people_text, BOTH_WAYS_TEXT),
+    ("nothing", Inputs([b""], b"point,height\n", None), people_text, NOTHING_TEXT),
+    ("changes beyond reach", Inputs([FAR], A_100, None), csv_text, FAR_TABLE),
+    ("a benchmark that sank", Inputs([SUNK], A_100 + b"B,100\nD,100.03\n", None), csv_text, SUNK_TABLE),
+)
+EXPLAINED_LINES = (
+    ("a forgotten change", Inputs([FORGOTTEN], A_100, None), FORGOTTEN_LINES),
+    ("the same with words 87 and 88 in each sight", Inputs([REPEATED], A_100, None), FORGOTTEN_LINES),
+    ("a book read from mark to mark", Inputs([MARK_TO_MARK], A_100 + b"B,101\nC,101\nD,101\n", None),
+     b"\n   1   1            33                                                       0.00000000        0\n"),
+    ("it in a sentence", Inputs([MARK_TO_MARK], A_100 + b"B,101\nC,101\nD,101\n", None), b"\nOne wrong number explains this: word 33 of book 1.\n"),
+)
+
+
+def test_explained(failures: List[str], title: str, inputs: Inputs, text: Callable, wanted: bytes) -> None:
+    expect(failures, title, office.explain(inputs, 100 * 20_000, text)[0].standard_output, wanted)
+
+
+def test_explained_line(failures: List[str], title: str, inputs: Inputs, lines: bytes) -> None:
+    text = office.explain(inputs, 100 * 20_000, people_text)[0].standard_output
+    expect(failures, f"{title}, in {text!r}", lines in text, True)
+
+
 TESTS: tuple = ((test_row, [(row,) for row in ROWS]), (test_line, LINES), (test_file, FILES), (test_report, REPORT_LINES),
-                (test_review, REVIEWS))
+                (test_review, REVIEWS), (test_explained, EXPLAINED), (test_explained_line, EXPLAINED_LINES))
 
 
 def main() -> int:

@@ -6,7 +6,8 @@
 Nothing here is a proof: it shows that the definitions say what surveyors mean. For each network the strengths and the controls
 of reliability.py are compared with the least cut over all sets of points. Then true heights are chosen, all observations but
 one fit them, and the heights that cost least are found among all heights on a grid: a mistake shows, hides or ties just as
-its control says; the same for the sights of one entry; and blunders move a point no further than its strength allows.
+its control says; the same for the sights of one entry; and blunders move a point no further than its strength allows. What a
+number explains, and its proposed values, are compared with the cost of the survey at each change of that number.
 Prints the seed and what was tried. Status 0 only where no law failed.
 """
 
@@ -16,7 +17,8 @@ from itertools import product
 from random import Random
 from typing import Callable, Dict, Iterator, List, Optional, Set
 
-from network import Heights, Network, Observation, anchored_points, cost_of
+from freed import Number, Survey, benchmark_numbers, freed, sight_numbers
+from network import Heights, Network, Observation, anchored_points, best_flows, cost_of, value_of
 from reliability import Entry, controls_of, mistake_of, shared_mistake_of, strengths_of
 from tables import reader
 
@@ -95,15 +97,17 @@ def least_over(network: Network, is_meant: Callable[[Set[bytes]], bool]) -> Opti
 
 def shared_over_sets(network: Network, group: List[Observation]) -> str:
     """What a mistake that some observations share would do, over all free sets that hold a point."""
-    worst = "shows"
-    for inside in free_sets(network):
+    words = {"shows"}
+    for inside in filter(None, free_sets(network)):
         own = sum(observation.weight for observation in group if crosses(inside, observation))
         rest = cut(network, inside) - own
-        if inside and rest < own:
-            return "drags"
-        if inside and rest == own:
-            worst = "ties"
-    return worst
+        if rest == 0 and all(crosses(inside, observation) for observation in group):
+            words.add("unchecked")
+        elif rest < own:
+            words.add("drags")
+        elif rest == own:
+            words.add("ties")
+    return next(word for word in ("unchecked", "drags", "ties", "shows") if word in words)
 
 
 # Laws. Each gives what failed, in words, or nothing.
@@ -156,7 +160,8 @@ def one_entry_is_as_its_cuts_say(network: Network, rng: Random) -> List[str]:
     error = rng.choice((-LARGEST_ERROR, -1, 1, LARGEST_ERROR))
     meant = fitting(network, truth, [error if own.line in sights else 0 for own in network.observations])
     best = least_heights(meant)
-    holds = {"shows": best == [truth], "ties": truth in best and len(best) > 1, "drags": truth not in best}
+    holds = {"shows": best == [truth], "ties": truth in best and len(best) > 1, "drags": truth not in best,
+             "unchecked": truth not in best}
     return [] if holds[kind] else [f"a mistake in the entry with sights {sights}, which {kind}"]
 
 
@@ -177,7 +182,47 @@ def points_withstand_blunders(network: Network, rng: Random) -> List[str]:
     return failures
 
 
-LAWS = (numbers_are_cuts, one_mistake_is_as_its_control_says, one_entry_is_as_its_cuts_say, points_withstand_blunders)
+def changed(network: Network, number: Number, change: int) -> Network:
+    """The network with one number changed, as the page defines it."""
+    if number.kind == "benchmark":
+        return network._replace(benchmarks={**network.benchmarks, number.station: number.given + change})
+    step = -change if number.kind == "reflector" else change
+    observations = [own._replace(difference=own.difference + step) if place in number.places else own
+                    for place, own in enumerate(network.observations)]
+    return network._replace(observations=observations)
+
+
+def some_numbers(network: Network, rng: Random) -> List[Number]:
+    """The sights, the benchmarks, and some sights of one station as an entry of each kind."""
+    station = rng.choice(network.observations).station
+    places = [place for place, own in enumerate(network.observations) if own.station == station]
+    chosen = tuple(rng.sample(places, rng.randint(1, len(places))))
+    entries = [Number(kind, 1, 1, station, b"", chosen, rng.randint(-5, 5)) for kind in ("instrument", "reflector")]
+    return sight_numbers(network) + benchmark_numbers(network) + entries
+
+
+def freed_is_least_over_all_changes(network: Network, rng: Random) -> List[str]:
+    errors = [rng.choice((0, 0, -1, 1, LARGEST_ERROR)) for _ in network.observations]
+    meant = fitting(network, true_heights(network, rng), errors)
+    cost = value_of(meant, best_flows(meant))
+    most = 2 * sum(map(abs, errors)) + LARGEST_ERROR
+    failures = []
+    for number in some_numbers(meant, rng):
+        own = freed(Survey(meant, cost, 0, []), number)
+        costs = {change: value_of(*with_flows(changed(meant, number, change))) for change in range(-most, most + 1)}
+        least = [number.given + change for change, value in costs.items() if value == min(costs.values())]
+        wanted = (own.explains == 0) if number.given in least else (own.low, own.high) == (least[0], least[-1])
+        if own.left != min(costs.values()) or not wanted:
+            failures.append(f"{number} set free: {own}, and not {min(costs.values())} at {least}")
+    return failures
+
+
+def with_flows(network: Network) -> tuple:
+    return network, best_flows(network)
+
+
+LAWS = (numbers_are_cuts, one_mistake_is_as_its_control_says, one_entry_is_as_its_cuts_say, points_withstand_blunders,
+        freed_is_least_over_all_changes)
 
 
 def main() -> int:

@@ -91,7 +91,7 @@ def answer_of_program(program: Path) -> Answering:
                                  timeout=PATIENCE_IN_SECONDS, check=False)
         except subprocess.TimeoutExpired:
             return reader.Answer(b"", f"(no end within {PATIENCE_IN_SECONDS} s)".encode("ascii"), -1)
-        return reader.Answer(run.stdout, run.stderr, run.returncode)
+        return reader.Answer(run.stdout, reader.without_help(run.stderr), run.returncode)
 
     return answer
 

@@ -8,6 +8,7 @@ fault on standard error with status 2. It shares nothing with the program, so th
 page, is at fault. It is written to be compared with the page, section by section, and not to be fast.
 """
 
+import re
 import sys
 from pathlib import Path
 from typing import List, NamedTuple, Optional
@@ -95,6 +96,15 @@ class Answer(NamedTuple):
     standard_output: bytes
     standard_error: bytes
     status: int
+
+
+# What a program says on standard error
+
+
+def without_help(said: bytes) -> bytes:
+    """What is said, without a second line. That one is for people, two spaces in front, and its words may change."""
+    line, end, rest = said.partition(b"\n")
+    return line + end if re.fullmatch(rb"  [ -~]+\n", rest) else said
 
 
 # Lines

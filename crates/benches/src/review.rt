@@ -7,6 +7,7 @@ use std::fs;
 use std::rt::{Clock, Files};
 use std::time::Duration;
 use th_network::Network;
+use th_progress::Silent;
 use th_reliability::Reliability;
 
 /// Reads a book, its benchmarks and its weights from the files, and prints one line: the best time of
@@ -43,7 +44,7 @@ pub fn measure<R: Clock + Files + Print + Alloc<A = Global>>(
 /// Finds strengths and controls once.
 fn once(clock: &impl Clock, alloc: Global, network: &Network) -> Result<(Duration, Reliability)> {
     let watch = Watch::start(clock);
-    let found = Reliability::of(alloc, network)?;
+    let found = Reliability::of(alloc, network, &mut Silent)?;
     Ok((watch.time(clock), found))
 }
 

@@ -13,11 +13,6 @@ use Rattle.gsi_block.proofs.RowsLaw.{row_some}
 abbrev pub WordHasOneSpelling : Type 0
 WordHasOneSpelling = (word : Parts) (bytes : List ℕ) (width : Width) → Spells word bytes width → bytes ≡ spelling_of word
 
--- words and one more
-pub AreSpelled-append : (width : Width) (words : List Parts) (word : Parts) → AreSpelled width words → Spells word (spelling_of word) width → AreSpelled width (words ++ word ∷ [])
-AreSpelled-append width [] word are spells = (spells, tt)
-AreSpelled-append width (first ∷ words) word are spells = (are.0, AreSpelled-append width words word are.1 spells)
-
 -- how many bytes a closed word has
 pub length-closed : (word : Parts) (width : Width) → Spells word (spelling_of word) width → length (closed word) ≤ 24
 length-closed word Eight spells = omega (arith, spells.length, length-append (spelling_of word) (32 ∷ []))

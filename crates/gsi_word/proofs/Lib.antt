@@ -1,4 +1,3 @@
-pub mod CallerLemmas
 pub mod NameLemmas
 pub mod SpellingLaw
 pub mod Spellings

@@ -20,10 +20,7 @@ pub record ArePlaced (word : Parts) (width : Width) : Type 0 where
   pub body_length : length word.body ≡ data_len width
   pub body : list_all is_data word.body ≡ true
 
--- the sign of a word, and what it is read as
-sign_byte : Bool → ℕ
-sign_byte negative = if negative then 45 else 43
-
+-- what the sign of a word is read as
 sign_byte-read : (negative : Bool) → (is_sign (if negative then 45 else 43) ≡ true) × (negative ≡ ((if negative then 45 else 43) == 45))
 sign_byte-read true = (refl, refl)
 sign_byte-read false = (refl, refl)
@@ -99,10 +96,6 @@ IsTheSpelling-Spells word (a ∷ b ∷ c ∷ d ∷ e ∷ f ∷ g ∷ rest) width
     }
 IsTheSpelling-Spells word bytes Eight spells = absurd (omega (arith, spells.length))
 IsTheSpelling-Spells word bytes Sixteen spells = absurd (omega (arith, spells.length))
-
--- what is spelled has allowed parts
-pub ArePlaced-Spells : (word : Parts) (bytes : List ℕ) (width : Width) → Spells word bytes width → ArePlaced word width
-ArePlaced-Spells word bytes width spells = (IsTheSpelling-Spells word bytes width spells).placed
 
 -- a spelling is that of its word
 pub spelling_of-Spells : (word : Parts) (bytes : List ℕ) (width : Width) → Spells word bytes width → bytes ≡ spelling_of word

@@ -4,7 +4,9 @@ use std::cell::Cell;
 use std::fmt::Display;
 use std::io;
 use std::test::Fail;
-use th_devices::{Failed, ReadFault, StandardOutput, TextSink, TextSource, read_all, write_all};
+use th_devices::{
+    Failed, ReadFault, Reasons, StandardOutput, TextSink, TextSource, read_all, write_all,
+};
 
 /// A text of 70 bytes.
 pub const TEXT: &[u8] =
@@ -101,7 +103,8 @@ fn standard_output_takes_all_or_fails(rt: HostRuntime) {
             taken: Cell::new(0),
             room,
         };
-        let mut sink = StandardOutput::new(&output);
+        let reasons = Reasons::new();
+        let mut sink = StandardOutput::new(&output, &reasons);
         assert_eq!(rt; write_all(&mut sink, TEXT), answer, "room {room}");
         assert_eq!(rt; output.taken.get(), room, "room {room}");
     }

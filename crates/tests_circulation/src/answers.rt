@@ -6,7 +6,8 @@ use crate::searches::cycle_len;
 use std::alloc::{AllocError, Global};
 use std::process::Abort;
 use std::test::Fail;
-use th_search::{Arc, Found, LabelSearch, LevelSearch, MAX_ARCS, MAX_VERTICES, Search, are_arcs};
+use tests_searches::LevelSearch;
+use th_search::{Arc, Found, LabelSearch, MAX_ARCS, MAX_VERTICES, Search, are_arcs};
 
 const fn arc(tail: u32, head: u32, cost: i64) -> Arc {
     Arc { tail, head, cost }
@@ -41,13 +42,13 @@ const ROWS: [Row; 9] = [
 ];
 
 /// What `LabelSearch` finds.
-fn by_labels(rt: &impl Abort, alloc: Global, n: u32, arcs: &[Arc]) -> Result<Found, AllocError> {
+fn by_labels(rt: &impl Abort, alloc: Global, n: u32, arcs: &Vec<Arc>) -> Result<Found, AllocError> {
     assert!(rt; 1 <= n && n <= MAX_VERTICES && arcs.len() <= MAX_ARCS && are_arcs(n, arcs));
     LabelSearch::new().search(alloc, n, arcs)
 }
 
 /// What `LevelSearch` finds.
-fn by_levels(rt: &impl Abort, alloc: Global, n: u32, arcs: &[Arc]) -> Result<Found, AllocError> {
+fn by_levels(rt: &impl Abort, alloc: Global, n: u32, arcs: &Vec<Arc>) -> Result<Found, AllocError> {
     assert!(rt; 1 <= n && n <= MAX_VERTICES && arcs.len() <= MAX_ARCS && are_arcs(n, arcs));
     LevelSearch::new().search(alloc, n, arcs)
 }

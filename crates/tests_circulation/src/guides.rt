@@ -1,4 +1,5 @@
 use crate::randoms::Random;
+use crate::towers::{Second, settled_tower};
 use std::alloc::Global;
 use std::process::Abort;
 use th_guide::{Guide, Link, ResidualArc};
@@ -107,6 +108,7 @@ fn follow(rt: &impl Abort, alloc: Global, net: &mut Net) {
         guide.set_link(place, *link);
     }
     guide.start();
+    assert!(rt; guide.has_solved());
     for _ in 0..net.links.len() {
         if let Some(amount) = guide.propose() {
             cancel(rt, &guide, net, amount);
@@ -127,6 +129,48 @@ fn proposals_lead_to_optimal_flows(rt: HostRuntime) {
             let mut net = net_of(&rt, rt.alloc(), &mut random, kind, 2 + 2 * k);
             follow(&rt, rt.alloc(), &mut net);
         }
+    }
+}
+
+/// A tower of a hundred links of 30 km and weight 1,000, whose vertices vertex 0 has at its own height
+/// with weight 1: those with even numbers first, so that a first tree has no height above 30 km.
+fn tower(rt: &impl Abort, alloc: Global, vertices: u32) -> Net {
+    let flat = Link {
+        tail: 0,
+        head: 0,
+        difference: 0,
+        weight: 1,
+        flow: 0,
+    };
+    let mut links = Vec::new(alloc);
+    for odd in 0..2u32 {
+        for head in 1..vertices {
+            if head % 2 == odd {
+                links.push(Link { head, ..flat }).expect(rt, "memory");
+            }
+        }
+    }
+    let mut tail = 1;
+    for head in 2..vertices {
+        let link = Link {
+            tail,
+            head,
+            difference: 3_000_000_000_000,
+            weight: 1_000,
+            flow: 0,
+        };
+        links.push(link).expect(rt, "memory");
+        tail = head;
+    }
+    Net { vertices, links }
+}
+
+/// Heights that grow far above those of the first tree.
+#[test]
+fn towers_are_solved(rt: HostRuntime) {
+    for vertices in [3, 102, 600] {
+        let mut net = tower(&rt, rt.alloc(), vertices);
+        follow(&rt, rt.alloc(), &mut net);
     }
 }
 
@@ -157,8 +201,19 @@ fn nonsense_is_given_up(rt: HostRuntime) {
         guide.set_link(0, link);
         guide.set_link(1, link);
         guide.start();
-        assert!(rt; !guide.is_at_work());
+        assert!(rt; !guide.has_solved() && !guide.is_at_work());
         assert_eq!(rt; guide.propose(), None);
         assert_eq!(rt; guide.height(1), None);
+    }
+}
+
+/// The search of a tower begins with a cycle that the guide proposes; or, where the guide has found no flows for the
+/// differences as they are, with all arcs at differences that are halved until they are small.
+#[test]
+fn towers_begin_with_few_arcs_or_small_differences(rt: HostRuntime) {
+    for second in [Second::None, Second::Contradicts] {
+        let tower = settled_tower(&rt, rt.alloc(), second);
+        let first = tower.first;
+        assert!(&rt; first.arcs < tower.arcs || first.largest <= 1, "{first:?}");
     }
 }

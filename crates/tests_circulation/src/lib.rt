@@ -23,6 +23,8 @@ mod surveys;
 mod rows;
 #[cfg(test)]
 mod sizes;
+#[cfg(test)]
+mod towers;
 
 // What the guide proposes.
 #[cfg(test)]

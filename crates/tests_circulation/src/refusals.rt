@@ -5,30 +5,32 @@ use std::process::Abort;
 use th_circulation::{Steps, settle};
 use th_limits::CALLS_BEFORE;
 use th_network::Network;
+use th_search::SearchCounts;
 
 /// Settles a network over a search that refuses one call, and again over the same search; whether the
 /// first settling was refused.
 fn settle_twice(rt: &impl Abort, alloc: Global, network: &Network, refused: u128) -> bool {
     let mut search = RefusingSearch {
         refused,
-        calls: 0,
-        refusals: 0,
-        cycles: 0,
+        counts: SearchCounts::new(),
     };
     let mut steps = Steps::new();
     if settle(alloc, network, &mut search, &mut steps).is_ok() {
         return false;
     }
     let counted = steps.count();
-    let calls = search.calls;
+    let calls = search.counts.calls;
     assert_eq!(rt; calls, refused.wrapping_add(1));
-    assert_eq!(rt; search.refusals, 1);
-    assert_eq!(rt; search.cycles, counted);
+    assert_eq!(rt; search.counts.refusals, 1);
+    assert_eq!(rt; search.counts.cycles, counted);
     assert!(rt; calls <= CALLS_BEFORE && counted <= CALLS_BEFORE);
     let settled = settle(alloc, network, &mut search, &mut steps).expect(rt, "memory");
     let rise = steps.count().wrapping_sub(counted);
-    assert_eq!(rt; search.calls.wrapping_sub(calls), rise.wrapping_add(44));
-    assert_eq!(rt; search.cycles, steps.count());
+    assert_eq!(rt;
+        search.counts.calls.wrapping_sub(calls),
+        rise.wrapping_add(44)
+    );
+    assert_eq!(rt; search.counts.cycles, steps.count());
     assert_eq!(rt; settled.flows.as_slice(), [-1i64, -1, 0, 1, 1].as_slice());
     true
 }
@@ -63,17 +65,20 @@ fn the_largest_counts_are_counted_on(rt: HostRuntime) {
     let network = network_of(&rt, rt.alloc(), &book, &tables);
     let mut search = RefusingSearch {
         refused: 0,
-        calls: CALLS_BEFORE,
-        refusals: 0,
-        cycles: CALLS_BEFORE,
+        counts: SearchCounts {
+            calls: CALLS_BEFORE,
+            refusals: 0,
+            cycles: CALLS_BEFORE,
+            last: None,
+        },
     };
     let mut steps = Steps::after(CALLS_BEFORE);
     let settled = settle(rt.alloc(), &network, &mut search, &mut steps).expect(&rt, "memory");
     let rise = steps.count().wrapping_sub(CALLS_BEFORE);
     assert!(rt; 1 <= rise);
-    assert_eq!(rt; search.cycles, steps.count());
+    assert_eq!(rt; search.counts.cycles, steps.count());
     assert_eq!(rt;
-        search.calls.wrapping_sub(CALLS_BEFORE),
+        search.counts.calls.wrapping_sub(CALLS_BEFORE),
         rise.wrapping_add(44)
     );
     assert_eq!(rt; settled.flows.as_slice(), [-1i64, 1].as_slice());

@@ -4,8 +4,9 @@ use crate::surveys::{
 };
 use std::alloc::Global;
 use std::process::Abort;
+use tests_searches::LevelSearch;
 use th_network::Network;
-use th_search::{LabelSearch, LevelSearch};
+use th_search::LabelSearch;
 
 /// A survey and what it is settled to: the lowest and the highest best heights, their cost, the flows
 /// that are forced, and how many steps there are at most, 88 times the sum of the weights.

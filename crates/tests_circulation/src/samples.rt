@@ -5,8 +5,9 @@ use crate::settling::{Outcome, cost_of, settled_over};
 use crate::surveys::{network_of, tables_of};
 use std::alloc::Global;
 use std::process::Abort;
+use tests_searches::LevelSearch;
 use th_network::Network;
-use th_search::{LabelSearch, LevelSearch};
+use th_search::LabelSearch;
 
 /// Compares spans with the lengths of shortest walks.
 fn compare_walks(rt: &impl Abort, alloc: Global, network: &Network, outcome: &Outcome) {

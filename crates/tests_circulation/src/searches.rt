@@ -3,16 +3,63 @@ ghost use Rattle.th_search.specs.Limits.{max_vertices, max_arcs, max_cost};
 ghost use Rattle.th_search.specs.Walks.{IsArc, IsNegativeCycle};
 ghost use Rattle.th_search.specs.Potentials.{ArePotentials, largest_cost, value_at};
 ghost use Rattle.th_search.specs.Answers.{IsAnswer};
+ghost use Rattle.th_search.specs.Asked.{asked_last};
 
 use std::alloc::{AllocError, Global};
-use th_search::{Arc, Found, LabelSearch, LevelSearch, Search};
+use tests_searches::LevelSearch;
+use th_search::{Arc, Found, LabelSearch, Search, SearchCounts};
 
-/// A search that counts its calls and the cycles that it names, where a test can read them.
+/// What a call of a search is about: how many arcs, and the largest size of their costs.
+#[derive(Clone, Copy, Debug)]
+pub struct Question {
+    pub arcs: usize,
+    pub largest: u64,
+}
+
+impl Question {
+    /// No arcs.
+    pub const NONE: Question = Question {
+        arcs: 0,
+        largest: 0,
+    };
+
+    fn of(arcs: &[Arc]) -> Question {
+        let mut largest = 0u64;
+        for arc in arcs {
+            largest = largest.max(arc.cost.unsigned_abs());
+        }
+        Question {
+            arcs: arcs.len(),
+            largest,
+        }
+    }
+}
+
+/// A search that counts its calls and the cycles that it names, and keeps its first question and the arcs of
+/// its last one, where a test can read them.
 #[derive(Drop)]
 pub struct CountingSearch<S> {
     pub search: S,
     pub called: u128,
     pub cycles: u128,
+    pub first: Question,
+    /// The arcs of its last question; none where it answered a cycle.
+    pub last: Vec<Arc>,
+}
+
+impl<S: Search> CountingSearch<S> {
+    /// A search before its first call.
+    pub fn new(alloc: Global, search: S) -> CountingSearch<S>
+        ensures { result.search ≡ search }
+    {
+        CountingSearch {
+            search,
+            called: 0,
+            cycles: 0,
+            first: Question::NONE,
+            last: Vec::new(alloc),
+        }
+    }
 }
 
 impl<S: Search> Search for CountingSearch<S> {
@@ -22,11 +69,20 @@ impl<S: Search> Search for CountingSearch<S> {
 
     ghost cycles = { λ counting. S.cycles counting.search };
 
-    fn search(&mut self, alloc: Global, n: u32, arcs: &[Arc]) -> Result<Found, AllocError> {
+    ghost asked = { λ counting. S.asked counting.search };
+
+    fn search(&mut self, alloc: Global, n: u32, arcs: &Vec<Arc>) -> Result<Found, AllocError> {
+        if self.called == 0 {
+            self.first = Question::of(arcs);
+        }
         self.called = self.called.wrapping_add(1);
+        self.last.clear();
         let found = self.search.search(alloc, n, arcs);
-        if matches!(found, Ok(Found::Cycle(_))) {
-            self.cycles = self.cycles.wrapping_add(1);
+        match &found {
+            // Where memory runs out, arcs are missing, and the test fails.
+            Ok(Found::Potentials(_)) => drop(self.last.extend_from_slice(arcs)),
+            Ok(Found::Cycle(_)) => self.cycles = self.cycles.wrapping_add(1),
+            Err(_) => {}
         }
         found
     }
@@ -38,36 +94,29 @@ impl<S: Search> Search for CountingSearch<S> {
 #[derive(Drop)]
 pub struct RefusingSearch {
     pub refused: u128,
-    pub calls: u128,
-    pub refusals: u128,
-    pub cycles: u128,
-    ghost refusals_are_calls: { refusals ≤ calls },
-    ghost cycles_are_calls: { cycles ≤ calls },
+    pub counts: SearchCounts,
 }
 
 impl Search for RefusingSearch {
-    ghost calls = { λ search. search.calls };
+    ghost calls = { λ search. search.counts.calls };
 
-    ghost refusals = { λ search. search.refusals };
+    ghost refusals = { λ search. search.counts.refusals };
 
-    ghost cycles = { λ search. search.cycles };
+    ghost cycles = { λ search. search.counts.cycles };
 
-    fn search(&mut self, alloc: Global, n: u32, arcs: &[Arc]) -> Result<Found, AllocError> {
-        let found = if self.calls == self.refused {
+    ghost asked = { λ search. asked_last search.counts.last };
+
+    fn search(&mut self, alloc: Global, n: u32, arcs: &Vec<Arc>) -> Result<Found, AllocError> {
+        let found = if self.counts.calls == self.refused {
             Err(AllocError)
         } else {
             LabelSearch::new().search(alloc, n, arcs)
         };
-        self.calls += 1;
-        match &found {
-            Ok(Found::Potentials(_)) => {}
-            Ok(Found::Cycle(_)) => self.cycles += 1,
-            Err(_) => self.refusals += 1,
-        }
+        self.counts.add(n, arcs, &found);
         found
     }
 
-    ghost refusals_are_calls = { λ search. search.refusals_are_calls };
+    ghost refusals_are_calls = { λ search. search.counts.refusals_are_calls };
 }
 
 /// How a strange search answers.
@@ -83,12 +132,12 @@ pub enum Manner {
 
 impl Manner {
     /// What a search of this manner finds.
-    fn found_in(self, alloc: Global, n: u32, arcs: &[Arc]) -> Result<Found, AllocError>
+    fn found_in(self, alloc: Global, n: u32, arcs: &Vec<Arc>) -> Result<Found, AllocError>
         requires some { 1 ≤ n }
         requires vertices { n ≤ max_vertices }
-        requires many { length arcs.now ≤ max_arcs }
-        requires arcs { All (IsArc n) arcs.now }
-        ensures { IfOk result (IsAnswer n arcs.now) }
+        requires many { length arcs.now.items ≤ max_arcs }
+        requires arcs { All (IsArc n) arcs.now.items }
+        ensures { IfOk result (IsAnswer n arcs.now.items) }
     {
         match self {
             Manner::Longest => longest(alloc, n, arcs),
@@ -99,12 +148,12 @@ impl Manner {
 }
 
 /// The longer one of the answers of both searches.
-fn longest(alloc: Global, n: u32, arcs: &[Arc]) -> Result<Found, AllocError>
+fn longest(alloc: Global, n: u32, arcs: &Vec<Arc>) -> Result<Found, AllocError>
     requires some { 1 ≤ n }
     requires vertices { n ≤ max_vertices }
-    requires many { length arcs.now ≤ max_arcs }
-    requires arcs { All (IsArc n) arcs.now }
-    ensures { IfOk result (IsAnswer n arcs.now) }
+    requires many { length arcs.now.items ≤ max_arcs }
+    requires arcs { All (IsArc n) arcs.now.items }
+    ensures { IfOk result (IsAnswer n arcs.now.items) }
 {
     let labels = LabelSearch::new().search(alloc, n, arcs)?;
     let levels = LevelSearch::new().search(alloc, n, arcs)?;
@@ -115,12 +164,12 @@ fn longest(alloc: Global, n: u32, arcs: &[Arc]) -> Result<Found, AllocError>
 }
 
 /// The answer of a search, where its cycle begins at the second arc.
-fn turned(alloc: Global, n: u32, arcs: &[Arc]) -> Result<Found, AllocError>
+fn turned(alloc: Global, n: u32, arcs: &Vec<Arc>) -> Result<Found, AllocError>
     requires some { 1 ≤ n }
     requires vertices { n ≤ max_vertices }
-    requires many { length arcs.now ≤ max_arcs }
-    requires arcs { All (IsArc n) arcs.now }
-    ensures { IfOk result (IsAnswer n arcs.now) }
+    requires many { length arcs.now.items ≤ max_arcs }
+    requires arcs { All (IsArc n) arcs.now.items }
+    ensures { IfOk result (IsAnswer n arcs.now.items) }
 {
     match LabelSearch::new().search(alloc, n, arcs)? {
         Found::Potentials(potentials) => Ok(Found::Potentials(potentials)),
@@ -139,12 +188,12 @@ fn from_second(_arcs: &[Arc], mut cycle: Vec<u32>) -> Vec<u32>
 }
 
 /// The answer of a search, where its potentials are lowered alike as far as the law allows.
-fn lowest(alloc: Global, n: u32, arcs: &[Arc]) -> Result<Found, AllocError>
+fn lowest(alloc: Global, n: u32, arcs: &Vec<Arc>) -> Result<Found, AllocError>
     requires some { 1 ≤ n }
     requires vertices { n ≤ max_vertices }
-    requires many { length arcs.now ≤ max_arcs }
-    requires arcs { All (IsArc n) arcs.now }
-    ensures { IfOk result (IsAnswer n arcs.now) }
+    requires many { length arcs.now.items ≤ max_arcs }
+    requires arcs { All (IsArc n) arcs.now.items }
+    ensures { IfOk result (IsAnswer n arcs.now.items) }
 {
     match LabelSearch::new().search(alloc, n, arcs)? {
         Found::Potentials(mut potentials) => {
@@ -219,11 +268,7 @@ pub fn cycle_len(found: &Found) -> usize {
 #[derive(Drop)]
 pub struct StrangeSearch {
     manner: Manner,
-    calls: u128,
-    refusals: u128,
-    cycles: u128,
-    ghost refusals_are_calls: { refusals ≤ calls },
-    ghost cycles_are_calls: { cycles ≤ calls },
+    counts: SearchCounts,
 }
 
 impl StrangeSearch {
@@ -233,30 +278,25 @@ impl StrangeSearch {
     {
         StrangeSearch {
             manner,
-            calls: 0,
-            refusals: 0,
-            cycles: 0,
+            counts: SearchCounts::new(),
         }
     }
 }
 
 impl Search for StrangeSearch {
-    ghost calls = { λ search. search.calls };
+    ghost calls = { λ search. search.counts.calls };
 
-    ghost refusals = { λ search. search.refusals };
+    ghost refusals = { λ search. search.counts.refusals };
 
-    ghost cycles = { λ search. search.cycles };
+    ghost cycles = { λ search. search.counts.cycles };
 
-    fn search(&mut self, alloc: Global, n: u32, arcs: &[Arc]) -> Result<Found, AllocError> {
+    ghost asked = { λ search. asked_last search.counts.last };
+
+    fn search(&mut self, alloc: Global, n: u32, arcs: &Vec<Arc>) -> Result<Found, AllocError> {
         let found = self.manner.found_in(alloc, n, arcs);
-        self.calls += 1;
-        match &found {
-            Ok(Found::Potentials(_)) => {}
-            Ok(Found::Cycle(_)) => self.cycles += 1,
-            Err(_) => self.refusals += 1,
-        }
+        self.counts.add(n, arcs, &found);
         found
     }
 
-    ghost refusals_are_calls = { λ search. search.refusals_are_calls };
+    ghost refusals_are_calls = { λ search. search.counts.refusals_are_calls };
 }

@@ -1,26 +1,28 @@
 ghost use Rattle.std.specs.Prelude.{◌≤◌};
 ghost use Rattle.th_circulation.specs.Limits.{max_counted};
 
-use crate::searches::CountingSearch;
+use crate::searches::{CountingSearch, Question};
 use gsi_word::Name;
 use std::alloc::Global;
 use std::process::Abort;
 use th_circulation::{Settled, Spans, Steps, settle, spans};
 use th_network::Network;
-use th_search::Search;
+use th_search::{Arc, Search};
 
 /// How many phases a settling has: for each the search is called once more than steps are counted.
 const PHASES: u128 = 44;
 
-/// What a network was settled to, its spans, and how many steps that took.
+/// What a network was settled to, its spans, how many steps that took, and the first question of the search.
 #[derive(Drop)]
 pub struct Outcome {
     pub settled: Settled,
     pub spans: Spans,
     pub steps: u128,
+    pub first: Question,
 }
 
-/// Settles a network over a search, finds its spans, and compares the counts of calls, cycles and steps.
+/// Settles a network over a search, finds its spans, and compares the counts of calls, cycles and steps. The
+/// last question of the search is all residual arcs of the flows, and it answers potentials.
 pub fn settled_over<S: Search + Drop>(
     rt: &impl Abort,
     alloc: Global,
@@ -29,22 +31,41 @@ pub fn settled_over<S: Search + Drop>(
 ) -> Outcome
     requires { S.calls search ≤ max_counted }
 {
-    let mut counting = CountingSearch {
-        search,
-        called: 0,
-        cycles: 0,
-    };
+    let mut counting = CountingSearch::new(alloc, search);
     let mut steps = Steps::new();
     let settled = settle(alloc, network, &mut counting, &mut steps).expect(rt, "memory");
     let spans = spans(alloc, network, &settled).expect(rt, "memory");
     let steps = steps.count();
     assert_eq!(rt; counting.called, steps.wrapping_add(PHASES));
     assert_eq!(rt; counting.cycles, steps);
+    assert!(rt; are_residual(network, &settled.flows, &counting.last));
     Outcome {
         settled,
         spans,
         steps,
+        first: counting.first,
     }
+}
+
+/// Whether the arcs lead as the residual arcs of flows do, link by link.
+fn are_residual(network: &Network, flows: &[i64], arcs: &[Arc]) -> bool {
+    let mut arcs = arcs.iter();
+    let weights = network.weights();
+    for ((link, flow), weight) in network.arcs().iter().zip(flows).zip(weights) {
+        let weight = i64::from(*weight);
+        if *flow < weight && !leads(arcs.next(), link.tail, link.head) {
+            return false;
+        }
+        if *flow > weight.wrapping_neg() && !leads(arcs.next(), link.head, link.tail) {
+            return false;
+        }
+    }
+    arcs.next().is_none()
+}
+
+/// Whether there is an arc, and it leads from this tail to this head.
+fn leads(arc: Option<&Arc>, tail: u32, head: u32) -> bool {
+    arc.is_some_and(|arc| arc.tail == tail && arc.head == head)
 }
 
 /// What heights cost: the sum of weight times size of the residual.

@@ -2,7 +2,8 @@ use crate::settling::{Outcome, cost_of, settled_over};
 use crate::surveys::{A_AT_100, LONGER, SETUP, SIGHT, joined, network_of, tables_of};
 use std::alloc::Global;
 use std::process::Abort;
-use th_search::{LabelSearch, LevelSearch};
+use tests_searches::LevelSearch;
+use th_search::LabelSearch;
 
 /// Adds a line to a book so many times.
 fn add(rt: &impl Abort, book: &mut Vec<u8>, line: &[u8], times: u32) {

@@ -1,8 +1,9 @@
 //! Books of the examples and small ones, whole and in pieces, with what their review tells.
 use std::alloc::Global;
 use std::process::Abort;
+use th_book::BookFeed;
 use th_entries::HeightKind::{Instrument, Reflector};
-use th_entries::{BookCount, BookReview, Entry, HeightKind, ReviewFeed, SeenNames};
+use th_entries::{BookCount, BookReview, Entry, HeightKind, SeenNames, Tally};
 
 /// An entry's line, kind, station, length in units of 10 nm, how many sights use it, and the last of
 /// their lines.
@@ -89,7 +90,17 @@ const SETUP: &[u8] = b"110001+0000000A 84..10+00000000 87..10+00001300 88..10+00
 
 const SIGHT: &[u8] = b"110002+0000000B 33..00+00002345 ";
 
-const REVIEWS: [Row; 13] = [
+/// A pole that is changed and changed back is three entries, also with other units in between.
+const CHANGED_BACK: &[&[u8]] = &[
+    SETUP,
+    SIGHT,
+    b"110003+0000000C 33..10+00002345 87..16+00014000 ",
+    b"110004+0000000D 33..10+00002345 87..18+00140000 88..16+00015000 ",
+    b"110005+0000000B 33..10+00002345 87..10+00001300 88..10+00001500 ",
+    b"110006+0000000C 33..10+00002345 ",
+];
+
+const REVIEWS: [Row; 20] = [
     (&[], (0, 0, 0, 0), &[], &[]),
     (
         BUILDING_SITE,
@@ -203,6 +214,19 @@ const REVIEWS: [Row; 13] = [
         ],
         &[1, 4],
     ),
+    // blocks that measure an angle or a distance are no setups, whatever the information of the word
+    (
+        &[
+            b"110001+0000000A 21.322+12344929 88..10+00001500 ",
+            b"110002+0000000B 88..10+00001500 22.322+09715570 ",
+            b"110003+0000000C 31..00+00027472 88..10+00001500 ",
+            b"110004+0000000D 32..00+00027445 88..10+00001500 ",
+            b"110005+0000000E 81..00+00027445 88..10+00001500 ",
+        ],
+        (5, 5, 0, 0),
+        &[],
+        &[5],
+    ),
     // the name of the station in another spelling
     (
         &[SETUP, b"*110001+00000000000000 A 88..10+0000000000001500 "],
@@ -226,16 +250,139 @@ const REVIEWS: [Row; 13] = [
     ),
     // blank lines count as lines alone
     (&[b"", b"   ", SETUP, b""], (4, 1, 1, 0), &[], &[]),
+    (
+        CHANGED_BACK,
+        (6, 6, 1, 5),
+        &[
+            (1, Reflector, b"A", 130_000_000, 1, 2),
+            (1, Instrument, b"A", 150_000_000, 5, 6),
+            (3, Reflector, b"A", 140_000_000, 2, 4),
+            (5, Reflector, b"A", 130_000_000, 2, 6),
+        ],
+        &[],
+    ),
+    // a height that is repeated before the first sight, on a line of its own
+    (
+        &[SETUP, b"87..16+00013000 ", b"", SIGHT],
+        (4, 3, 1, 1),
+        &[
+            (1, Reflector, b"A", 130_000_000, 1, 4),
+            (1, Instrument, b"A", 150_000_000, 1, 4),
+        ],
+        &[],
+    ),
+    // one that is changed and changed back with no sight in between: the first and the second entry have none
+    (
+        &[SETUP, b"87..10+00001400 ", b"87..10+00001300 ", SIGHT],
+        (4, 4, 1, 1),
+        &[
+            (1, Instrument, b"A", 150_000_000, 1, 4),
+            (3, Reflector, b"A", 130_000_000, 1, 4),
+        ],
+        &[],
+    ),
+    // a reflector height that equals the instrument height continues no entry of it
+    (
+        &[SETUP, b"110002+0000000B 33..10+00002345 87..10+00001500 "],
+        (2, 2, 1, 1),
+        &[
+            (1, Instrument, b"A", 150_000_000, 1, 2),
+            (2, Reflector, b"A", 150_000_000, 1, 2),
+        ],
+        &[],
+    ),
+    // lengths that differ by one unit of the last digit, in sign, and zeros with either sign
+    (
+        &[
+            SETUP,
+            b"110002+0000000B 33..10+00002345 87..18+00130001 ",
+            b"110003+0000000B 33..10+00002345 87..18-00130001 ",
+            b"110004+0000000B 33..10+00002345 87..10+00000000 ",
+            b"110005+0000000B 33..10+00002345 87..16-00000000 ",
+        ],
+        (5, 5, 1, 4),
+        &[
+            (1, Instrument, b"A", 150_000_000, 4, 5),
+            (2, Reflector, b"A", 130_001_000, 1, 2),
+            (3, Reflector, b"A", -130_001_000, 1, 3),
+            (4, Reflector, b"A", 0, 2, 5),
+        ],
+        &[],
+    ),
+    // a height before the first setup is in no setup, so the next word begins an entry
+    (
+        &[b"87..10+00001300 88..10+00001500 ", SETUP, SIGHT],
+        (3, 3, 1, 1),
+        &[
+            (2, Reflector, b"A", 130_000_000, 1, 3),
+            (2, Instrument, b"A", 150_000_000, 1, 3),
+        ],
+        &[],
+    ),
+];
+
+/// One survey with the heights once a setup, at its front; at the first sight; in every sight; and in every sight in
+/// other units. The second setup has the heights of the first.
+const SURVEYS: [&[&[u8]]; 4] = [
+    &[
+        b"110001+0000000A 84..10+00000000 87..10+00001300 88..10+00001500 ",
+        b"110002+0000000B 33..10+00002345 ",
+        b"110003+0000000C 33..10+00001345 ",
+        b"110004+0000000D 33..10+00001340 87..10+00002000 ",
+        b"110005+0000000B 84..10+00000000 87..10+00002000 88..10+00001500 ",
+        b"110006+0000000C 33..10+00000345 ",
+        b"110007+0000000A 33..10-00000345 ",
+    ],
+    &[
+        b"110001+0000000A 84..10+00000000 ",
+        b"110002+0000000B 33..10+00002345 87..10+00001300 88..10+00001500 ",
+        b"110003+0000000C 33..10+00001345 ",
+        b"110004+0000000D 33..10+00001340 87..10+00002000 ",
+        b"110005+0000000B 84..10+00000000 ",
+        b"110006+0000000C 33..10+00000345 87..10+00002000 88..10+00001500 ",
+        b"110007+0000000A 33..10-00000345 ",
+    ],
+    &[
+        b"110001+0000000A 84..10+00000000 88..10+00001500 ",
+        b"110002+0000000B 33..10+00002345 87..10+00001300 88..10+00001500 ",
+        b"110003+0000000C 33..10+00001345 87..10+00001300 88..10+00001500 ",
+        b"110004+0000000D 33..10+00001340 87..10+00002000 88..10+00001500 ",
+        b"110005+0000000B 84..10+00000000 88..10+00001500 ",
+        b"110006+0000000C 33..10+00000345 87..10+00002000 88..10+00001500 ",
+        b"110007+0000000A 33..10-00000345 87..10+00002000 88..10+00001500 ",
+    ],
+    &[
+        b"110001+0000000A 84..10+00000000 88..18+00150000 ",
+        b"110002+0000000B 33..10+00002345 87..16+00013000 88..10+00001500 ",
+        b"110003+0000000C 33..10+00001345 87..18+00130000 88..16+00015000 ",
+        b"110004+0000000D 33..10+00001340 87..16+00020000 88..16+00015000 ",
+        b"110005+0000000B 84..10+00000000 88..18+00150000 ",
+        b"110006+0000000C 33..10+00000345 87..10+00002000 88..16+00015000 ",
+        b"110007+0000000A 33..10-00000345 87..18+00200000 88..10+00001500 ",
+    ],
+];
+
+/// The entries of these surveys, but for their lines and in no order: the kind, the station, the length, how many
+/// sights use it, and the last of their lines.
+const KEYED_IN: [(HeightKind, &[u8], i64, u32, u32); 5] = [
+    (Reflector, b"A", 130_000_000, 2, 3),
+    (Reflector, b"A", 200_000_000, 1, 4),
+    (Instrument, b"A", 150_000_000, 3, 4),
+    (Reflector, b"B", 200_000_000, 2, 7),
+    (Instrument, b"B", 150_000_000, 2, 7),
 ];
 
 /// The review of a book that comes in pieces of so many bytes.
 fn reviewed(rt: &impl Abort, alloc: Global, text: &[u8], piece: usize) -> BookReview {
     assert!(rt; piece >= 1);
-    let mut feed = ReviewFeed::new(alloc, 7, SeenNames::new(alloc));
+    let mut feed = BookFeed::new(alloc, 7);
+    let mut tally = Tally::new(alloc, 7, SeenNames::new(alloc));
     for bytes in text.chunks(piece) {
-        feed.feed(bytes).expect(rt, "memory");
+        feed.feed_to(bytes, &mut tally).expect(rt, "memory");
     }
-    let (review, _) = feed.finish().expect(rt, "memory");
+    let observations = feed.finish_to(&mut tally).expect(rt, "no fault");
+    let (review, _) = tally.review().expect(rt, "memory");
+    assert_eq!(rt; review.counts.sights as usize, observations.len());
     review
 }
 
@@ -284,6 +431,25 @@ fn reviews(rt: HostRuntime) {
         is_review(&rt, &reviewed(&rt, rt.alloc(), &text, 4_096), row);
         is_review(&rt, &reviewed(&rt, rt.alloc(), &text, 7), row);
         is_review(&rt, &reviewed(&rt, rt.alloc(), &text, 1), row);
+    }
+}
+
+#[test]
+fn surveys_have_the_entries_that_were_keyed_in(rt: HostRuntime) {
+    for survey in &SURVEYS {
+        let text = joined(&rt, rt.alloc(), survey, b"\r\n");
+        let review = reviewed(&rt, rt.alloc(), &text, 100);
+        assert_eq!(rt; review.entries.len(), KEYED_IN.len());
+        for (kind, station, length, sights, last) in &KEYED_IN {
+            let is_it = |entry: &Entry| {
+                entry.kind == *kind
+                    && entry.station.as_bytes() == *station
+                    && entry.length.get() == *length
+                    && entry.sights == *sights
+                    && entry.last == *last
+            };
+            assert!(rt; review.entries.iter().any(is_it), "{length} at {last}");
+        }
     }
 }
 

@@ -1,7 +1,8 @@
 //! Books, whole and in pieces, with the names that they spell in more than one way.
 use std::alloc::Global;
 use std::process::Abort;
-use th_entries::{ReviewFeed, SeenNames, Spelling};
+use th_book::BookFeed;
+use th_entries::{SeenNames, Spelling, Tally};
 
 /// The lines of books, and the book, the line and the name of each spelling that is found.
 type Row = (
@@ -140,11 +141,13 @@ fn seen(
     piece: usize,
 ) -> SeenNames {
     assert!(rt; piece >= 1);
-    let mut feed = ReviewFeed::new(alloc, book, names);
+    let mut feed = BookFeed::new(alloc, book);
+    let mut tally = Tally::new(alloc, book, names);
     for bytes in text.chunks(piece) {
-        feed.feed(bytes).expect(rt, "memory");
+        feed.feed_to(bytes, &mut tally).expect(rt, "memory");
     }
-    let (_, names) = feed.finish().expect(rt, "memory");
+    feed.finish_to(&mut tally).expect(rt, "no fault");
+    let (_, names) = tally.review().expect(rt, "memory");
     names
 }
 
@@ -175,18 +178,20 @@ fn spellings(rt: HostRuntime) {
 // As many names as a network may have sights, the last of them in another spelling.
 #[test]
 fn most_names(rt: HostRuntime) {
-    let mut feed = ReviewFeed::new(rt.alloc(), 1, SeenNames::new(rt.alloc()));
+    let mut feed = BookFeed::new(rt.alloc(), 1);
+    let mut tally = Tally::new(rt.alloc(), 1, SeenNames::new(rt.alloc()));
     let mut digits = *b"00000000";
-    feed.feed(SETUP_A).expect(&rt, "memory");
+    feed.feed_to(SETUP_A, &mut tally).expect(&rt, "memory");
     for _ in 0..MOST_SIGHTS {
         count_up(&mut digits);
-        feed.feed(b"\r\n110002+").expect(&rt, "memory");
-        feed.feed(&digits).expect(&rt, "memory");
-        feed.feed(b" 33..00+00002345 ").expect(&rt, "memory");
+        for part in [b"\r\n110002+", &digits as &[u8], b" 33..00+00002345 "] {
+            feed.feed_to(part, &mut tally).expect(&rt, "memory");
+        }
     }
-    feed.feed(b"\r\n110002+   40000 33..00+00002345 ")
+    feed.feed_to(b"\r\n110002+   40000 33..00+00002345 ", &mut tally)
         .expect(&rt, "memory");
-    let (review, names) = feed.finish().expect(&rt, "memory");
+    feed.finish_to(&mut tally).expect(&rt, "no fault");
+    let (review, names) = tally.review().expect(&rt, "memory");
     assert_eq!(&rt; review.counts.sights, MOST_SIGHTS + 1);
     are_found(
         &rt,

@@ -58,7 +58,7 @@ fn names_no_files(rt: &(impl AllocGlobal + Abort), words: &str) {
 }
 
 /// Words that are no plan, and the kind of the error that `clap` answers.
-const WRONG_WORDS: [(&str, ErrorKind); 58] = [
+const WRONG_WORDS: [(&str, ErrorKind); 63] = [
     ("height_office list", ErrorKind::MissingRequiredArgument),
     ("height_office list a b", ErrorKind::UnknownArgument),
     ("height_office lisst a", ErrorKind::InvalidSubcommand),
@@ -77,6 +77,11 @@ const WRONG_WORDS: [(&str, ErrorKind); 58] = [
     ("height_office reviews a", ErrorKind::InvalidSubcommand),
     ("height_office check --help", ErrorKind::DisplayHelp),
     ("height_office list --out p a", ErrorKind::UnknownArgument),
+    ("height_office book", ErrorKind::MissingRequiredArgument),
+    ("height_office book a b", ErrorKind::UnknownArgument),
+    ("height_office book --out p a", ErrorKind::UnknownArgument),
+    ("height_office books a", ErrorKind::InvalidSubcommand),
+    ("height_office book --help", ErrorKind::DisplayHelp),
     // Each that must be there is missing.
     (
         "height_office adjust --out p a",

@@ -3,7 +3,7 @@ use std::test::Fail;
 use th_plans::{Inputs, Limit, Plan, plan};
 
 /// Command lines, and the plans that they name.
-const PLANS: [(&str, &str); 30] = [
+const PLANS: [(&str, &str); 37] = [
     ("height_office", "standard"),
     ("height_office list k.gsi", "list k.gsi"),
     ("height_office list -", "list -"),
@@ -84,6 +84,23 @@ const PLANS: [(&str, &str); 30] = [
         "height_office review review --out adjust --benchmarks check --blunder 1000000000",
         "review review by check limit 100000000000 out adjust",
     ),
+    // `explain` takes no prefix, and a flag.
+    (
+        "height_office explain --benchmarks m a",
+        "explain a by m limit 2000000 as text",
+    ),
+    (
+        "height_office explain --benchmarks m --weights w --blunder 500 --csv a b",
+        "explain a b by m w limit 50000 as table",
+    ),
+    (
+        "height_office explain --csv --benchmarks=m -- --csv a",
+        "explain --csv a by m limit 2000000 as table",
+    ),
+    (
+        "height_office explain 1 2 3 4 5 6 7 8 9 10 11 12 13 14 15 16 --benchmarks m",
+        "explain 1 2 3 4 5 6 7 8 9 10 11 12 13 14 15 16 by m limit 2000000 as text",
+    ),
     (
         "height_office check --benchmarks m --certificate c a b",
         "check a b by m certificate c",
@@ -112,6 +129,9 @@ const PLANS: [(&str, &str); 30] = [
         "height_office check 1 2 3 4 5 6 7 8 9 10 11 12 13 14 15 16 --benchmarks m --certificate c",
         "check 1 2 3 4 5 6 7 8 9 10 11 12 13 14 15 16 by m certificate c",
     ),
+    ("height_office book t.csv", "book t.csv"),
+    ("height_office book book", "book book"),
+    ("height_office book -- --out", "book --out"),
 ];
 
 #[test]
@@ -132,12 +152,20 @@ fn is_planned(rt: &(impl AllocGlobal + Abort), words: &str, wanted: &str) {
     }
 }
 
-/// The arguments of `adjust` and `review`, and those of `check`, in any order.
+/// The arguments of `adjust` and `review`, those of `explain`, and those of `check`, in any order.
 const ADJUSTED: [&str; 5] = [
     "--benchmarks m",
     "--weights w",
     "--blunder 500",
     "--out p",
+    "a b",
+];
+
+const EXPLAINED: [&str; 5] = [
+    "--benchmarks m",
+    "--weights w",
+    "--blunder 500",
+    "--csv",
     "a b",
 ];
 
@@ -150,6 +178,12 @@ fn options_stand_in_every_order(rt: HostRuntime) {
         is_planned(&rt, words.as_str(), "adjust a b by m w limit 50000 out p");
         let words = in_order(&rt, "height_office review", &ADJUSTED, order);
         is_planned(&rt, words.as_str(), "review a b by m w limit 50000 out p");
+        let words = in_order(&rt, "height_office explain", &EXPLAINED, order);
+        is_planned(
+            &rt,
+            words.as_str(),
+            "explain a b by m w limit 50000 as table",
+        );
     }
     for order in 0..24_usize {
         let words = in_order(&rt, "height_office check", &CHECKED, order);
@@ -194,6 +228,16 @@ fn text_of(rt: &(impl AllocGlobal + Abort), plan: &Plan<'_>) -> String {
             limit,
             prefix,
         } => options_text(rt, "review", inputs, *limit, *prefix),
+        Plan::Explain {
+            inputs,
+            limit,
+            table,
+        } => {
+            let files = files_text(rt, inputs);
+            let limit = limit.get();
+            let form = if *table { "table" } else { "text" };
+            format!(in rt.alloc(); "explain {files} limit {limit} as {form}").expect(rt, "memory")
+        }
         Plan::Check {
             inputs,
             certificate,
@@ -201,6 +245,7 @@ fn text_of(rt: &(impl AllocGlobal + Abort), plan: &Plan<'_>) -> String {
             let files = files_text(rt, inputs);
             format!(in rt.alloc(); "check {files} certificate {certificate}").expect(rt, "memory")
         }
+        Plan::Book { table } => format!(in rt.alloc(); "book {table}").expect(rt, "memory"),
     }
 }
 

@@ -1,6 +1,6 @@
 use crate::faults::fault_of;
 use std::process::Abort;
-use th_plans::PlanFault;
+use th_plans::{PlanFault, VERSION};
 
 const LIMIT_TOO_LARGE: &str =
     "error: invalid value '1000000001' for '--blunder <MICROMETRES>': 1000000001 is not in 0..=1000000000\n\nFor more information, try '--help'.\n";
@@ -15,7 +15,7 @@ const OPTION_DOUBLED: &str =
     "error: the argument '--out <PREFIX>' cannot be used multiple times\n\nUsage: height_office adjust [OPTIONS] --benchmarks <FILE> --out <PREFIX> <BOOK>...\n\nFor more information, try '--help'.\n";
 
 const NO_COMMAND: &str =
-    "error: unrecognized subcommand 'k.gsi'\n\nUsage: height_office list <BOOK>\n       height_office adjust [OPTIONS] --benchmarks <FILE> --out <PREFIX> <BOOK>...\n       height_office review [OPTIONS] --benchmarks <FILE> --out <PREFIX> <BOOK>...\n       height_office check [OPTIONS] --benchmarks <FILE> --certificate <FILE> <BOOK>...\n       height_office < BOOK        (lists the book on standard input)\n\nFor more information, try '--help'.\n\n  tip: to list the book in a file, write 'height_office list FILE'\n";
+    "error: unrecognized subcommand 'k.gsi'\n\nUsage: height_office list <BOOK>\n       height_office adjust [OPTIONS] --benchmarks <FILE> --out <PREFIX> <BOOK>...\n       height_office review [OPTIONS] --benchmarks <FILE> --out <PREFIX> <BOOK>...\n       height_office explain [OPTIONS] --benchmarks <FILE> <BOOK>...\n       height_office check [OPTIONS] --benchmarks <FILE> --certificate <FILE> <BOOK>...\n       height_office book <TABLE>\n       height_office < BOOK        (lists the book on standard input)\n\nFor more information, try '--help'.\n\n  tip: to list the book in a file, write 'height_office list FILE'\n";
 
 const LIMIT_BELOW_ZERO: &str =
     "error: unexpected argument '-5' found\n\n  tip: write '--' before a book whose name begins with '-'\n\nUsage: height_office adjust [OPTIONS] --benchmarks <FILE> --out <PREFIX> <BOOK>...\n\nFor more information, try '--help'.\n";
@@ -23,12 +23,17 @@ const LIMIT_BELOW_ZERO: &str =
 const OPTION_MISTYPED: &str =
     "error: unexpected argument '--weight' found\n\n  tip: a similar argument exists: '--weights'\n\nUsage: height_office check --benchmarks <FILE> --certificate <FILE> --weights <FILE> <BOOK>...\n\nFor more information, try '--help'.\n";
 
+const NO_PREFIX: &str =
+    "error: unexpected argument '--out' found\n\n  tip: write '--' before a book whose name begins with '-'\n\nUsage: height_office explain --benchmarks <FILE> <BOOK>...\n\nFor more information, try '--help'.\n";
+
+const FLAG_DOUBLED: &str =
+    "error: the argument '--csv' cannot be used multiple times\n\nUsage: height_office explain [OPTIONS] --benchmarks <FILE> <BOOK>...\n\nFor more information, try '--help'.\n";
+
 const NAMES_NO_FILES: &str =
     "error: the value of '--out' must end in the beginning of a file name, as in 'dam' or 'site/dam'\n\nFor more information, try '--help'.\n";
 
 /// Command lines that are no plan, and the text that answers them.
-const SAID: [(&str, &str); 9] = [
-    ("height_office --version", "height_office 0.9.0\n"),
+const SAID: [(&str, &str); 10] = [
     ("height_office k.gsi", NO_COMMAND),
     ("height_office adjust a --out p", OPTION_MISSING),
     (
@@ -46,6 +51,11 @@ const SAID: [(&str, &str); 9] = [
     (
         "height_office adjust a --benchmarks m --out p --blunder -5",
         LIMIT_BELOW_ZERO,
+    ),
+    ("height_office explain a --benchmarks m --out p", NO_PREFIX),
+    (
+        "height_office explain a --csv --benchmarks m --csv",
+        FLAG_DOUBLED,
     ),
     (
         "height_office check a --benchmarks m --certificate c --weight w",
@@ -68,6 +78,9 @@ fn a_fault_shows_its_text(rt: HostRuntime) {
         let shown = text_of(&rt, &fault_of(&rt, words));
         assert!(rt; shown.as_str() == text, "{shown}");
     }
+    let shown = text_of(&rt, &fault_of(&rt, "height_office --version"));
+    let version = format!(in rt.alloc(); "height_office {VERSION}\n").expect(&rt, "memory");
+    assert!(rt; shown.as_str() == version.as_str(), "{shown}");
     let shown = text_of(&rt, &PlanFault::NoMemory);
     assert!(rt; shown.as_str() == "out of memory\n");
     let shown = text_of(&rt, &PlanFault::TooManyBooks);
@@ -77,7 +90,7 @@ fn a_fault_shows_its_text(rt: HostRuntime) {
 }
 
 /// Requests for help, and a part of its text.
-const HELPS: [(&str, &str); 10] = [
+const HELPS: [(&str, &str); 11] = [
     (
         "height_office --help",
         "height_office adjust --benchmarks marks.csv --out dam monday.gsi tuesday.gsi",
@@ -102,6 +115,10 @@ const HELPS: [(&str, &str); 10] = [
     (
         "height_office check --help",
         "height_office check --benchmarks marks.csv --certificate dam.certificate.csv",
+    ),
+    (
+        "height_office book --help",
+        "height_office book differences.csv > level.gsi",
     ),
 ];
 

@@ -1,6 +1,6 @@
 //! A folder in memory with a project, and a run over it.
 use std::process::Abort;
-use th_folders::MemoryFolder;
+use th_folders::{Folder, MemoryFolder};
 use th_program::run_words;
 
 /// A book with one sight, from A to B: B is higher by 2.545 m.
@@ -63,7 +63,7 @@ pub fn put(rt: &(impl AllocGlobal + Abort), folder: &mut MemoryFolder, name: &st
 }
 
 /// Runs the program with the words of a line behind its own name, and answers its status.
-pub fn run(rt: &(impl AllocGlobal + Abort), folder: &mut MemoryFolder, line: &str) -> u8 {
+pub fn run<F: Folder>(rt: &(impl AllocGlobal + Abort), folder: &mut F, line: &str) -> u8 {
     let mut words = Vec::new(rt.alloc());
     words.push("height_office").ok().expect(rt, "the name");
     for word in line.split_whitespace() {

@@ -9,6 +9,8 @@ mod folders;
 
 // What runs leave.
 #[cfg(test)]
+mod books;
+#[cfg(test)]
 mod commands;
 #[cfg(test)]
 mod overwrites;

@@ -25,7 +25,12 @@ fn a_fault_of_the_second_book_has_its_number(rt: HostRuntime) {
 fn a_file_that_is_not_there_is_not_read(rt: HostRuntime) {
     let mut folder = project(&rt, ROOM);
     assert_eq!(rt; run(&rt, &mut folder, "list none.gsi"), 5);
-    assert!(rt; same(shown(folder.errors()), b"read failed: book 1\n"));
+    assert!(rt;
+        same(
+            shown(folder.errors()),
+            b"read failed: book 1\n  'none.gsi'\n"
+        )
+    );
     assert!(rt; folder.output().is_none());
 }
 
@@ -41,16 +46,15 @@ fn a_table_that_is_a_book_is_refused(rt: HostRuntime) {
 
 /// The heights file of one sight has 104 bytes, and its certificate has more.
 #[test]
-fn a_write_that_fails_leaves_the_files_before_it_whole(rt: HostRuntime) {
+fn a_write_that_fails_changes_no_file(rt: HostRuntime) {
     let mut folder = project(&rt, 110);
     put(&rt, &mut folder, "out.heights.csv", b"old heights");
     put(&rt, &mut folder, "out.certificate.csv", b"old certificate");
     put(&rt, &mut folder, "out.report.txt", b"old report");
     assert_eq!(rt; run(&rt, &mut folder, ADJUST_SITE), 5);
-    assert!(rt; same(shown(folder.errors()), b"write failed: certificate\n"));
-    assert!(rt;
-        file(&folder, "out.heights.csv").ends_with(b"B,102.54500000,102.54500000,102.54500000\n")
-    );
+    let lines = b"write failed: certificate\n  'out.certificate.csv'\n";
+    assert!(rt; same(shown(folder.errors()), lines));
+    assert!(rt; same(file(&folder, "out.heights.csv"), b"old heights"));
     assert!(rt; same(file(&folder, "out.certificate.csv"), b"old certificate"));
     assert!(rt; same(file(&folder, "out.report.txt"), b"old report"));
     assert!(rt; folder.file("out.heights.gsi").is_none());

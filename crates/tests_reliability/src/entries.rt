@@ -5,46 +5,67 @@ use std::alloc::Global;
 use std::process::Abort;
 use th_book::{Observation, read_book};
 use th_network::Network;
-use th_reliability::{Reliability, SharedMistake, Sights, shared_mistakes};
+use th_progress::Silent;
+use th_reliability::{Blame, Effect, Reliability, SharedMistake, Sights, shared_mistakes};
 use th_tables::{read_benchmarks, read_weights};
 
-/// The first and the last line of some sights, and what a mistake does that they share.
-type Entry = (u32, u32, SharedMistake);
+/// How many points move, how many observations are blamed, and the number of the heaviest of these.
+pub(crate) type Moved = (usize, usize, Option<usize>);
+
+/// The order of the observations of a network.
+#[derive(Clone, Copy, Debug)]
+pub(crate) enum Order {
+    Lines,
+    Opposite,
+}
+
+/// The first and the last line of some sights, what a mistake does that they share, and what the least
+/// sets would move: one of them comes out.
+type Entry = (u32, u32, SharedMistake, &'static [Moved]);
 
 /// All sights of each station, some of them, and single ones. The values are those of the least
 /// difference over all sets of points, counted one by one.
 const ON_SITE: [Entry; 8] = [
-    (3, 6, SharedMistake::Drags),
-    (3, 3, SharedMistake::Ties),
-    (8, 11, SharedMistake::Drags),
-    (8, 10, SharedMistake::Ties),
-    (11, 11, SharedMistake::Shows),
-    (13, 15, SharedMistake::Drags),
-    (13, 13, SharedMistake::Shows),
-    (14, 14, SharedMistake::Shows),
+    (3, 6, SharedMistake::Drags, &[(1, 2, Some(5))]),
+    (3, 3, SharedMistake::Ties, &[(4, 1, Some(6))]),
+    (8, 11, SharedMistake::Drags, &[(1, 2, Some(2))]),
+    (
+        8,
+        10,
+        SharedMistake::Ties,
+        &[(1, 3, Some(2)), (4, 1, Some(1))],
+    ),
+    (11, 11, SharedMistake::Shows, &[]),
+    (13, 15, SharedMistake::Drags, &[(1, 2, Some(3))]),
+    (13, 13, SharedMistake::Shows, &[]),
+    (14, 14, SharedMistake::Shows, &[]),
 ];
 
 const ON_DAM: [Entry; 8] = [
-    (3, 8, SharedMistake::Drags),
-    (3, 3, SharedMistake::Ties),
-    (10, 14, SharedMistake::Drags),
-    (16, 19, SharedMistake::Drags),
-    (5, 5, SharedMistake::Ties),
-    (16, 17, SharedMistake::Shows),
-    (11, 12, SharedMistake::Shows),
-    (4, 4, SharedMistake::Shows),
+    (3, 8, SharedMistake::Drags, &[(1, 2, Some(7))]),
+    (3, 3, SharedMistake::Ties, &[(5, 3, Some(6))]),
+    (10, 14, SharedMistake::Drags, &[(1, 1, Some(2))]),
+    (16, 19, SharedMistake::Drags, &[(1, 2, Some(5))]),
+    (5, 5, SharedMistake::Ties, &[(1, 2, Some(8))]),
+    (16, 17, SharedMistake::Shows, &[]),
+    (11, 12, SharedMistake::Shows, &[]),
+    (4, 4, SharedMistake::Shows, &[]),
 ];
 
-/// A sight between benchmarks, one that nothing checks, both, and lines without a sight.
+/// A sight between benchmarks, one that nothing checks, both, and lines without a sight. Of both, one does
+/// not cross the set that moves.
 const AT_BENCHMARKS: [Entry; 4] = [
-    (2, 2, SharedMistake::Shows),
-    (3, 3, SharedMistake::Drags),
-    (1, 3, SharedMistake::Drags),
-    (1, 1, SharedMistake::Shows),
+    (2, 2, SharedMistake::Shows, &[]),
+    (3, 3, SharedMistake::Unchecked, &[(1, 0, None)]),
+    (1, 3, SharedMistake::Drags, &[(1, 0, None)]),
+    (1, 1, SharedMistake::Shows, &[]),
 ];
 
 /// The heavier of two sights of one point, and the lighter.
-const ON_TWO_SIGHTS: [Entry; 2] = [(2, 2, SharedMistake::Drags), (4, 4, SharedMistake::Shows)];
+const ON_TWO_SIGHTS: [Entry; 2] = [
+    (2, 2, SharedMistake::Drags, &[(1, 1, Some(2))]),
+    (4, 4, SharedMistake::Shows, &[]),
+];
 
 #[test]
 fn mistakes_in_entries_are_told_by_cuts(rt: HostRuntime) {
@@ -66,8 +87,8 @@ fn try_entries(rt: &impl Abort, alloc: Global, row: &Worked, entries: &[Entry]) 
     for o in observations.iter().rev() {
         opposite.push(*o).expect(rt, "memory");
     }
-    try_observations(rt, alloc, row, observations, entries);
-    try_observations(rt, alloc, row, opposite, entries);
+    try_observations(rt, alloc, row, observations, entries, Order::Lines);
+    try_observations(rt, alloc, row, opposite, entries, Order::Opposite);
 }
 
 fn try_observations(
@@ -76,6 +97,7 @@ fn try_observations(
     row: &Worked,
     observations: Vec<Observation>,
     entries: &[Entry],
+    order: Order,
 ) {
     let (_, benchmarks, weights, _, _) = row;
     let benchmarks = read_benchmarks(alloc, benchmarks).expect(rt, "benchmarks");
@@ -84,11 +106,11 @@ fn try_observations(
         rt,
         "a network",
     );
-    let found = Reliability::of(alloc, &network).expect(rt, "memory");
+    let found = Reliability::of(alloc, &network, &mut Silent).expect(rt, "memory");
     let mut before = entries.last();
     for entry in entries {
         if let Some(other) = before {
-            try_two(rt, alloc, &network, &found, other, entry);
+            try_two(rt, alloc, &network, &found, other, entry, order);
         }
         before = Some(entry);
     }
@@ -102,6 +124,7 @@ fn try_two(
     found: &Reliability,
     first: &Entry,
     second: &Entry,
+    order: Order,
 )
     requires { AreControls network.now found.now.controls.items }
 {
@@ -112,10 +135,31 @@ fn try_two(
     let second_is_one = two.are_of_one_station(network);
     assert!(rt; second_is_one);
     let entries = [one, one, two, two];
-    let mistakes = shared_mistakes(alloc, network, &found.controls, &entries).expect(rt, "memory");
-    assert_eq!(rt; mistakes.len(), 4);
-    assert!(rt; mistakes[0] == first.2 && mistakes[1] == first.2);
-    assert!(rt; mistakes[2] == second.2 && mistakes[3] == second.2);
+    let effects = shared_mistakes(alloc, network, &found.controls, &entries, &mut Silent).expect(
+        rt, "memory",
+    );
+    assert_eq!(rt; effects.len(), 4);
+    assert!(rt; is_effect(&effects[0], first, order) && is_effect(&effects[1], first, order));
+    assert!(rt; is_effect(&effects[2], second, order) && is_effect(&effects[3], second, order));
+}
+
+/// Whether an effect is what a row allows. In the opposite order other numbers are blamed.
+fn is_effect(effect: &Effect, row: &Entry, order: Order) -> bool {
+    effect.mistake == row.2 && is_one_of(effect.blame, row.3, order)
+}
+
+/// Whether a blame is one of those that are allowed, or there is none and none is allowed.
+pub(crate) fn is_one_of(blame: Option<Blame>, allowed: &[Moved], order: Order) -> bool {
+    let Some(blame) = blame else {
+        return allowed.is_empty();
+    };
+    for (moves, blames, blamed) in allowed {
+        let is_blamed = *blamed == blame.blamed || matches!(order, Order::Opposite);
+        if *moves == blame.moves && *blames == blame.blames && is_blamed {
+            return true;
+        }
+    }
+    false
 }
 
 /// The sights of a row.

@@ -1,7 +1,9 @@
+use crate::entries::{Moved, Order, is_one_of};
 use std::alloc::Global;
 use std::process::Abort;
 use th_book::read_book;
 use th_network::Network;
+use th_progress::Silent;
 use th_reliability::{Mistake, Reliability};
 use th_tables::{read_benchmarks, read_weights};
 
@@ -262,7 +264,7 @@ fn try_row(rt: &impl Abort, alloc: Global, row: &Worked) {
         rt,
         "a network",
     );
-    let found = Reliability::of(alloc, &network).expect(rt, "memory");
+    let found = Reliability::of(alloc, &network, &mut Silent).expect(rt, "memory");
     has_points(rt, &network, strengths);
     has_strengths(rt, &found, strengths);
     has_controls(rt, &found, controls);
@@ -290,6 +292,56 @@ fn has_controls(rt: &impl Abort, found: &Reliability, controls: &[Option<u32>]) 
     for (k, control) in controls.iter().enumerate() {
         assert!(rt; k < found.controls.len());
         assert!(rt; found.controls[k] == *control, "observation {k}");
+    }
+}
+
+/// What a mistake in each observation moves; nothing where it shows.
+const OWN_MOVES: [(Worked, &[&[Moved]]); 3] = [
+    (BETWEEN_BENCHMARKS, &[&[], &[(1, 0, None)]]),
+    (THERE_AND_BACK, &[&[(1, 1, Some(2))], &[]]),
+    (
+        BUILDING_SITE,
+        &[
+            &[(4, 1, Some(6))],
+            &[],
+            &[],
+            &[],
+            &[],
+            &[(4, 1, Some(1))],
+            &[],
+            &[],
+            &[],
+            &[],
+            &[],
+        ],
+    ),
+];
+
+#[test]
+fn mistakes_move_the_sets_of_their_controls(rt: HostRuntime) {
+    for (row, moves) in &OWN_MOVES {
+        try_moves(&rt, rt.alloc(), row, moves);
+    }
+}
+
+fn try_moves(rt: &impl Abort, alloc: Global, row: &Worked, moves: &[&[Moved]]) {
+    let (lines, benchmarks, weights, _, _) = *row;
+    let book = joined(rt, alloc, lines);
+    let observations = read_book(alloc, 1, &book).expect(rt, "observations");
+    let benchmarks = read_benchmarks(alloc, benchmarks).expect(rt, "benchmarks");
+    let weights = read_weights(alloc, weights).expect(rt, "weights");
+    let network = Network::build(alloc, observations, &benchmarks, &weights).expect(
+        rt,
+        "a network",
+    );
+    let found = Reliability::of(alloc, &network, &mut Silent).expect(rt, "memory");
+    assert_eq!(rt; found.blames.len(), moves.len());
+    for (k, allowed) in moves.iter().enumerate() {
+        assert!(rt; k < found.blames.len());
+        assert!(rt;
+            is_one_of(found.blames[k], allowed, Order::Lines),
+            "observation {k}"
+        );
     }
 }
 

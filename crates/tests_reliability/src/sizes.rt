@@ -5,6 +5,7 @@ use std::alloc::Global;
 use std::process::Abort;
 use th_book::{Observation, read_book};
 use th_network::Network;
+use th_progress::Silent;
 use th_reliability::{Reliability, SharedMistake, Sights, shared_mistakes};
 use th_tables::{read_benchmarks, read_weights};
 
@@ -28,7 +29,7 @@ const SHARED: [(u32, u32, SharedMistake); 5] = [
     (2, 20_000, SharedMistake::Shows),
     (2, 20_001, SharedMistake::Ties),
     (2, 20_002, SharedMistake::Drags),
-    (2, 40_001, SharedMistake::Drags),
+    (2, 40_001, SharedMistake::Unchecked),
 ];
 
 /// Looks at what a mistake does in the sights on some lines.
@@ -50,9 +51,11 @@ fn try_shared(
     let is_one = own.are_of_one_station(network);
     assert!(rt; is_one);
     let entries = [own];
-    let mistakes = shared_mistakes(alloc, network, &found.controls, &entries).expect(rt, "memory");
-    assert_eq!(rt; mistakes.len(), 1);
-    assert!(rt; mistakes[0] == wanted, "{first} to {last}");
+    let effects = shared_mistakes(alloc, network, &found.controls, &entries, &mut Silent).expect(
+        rt, "memory",
+    );
+    assert_eq!(rt; effects.len(), 1);
+    assert!(rt; effects[0].mistake == wanted, "{first} to {last}");
 }
 
 #[test]
@@ -65,7 +68,7 @@ fn one_pair_is_held_by_all_its_sights(rt: HostRuntime) {
         &rt,
         "a network",
     );
-    let found = Reliability::of(alloc, &network).expect(&rt, "memory");
+    let found = Reliability::of(alloc, &network, &mut Silent).expect(&rt, "memory");
     assert!(rt; found.strengths.as_slice() == [None, Some(40_000_000)].as_slice());
     assert_eq!(rt; found.controls.len(), 40_000);
     assert!(rt;

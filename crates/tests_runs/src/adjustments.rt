@@ -1,11 +1,12 @@
 //! Projects that are adjusted, and what is printed is checked.
 ghost use Rattle.std.specs.Prelude.{◌≤◌};
 ghost use Rattle.th_devices.specs.Memory.{text_sink};
-ghost use Rattle.th_runs.specs.Adjusted.{sinks_of};
+ghost use Rattle.th_runs.specs.Adjusted.{adjusting};
 ghost use Rattle.th_runs.specs.Writes.{AreWritable};
 
 use crate::helpers::{
-    Sinks, Texts, add, adjust, adjust_books, adjust_into, are_same, is_accepted, source,
+    AT_CERTIFICATE, AT_HEIGHTS, Sinks, Texts, add, adjust, adjust_books, adjust_into, are_same,
+    is_accepted, source,
 };
 use crate::projects::{
     A_AT_100, FAR_MISREAD_SIGHT, HEIGHTS, LIMIT, LONGEST_SIGHT, LOOP, LOOP_BEGINNING, LOOP_END,
@@ -13,7 +14,6 @@ use crate::projects::{
 };
 use std::process::Abort;
 use th_devices::TextSink;
-use th_runs::Outs;
 
 /// A book, its benchmarks and weights, the heights file, and the certificate where one circulation
 /// alone shows the heights.
@@ -148,8 +148,8 @@ fn adjust_row<R: AllocGlobal + Abort>(rt: &R, row: &Row) {
     let texts: Texts = (book, benchmarks, weights);
     let (answer, outs) = adjust(rt, texts);
     assert_eq!(rt; answer, Ok(()), "{heights}");
-    are_same(rt, outs.heights.bytes(), heights.as_bytes(), heights);
-    let printed = outs.certificate.bytes();
+    are_same(rt, outs[AT_HEIGHTS].bytes(), heights.as_bytes(), heights);
+    let printed = outs[AT_CERTIFICATE].bytes();
     if let Some(certificate) = certificate {
         are_same(rt, printed, certificate.as_bytes(), heights);
     }
@@ -168,7 +168,7 @@ fn joins_two_books_without_weights(rt: HostRuntime) {
     let mut books = [source(LOOP_BEGINNING), source(LOOP_END)];
     let (answer, outs) = adjust_books(&rt, &mut books);
     assert_eq!(rt; answer, Ok(()));
-    is_accepted(&rt, (LOOP, A_AT_100, b""), outs.certificate.bytes());
+    is_accepted(&rt, (LOOP, A_AT_100, b""), outs[AT_CERTIFICATE].bytes());
 }
 
 #[test]
@@ -193,7 +193,7 @@ fn adjusts_sixteen_books(rt: HostRuntime) {
     ];
     let (answer, outs) = adjust_books(&rt, &mut books);
     assert_eq!(rt; answer, Ok(()));
-    assert!(rt; outs.heights.bytes() == HEIGHTS);
+    assert!(rt; outs[AT_HEIGHTS].bytes() == HEIGHTS);
 }
 
 /// A sink with room for the texts of a large network.
@@ -205,14 +205,14 @@ fn large_sink<R: AllocGlobal + Abort>(rt: &R) -> TextSink
 
 /// Four of these.
 fn large_sinks<R: AllocGlobal + Abort>(rt: &R) -> Sinks
-    ensures { AreWritable text_sink text_sink text_sink text_sink (sinks_of result) }
+    ensures { AreWritable text_sink adjusting.outputs result }
 {
-    Outs {
-        heights: large_sink(rt),
-        certificate: large_sink(rt),
-        report: large_sink(rt),
-        gsi: large_sink(rt),
-    }
+    [
+        large_sink(rt),
+        large_sink(rt),
+        large_sink(rt),
+        large_sink(rt),
+    ]
 }
 
 /// Adjusts a large book whose sights agree to these heights, and checks what is printed.
@@ -221,8 +221,8 @@ fn adjust_large<R: AllocGlobal + Abort>(rt: &R, book: &[u8], heights: &[u8]) {
     let mut outs = large_sinks(rt);
     let answer = adjust_into(rt, texts, LIMIT, &mut outs);
     assert_eq!(rt; answer, Ok(()));
-    assert!(rt; outs.heights.bytes() == heights);
-    let printed = outs.certificate.bytes();
+    assert!(rt; outs[AT_HEIGHTS].bytes() == heights);
+    let printed = outs[AT_CERTIFICATE].bytes();
     assert!(rt; printed.ends_with(b"Z,cost,0\n"));
     is_accepted(rt, texts, printed);
 }

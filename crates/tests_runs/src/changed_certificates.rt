@@ -23,14 +23,14 @@ fn is_accepted<R: AllocGlobal + Abort>(rt: &R, certificate: &[u8]) -> bool {
     let mut benchmarks = source(A_AT_100);
     let mut weights: Option<TextSource> = None;
     let mut stated = TextSource::new(certificate, 4_096, None);
-    let mut out = TextSink::new(rt.alloc(), 100, 100, None).expect(rt, "memory");
+    let mut outs = [TextSink::new(rt.alloc(), 100, 100, None).expect(rt, "memory")];
     let verdict = run_check(
         rt.alloc(),
         &mut books,
         &mut benchmarks,
         &mut weights,
         &mut stated,
-        &mut out,
+        &mut outs,
     );
     verdict == Ok(Verdict::Yes)
 }

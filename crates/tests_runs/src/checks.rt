@@ -127,15 +127,15 @@ fn two_books_are_one_survey(rt: HostRuntime) {
     let mut benchmarks = source(A_AT_100);
     let mut weights: Option<TextSource> = None;
     let mut certificate = source(CERTIFICATE);
-    let mut out = sink(&rt, None);
+    let mut outs = [sink(&rt, None)];
     let verdict = run_check(
         rt.alloc(),
         &mut books,
         &mut benchmarks,
         &mut weights,
         &mut certificate,
-        &mut out,
+        &mut outs,
     );
     assert_eq!(rt; verdict, Ok(Verdict::Yes));
-    assert!(rt; out.bytes() == b"yes\n".as_slice());
+    assert!(rt; outs[0].bytes() == b"yes\n".as_slice());
 }

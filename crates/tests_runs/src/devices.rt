@@ -1,18 +1,18 @@
 //! Each read and each write of an adjustment and of a check, refused in turn.
-ghost use Rattle.std.specs.Prelude.{◌≤◌};
 ghost use Rattle.th_devices.specs.Memory.{text_sink};
-ghost use Rattle.th_runs.specs.Adjusted.{sinks_of};
+ghost use Rattle.th_runs.specs.Adjusted.{adjusting};
+ghost use Rattle.th_runs.specs.Checked.{checking};
 ghost use Rattle.th_runs.specs.Writes.{AreWritable};
 
 use crate::helpers::{
-    Device, HELD_BEFORE, Sinks, are_left, failing_sink, failing_source, failing_sources,
-    held_before, refusal_of,
+    AT_CERTIFICATE, AT_GSI, AT_HEIGHTS, AT_REPORT, Device, HELD_BEFORE, Sinks, are_left,
+    failing_sink, failing_source, failing_sources, held_before, refusal_of,
 };
 use crate::projects::{CERTIFICATE, HEIGHTS, LIMIT};
 use std::process::Abort;
 use th_checker::Verdict;
 use th_devices::TextSink;
-use th_runs::{Outs, Refusal, run_adjust, run_check};
+use th_runs::{Refusal, run_adjust, run_check};
 
 /// The devices of an adjustment, and how often each is called: a source gives 50 bytes a read, and
 /// the last read finds its end; a sink takes 20 bytes a write, beside `begin` and `finish`.
@@ -39,14 +39,14 @@ const OF_CHECK: [(Device, u8); 6] = [
 
 /// Four sinks, one of whose calls may fail.
 fn failing_sinks<R: AllocGlobal + Abort>(rt: &R, failing: Device, call: u8) -> Sinks
-    ensures { AreWritable text_sink text_sink text_sink text_sink (sinks_of result) }
+    ensures { AreWritable text_sink adjusting.outputs result }
 {
-    Outs {
-        heights: failing_sink(rt, Device::Heights, failing, call),
-        certificate: failing_sink(rt, Device::Certificate, failing, call),
-        report: failing_sink(rt, Device::Report, failing, call),
-        gsi: failing_sink(rt, Device::Gsi, failing, call),
-    }
+    [
+        failing_sink(rt, Device::Heights, failing, call),
+        failing_sink(rt, Device::Certificate, failing, call),
+        failing_sink(rt, Device::Report, failing, call),
+        failing_sink(rt, Device::Gsi, failing, call),
+    ]
 }
 
 /// Adjusts with a call that fails or never comes. Returns the answer and the sinks.
@@ -78,14 +78,22 @@ pub fn refuse_in_adjustment<R: AllocGlobal + Abort>(
     let (answer, outs) = adjust_where(rt, failing, call);
     assert_eq!(rt; answer, Err(refusal_of(failing)), "call {call}");
     let outputs = [
-        (Device::Heights, outs.heights.bytes(), whole.heights.bytes()),
+        (
+            Device::Heights,
+            outs[AT_HEIGHTS].bytes(),
+            whole[AT_HEIGHTS].bytes(),
+        ),
         (
             Device::Certificate,
-            outs.certificate.bytes(),
-            whole.certificate.bytes(),
+            outs[AT_CERTIFICATE].bytes(),
+            whole[AT_CERTIFICATE].bytes(),
         ),
-        (Device::Report, outs.report.bytes(), whole.report.bytes()),
-        (Device::Gsi, outs.gsi.bytes(), whole.gsi.bytes()),
+        (
+            Device::Report,
+            outs[AT_REPORT].bytes(),
+            whole[AT_REPORT].bytes(),
+        ),
+        (Device::Gsi, outs[AT_GSI].bytes(), whole[AT_GSI].bytes()),
     ];
     are_left(rt, outputs, failing, call);
     outs
@@ -95,8 +103,8 @@ pub fn refuse_in_adjustment<R: AllocGlobal + Abort>(
 pub fn refuse_nothing<R: AllocGlobal + Abort>(rt: &R, failing: Device, call: u8) -> Sinks {
     let (answer, outs) = adjust_where(rt, failing, call);
     assert_eq!(rt; answer, Ok(()), "{failing:?}");
-    assert!(rt; outs.heights.bytes() == HEIGHTS, "{failing:?}");
-    assert!(rt; outs.certificate.bytes() == CERTIFICATE, "{failing:?}");
+    assert!(rt; outs[AT_HEIGHTS].bytes() == HEIGHTS, "{failing:?}");
+    assert!(rt; outs[AT_CERTIFICATE].bytes() == CERTIFICATE, "{failing:?}");
     outs
 }
 
@@ -108,7 +116,7 @@ fn each_call_of_an_adjustment_is_refused_in_turn(rt: HostRuntime) {
             let _ = refuse_in_adjustment(&rt, device, call, &whole);
         }
         let outs = refuse_nothing(&rt, device, calls.wrapping_add(1));
-        assert!(rt; outs.gsi.bytes() == whole.gsi.bytes(), "{device:?}");
+        assert!(rt; outs[AT_GSI].bytes() == whole[AT_GSI].bytes(), "{device:?}");
     }
 }
 
@@ -117,9 +125,9 @@ fn check_failing<R: AllocGlobal + Abort>(
     rt: &R,
     failing: Device,
     call: u8,
-    out: &mut TextSink,
+    outs: &mut [TextSink],
 ) -> Result<Verdict, Refusal>
-    requires { out.old.counts.calls ≤ 15 }
+    requires { AreWritable text_sink checking.outputs outs.old }
 {
     let (mut books, mut benchmarks, mut weights) = failing_sources(failing, call);
     let mut certificate = failing_source(CERTIFICATE, Device::Stated, failing, call);
@@ -129,14 +137,14 @@ fn check_failing<R: AllocGlobal + Abort>(
         &mut benchmarks,
         &mut weights,
         &mut certificate,
-        out,
+        outs,
     )
 }
 
 /// Checks where a call fails, which has to be answered as such.
 fn refuse_in_check<R: AllocGlobal + Abort>(rt: &R, failing: Device, call: u8) {
-    let mut out = failing_sink(rt, Device::Verdict, failing, call);
-    let answer = check_failing(rt, failing, call, &mut out);
+    let mut outs = [failing_sink(rt, Device::Verdict, failing, call)];
+    let answer = check_failing(rt, failing, call, &mut outs);
     assert_eq!(rt; answer, Err(refusal_of(failing)), "call {call}");
     let is_written = failing == Device::Verdict;
     let wanted = if is_written {
@@ -144,7 +152,7 @@ fn refuse_in_check<R: AllocGlobal + Abort>(rt: &R, failing: Device, call: u8) {
     } else {
         HELD_BEFORE
     };
-    assert!(rt; out.bytes() == wanted, "{failing:?} call {call}");
+    assert!(rt; outs[0].bytes() == wanted, "{failing:?} call {call}");
 }
 
 #[test]
@@ -154,9 +162,9 @@ fn each_call_of_a_check_is_refused_in_turn(rt: HostRuntime) {
             refuse_in_check(&rt, device, call);
         }
         let never = calls.wrapping_add(1);
-        let mut out = failing_sink(&rt, Device::Verdict, device, never);
-        let answer = check_failing(&rt, device, never, &mut out);
+        let mut outs = [failing_sink(&rt, Device::Verdict, device, never)];
+        let answer = check_failing(&rt, device, never, &mut outs);
         assert_eq!(rt; answer, Ok(Verdict::Yes), "{device:?}");
-        assert!(rt; out.bytes() == b"yes\n".as_slice(), "{device:?}");
+        assert!(rt; outs[0].bytes() == b"yes\n".as_slice(), "{device:?}");
     }
 }

@@ -5,7 +5,8 @@ ghost use Rattle.th_runs.specs.Reads.{AreRead, AreReady};
 
 use crate::devices::{refuse_in_adjustment, refuse_nothing};
 use crate::helpers::{
-    Device, HELD_BEFORE, Sinks, adjust_books, adjust_from, are_untouched, is_refused, sink, source,
+    AT_CERTIFICATE, AT_GSI, AT_HEIGHTS, AT_REPORT, Device, HELD_BEFORE, Sinks, adjust_books,
+    adjust_from, are_untouched, is_refused, sink, source,
 };
 use crate::projects::{A_AT_100, CERTIFICATE, FAULTY_BOOK, FAULTY_TABLE, HEIGHTS, ONE_SIGHT};
 use gsi_word::name_of;
@@ -203,18 +204,18 @@ fn refuse<R: AllocGlobal + Abort>(rt: &R, failing: &Failing) {
         failing.piece,
         failing.of_certificate,
     );
-    let mut out = sink(rt, failing.of_sink);
+    let mut outs = [sink(rt, failing.of_sink)];
     let answer = run_check(
         rt.alloc(),
         &mut books,
         &mut benchmarks,
         &mut weights,
         &mut certificate,
-        &mut out,
+        &mut outs,
     );
     let refusal = failing.refusal;
     assert_eq!(rt; answer, Err(refusal));
-    assert!(rt; out.bytes() == failing.held, "{refusal}");
+    assert!(rt; outs[0].bytes() == failing.held, "{refusal}");
 }
 
 #[test]
@@ -247,10 +248,10 @@ const BROKEN: [(Device, u8, Option<usize>); 13] = [
 /// What an output holds.
 fn held_by(outs: &Sinks, output: Device) -> &[u8] {
     match output {
-        Device::Heights => outs.heights.bytes(),
-        Device::Certificate => outs.certificate.bytes(),
-        Device::Report => outs.report.bytes(),
-        _ => outs.gsi.bytes(),
+        Device::Heights => outs[AT_HEIGHTS].bytes(),
+        Device::Certificate => outs[AT_CERTIFICATE].bytes(),
+        Device::Report => outs[AT_REPORT].bytes(),
+        _ => outs[AT_GSI].bytes(),
     }
 }
 

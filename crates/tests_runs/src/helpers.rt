@@ -1,7 +1,7 @@
 //! Runs over memory, and what they are given: sources and sinks, of which one call may fail.
 ghost use Rattle.std.specs.Prelude.{◌≡◌, ◌≤◌, All, length};
 ghost use Rattle.th_devices.specs.Memory.{text_sink, text_source};
-ghost use Rattle.th_runs.specs.Adjusted.{sinks_of};
+ghost use Rattle.th_runs.specs.Adjusted.{adjusting};
 ghost use Rattle.th_runs.specs.Reads.{AreRead, AreReady, refused};
 ghost use Rattle.th_runs.specs.Writes.{AreWritable};
 
@@ -9,10 +9,19 @@ use crate::projects::{A_AT_100, LIMIT, ONE_SIGHT};
 use std::process::Abort;
 use th_checker::Verdict;
 use th_devices::{TextSink, TextSource, write_all};
-use th_runs::{Input, Output, Outs, Refusal, run_adjust, run_check};
+use th_runs::{Input, Output, Refusal, run_adjust, run_check};
 
-/// Sinks in memory.
-pub type Sinks = Outs<TextSink, TextSink, TextSink, TextSink>;
+/// Sinks in memory, for what an adjustment or a review writes, in its order.
+pub type Sinks = [TextSink; 4];
+
+/// The places of an adjustment's sinks.
+pub const AT_HEIGHTS: usize = 0;
+
+pub const AT_CERTIFICATE: usize = 1;
+
+pub const AT_REPORT: usize = 2;
+
+pub const AT_GSI: usize = 3;
 
 /// A book, its benchmarks and its weights.
 pub type Texts<'a> = (&'a [u8], &'a [u8], &'a [u8]);
@@ -39,22 +48,22 @@ pub fn sink<R: AllocGlobal + Abort>(rt: &R, fail_at: Option<u8>) -> TextSink
 
 /// Four sinks that fail nowhere.
 pub fn sinks<R: AllocGlobal + Abort>(rt: &R) -> Sinks
-    ensures { AreWritable text_sink text_sink text_sink text_sink (sinks_of result) }
+    ensures { AreWritable text_sink adjusting.outputs result }
 {
-    Outs {
-        heights: sink(rt, None),
-        certificate: sink(rt, None),
-        report: sink(rt, None),
-        gsi: sink(rt, None),
-    }
+    [
+        sink(rt, None),
+        sink(rt, None),
+        sink(rt, None),
+        sink(rt, None),
+    ]
 }
 
 /// Whether no sink was touched.
 pub fn are_untouched(outs: &Sinks) -> bool {
-    outs.heights.bytes() == HELD_BEFORE
-        && outs.certificate.bytes() == HELD_BEFORE
-        && outs.report.bytes() == HELD_BEFORE
-        && outs.gsi.bytes() == HELD_BEFORE
+    outs[AT_HEIGHTS].bytes() == HELD_BEFORE
+        && outs[AT_CERTIFICATE].bytes() == HELD_BEFORE
+        && outs[AT_REPORT].bytes() == HELD_BEFORE
+        && outs[AT_GSI].bytes() == HELD_BEFORE
 }
 
 /// Adjusts one book over a benchmark table and weights into these sinks, for blunders above this limit.
@@ -64,7 +73,7 @@ pub fn adjust_into<R: AllocGlobal + Abort>(
     limit: i64,
     outs: &mut Sinks,
 ) -> Result<(), Refusal>
-    requires { AreWritable text_sink text_sink text_sink text_sink (sinks_of outs.old) }
+    requires { AreWritable text_sink adjusting.outputs outs.old }
 {
     let (book, benchmarks, weights) = texts;
     let mut books = [source(book)];
@@ -139,16 +148,16 @@ pub fn check<R: AllocGlobal + Abort>(
     let mut table = source(benchmarks);
     let mut factors = Some(source(weights));
     let mut stated = source(certificate);
-    let mut out = sink(rt, None);
+    let mut outs = [sink(rt, None)];
     let answer = run_check(
         rt.alloc(),
         &mut books,
         &mut table,
         &mut factors,
         &mut stated,
-        &mut out,
+        &mut outs,
     );
-    assert!(rt; out.bytes() == line);
+    assert!(rt; outs[0].bytes() == line);
     answer
 }
 
@@ -190,6 +199,7 @@ pub enum Device {
     Observations,
     Entries,
     Review,
+    Explanations,
 }
 
 /// What a run answers where a device fails.
@@ -209,6 +219,7 @@ pub fn refusal_of(device: Device) -> Refusal {
         Device::Observations => Refusal::Write(Output::Observations),
         Device::Entries => Refusal::Write(Output::Entries),
         Device::Review => Refusal::Write(Output::Review),
+        Device::Explanations => Refusal::Write(Output::Explanations),
     }
 }
 

@@ -13,6 +13,8 @@ mod checks;
 #[cfg(test)]
 mod devices;
 #[cfg(test)]
+mod explanations;
+#[cfg(test)]
 mod failures;
 #[cfg(test)]
 mod helpers;

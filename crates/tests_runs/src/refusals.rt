@@ -6,12 +6,13 @@ use std::process::Abort;
 use th_book::{BookFault, BookKind};
 use th_certificate::{CertFault, CertKind};
 use th_checker::{Reason, Verdict};
+use th_conversions::{DifferenceFault, DifferenceKind};
 use th_network::NetFault;
 use th_runs::{Input, Output, Refusal, status_of, status_of_verdict};
 use th_tables::{TableFault, TableKind};
 
 /// Refusals, their lines, and their statuses.
-const ROWS: [(Refusal, &[u8], u8); 18] = [
+const ROWS: [(Refusal, &[u8], u8); 21] = [
     (
         Refusal::Book(
             1,
@@ -65,6 +66,14 @@ const ROWS: [(Refusal, &[u8], u8); 18] = [
         b"certificate record 10: C7 truncated",
         2,
     ),
+    (
+        Refusal::Differences(DifferenceFault {
+            row: 3,
+            kind: DifferenceKind::BadDifference,
+        }),
+        b"differences record 3: E4 bad difference",
+        2,
+    ),
     (Refusal::Read(Input::Book(1)), b"read failed: book 1", 5),
     (
         Refusal::Read(Input::Benchmarks),
@@ -77,6 +86,11 @@ const ROWS: [(Refusal, &[u8], u8); 18] = [
         b"read failed: certificate",
         5,
     ),
+    (
+        Refusal::Read(Input::Differences),
+        b"read failed: differences",
+        5,
+    ),
     (Refusal::Write(Output::List), b"write failed: list", 5),
     (Refusal::Write(Output::Heights), b"write failed: heights", 5),
     (
@@ -87,6 +101,7 @@ const ROWS: [(Refusal, &[u8], u8); 18] = [
     (Refusal::Write(Output::Report), b"write failed: report", 5),
     (Refusal::Write(Output::Gsi), b"write failed: gsi", 5),
     (Refusal::Write(Output::Verdict), b"write failed: verdict", 5),
+    (Refusal::Write(Output::Book), b"write failed: book", 5),
     (Refusal::NoMemory, b"out of memory", 4),
 ];
 

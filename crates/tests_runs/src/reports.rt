@@ -1,5 +1,5 @@
 //! Projects that are adjusted, with the reports and the blocks that are printed.
-use crate::helpers::{adjust_into, are_same, sinks};
+use crate::helpers::{AT_GSI, AT_REPORT, adjust_into, are_same, sinks};
 use crate::projects::{
     A_AT_100, LIMIT, LONGEST_SIGHT, MISREAD_SIGHT, ONE_SIGHT, THERE_AND_BACK, TWICE_AND_BACK,
 };
@@ -313,8 +313,8 @@ fn print_row<R: AllocGlobal + Abort>(rt: &R, row: &Printed) {
     let mut outs = sinks(rt);
     let answer = adjust_into(rt, (book, benchmarks, weights), limit, &mut outs);
     assert_eq!(rt; answer, Ok(()), "{report}");
-    are_same(rt, outs.report.bytes(), report.as_bytes(), report);
-    are_same(rt, outs.gsi.bytes(), blocks.as_bytes(), report);
+    are_same(rt, outs[AT_REPORT].bytes(), report.as_bytes(), report);
+    are_same(rt, outs[AT_GSI].bytes(), blocks.as_bytes(), report);
 }
 
 #[test]

@@ -2,19 +2,19 @@
 //! refused in turn.
 ghost use Rattle.std.specs.Prelude.{◌≤◌};
 ghost use Rattle.th_devices.specs.Memory.{text_sink};
-ghost use Rattle.th_runs.specs.Reviewed.{sinks_of};
+ghost use Rattle.th_runs.specs.Reviewed.{reviewing};
 ghost use Rattle.th_runs.specs.Writes.{AreWritable};
 
 use crate::helpers::{
-    Device, Texts, add, are_left, failing_sink, failing_sources, refusal_of, source,
+    Device, Sinks, Texts, add, are_left, failing_sink, failing_sources, refusal_of, source,
 };
 use crate::projects::{A_AT_100, LIMIT, TWO_SIGHTS};
 use std::process::Abort;
 use th_devices::{TextSink, TextSource};
-use th_runs::{Refusal, ReviewOuts, run_review};
+use th_progress::Silent;
+use th_runs::{Refusal, run_review};
 
 /// The four sinks of a review, in memory.
-type Sinks = ReviewOuts<TextSink, TextSink, TextSink, TextSink>;
 
 /// The texts of a review: its points, its observations, its entries, and the review for people.
 type Written = [&'static [u8]; 4];
@@ -27,11 +27,12 @@ struct Row {
 }
 
 /// The header of the table of entries.
-const NO_ENTRIES: &[u8] = b"book,line,word,station,length,sights,weight,mistake\n";
+const NO_ENTRIES: &[u8] =
+    b"book,line,word,station,length,sights,weight,mistake,moves,blames,blamed\n";
 
 /// The header of the table of observations.
 const NO_OBSERVATIONS: &[u8] =
-    b"number,book,line,from,to,difference,weight,residual,control,mistake\n";
+    b"number,book,line,from,to,difference,weight,residual,control,mistake,moves,blames,blamed\n";
 
 /// Neither an observation nor a benchmark.
 const NOTHING: Row = Row {
@@ -61,9 +62,9 @@ blunder limit                 0.02000000
 
 POINT                           HEIGHT              HIGH-LOW  STRENGTH  WITHSTANDS
 
-   NO  BK      LINE  FROM              TO                  WT              RESIDUAL   CONTROL
+   NO  BK      LINE  FROM              TO                  WT              RESIDUAL   CONTROL   MOVES  BLAMES
 
-BK      LINE  WORD  STATION                         LENGTH  SIGHTS    WEIGHT
+BK      LINE  WORD  STATION                         LENGTH  SIGHTS    WEIGHT   MOVES  BLAMES
 
 notes                                  1
 book 1: no sight in 0 blocks
@@ -100,9 +101,9 @@ blunder limit                 0.02000000
 POINT                           HEIGHT              HIGH-LOW  STRENGTH  WITHSTANDS
 A                         100.00000000            0.00000000         -           -
 
-   NO  BK      LINE  FROM              TO                  WT              RESIDUAL   CONTROL
+   NO  BK      LINE  FROM              TO                  WT              RESIDUAL   CONTROL   MOVES  BLAMES
 
-BK      LINE  WORD  STATION                         LENGTH  SIGHTS    WEIGHT
+BK      LINE  WORD  STATION                         LENGTH  SIGHTS    WEIGHT   MOVES  BLAMES
 
 notes                                  2
 book 1: no sight in 0 blocks
@@ -120,13 +121,13 @@ A,100.00000000,100.00000000,100.00000000,
 B,102.00000000,102.00000000,102.00000000,
 X,5.00000000,5.00000000,5.00000000,
 ",
-        b"number,book,line,from,to,difference,weight,residual,control,mistake
-1,1,2,A,B,2.54500000,1,0.54500000,,shows
-2,1,3,A,B,2.54700000,1,0.54700000,,shows
+        b"number,book,line,from,to,difference,weight,residual,control,mistake,moves,blames,blamed
+1,1,2,A,B,2.54500000,1,0.54500000,,shows,,,
+2,1,3,A,B,2.54700000,1,0.54700000,,shows,,,
 ",
-        b"book,line,word,station,length,sights,weight,mistake
-1,1,88,A,1.50000000,2,2,shows
-1,2,87,A,1.30000000,2,2,shows
+        b"book,line,word,station,length,sights,weight,mistake,moves,blames,blamed
+1,1,88,A,1.50000000,2,2,shows,,,
+1,2,87,A,1.30000000,2,2,shows,,,
 ",
         b"HEIGHT NETWORK REVIEW
 points                                 3
@@ -154,13 +155,13 @@ A                         100.00000000            0.00000000         -          
 B                         102.00000000            0.00000000         -           -
 X                           5.00000000            0.00000000         -           -
 
-   NO  BK      LINE  FROM              TO                  WT              RESIDUAL   CONTROL
-    1   1         2  A                 B                    1            0.54500000         -
-    2   1         3  A                 B                    1            0.54700000         -
+   NO  BK      LINE  FROM              TO                  WT              RESIDUAL   CONTROL   MOVES  BLAMES
+    1   1         2  A                 B                    1            0.54500000         -       -       -
+    2   1         3  A                 B                    1            0.54700000         -       -       -
 
-BK      LINE  WORD  STATION                         LENGTH  SIGHTS    WEIGHT
- 1         1    88  A                           1.50000000       2         2
- 1         2    87  A                           1.30000000       2         2
+BK      LINE  WORD  STATION                         LENGTH  SIGHTS    WEIGHT   MOVES  BLAMES
+ 1         1    88  A                           1.50000000       2         2       -       -
+ 1         2    87  A                           1.30000000       2         2       -       -
 
 notes                                  1
 benchmarks record 4: X was never observed
@@ -174,12 +175,12 @@ const ONE_SIGHT_WRITTEN: Written = [
 A,100.00000000,100.00000000,100.00000000,
 B,102.54500000,102.54500000,102.54500000,1
 ",
-    b"number,book,line,from,to,difference,weight,residual,control,mistake
-1,1,2,A,B,2.54500000,1,0.00000000,0,unchecked
+    b"number,book,line,from,to,difference,weight,residual,control,mistake,moves,blames,blamed
+1,1,2,A,B,2.54500000,1,0.00000000,0,unchecked,1,0,
 ",
-    b"book,line,word,station,length,sights,weight,mistake
-1,1,88,A,1.50000000,1,1,drags
-1,2,87,A,1.30000000,1,1,drags
+    b"book,line,word,station,length,sights,weight,mistake,moves,blames,blamed
+1,1,88,A,1.50000000,1,1,unchecked,1,0,
+1,2,87,A,1.30000000,1,1,unchecked,1,0,
 ",
     b"HEIGHT NETWORK REVIEW
 points                                 2
@@ -206,12 +207,12 @@ POINT                           HEIGHT              HIGH-LOW  STRENGTH  WITHSTAN
 A                         100.00000000            0.00000000         -           -
 B                         102.54500000            0.00000000         1           0  1
 
-   NO  BK      LINE  FROM              TO                  WT              RESIDUAL   CONTROL
-    1   1         2  A                 B                    1            0.00000000         0  0
+   NO  BK      LINE  FROM              TO                  WT              RESIDUAL   CONTROL   MOVES  BLAMES
+    1   1         2  A                 B                    1            0.00000000         0       1       0  0
 
-BK      LINE  WORD  STATION                         LENGTH  SIGHTS    WEIGHT
- 1         1    88  A                           1.50000000       1         1  <
- 1         2    87  A                           1.30000000       1         1  <
+BK      LINE  WORD  STATION                         LENGTH  SIGHTS    WEIGHT   MOVES  BLAMES
+ 1         1    88  A                           1.50000000       1         1       1       0  0
+ 1         2    87  A                           1.30000000       1         1       1       0  0
 
 notes                                  2
 book 2: no sight in 0 blocks
@@ -227,9 +228,9 @@ const CALLS: [(Device, u8); 8] = [
     (Device::Benchmarks, 2),
     (Device::Weights, 2),
     (Device::Points, 8),
-    (Device::Observations, 8),
-    (Device::Entries, 8),
-    (Device::Review, 85),
+    (Device::Observations, 9),
+    (Device::Entries, 10),
+    (Device::Review, 89),
 ];
 
 /// The outputs, in the order in which they are written.
@@ -240,25 +241,34 @@ const OUTPUTS: [Device; 4] = [
     Device::Review,
 ];
 
+/// The places of their sinks.
+const AT_POINTS: usize = 0;
+
+const AT_OBSERVATIONS: usize = 1;
+
+const AT_ENTRIES: usize = 2;
+
+const AT_REVIEW: usize = 3;
+
 /// Four sinks, one of whose calls may fail.
 fn failing_sinks<R: AllocGlobal + Abort>(rt: &R, failing: Device, call: u8) -> Sinks
-    ensures { AreWritable text_sink text_sink text_sink text_sink (sinks_of result) }
+    ensures { AreWritable text_sink reviewing.outputs result }
 {
-    ReviewOuts {
-        points: failing_sink(rt, Device::Points, failing, call),
-        observations: failing_sink(rt, Device::Observations, failing, call),
-        entries: failing_sink(rt, Device::Entries, failing, call),
-        review: failing_sink(rt, Device::Review, failing, call),
-    }
+    [
+        failing_sink(rt, Device::Points, failing, call),
+        failing_sink(rt, Device::Observations, failing, call),
+        failing_sink(rt, Device::Entries, failing, call),
+        failing_sink(rt, Device::Review, failing, call),
+    ]
 }
 
 /// What an output holds.
 fn held_by(outs: &Sinks, output: Device) -> &[u8] {
     match output {
-        Device::Points => outs.points.bytes(),
-        Device::Observations => outs.observations.bytes(),
-        Device::Entries => outs.entries.bytes(),
-        _ => outs.review.bytes(),
+        Device::Points => outs[AT_POINTS].bytes(),
+        Device::Observations => outs[AT_OBSERVATIONS].bytes(),
+        Device::Entries => outs[AT_ENTRIES].bytes(),
+        _ => outs[AT_REVIEW].bytes(),
     }
 }
 
@@ -283,6 +293,7 @@ fn try_row<R: AllocGlobal + Abort>(rt: &R, row: &Row) {
         &mut factors,
         LIMIT,
         &mut outs,
+        &mut Silent,
     );
     assert_eq!(rt; answer, Ok(()));
     are_written(rt, &outs, &row.written);
@@ -310,6 +321,7 @@ fn review_where<R: AllocGlobal + Abort>(
         &mut weights,
         LIMIT,
         &mut outs,
+        &mut Silent,
     );
     (answer, outs)
 }
@@ -320,14 +332,14 @@ fn refuse<R: AllocGlobal + Abort>(rt: &R, failing: Device, call: u8) {
     assert_eq!(rt; answer, Err(refusal_of(failing)), "call {call}");
     let [points, observations, entries, review] = ONE_SIGHT_WRITTEN;
     let outputs = [
-        (Device::Points, outs.points.bytes(), points),
+        (Device::Points, outs[AT_POINTS].bytes(), points),
         (
             Device::Observations,
-            outs.observations.bytes(),
+            outs[AT_OBSERVATIONS].bytes(),
             observations,
         ),
-        (Device::Entries, outs.entries.bytes(), entries),
-        (Device::Review, outs.review.bytes(), review),
+        (Device::Entries, outs[AT_ENTRIES].bytes(), entries),
+        (Device::Review, outs[AT_REVIEW].bytes(), review),
     ];
     are_left(rt, outputs, failing, call);
 }
@@ -368,7 +380,7 @@ fn observations_of_one_pair<R: AllocGlobal + Abort>(rt: &R) -> Vec<u8> {
     for number in 1..=SIGHTS {
         let line = number + 1;
         let row = format!(in rt.alloc();
-            "{number},1,{line},A,B,2.54500000,1000,0.00000000,39999000,shows\n"
+            "{number},1,{line},A,B,2.54500000,1000,0.00000000,39999000,shows,,,\n"
         ).expect(rt, "memory");
         table.extend_from_slice(row.as_bytes()).expect(rt, "memory");
     }
@@ -381,9 +393,10 @@ A,100.00000000,100.00000000,100.00000000,
 B,102.54500000,102.54500000,102.54500000,40000000
 ";
 
-const HEAVY_ENTRIES: &[u8] = b"book,line,word,station,length,sights,weight,mistake
-1,1,87,A,1.30000000,40000,40000000,drags
-1,1,88,A,1.50000000,40000,40000000,drags
+const HEAVY_ENTRIES: &[u8] =
+    b"book,line,word,station,length,sights,weight,mistake,moves,blames,blamed
+1,1,87,A,1.30000000,40000,40000000,unchecked,1,0,
+1,1,88,A,1.50000000,40000,40000000,unchecked,1,0,
 ";
 
 #[test]
@@ -392,12 +405,12 @@ fn one_pair_is_reviewed(rt: HostRuntime) {
     let mut books = [TextSource::new(&book, 65_536, None)];
     let mut benchmarks = source(A_AT_100);
     let mut weights = Some(source(b"from,to,weight\nA,B,1000\n"));
-    let mut outs = ReviewOuts {
-        points: wide_sink(&rt),
-        observations: wide_sink(&rt),
-        entries: wide_sink(&rt),
-        review: wide_sink(&rt),
-    };
+    let mut outs = [
+        wide_sink(&rt),
+        wide_sink(&rt),
+        wide_sink(&rt),
+        wide_sink(&rt),
+    ];
     let answer = run_review(
         rt.alloc(),
         &mut books,
@@ -405,11 +418,16 @@ fn one_pair_is_reviewed(rt: HostRuntime) {
         &mut weights,
         LIMIT,
         &mut outs,
+        &mut Silent,
     );
     assert_eq!(rt; answer, Ok(()));
-    assert!(rt; outs.points.bytes() == HEAVY_POINTS);
+    assert!(rt; outs[AT_POINTS].bytes() == HEAVY_POINTS);
     let observations = observations_of_one_pair(&rt);
-    assert!(rt; outs.observations.bytes() == observations.as_slice());
-    assert!(rt; outs.entries.bytes() == HEAVY_ENTRIES);
-    assert!(rt; outs.review.bytes().starts_with(b"HEIGHT NETWORK REVIEW\n"));
+    assert!(rt; outs[AT_OBSERVATIONS].bytes() == observations.as_slice());
+    assert!(rt; outs[AT_ENTRIES].bytes() == HEAVY_ENTRIES);
+    assert!(rt;
+        outs[AT_REVIEW]
+            .bytes()
+            .starts_with(b"HEIGHT NETWORK REVIEW\n")
+    );
 }

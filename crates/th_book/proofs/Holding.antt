@@ -66,7 +66,7 @@ due_any_room state room (parsed ∷ rest) =
     by_fault None = by_kind (kind_of (standing_in state.setup (words_in parsed)) parsed)
 
 -- what is held after a line without a fault, whatever room there is then
-after-taken : (state : BookState) (line : List ℕ) (step : Step) (room : ℕ) → state.fault ≡ None → None ≡ line_fault state.setup (block_at line) → IsLeft state.setup (words_in (block_at line)) step → state_with state step room ≡ record (after state line) { room = room }
+pub after-taken : (state : BookState) (line : List ℕ) (step : Step) (room : ℕ) → state.fault ≡ None → None ≡ line_fault state.setup (block_at line) → IsLeft state.setup (words_in (block_at line)) step → state_with state step room ≡ record (after state line) { room = room }
 after-taken state line step room sound none left =
     with_step
     ∙ ap (λ (own : BookState). record own { room = room }) (ap (after_words state (words_in (block_at line))) none

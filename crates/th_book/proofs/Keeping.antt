@@ -17,7 +17,9 @@ use Rattle.th_book.specs.declared.faults.BookKind.{BookKind}
 use Rattle.th_book.specs.declared.faults.BookFault.{BookFault}
 use Rattle.th_book.specs.Indexes.{height_difference, reflector_height, instrument_height}
 use Rattle.th_book.proofs.Faultless.{IsFaultless, faultless, held_is_read}
-use Rattle.th_book.proofs.Running.{AreRead, IsHeight, IsRunning, IsRunning-more, StandsAt-more, last_below-holds}
+use Rattle.th_book.specs.Setups.{IsHeight, IsRunning}
+use Rattle.th_book.specs.Witnesses.{Keeps}
+use Rattle.th_book.proofs.Running.{AreRead, IsRunning-more, StandsAt-more, last_below-holds}
 
 -- in a running setup a sight finds what stands at its place
 standing_same : (parsed : List ParsedLine) (n : ℕ) (setup : Option Setup) → IsRunning parsed n (setup_of parsed n) setup → standing_in setup (words_at parsed n) ≡ standing_at parsed n
@@ -73,14 +75,6 @@ observed_same book parsed n setup was read none =
         let station = stands.name in
         cc
 
--- a book holds, after so many of its lines, none of which has a fault, what stands at that place
-pub record Keeps (number : ℕ) (parsed : List ParsedLine) (n : ℕ) (state : BookState) : Type 0 where
-  pub book : state.book ≡ number
-  pub lines : state.lines ≡ n
-  pub faultless : state.fault ≡ None
-  pub setup : IsRunning parsed n (setup_of parsed n) state.setup
-  pub observations : state.observations ≡ map (observed_at number parsed) (filter (λ place. is_sight (words_at parsed place)) (range_with_len 0 n))
-
 -- one more number of a range
 range_more : (a n : ℕ) → range_with_len a (suc n) ≡ range_with_len a n ++ (a + n) ∷ []
 range_more a zero = let e : a ≡ a + 0 = omega arith in ap (λ k. k ∷ []) e
@@ -133,7 +127,7 @@ observations_same book parsed n state keeps read = go (is_sight (words_at parsed
     go false e = append-nil state.observations ∙ keeps.observations ∙ ap (map (observed_at book parsed)) (sym (append-nil _))
 
 -- after a line without a fault a book holds what stands at the next place
-Keeps-more : (book : ℕ) (parsed : List ParsedLine) (n : ℕ) (state : BookState) → Keeps book parsed n state → kind_at parsed n ≡ None → Keeps book parsed (suc n) (after_parsed state (line_at parsed n))
+pub Keeps-more : (book : ℕ) (parsed : List ParsedLine) (n : ℕ) (state : BookState) → Keeps book parsed n state → kind_at parsed n ≡ None → Keeps book parsed (suc n) (after_parsed state (line_at parsed n))
 Keeps-more book parsed n state keeps e =
     subst
     (Keeps book parsed (suc n))

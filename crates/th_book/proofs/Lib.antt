@@ -9,3 +9,4 @@ pub mod Soundness
 pub mod Holding
 pub mod Reading
 pub mod FeedLemmas
+pub mod Seeing

@@ -7,6 +7,7 @@ use Rattle.th_book.specs.Lines.{ParsedLine, holds, is_setup, length_in, point_na
 use Rattle.th_book.specs.Places.{holds_from, last_below, setup_of, words_at}
 use Rattle.th_book.specs.Books.{known_name}
 use Rattle.th_book.specs.Due.{begun, latest, setup_after, with_heights}
+use Rattle.th_book.specs.Setups.{IsHeight, IsRunning, StandsAt}
 use Rattle.th_book.specs.declared.setups.Setup.{Setup}
 use Rattle.th_book.specs.Indexes.{reflector_height, instrument_height}
 
@@ -24,11 +25,6 @@ pub last_below-none : (test : ℕ → Bool) (bound : ℕ) → ((k : ℕ) → k <
 last_below-none test zero fails = refl
 last_below-none test (suc bound) fails =
     cond-false (test bound) _ _ (fails bound (omega arith)) ∙ last_below-none test bound (λ k below. fails k (omega arith))
-
--- a running height: that of the last line from the setup's on and below a bound, and it is there just where such a line is
-pub record IsHeight (index : ℕ) (parsed : List ParsedLine) (from bound : ℕ) (height : Option ℤ) : Type 0 where
-  pub length : height ≡ option_and_then (λ k. length_in index (words_at parsed k)) (last_below (holds_from parsed index from) bound)
-  pub there : is_some height ≡ is_some (last_below (holds_from parsed index from) bound)
 
 -- one more line from the setup's on
 pub last_below-holds : (index : ℕ) (parsed : List ParsedLine) (from n : ℕ) → from ≤ n → last_below (holds_from parsed index from) (suc n) ≡ cond (holds index (words_at parsed n)) (Some n) (last_below (holds_from parsed index from) n)
@@ -60,20 +56,6 @@ IsHeight-new index parsed n =
       length = ap (option_and_then (λ k. length_in index (words_at parsed k))) (sym none);
       there = ap is_some (sym none);
     }
-
--- a setup that is kept stands at a place: it has the name of the point there, and the last heights since
-pub record StandsAt (parsed : List ParsedLine) (from bound : ℕ) (setup : Setup) : Type 0 where
-  pub before : from < bound
-  pub name : point_name (words_at parsed from) ≡ Some setup.station
-  pub instrument : IsHeight instrument_height parsed from bound setup.instrument
-  pub reflector : IsHeight reflector_height parsed from bound setup.reflector
-
--- what is kept is the last setup below a bound, if there is one
-abbrev pub IsRunning : List ParsedLine → ℕ → Option ℕ → Option Setup → Type 0
-IsRunning parsed bound None None = Unit {0}
-IsRunning parsed bound None (Some setup) = ⊥
-IsRunning parsed bound (Some from) None = ⊥
-IsRunning parsed bound (Some from) (Some setup) = StandsAt parsed from bound setup
 
 -- the heights of a line can be read where it holds them
 pub record AreRead (words : List Parts) : Type 0 where

@@ -35,7 +35,7 @@ all_none gives first (suc many) (suc k) none within = go (gives first) none (λ 
     go (Some x) h later = absurd (none-some x (sym h))
 
 -- no line of a book without a fault has one
-no_kind : (parsed : List ParsedLine) (place : ℕ) → first_fault parsed ≡ None → place < length parsed → kind_at parsed place ≡ None
+pub no_kind : (parsed : List ParsedLine) (place : ℕ) → first_fault parsed ≡ None → place < length parsed → kind_at parsed place ≡ None
 no_kind parsed place none within = go (kind_at parsed place) (sym (ap (fault_at parsed) (zero-add place)) ∙ all_none (fault_at parsed) 0 (length parsed) place none within)
   where
     go : (kind : Option BookKind) → option_map (fault_in place) kind ≡ None → kind ≡ None

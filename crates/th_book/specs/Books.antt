@@ -1,4 +1,4 @@
-use Rattle.std.specs.Prelude.{ℕ, ℤ, ◌+◌, ◌+ℤ◌, ◌-ℤ◌, pos, List, [], Option, Some, None, Result, Ok, Err, if◌then◌else◌, filter, length, map, nat_lt, unwrap_or}
+use Rattle.std.specs.Prelude.{◌≡◌, ℕ, ℤ, ◌+◌, ◌+ℤ◌, ◌-ℤ◌, pos, List, [], Option, Some, None, Result, Ok, Err, if◌then◌else◌, filter, length, map, nat_lt, unwrap_or}
 use Rattle.std.specs.List.{range_with_len}
 use Rattle.th_book.specs.Limits.{max_book}
 use Rattle.gsi_block.specs.Lines.{lines_of}
@@ -58,3 +58,11 @@ too_long = record { line = 0; kind = BookTooLong }
 abbrev pub book_answer : ℕ → List ℕ → Result (List Observed) BookFault
 book_answer book bytes =
     if nat_lt max_book (length bytes) then Err too_long else lines_answer book (lines_of bytes)
+
+-- the parsed lines of a book
+abbrev pub parsed_of : List ℕ → List ParsedLine
+parsed_of bytes = map block_at (lines_of bytes)
+
+-- a book has no fault
+abbrev pub IsFaultless : ℕ → List ℕ → Type 0
+IsFaultless book bytes = (observations : List Observed) × (book_answer book bytes ≡ Ok observations)

@@ -2,3 +2,4 @@ pub mod Countings
 pub mod Entries
 pub mod Steps
 pub mod Feeds
+pub mod Witnesses

@@ -9,4 +9,6 @@ pub mod Entered
 pub mod Books
 pub mod Due
 pub mod Feeds
+pub mod Setups
+pub mod Witnesses
 pub mod Inside

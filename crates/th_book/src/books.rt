@@ -7,12 +7,14 @@ ghost use Rattle.th_book.specs.Faults.{fault_in};
 ghost use Rattle.th_book.specs.Due.{due, empty, EndsWithSight, IsAnswered};
 ghost use Rattle.th_book.specs.Inside.Feeds.{IsGiven};
 ghost use Rattle.th_book.specs.Inside.Steps.{state_refusing, state_with};
+ghost use Rattle.th_book.specs.Inside.Witnesses.{IsSeenNext};
 
 use crate::faults::{BookFault, BookKind};
 use crate::limits::MAX_BOOK;
 use crate::observations::Observation;
 use crate::setups::Setup;
 use crate::steps::{Step, step_of_line};
+use crate::witnesses::Witness;
 use arrayvec::ArrayVec;
 use gsi_block::{LineCursor, MAX_WORDS};
 use gsi_word::Word;
@@ -72,25 +74,31 @@ impl Book {
         requires { self.old.lines < max_book }
         ensures { IsAnswered self.old self.new line.now result }
     {
-        self.read(line, &mut ArrayVec::new())
+        self.read(line, &mut ArrayVec::new(), &mut ())
     }
 
-    /// Takes the next line, whose words are read into an array that is lent: to make one for each line
-    /// would take longer than all else.
-    pub(crate) fn read<'a>(
+    /// Takes the next line, which a witness sees. Its words are read into an array that is lent: to make
+    /// one for each line would take longer than all else.
+    pub(crate) fn read<'a, W: Witness>(
         &mut self,
         line: &'a [u8],
         words: &mut ArrayVec<Word<'a>, MAX_WORDS>,
+        witness: &mut W,
     ) -> Result<(), BookFault>
         requires { self.old.lines < max_book }
-        ensures { IsAnswered self.old self.new line.now result }
+        ensures answered { IsAnswered self.old self.new line.now result }
+        ensures seen { OnOk result (IsSeenNext W.has_seen self.old self.new line.now witness.old witness.new) }
     {
         if let Some(fault) = self.fault {
             return Err(fault);
         }
         match step_of_line(&self.setup, line, words) {
-            Ok(Some(step)) => self.take(&step),
+            Ok(Some(step)) => {
+                witness.block(&self.setup, &step.entry, words.as_slice());
+                self.take(&step)
+            }
             Ok(None) => {
+                witness.blank();
                 self.lines += 1;
                 Ok(())
             }
@@ -99,11 +107,13 @@ impl Book {
     }
 
     /// Counts an empty line, which says nothing, unless a fault came before it.
-    pub(crate) fn pass_empty(&mut self)
+    pub(crate) fn pass_empty<W: Witness>(&mut self, witness: &mut W)
         requires { self.old.lines < max_book }
-        ensures { IsGiven self.old self.new [] }
+        ensures given { IsGiven self.old self.new [] }
+        ensures seen { IsSeenNext W.has_seen self.old self.new [] witness.old witness.new }
     {
         if self.fault.is_none() {
+            witness.blank();
             self.lines += 1;
         }
     }
@@ -198,7 +208,7 @@ pub fn read_book(alloc: Global, book: u32, bytes: &[u8]) -> Result<Vec<Observati
     let mut cursor = LineCursor::new(bytes);
     let mut words = ArrayVec::new();
     'lines: while let Some(line) = cursor.next() {
-        reader.read(line, &mut words)?;
+        reader.read(line, &mut words, &mut ())?;
     }
     reader.finish()
 }

@@ -1,4 +1,4 @@
-ghost use Rattle.std.specs.Prelude.{◌≡◌, ◌↔◌, ◌||◌, IsTrue, true, None, Some, map, option_and_then, IfErr, IfOk};
+ghost use Rattle.std.specs.Prelude.{◌≡◌, ◌||◌, true, None, Some, map, option_and_then, IfErr, IfOk};
 ghost use Rattle.std.specs.Result.{result_err, result_ok};
 ghost use Rattle.gsi_word.specs.Words.{parts_of};
 ghost use Rattle.th_book.specs.Lines.{point_name};
@@ -22,20 +22,8 @@ pub struct Entered {
 }
 
 impl Entered {
-    ghost use Rattle.th_book.specs.Entered.{entered_by, nothing};
+    ghost use Rattle.th_book.specs.Entered.{entered_by};
     ghost use Rattle.th_book.specs.Inside.Countings.{lengths_with};
-
-    /// Whether nothing is entered, as by a blank line.
-    #[inline(always)]
-    pub fn is_nothing(&self) -> bool
-        ensures { IsTrue result ↔ (self.now ≡ nothing) }
-    {
-        self.station.is_none()
-            && self.target.is_none()
-            && self.sighted.is_none()
-            && self.reflector.is_none()
-            && self.instrument.is_none()
-    }
 
     /// What a block enters, or the first kind of fault that its own words have.
     #[inline(always)]

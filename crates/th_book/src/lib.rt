@@ -2,7 +2,7 @@
 //!
 //! A `Book` takes the lines of a book one by one and keeps what a later sight needs: the station,
 //! the last instrument height and the last reflector height. `read_book` reads a whole book, and a
-//! `BookFeed` one that comes in pieces.
+//! `BookFeed` one that comes in pieces. A `Witness` sees the lines of a book while it is read.
 #![tactic(auto)]
 
 // The limit of a book.
@@ -29,6 +29,9 @@ mod steps;
 // Observations.
 mod observations;
 
+// Who sees the lines of a book.
+mod witnesses;
+
 // Books by their lines.
 mod books;
 
@@ -45,3 +48,5 @@ pub use feeds::BookFeed;
 pub use indexes::POINT_NUMBER;
 pub use limits::MAX_BOOK;
 pub use observations::Observation;
+pub use setups::Setup;
+pub use witnesses::Witness;

@@ -116,11 +116,3 @@ cost_read field n digits few is =
     let short : nat_le (length field) max_cost_digits ≡ true = grind (arith, nat_tests) in
     ap Ok (is ∙ uncapped field (all_digits field digits) few)
     ∙ sym (ap (λ form. if form then (if nat_le (length field) max_cost_digits then Ok (number field) else Err TooLarge) else Err BadNumber) digits ∙ ap (λ short. if short then Ok (number field) else Err TooLarge) short)
-
--- whether a capped number is one below the cap
-pub capped_test : (m n : ℕ) → n < cost_limit → (min m cost_limit == n) ≡ (m == n)
-capped_test m n small = by (m == n) refl
-  where
-    by : (same : Bool) → (m == n) ≡ same → (min m cost_limit == n) ≡ same
-    by true is = grind (arith, nat_tests)
-    by false is = grind (arith, nat_tests)

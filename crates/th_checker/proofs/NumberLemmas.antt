@@ -61,11 +61,6 @@ plain_flow flows i each within =
     let small = All-get_or (λ x. unsigned_abs x < flow_limit) flows i (pos 0) within each in
     to_z-of_z w64 (get_or flows i (pos 0)) (fits_signed_from_abs w64 (get_or flows i (pos 0)) (omega (arith, small)))
 
-pub plain_height : (heights : List ℤ) (k : ℕ) → All (λ height. unsigned_abs height < height_limit) heights → k < length heights → to_z w64 (of_z w64 (get_or heights k (pos 0))) ≡ get_or heights k (pos 0)
-plain_height heights k each within =
-    let small = All-get_or (λ x. unsigned_abs x < height_limit) heights k (pos 0) within each in
-    to_z-of_z w64 (get_or heights k (pos 0)) (fits_signed_from_abs w64 (get_or heights k (pos 0)) (omega (arith, small)))
-
 -- what the machine makes of a difference between two heights in their range
 pub residual_plain : (d t s : ℤ) → unsigned_abs d ≤ largest_difference → unsigned_abs t < height_limit → unsigned_abs s < height_limit
     → to_z w64 (of_z w64 (to_z w64 (of_z w64 d) -ℤ to_z w64 (of_z w64 (to_z w64 (of_z w64 t) -ℤ to_z w64 (of_z w64 s))))) ≡ d -ℤ (t -ℤ s)

@@ -31,3 +31,4 @@ pub mod NoArcs
 pub mod BestExists
 pub mod ExtremesExist
 pub mod AnswerLemmas
+pub mod AskedLemmas

@@ -1,13 +1,13 @@
 -- Heights listed by points from heights by vertices.
-use Rattle.std.proofs.Common.{◌≡◌, ℕ, ◌<◌, ◌+◌, ℤ, pos, ◌-ℤ◌, List, Option, Some, None, is_none, length, slice_get, unwrap_or, ap, sym, ◌∙◌, subst, arith}
+use Rattle.std.proofs.Common.{◌≡◌, ℕ, ◌<◌, ◌+◌, ℤ, pos, ◌-ℤ◌, List, Option, Some, None, length, map, slice_get, unwrap_or, ap, sym, ◌∙◌, subst, arith}
 use borrow.Author.Count.{below_more}
-use Rattle.std.proofs.lemmas.List.{get_or-set_same, get_or-set_other}
-use Rattle.std.specs.Prelude.{slice_set}
+use Rattle.std.proofs.lemmas.List.{get_or-map, get_or-set_same, get_or-set_other}
+use Rattle.std.proofs.lemmas.Option.{get_or_from_slice_get, slice_get_within}
+use Rattle.std.specs.Prelude.{slice_index_or, slice_set}
 use Rattle.th_book.specs.Observed.{Observed}
 use Rattle.th_tables.specs.Rows.{BenchmarkRows, height_of}
 use Rattle.th_points.specs.Points.{points}
-use Rattle.th_network.specs.Vertices.{free_before, vertex_of}
-use Rattle.th_network.proofs.NetworkLemmas.{free_vertex_at}
+use Rattle.th_network.specs.Vertices.{vertex_of}
 use Rattle.th_search.specs.Potentials.{value_at}
 use Rattle.th_circulation.specs.Inside.PointHeights.{point_height}
 
@@ -20,7 +20,9 @@ pub point_height_fixed : (observations : List Observed) (benchmarks : BenchmarkR
 point_height_fixed observations benchmarks heights name height e = sym (ap (λ (found : Option ℤ). unwrap_or found (heights (vertex_of observations benchmarks name) -ℤ heights 0)) e)
 
 -- another point has its height by its vertex
-pub point_height_free : (observations : List Observed) (benchmarks : BenchmarkRows) (heights : ℕ → ℤ) (k : ℕ) (name : List ℕ) → slice_get (points observations benchmarks) k ≡ Some name → height_of benchmarks name ≡ None → heights (free_before benchmarks (points observations benchmarks) k + 1) -ℤ heights 0 ≡ point_height observations benchmarks heights name
-point_height_free observations benchmarks heights k name at e =
-    let vertex = free_vertex_at observations benchmarks k name at (ap is_none e) in
-    sym (ap (λ (found : Option ℤ). unwrap_or found (heights (vertex_of observations benchmarks name) -ℤ heights 0)) e ∙ ap (λ (v : ℕ). heights v -ℤ heights 0) vertex)
+pub point_height_free : (observations : List Observed) (benchmarks : BenchmarkRows) (heights : ℕ → ℤ) (vertices : List ℕ) (k : ℕ) (name : List ℕ) → vertices ≡ map (vertex_of observations benchmarks) (points observations benchmarks) → slice_get (points observations benchmarks) k ≡ Some name → height_of benchmarks name ≡ None → heights (slice_index_or vertices k 0) -ℤ heights 0 ≡ point_height observations benchmarks heights name
+point_height_free observations benchmarks heights vertices k name are at e =
+    let names = points observations benchmarks in
+    let f = vertex_of observations benchmarks in
+    let vertex : slice_index_or vertices k 0 ≡ f name = ap (λ (vs : List ℕ). slice_index_or vs k 0) are ∙ get_or-map f names k name 0 (slice_get_within names k name at) ∙ ap f (get_or_from_slice_get names k name name at) in
+    ap (λ (v : ℕ). heights v -ℤ heights 0) vertex ∙ sym (ap (λ (found : Option ℤ). unwrap_or found (heights (f name) -ℤ heights 0)) e)

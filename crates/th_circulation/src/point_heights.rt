@@ -19,14 +19,11 @@ pub(crate) fn set_point_heights(network: &Network, heights: &[i64], listed: &mut
     ensures in_range { All (λ height. unsigned_abs height < height_limit) listed.new }
 {
     let level = heights[0];
-    let mut vertex = 0usize;
+    let vertices = network.point_vertices();
     for place in 0..listed.len() {
         listed[place] = match network.fixed(place) {
             Some(height) => height,
-            None => {
-                vertex += 1;
-                heights[vertex] - level
-            }
+            None => heights[vertices[place] as usize] - level,
         };
     }
 }

@@ -1,13 +1,15 @@
-ghost use Rattle.std.specs.Prelude.{◌≡◌, ◌+◌, ◌<◌, ◌≤◌, ◌-◌, ◌*◌, ◌⊎◌, ◌^◌, false, pos, IfOk, MatchBool, OnOk, length, replicate, sum};
+ghost use Rattle.std.specs.Prelude.{◌≡◌, ◌+◌, ◌<◌, ◌≤◌, ◌-◌, ◌*◌, ◌⊎◌, ◌^◌, ℤ, List, All, false, pos, IfOk, MatchBool, OnOk, length, replicate, sum};
 ghost use Rattle.std.specs.Bool.{OnTrue};
 ghost use Rattle.th_circulation.specs.Inside.Bounds.{height_bound};
 ghost use Rattle.th_circulation.specs.Inside.Graphs.{AreWithin};
 ghost use Rattle.th_circulation.specs.Inside.Listings.{Fits, HasAllBefore, Lists};
 ghost use Rattle.th_circulation.specs.Inside.Phases.{differences_in};
 ghost use Rattle.th_circulation.specs.Inside.Proposals.{HasNoPotentials};
-ghost use Rattle.th_circulation.specs.Inside.Workspaces.{AreShownFor, Counts, GoesOn, IsDone, IsNear, IsReady, IsRested, others_in};
+ghost use Rattle.th_circulation.specs.Inside.Workspaces.{AreShownFor, Counts, GoesOn, IsAskedFor, IsDone, IsNear, IsReady, IsRested, WasAsked, others_in};
 ghost use Rattle.th_circulation.specs.Limits.{max_counted, phases};
-ghost use Rattle.th_search.specs.Limits.{max_calls, max_vertices};
+ghost use Rattle.th_search.specs.Limits.{max_arcs, max_calls, max_vertices};
+ghost use Rattle.th_search.specs.Potentials.{IsFeasible};
+ghost use Rattle.th_search.specs.Walks.{IsArc};
 
 use crate::cancels::cancel;
 use crate::differences::set_differences;
@@ -21,6 +23,7 @@ use crate::states::State;
 use crate::steps::Steps;
 use std::alloc::{AllocError, Global};
 use th_guide::Guide;
+use th_search::laws::potentials_exclude_negative_cycles;
 use th_search::{Arc, Found, Search};
 
 /// What a settling works on.
@@ -71,6 +74,8 @@ impl Workspace {
         requires calls { S.calls search.old ≤ max_counted }
         requires steps { steps.old ≤ max_counted }
         ensures done { OnOk result (IsDone graph.now self.new) }
+        ensures asked { OnOk result (IsAskedFor graph.now (differences_in 0 graph.now.links.now)
+            self.new.state.flows.items self.new.listing.arcs.items (S.asked search.new)) }
         ensures few { steps.new ≤ steps.old + 2 * phases * sum graph.now.weights.now }
         ensures counts { Counts S.calls S.refusals S.cycles phases result
             search.old search.new steps.old steps.new }
@@ -79,12 +84,13 @@ impl Workspace {
             self.state.flows.fill(0);
             self.settle_by_halves(alloc, graph, search, steps)
         } else {
-            skip_phases(alloc, graph.vertices, search)
+            ask_again(alloc, graph.vertices, &self.listing.arcs, search)
         }
     }
 
     /// Cancels cycles for the links' own differences, at most as often as the sum of the weights says;
-    /// true where the flows show heights then.
+    /// false where the flows show heights then. Where the guide has not solved these, nothing is
+    /// cancelled: it takes few steps to settle by halves, and may take as many as there can be otherwise.
     fn settle_at_once<S: Search>(
         &mut self,
         alloc: Global,
@@ -97,11 +103,17 @@ impl Workspace {
         requires steps { steps.old ≤ max_counted }
         ensures rested { OnOk result (IsRested graph.now self.new) }
         ensures done { IfOk result (λ left. left ≡ false → IsDone graph.now self.new) }
+        ensures asked { IfOk result (λ left. left ≡ false
+            → IsAskedFor graph.now (differences_in 0 graph.now.links.now)
+            self.new.state.flows.items self.new.listing.arcs.items (S.asked search.new)) }
         ensures few { steps.new ≤ steps.old + sum graph.now.weights.now }
         ensures counts { Counts S.calls S.refusals S.cycles (others_in result) result
             search.old search.new steps.old steps.new }
     {
         self.start_phase(graph, 0);
+        if !self.guide.has_solved() {
+            return Ok(true);
+        }
         let most = total(graph.weights);
         'steps: for done in 0..most {
             if !self.advance(alloc, graph, search, steps)? {
@@ -125,6 +137,8 @@ impl Workspace {
         requires calls { S.calls search.old ≤ 2 * max_counted }
         requires steps { steps.old ≤ 2 * max_counted }
         ensures done { OnOk result (IsDone graph.now self.new) }
+        ensures asked { OnOk result (IsAskedFor graph.now (differences_in 0 graph.now.links.now)
+            self.new.state.flows.items self.new.listing.arcs.items (S.asked search.new)) }
         ensures few { steps.new + sum graph.now.weights.now
             ≤ steps.old + 2 * phases * sum graph.now.weights.now }
         ensures counts { Counts S.calls S.refusals S.cycles phases result
@@ -154,6 +168,9 @@ impl Workspace {
             (AreWithin graph.now.vertices height_bound self.new.state.heights.items
             × (steps.new ≡ steps.old + 1))
             (AreShownFor graph.now self.old.state.differences.items self.new)) }
+        ensures asked { IfOk result (λ cancelled. cancelled ≡ false
+            → IsAskedFor graph.now self.old.state.differences.items
+            self.new.state.flows.items self.new.listing.arcs.items (S.asked search.new)) }
         ensures few { steps.new ≤ steps.old + 1 }
         ensures counts { Counts S.calls S.refusals S.cycles (others_in result) result
             search.old search.new steps.old steps.new }
@@ -251,6 +268,8 @@ impl Workspace {
         requires steps { steps.old + 2 * sum graph.now.weights.now < max_calls }
         ensures goes_on { GoesOn graph.now self.old self.new (steps.new - steps.old) }
         ensures shown { OnOk result (AreShownFor graph.now self.old.state.differences.items self.new) }
+        ensures asked { OnOk result (IsAskedFor graph.now self.old.state.differences.items
+            self.new.state.flows.items self.new.listing.arcs.items (S.asked search.new)) }
         ensures few { steps.new ≤ steps.old + 2 * sum graph.now.weights.now }
         ensures counts { Counts S.calls S.refusals S.cycles 1 result
             search.old search.new steps.old steps.new }
@@ -260,16 +279,45 @@ impl Workspace {
     }
 }
 
-/// Asks the search of no arcs, once for each phase but one: where all was settled at once, nothing is
-/// left for them.
-fn skip_phases<S: Search>(alloc: Global, vertices: u32, search: &mut S) -> Result<(), AllocError>
+/// Asks the search once for each phase but one: of no arcs, and at last again of the arcs for which it
+/// answered potentials. Where all was settled at once, nothing is left for these phases.
+fn ask_again<S: Search>(
+    alloc: Global,
+    vertices: u32,
+    arcs: &Vec<Arc>,
+    search: &mut S,
+) -> Result<(), AllocError>
     requires some { 1 ≤ vertices }
     requires few { vertices ≤ max_vertices }
+    requires many { length arcs.now.items ≤ max_arcs }
+    requires arcs { All (IsArc vertices) arcs.now.items }
+    requires potentials { (values : List ℤ) × IsFeasible arcs.now.items values }
     requires calls { S.calls search.old + phases ≤ max_calls }
-    ensures { Counts S.calls S.refusals S.cycles (phases - 1) result search.old search.new 0 0 }
+    ensures counts { Counts S.calls S.refusals S.cycles (phases - 1) result search.old search.new 0 0 }
+    ensures asked { OnOk result ((values : List ℤ)
+        × IsFeasible arcs.now.items values
+        × WasAsked vertices arcs.now.items values (S.asked search.new)) }
 {
-    let none: [Arc; 0] = [];
-    'phases: for phase in 1..PHASES {
+    potentials_exclude_negative_cycles();
+    ask_of_none(alloc, vertices, PHASES - 2, search)?;
+    let _ = search.search(alloc, vertices, arcs)?;
+    Ok(())
+}
+
+/// Asks the search of no arcs so many times.
+pub(crate) fn ask_of_none<S: Search>(
+    alloc: Global,
+    vertices: u32,
+    times: u32,
+    search: &mut S,
+) -> Result<(), AllocError>
+    requires some { 1 ≤ vertices }
+    requires few { vertices ≤ max_vertices }
+    requires calls { S.calls search.old + times ≤ max_calls }
+    ensures { Counts S.calls S.refusals S.cycles times result search.old search.new 0 0 }
+{
+    let none = Vec::new(alloc);
+    'times: for time in 0..times {
         let _ = search.search(alloc, vertices, &none)?;
     }
     Ok(())

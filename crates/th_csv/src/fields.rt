@@ -45,6 +45,14 @@ impl Record {
     {
         three_fields(&self.fields)
     }
+
+    /// The fields of a record with exactly four.
+    pub fn four(&self) -> Option<(&[u8], &[u8], &[u8], &[u8])>
+        ensures { MatchOption result (length self.now ≢ 4) (λ parts.
+            self.now ≡ parts.0.now ∷ parts.1.now ∷ parts.2.now ∷ parts.3.now ∷ []) }
+    {
+        four_fields(&self.fields)
+    }
 }
 
 fn two_fields(fields: &ByteRecord) -> Option<(&[u8], &[u8])>
@@ -63,6 +71,24 @@ fn three_fields(fields: &ByteRecord) -> Option<(&[u8], &[u8], &[u8])>
 {
     match (fields.get(0), fields.get(1), fields.get(2), fields.get(3)) {
         (Some(first), Some(second), Some(third), None) => Some((first, second, third)),
+        _ => None,
+    }
+}
+
+fn four_fields(fields: &ByteRecord) -> Option<(&[u8], &[u8], &[u8], &[u8])>
+    ensures { MatchOption result (length (fields_of fields.now) ≢ 4) (λ parts.
+        fields_of fields.now ≡ parts.0.now ∷ parts.1.now ∷ parts.2.now ∷ parts.3.now ∷ []) }
+{
+    match (
+        fields.get(0),
+        fields.get(1),
+        fields.get(2),
+        fields.get(3),
+        fields.get(4),
+    ) {
+        (Some(first), Some(second), Some(third), Some(fourth), None) => {
+            Some((first, second, third, fourth))
+        }
         _ => None,
     }
 }

@@ -5,9 +5,10 @@ use Rattle.std.proofs.lemmas.Bool.{false≢true}
 use Rattle.std.proofs.lemmas.List.{get_or_append_left, get_or_push, length-append}
 use Rattle.std.proofs.lemmas.List.Sums.{sum_by-cons}
 use Rattle.th_cuts.specs.declared.branches.Branch.{Branch}
+use Rattle.th_cuts.specs.declared.cuts.Cut.{Cut}
 use Rattle.th_cuts.specs.declared.edges.Edge.{Edge}
-use Rattle.th_cuts.specs.Cuts.{IsLeastCut, crosses, cut_weight, separates}
-use Rattle.th_cuts.specs.Inside.CutTrees.{AreBranches, IsBranch}
+use Rattle.th_cuts.specs.Cuts.{IsLeastCut, crosses, cut_weight, on_side, separates}
+use Rattle.th_cuts.specs.Inside.CutTrees.{AreBranches, IsBranch, IsCut}
 
 -- ---- separation, in Bools
 abbrev apart : Bool → Bool → Bool
@@ -19,7 +20,7 @@ turned true false = refl
 turned false true = refl
 turned false false = refl
 
-through : (a b c : Bool) → apart a b ≡ true → (apart a c ≡ true) ⊎ (apart b c ≡ true)
+pub through : (a b c : Bool) → apart a b ≡ true → (apart a c ≡ true) ⊎ (apart b c ≡ true)
 through true false true h = inr refl
 through true false false h = inl refl
 through false true true h = inl refl
@@ -93,9 +94,6 @@ branches_more vertices edges branches more branch vertex are long is pushed =
     (subst (IsBranch vertices edges (length branches + 1)) (sym (get_or_push branches branch d (length branches) refl)) (subst (λ v. IsBranch vertices edges v branch) (sym long) is))
     k (omega arith))
 
--- a cut of the least weight over the sides that hold the source alone
-pub least_is : (edges : List Edge) (source sink value : ℕ) (inside : ℕ → Bool) → inside source ≡ true → inside sink ≡ false → cut_weight inside edges ≡ value → ((others : ℕ → Bool) → others source ≡ true → others sink ≡ false → value ≤ cut_weight others edges) → IsLeastCut edges source sink value
-least_is edges source sink value inside in_it out weighs least = record {
-  reached = (inside, separated inside source sink in_it out, weighs);
-  least = least_both edges source sink value least;
-}
+-- a least cut in the graph's own words
+pub least_is : (vertices : ℕ) (edges : List Edge) (u v : ℕ) (cut : Cut) → IsCut vertices edges u v cut → IsLeastCut edges u v cut.value
+least_is vertices edges u v cut is = record { reached = (on_side cut.side.items, is.apart, is.weighs); least = is.least }

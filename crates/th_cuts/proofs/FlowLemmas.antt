@@ -1,15 +1,18 @@
--- What flows take out of any side of a cut: at most what the cut weighs, and just that where the side's ways out are full.
-use Rattle.std.proofs.Common.{◌≡◌, ℕ, zero, suc, ◌<◌, ◌≤◌, ℤ, pos, ◌+ℤ◌, ◌-ℤ◌, ◌≤ℤ◌, Bool, true, false, List, [], ◌∷◌, length, sum_by, eqb, if◌then◌else◌, unsigned_abs, refl, ap, sym, subst, ◌∙◌, arith, ◌↔◌, ◌≢◌, eq-eqb, replicate}
+-- What flows take out of a set: at most what its cut weighs, and just that where its ways out are full. So their value is at most what the
+-- set drains.
+use Rattle.std.proofs.Common.{◌≡◌, ℕ, zero, suc, ◌+◌, ◌-◌, ◌<◌, ◌≤◌, ℤ, pos, ◌+ℤ◌, ◌-ℤ◌, ◌≤ℤ◌, Bool, true, false, List, [], ◌∷◌, length, sum_by, eqb, if◌then◌else◌, unsigned_abs, refl, ap, sym, subst, ◌∙◌, arith, ◌↔◌, replicate}
 use Rattle.std.specs.Prelude.{slice_set}
 use Rattle.std.proofs.lemmas.Int.{ints}
-use Rattle.std.proofs.lemmas.Bool.{eqb-false, eqb-true, false≢true, ne_eqb}
+use Rattle.std.proofs.lemmas.Bool.{eqb-false, eqb-true, false≢true}
 use Rattle.std.proofs.lemmas.List.{get_or-set_other, get_or-set_same, length-set, length-replicate}
 use Rattle.std.proofs.lemmas.List.Sums.{sum_by-cons}
 use Rattle.th_cuts.specs.declared.edges.Edge.{Edge}
 use Rattle.th_cuts.specs.declared.edges.Way.{Way}
-use Rattle.th_cuts.specs.Cuts.{crosses, cut_weight}
-use Rattle.th_cuts.specs.Inside.Trees.{at}
-use Rattle.th_cuts.specs.Inside.Flows.{AreBounded, AreFullOut, CanCarry, IsFlow, IsFullOut, IsGraph, carried, carry, edge_at, finish_of, flow_at, net, out_of, signed, start_of}
+use Rattle.th_cuts.specs.Cuts.{crosses, cut_weight, drain, room_in}
+use Rattle.th_cuts.specs.Inside.Merges.{AreAmong}
+use Rattle.th_cuts.specs.Inside.Trees.{IsSent, at}
+use Rattle.th_cuts.specs.Inside.Flows.{AreBounded, AreFullOut, CanCarry, IsClosed, IsFlow, IsFullOut, carried, carry, edge_at, finish_of, flow_at, net, out_of, room_at, signed, start_of}
+use Rattle.th_cuts.proofs.RoomLemmas.{room_in_least, room_in_none, room_in_set}
 
 -- ---- no cut weighs less than what is taken out of it
 out_most : (s t : Bool) (f : ℤ) (w : ℕ) → unsigned_abs f ≤ w → (if s then (if t then pos 0 else f) else (if t then (pos 0 -ℤ f) else pos 0)) ≤ℤ pos (if (if s then (if t then false else true) else t) then w else 0)
@@ -27,11 +30,11 @@ net_most inside (edge ∷ edges) (flow ∷ flows) h =
     let more = sum_by-cons (λ (e : Edge). if crosses inside e then e.weight else 0) edge edges in
     omega (arith, ints)
 
--- the value of a flow is at most what a cut weighs
-pub value_most : (edges : List Edge) (source sink value : ℕ) (flows : List ℤ) (inside : ℕ → Bool) → IsFlow edges source sink value flows → inside source ≡ true → inside sink ≡ false → value ≤ cut_weight inside edges
-value_most edges source sink value flows inside flow in_it out =
+-- the value of a flow is at most what a set with the source drains
+pub value_most : (edges : List Edge) (source value : ℕ) (rooms left : List ℕ) (flows : List ℤ) (inside : ℕ → Bool) → IsFlow edges source rooms left value flows → inside source ≡ true → value ≤ drain edges rooms inside
+value_most edges source value rooms left flows inside flow in_it =
     let most = net_most inside edges flows flow.within.bounded in
-    let is = flow.valued inside in_it out in
+    let is = flow.valued inside in_it in
     omega (arith, ints)
 
 -- ---- a cut whose ways out are full weighs just that
@@ -51,10 +54,12 @@ net_full inside (edge ∷ edges) (flow ∷ flows) sized full =
     let more = sum_by-cons (λ (e : Edge). if crosses inside e then e.weight else 0) edge edges in
     omega (arith, ints)
 
-pub value_full : (edges : List Edge) (source sink value : ℕ) (flows : List ℤ) (inside : ℕ → Bool) → IsFlow edges source sink value flows → AreFullOut edges flows inside → inside source ≡ true → inside sink ≡ false → cut_weight inside edges ≡ value
-value_full edges source sink value flows inside flow full in_it out =
-    let whole = net_full inside edges flows flow.within.sized full in
-    let is = flow.valued inside in_it out in
+-- so it is just what a closed set drains
+pub value_full : (edges : List Edge) (source value : ℕ) (rooms left : List ℕ) (flows : List ℤ) (inside : ℕ → Bool) → IsFlow edges source rooms left value flows → IsClosed edges left flows inside → inside source ≡ true → drain edges rooms inside ≡ value
+value_full edges source value rooms left flows inside flow closed in_it =
+    let whole = net_full inside edges flows flow.within.sized closed.full in
+    let used = room_in_none left inside closed.used in
+    let is = flow.valued inside in_it in
     omega (arith, ints)
 
 -- ---- a cut that weighs just what is taken out of it has its ways out full
@@ -77,6 +82,16 @@ full_of_net inside (edge ∷ edges) (flow ∷ flows) sized bounded is (suc numbe
     let one = out_most (inside edge.tail) (inside edge.head) flow edge.weight (bounded 0) in
     let more = sum_by-cons (λ (e : Edge). if crosses inside e then e.weight else 0) edge edges in
     full_of_net inside edges flows (omega arith) (λ number. bounded (suc number)) (omega (arith, ints)) number (omega arith)
+
+-- a set that drains just the value of a flow is closed
+pub closed_of_drain : (edges : List Edge) (source value : ℕ) (rooms left : List ℕ) (flows : List ℤ) (inside : ℕ → Bool) → IsFlow edges source rooms left value flows → inside source ≡ true → drain edges rooms inside ≡ value → IsClosed edges left flows inside
+closed_of_drain edges source value rooms left flows inside flow in_it drains =
+    let most = net_most inside edges flows flow.within.bounded in
+    let is = flow.valued inside in_it in
+    record {
+      full = full_of_net inside edges flows flow.within.sized flow.within.bounded (omega (arith, ints));
+      used = λ vertex on. let less = room_in_least left inside vertex on in omega (arith, ints);
+    }
 
 -- a way with room does not lead out of such a cut
 pub not_out : (edges : List Edge) (flows : List ℤ) (inside : ℕ → Bool) (amount : ℕ) (way : Way) → AreFullOut edges flows inside → way.edge < length edges → 1 ≤ amount → CanCarry edges flows amount way → inside (start_of way (edge_at edges way.edge)) ≡ true → inside (finish_of way (edge_at edges way.edge)) ≡ true
@@ -114,15 +129,19 @@ zero_at zero number = refl
 zero_at (suc n) zero = refl
 zero_at (suc n) (suc number) = zero_at n number
 
-pub flow_start : (edges : List Edge) (source sink : ℕ) (flows : List ℤ) → flows ≡ replicate (length edges) (pos 0) → IsFlow edges source sink 0 flows
-flow_start edges source sink flows are =
+pub flow_start : (edges : List Edge) (source : ℕ) (rooms left : List ℕ) (flows : List ℤ) → left ≡ rooms → flows ≡ replicate (length edges) (pos 0) → IsFlow edges source rooms left 0 flows
+flow_start edges source rooms left flows all are =
     let none : (number : ℕ) → flow_at flows number ≡ pos 0 = λ number. ap (λ (fs : List ℤ). flow_at fs number) are ∙ zero_at (length edges) number in
     record {
       within = record {
         sized = ap (λ (fs : List ℤ). length fs) are ∙ length-replicate (length edges) (pos 0);
         bounded = λ number. let here = none number in omega (arith, ints);
       };
-      valued = λ inside in_it out. net_none inside edges flows none;
+      each = ap (λ (l : List ℕ). length l) all;
+      valued = λ inside in_it.
+          let no_net = net_none inside edges flows none in
+          let same = ap (λ (l : List ℕ). room_in l inside) all in
+          omega (arith, ints);
     }
 
 -- ---- an amount that a way carries is taken out at its start and brought in at its finish
@@ -180,12 +199,12 @@ carry_bounded edges flows amount way are room = record {
 }
 
 -- ---- room
-pub finish_within : (vertices : ℕ) (edges : List Edge) (source sink : ℕ) (way : Way) → IsGraph vertices edges source sink → way.edge < length edges → finish_of way (edge_at edges way.edge) < vertices
-finish_within vertices edges source sink way graph among = by way.is_forward
+pub finish_within : (vertices : ℕ) (edges : List Edge) (way : Way) → AreAmong vertices edges → way.edge < length edges → finish_of way (edge_at edges way.edge) < vertices
+finish_within vertices edges way ends among = by way.is_forward
   where
     by : (b : Bool) → (if b then (edge_at edges way.edge).head else (edge_at edges way.edge).tail) < vertices
-    by true = (graph.ends way.edge (edge_at [] 0) among).1
-    by false = (graph.ends way.edge (edge_at [] 0) among).0
+    by true = (ends way.edge (edge_at [] 0) among).1
+    by false = (ends way.edge (edge_at [] 0) among).0
 
 -- how much more can flow along a way
 pub room_is : (forward : Bool) (w : ℕ) (f r : ℤ) (amount : ℕ) → unsigned_abs f ≤ w → r ≡ (if forward then (pos w -ℤ f) else (pos w +ℤ f)) → (unsigned_abs (f +ℤ signed amount forward) ≤ w) ↔ (pos amount ≤ℤ r)
@@ -243,10 +262,20 @@ weight_most inside (edge ∷ edges) =
     part true w = omega arith
     part false w = omega arith
 
--- the value of a flow is at most what all edges weigh
-pub value_small : (edges : List Edge) (source sink value : ℕ) (flows : List ℤ) → source ≢ sink → IsFlow edges source sink value flows → value ≤ sum_by (λ edge. edge.weight) edges
-value_small edges source sink value flows apart flow =
-    let alone = λ (v : ℕ). eqb v source in
-    let most = value_most edges source sink value flows alone flow (eq-eqb source source refl) (ne_eqb sink source (λ e. apart (sym e))) in
-    let all = weight_most alone edges in
-    omega arith
+-- ---- an amount sent takes as much of the room where it ends
+at_is : (amount : ℕ) (b : Bool) → at amount b ≡ pos (if b then amount else 0)
+at_is amount true = refl
+at_is amount false = refl
+
+pub flow_sent : (edges : List Edge) (source end amount value : ℕ) (rooms left : List ℕ) (first flows : List ℤ) → IsFlow edges source rooms left value first → IsSent edges first source end amount flows → amount ≤ room_at left end → end < length left → IsFlow edges source rooms (slice_set left end (room_at left end - amount)) (value + amount) flows
+flow_sent edges source end amount value rooms left first flows flow sent enough within = record {
+  within = sent.bounded;
+  each = let long = length-set left end (room_at left end - amount) in let same = flow.each in omega arith;
+  valued = λ inside in_it.
+      let moved = sent.moved inside in
+      let before = flow.valued inside in_it in
+      let start = ap (at amount) in_it in
+      let finish = at_is amount (inside end) in
+      let set = room_in_set left inside end amount within enough in
+      omega (arith, ints);
+}

@@ -1,18 +1,18 @@
 -- A step that is added to a tree, and an amount that a tree's ways carry.
-use Rattle.std.proofs.Common.{◌≡◌, ℕ, zero, suc, ◌+◌, ◌<◌, ◌≤◌, ℤ, pos, Bool, true, false, List, [], ◌∷◌, ◌++◌, Option, Some, None, length, map, eqb, refl, ap, sym, subst, ◌∙◌, inl, inr, take, arith, All}
+use Rattle.std.proofs.Common.{◌≡◌, ℕ, zero, suc, ◌+◌, ◌<◌, ◌≤◌, ℤ, Bool, true, false, List, [], ◌∷◌, ◌++◌, Option, Some, None, length, map, eqb, refl, ap, sym, subst, ◌∙◌, inl, inr, take, arith}
 use Rattle.std.specs.Prelude.{slice_set}
 use Rattle.std.proofs.lemmas.Int.{ints}
 use Rattle.std.proofs.Math.Seq.{take-append_seam}
 use Rattle.std.proofs.lemmas.Bool.{cases_Bool, eqb-false, eqb-true, false≢true}
 use borrow.Author.Count.{below_more}
-use Rattle.std.proofs.lemmas.List.{get_or_default, get_or_append_left, get_or_push, get_or-set_other, get_or-set_same, length-set, length-append}
+use Rattle.std.proofs.lemmas.List.{get_or_append_left, get_or_push, get_or-set_other, get_or-set_same, length-set, length-append, length-map}
 use Rattle.std.proofs.lemmas.List.Sums.{sum_by-cons, sum_by-set}
 use Rattle.th_cuts.specs.declared.edges.Edge.{Edge}
 use Rattle.th_cuts.specs.declared.trees.WayStep.{WayStep}
-use Rattle.th_cuts.specs.Cuts.{cut_weight, on_side}
-use Rattle.th_cuts.specs.Inside.Flows.{AreFullOut, CanCarry, IsFlow, carry, edge_at, finish_of, flow_at}
-use Rattle.th_cuts.specs.Inside.Trees.{AreApart, AreSteps, IsBack, IsStep, IsTree, at, count_left, is_placed, left, place_at, reached, step_at}
-use Rattle.th_cuts.proofs.FlowLemmas.{carry_bounded, full_of_net, full_same, net_carry, not_out, room_for_less, room_kept, value_full}
+use Rattle.th_cuts.specs.Cuts.{drain, on_side}
+use Rattle.th_cuts.specs.Inside.Flows.{AreFullOut, CanCarry, IsClosedSide, IsFlow, carry, edge_at, finish_of, flow_at, room_at}
+use Rattle.th_cuts.specs.Inside.Trees.{AreApart, AreSteps, IsBack, IsSent, IsStep, IsTree, at, count_left, is_placed, left, place_at, reached, step_at}
+use Rattle.th_cuts.proofs.FlowLemmas.{carry_bounded, closed_of_drain, full_same, net_carry, not_out, room_for_less, room_kept}
 
 -- a vertex with a place is none without
 placed_apart : (places : List (Option ℕ)) (u v k : ℕ) → place_at places u ≡ Some k → place_at places v ≡ None → u ≡ v → ⊥
@@ -139,8 +139,8 @@ apart_ways : (edges : List Edge) (flows : List ℤ) (p q a b : WayStep) → IsSt
 apart_ways edges flows p q a b one two apart edge forward =
     apart (sym one.finish ∙ ap (λ (i : ℕ). finish_of (record { edge = i; is_forward = a.way.is_forward }) (edge_at edges i)) (sym edge) ∙ ap (λ (t : Bool). finish_of (record { edge = b.way.edge; is_forward = t }) (edge_at edges b.way.edge)) forward ∙ two.finish)
 
-pub back_step : (edges : List Edge) (first : List ℤ) (source sink amount : ℕ) (steps : List WayStep) (flows : List ℤ) (here : ℕ) → AreSteps edges first source steps → AreApart steps → IsBack edges first sink amount steps flows here → 1 ≤ here → CanCarry edges flows amount (step_at steps here).way × IsBack edges first sink amount steps (carry amount flows (step_at steps here).way) (step_at steps here).parent
-back_step edges first source sink amount steps flows here are each_apart back some =
+pub back_step : (edges : List Edge) (first : List ℤ) (source end amount : ℕ) (steps : List WayStep) (flows : List ℤ) (here : ℕ) → AreSteps edges first source steps → AreApart steps → IsBack edges first end amount steps flows here → 1 ≤ here → CanCarry edges flows amount (step_at steps here).way × IsBack edges first end amount steps (carry amount flows (step_at steps here).way) (step_at steps here).parent
+back_step edges first source end amount steps flows here are each_apart back some =
     let step = step_at steps here in
     let parent = step_at steps step.parent in
     let is = are.grown here back.within some in
@@ -149,73 +149,66 @@ back_step edges first source sink amount steps flows here are each_apart back so
     let less = is.less in
     let within = back.within in
     let among = is.among in
-    let sized = back.bounded.sized in
-    let room : CanCarry edges flows amount step.way = room_for_less step.way.is_forward (edge_at edges step.way.edge).weight amount step.limit (flow_at flows step.way.edge) (back.bounded.bounded step.way.edge) enough (back.rooms here (omega arith) some) in (
+    let sized = back.sent.bounded.sized in
+    let room : CanCarry edges flows amount step.way = room_for_less step.way.is_forward (edge_at edges step.way.edge).weight amount step.limit (flow_at flows step.way.edge) (back.sent.bounded.bounded step.way.edge) enough (back.rooms here (omega arith) some) in (
       room,
       record {
         within = omega arith;
         enough = omega arith;
-        bounded = carry_bounded edges flows amount step.way back.bounded room;
+        sent = record {
+          bounded = carry_bounded edges flows amount step.way back.sent.bounded room;
+          moved = λ inside.
+              let sent = net_carry inside edges flows amount step.way among sized in
+              let moved = back.sent.moved inside in
+              let start = ap (λ (v : ℕ). at amount (inside v)) is.start in
+              let finish = ap (λ (v : ℕ). at amount (inside v)) is.finish in
+              omega (arith, ints);
+        };
         rooms = λ k h more.
             let inside : k < length steps = omega arith in
             let other = are.grown k inside more in
             let apart : step.vertex ≡ (step_at steps k).vertex → ⊥ = λ same.
             let same_place = each_apart here k within inside same in
             absurd (omega arith) in
-            room_kept edges flows amount (step_at steps k).limit step.way (step_at steps k).way back.bounded among room (back.rooms k (omega arith) more) (apart_ways edges first parent (step_at steps (step_at steps k).parent) step (step_at steps k) is other apart);
-        moved = λ inside.
-            let sent = net_carry inside edges flows amount step.way among sized in
-            let moved = back.moved inside in
-            let start = ap (λ (v : ℕ). at amount (inside v)) is.start in
-            let finish = ap (λ (v : ℕ). at amount (inside v)) is.finish in
-            omega (arith, ints);
+            room_kept edges flows amount (step_at steps k).limit step.way (step_at steps k).way back.sent.bounded among room (back.rooms k (omega arith) more) (apart_ways edges first parent (step_at steps (step_at steps k).parent) step (step_at steps k) is other apart);
       },
     )
 
 -- back at the source, all has been sent
-pub back_done : (edges : List Edge) (first : List ℤ) (source sink amount value : ℕ) (steps : List WayStep) (flows : List ℤ) → AreSteps edges first source steps → IsBack edges first sink amount steps flows 0 → IsFlow edges source sink value first → IsFlow edges source sink (value + amount) flows
-back_done edges first source sink amount value steps flows are back flow = record {
-  within = back.bounded;
-  valued = λ inside in_it out.
-      let moved = back.moved inside in
-      let before = flow.valued inside in_it out in
-      let root = ap (λ (v : ℕ). at amount (inside v)) are.root_vertex ∙ ap (at amount) in_it in
-      let end = ap (at amount) out in
-      omega (arith, ints);
-}
+pub back_done : (edges : List Edge) (first : List ℤ) (source end amount : ℕ) (steps : List WayStep) (flows : List ℤ) → AreSteps edges first source steps → IsBack edges first end amount steps flows 0 → IsSent edges first source end amount flows
+back_done edges first source end amount steps flows are back = subst (λ v. IsSent edges first v end amount flows) are.root_vertex back.sent
 
 -- ---- a tree's steps lead to different vertices
 pub tree_apart : (vertices : ℕ) (edges : List Edge) (flows : List ℤ) (source : ℕ) (steps : List WayStep) (places : List (Option ℕ)) → IsTree vertices edges flows source steps places → AreApart steps
 tree_apart vertices edges flows source steps places tree j k h i same =
     let e = sym (tree.found j h) ∙ ap (place_at places) same ∙ tree.found k i in cc
 
--- ---- each vertex that is reached is one of the vertices
-place_within : (places : List (Option ℕ)) (v k : ℕ) → place_at places v ≡ Some k → v < length places
-place_within [] v k is = absurd (let none : None ≡ Some k = is in cc)
-place_within (place ∷ places) zero k is = omega arith
-place_within (place ∷ places) (suc v) k is = let rest = place_within places v k is in omega arith
-
-pub vertices_within : (vertices : ℕ) (edges : List Edge) (flows : List ℤ) (source : ℕ) (steps : List WayStep) (places : List (Option ℕ)) → IsTree vertices edges flows source steps places → All (λ step. step.vertex < vertices) steps
-vertices_within vertices edges flows source steps places tree = λ k d h.
-    let within = place_within places (step_at steps k).vertex k (tree.found k h) in
-    let sized = tree.sized in
-    subst (λ (s : WayStep). s.vertex < vertices) (get_or_default steps k (step_at [] 0) d h) (omega arith)
-
 -- ---- the side that is reached
-on_side_is : (places : List (Option ℕ)) (vertex : ℕ) → reached places vertex ≡ on_side (map is_placed places) vertex
+pub on_side_is : (places : List (Option ℕ)) (vertex : ℕ) → reached places vertex ≡ on_side (map is_placed places) vertex
 on_side_is [] vertex = refl
 on_side_is (place ∷ places) zero = refl
 on_side_is (place ∷ places) (suc vertex) = on_side_is places vertex
 
-pub source_reached : (vertices : ℕ) (edges : List Edge) (flows : List ℤ) (source : ℕ) (steps : List WayStep) (places : List (Option ℕ)) → IsTree vertices edges flows source steps places → on_side (map is_placed places) source ≡ true
-source_reached vertices edges flows source steps places tree =
+-- if no way with room leads out of it, and nothing more may end there, nothing more can leave it
+pub closed_side : (vertices : ℕ) (edges : List Edge) (flows : List ℤ) (source : ℕ) (room : List ℕ) (steps : List WayStep) (places : List (Option ℕ)) → IsTree vertices edges flows source steps places → AreFullOut edges flows (reached places) → ((vertex : ℕ) → reached places vertex ≡ true → room_at room vertex ≡ 0) → IsClosedSide vertices edges source room flows (map is_placed places)
+closed_side vertices edges flows source room steps places tree full used =
     let root = tree.are_steps.root in
-    sym (on_side_is places source) ∙ ap is_placed (ap (place_at places) (sym tree.are_steps.root_vertex) ∙ tree.found 0 (omega arith))
+    record {
+      each = length-map {B = Bool} places is_placed ∙ tree.sized;
+      holds = sym (on_side_is places source) ∙ ap is_placed (ap (place_at places) (sym tree.are_steps.root_vertex) ∙ tree.found 0 (omega arith));
+      closed = record {
+        full = full_same edges flows (reached places) (on_side (map is_placed places)) (on_side_is places) full;
+        used = λ vertex on. used vertex (on_side_is places vertex ∙ on);
+      };
+    }
 
-pub side_weighs : (vertices : ℕ) (edges : List Edge) (flows : List ℤ) (source sink value : ℕ) (steps : List WayStep) (places : List (Option ℕ)) → IsTree vertices edges flows source steps places → IsFlow edges source sink value flows → place_at places sink ≡ None → (reached places sink ≡ false → AreFullOut edges flows (reached places)) → cut_weight (on_side (map is_placed places)) edges ≡ value
-side_weighs vertices edges flows source sink value steps places tree flow none full =
-    let out = ap is_placed none in
-    value_full edges source sink value flows (on_side (map is_placed places)) flow (full_same edges flows (reached places) (on_side (map is_placed places)) (on_side_is places) (full out)) (source_reached vertices edges flows source steps places tree) (sym (on_side_is places sink) ∙ out)
+-- where no more may end at the steps, no more may end at what is reached
+pub used_of_steps : (vertices : ℕ) (edges : List Edge) (flows : List ℤ) (source : ℕ) (room : List ℕ) (steps : List WayStep) (places : List (Option ℕ)) → IsTree vertices edges flows source steps places → ((k : ℕ) → k < length steps → room_at room (step_at steps k).vertex ≡ 0) → (vertex : ℕ) → reached places vertex ≡ true → room_at room vertex ≡ 0
+used_of_steps vertices edges flows source room steps places tree used vertex on = by (place_at places vertex) refl
+  where
+    by : (place : Option ℕ) → place_at places vertex ≡ place → room_at room vertex ≡ 0
+    by None e = absurd (false≢true (sym (ap is_placed e) ∙ on))
+    by (Some k) e = let there = tree.placed vertex k e in ap (room_at room) (sym there.1) ∙ used k there.0
 
 -- ---- whatever holds the source and has no way with room out of it holds all that is reached
 steps_inside : (vertices : ℕ) (edges : List Edge) (flows : List ℤ) (source : ℕ) (steps : List WayStep) (places : List (Option ℕ)) (inside : ℕ → Bool) → IsTree vertices edges flows source steps places → AreFullOut edges flows inside → inside source ≡ true → (most k : ℕ) → k < most → k < length steps → inside (step_at steps k).vertex ≡ true
@@ -228,24 +221,18 @@ steps_inside vertices edges flows source steps places inside tree full in_it (su
     let parent = steps_inside vertices edges flows source steps places inside tree full in_it most step.parent (omega arith) (omega arith) in
     sym (ap inside is.finish) ∙ not_out edges flows inside step.limit step.way full is.among (tree.are_steps.some (suc k) within) is.room (ap inside is.start ∙ parent)
 
-pub reached_inside : (vertices : ℕ) (edges : List Edge) (flows : List ℤ) (source sink value : ℕ) (steps : List WayStep) (places : List (Option ℕ)) (inside : ℕ → Bool) → IsTree vertices edges flows source steps places → IsFlow edges source sink value flows → inside source ≡ true → inside sink ≡ false → cut_weight inside edges ≡ value → (vertex : ℕ) → on_side (map is_placed places) vertex ≡ true → inside vertex ≡ true
-reached_inside vertices edges flows source sink value steps places inside tree flow in_it out weighs vertex on =
-    by (place_at places vertex) refl (on_side_is places vertex ∙ on)
+pub reached_inside : (vertices : ℕ) (edges : List Edge) (flows : List ℤ) (source value : ℕ) (rooms room : List ℕ) (steps : List WayStep) (places : List (Option ℕ)) (inside : ℕ → Bool) → IsTree vertices edges flows source steps places → IsFlow edges source rooms room value flows → inside source ≡ true → drain edges rooms inside ≡ value → (vertex : ℕ) → reached places vertex ≡ true → inside vertex ≡ true
+reached_inside vertices edges flows source value rooms room steps places inside tree flow in_it drains vertex on = by (place_at places vertex) refl
   where
     full : AreFullOut edges flows inside
-    full = full_of_net inside edges flows flow.within.sized flow.within.bounded (flow.valued inside in_it out ∙ sym (ap pos weighs))
+    full = (closed_of_drain edges source value rooms room flows inside flow in_it drains).full
 
-    by : (place : Option ℕ) → place_at places vertex ≡ place → is_placed (place_at places vertex) ≡ true → inside vertex ≡ true
-    by None e placed = absurd (false≢true (sym (ap is_placed e) ∙ placed))
-    by (Some k) e placed =
+    by : (place : Option ℕ) → place_at places vertex ≡ place → inside vertex ≡ true
+    by None e = absurd (false≢true (sym (ap is_placed e) ∙ on))
+    by (Some k) e =
         let there = tree.placed vertex k e in
         sym (ap inside there.1) ∙ steps_inside vertices edges flows source steps places inside tree full in_it (length steps) k there.0 there.0
 
--- ---- the flow's value
--- what was read and written by way of slices
-pub sent_more : (edges : List Edge) (source sink value : ℕ) (flows lent new : List ℤ) (limit amount : ℕ) → ((value : ℕ) → IsFlow edges source sink value lent → IsFlow edges source sink (value + limit) new) → lent ≡ flows → amount ≡ limit → IsFlow edges source sink value flows → IsFlow edges source sink (value + amount) new
-sent_more edges source sink value flows lent new limit amount sends same is flow =
-    subst (λ (a : ℕ). IsFlow edges source sink (value + a) new) (sym is) (sends value (subst (IsFlow edges source sink value) (sym same) flow))
-
+-- ---- what was written by way of a slice
 pub written : (n : ℕ) (new rest : List ℤ) → n ≡ length new → take n (new ++ rest) ≡ new
 written n new rest long = ap (λ (m : ℕ). take m (new ++ rest)) long ∙ take-append_seam new rest

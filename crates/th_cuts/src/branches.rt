@@ -1,13 +1,12 @@
-ghost use Rattle.std.specs.Prelude.{◌≡◌, ◌≢◌, ◌+◌, ◌<◌, ◌≤◌, ◌⊎◌, ℕ, Bool, All, IfOk, length, slice_index_or, sum_by, true};
-ghost use Rattle.th_cuts.specs.Cuts.{IsLeastCut, cut_weight, separates};
-ghost use Rattle.th_cuts.specs.Inside.CutTrees.{AreBranches, AreEdges, IsBranch, IsGrown};
-ghost use Rattle.th_cuts.specs.Inside.Neighbours.{AreNeighbours};
+ghost use Rattle.std.specs.Prelude.{◌≡◌, ◌≢◌, ◌+◌, ◌-◌, ◌<◌, ◌≤◌, ◌⊎◌, ℕ, Bool, IfOk, length, slice_index_or, true};
+ghost use Rattle.th_cuts.specs.Cuts.{IsLeastCut, IsLeastSide, cut_weight, separates};
+ghost use Rattle.th_cuts.specs.Inside.CutTrees.{AreBranches, AreLone, IsBranch, IsCut, IsGrown};
 
-use crate::cuts::{Cut, least_cut_along};
-use crate::edges::Edge;
+use crate::cuts::{Cut, cut_between};
 use crate::graphs::Graph;
-use crate::neighbours::Neighbours;
+use crate::near::{lone_weights, near_rooms};
 use std::alloc::{AllocError, Global};
+use th_progress::{Progress, Work};
 
 /// A least cut between a vertex and one before it.
 #[derive(Drop)]
@@ -16,29 +15,30 @@ pub(crate) struct Branch {
     pub cut: Cut,
 }
 
-/// The branches of the vertices from 1 on, and what a further cut needs.
+/// The branches of the vertices of a graph from 1 on, and what a further cut needs.
 #[derive(Drop)]
 pub(crate) struct Branches {
-    pub vertices: u32,
-    pub edges: Vec<Edge>,
-    pub neighbours: Neighbours,
+    pub graph: Graph,
+    /// For each vertex what its edges weigh.
+    pub lone: Vec<u32>,
     pub branches: Vec<Branch>,
-    ghost grown: { IsGrown vertices edges.items neighbours.starts.items neighbours.ways.items branches.items },
+    ghost grown: { IsGrown graph.vertices graph.edges.items lone.items branches.items },
 }
 
 impl Branches {
     /// Makes one cut for each vertex from 1 on.
-    pub fn of(alloc: Global, vertices: u32, edges: Vec<Edge>) -> Result<Branches, AllocError>
-        requires { AreEdges vertices edges.items }
-        ensures vertices { IfOk result (λ branches. branches.vertices ≡ vertices) }
-        ensures edges { IfOk result (λ branches. branches.edges.items ≡ edges.items) }
+    pub fn of<P: Progress>(
+        alloc: Global,
+        graph: Graph,
+        progress: &mut P,
+    ) -> Result<Branches, AllocError>
+        ensures { IfOk result (λ branches. branches.graph ≡ graph) }
     {
-        let neighbours = Neighbours::of(alloc, vertices, &edges)?;
-        let branches = grow(alloc, vertices, &edges, &neighbours)?;
+        let lone = lone_weights(alloc, &graph)?;
+        let branches = grow(alloc, &graph, &lone, progress)?;
         Ok(Branches {
-            vertices,
-            edges,
-            neighbours,
+            graph,
+            lone,
             branches,
         })
     }
@@ -49,35 +49,62 @@ impl Branches {
     /// That branch's own side mostly separates them too; if it does not, they get a cut of their
     /// own.
     pub fn least(&self, alloc: Global, first: u32, second: u32) -> Result<u32, AllocError>
-        requires first { first < self.now.vertices }
-        requires second { second < self.now.vertices }
+        requires first { first < self.now.graph.vertices }
+        requires second { second < self.now.graph.vertices }
         requires apart { first ≢ second }
-        ensures { IfOk result (λ value. IsLeastCut self.now.edges.items first second value) }
+        ensures { IfOk result (λ value. IsLeastCut self.now.graph.edges.items first second value) }
     {
         let lightest = self.lightest(first, second);
         let cut = &self.branches[lightest].cut;
         if cut.side[first as usize] != cut.side[second as usize] {
             return Ok(cut.value);
         }
-        let graph = Graph {
-            vertices: self.vertices,
-            edges: &self.edges,
-            source: first,
-            sink: second,
-        };
-        let cut = least_cut_along(alloc, &graph, &self.neighbours)?;
+        let cut = self.further(alloc, first, second)?;
         Ok(cut.value)
+    }
+
+    /// The side of the lightest cut between two vertices that `least` has the weight of.
+    pub fn least_side(
+        &self,
+        alloc: Global,
+        first: u32,
+        second: u32,
+    ) -> Result<Vec<bool>, AllocError>
+        requires first { first < self.now.graph.vertices }
+        requires second { second < self.now.graph.vertices }
+        requires apart { first ≢ second }
+        ensures { IfOk result (λ side. IsLeastSide self.now.graph.edges.items first second side.items) }
+    {
+        let lightest = self.lightest(first, second);
+        let cut = &self.branches[lightest].cut;
+        if cut.side[second as usize] != cut.side[first as usize] {
+            return Vec::from_slice(alloc, &cut.side);
+        }
+        let cut = self.further(alloc, first, second)?;
+        Ok(cut.side)
+    }
+
+    /// A least cut between two vertices, beside those of the tree.
+    fn further(&self, alloc: Global, first: u32, second: u32) -> Result<Cut, AllocError>
+        requires first { first < self.now.graph.vertices }
+        requires second { second < self.now.graph.vertices }
+        requires apart { first ≢ second }
+        ensures { IfOk result (IsCut self.now.graph.vertices self.now.graph.edges.items first second) }
+    {
+        let most = self.lone[first as usize].min(self.lone[second as usize]);
+        let rooms = near_rooms(alloc, &self.graph, &self.branches, second, most)?;
+        cut_between(alloc, &self.graph, &self.lone, first, second, most, &rooms)
     }
 
     /// The number of the lightest branch on the way between two vertices.
     fn lightest(&self, first: u32, second: u32) -> usize
-        requires first { first < self.now.vertices }
-        requires second { second < self.now.vertices }
+        requires first { first < self.now.graph.vertices }
+        requires second { second < self.now.graph.vertices }
         requires apart { first ≢ second }
         ensures within { result < length self.now.branches.items }
         ensures least { (d : Branch) (inside : ℕ → Bool) → separates inside first second ≡ true
             → (slice_index_or self.now.branches.items result d).cut.value
-            ≤ cut_weight inside self.now.edges.items }
+            ≤ cut_weight inside self.now.graph.edges.items }
     {
         let (mut early, mut late) = in_order(first, second);
         let mut lightest = late as usize - 1;
@@ -121,23 +148,23 @@ fn in_order(first: u32, second: u32) -> (u32, u32)
 
 /// Makes one cut for each vertex from 1 on, from a vertex before it (Gusfield's tree). The parents
 /// are chosen so that few pairs need a cut of their own; no proof depends on the choice.
-fn grow(
+fn grow<P: Progress>(
     alloc: Global,
-    vertices: u32,
-    edges: &[Edge],
-    neighbours: &Neighbours,
+    graph: &Graph,
+    lone: &[u32],
+    progress: &mut P,
 ) -> Result<Vec<Branch>, AllocError>
-    requires edges { AreEdges vertices edges.now }
-    requires neighbours { AreNeighbours vertices (length edges.now)
-        neighbours.now.starts.items neighbours.now.ways.items }
-    ensures each { IfOk result (λ branches. vertices ≤ length branches.items + 1) }
-    ensures branches { IfOk result (λ branches. AreBranches vertices edges.now branches.items) }
+    requires { AreLone graph.now.vertices graph.now.edges.items lone.now }
+    ensures each { IfOk result (λ branches. length branches.items ≡ graph.now.vertices - 1) }
+    ensures branches { IfOk result (λ branches.
+        AreBranches graph.now.vertices graph.now.edges.items branches.items) }
 {
-    let mut parents = vec![in alloc; 0u32; vertices as usize]?;
+    let mut parents = vec![in alloc; 0u32; graph.vertices as usize]?;
     let mut branches = Vec::new(alloc);
-    for vertex in 1..vertices {
+    for vertex in 1..graph.vertices {
+        progress.show(Work::Cuts, branches.len(), graph.vertices as usize - 1);
         let parent = parents[vertex as usize].min(vertex - 1);
-        let branch = branch_of(alloc, vertices, edges, neighbours, vertex, parent)?;
+        let branch = branch_of(alloc, graph, lone, &branches, vertex, parent)?;
         adopt(&mut parents, vertex, parent, &branch.cut.side);
         branches.push(branch)?;
     }
@@ -147,26 +174,22 @@ fn grow(
 /// The branch from a vertex to one before it.
 fn branch_of(
     alloc: Global,
-    vertices: u32,
-    edges: &[Edge],
-    neighbours: &Neighbours,
+    graph: &Graph,
+    lone: &[u32],
+    branches: &[Branch],
     vertex: u32,
     parent: u32,
 ) -> Result<Branch, AllocError>
-    requires edges { AreEdges vertices edges.now }
-    requires neighbours { AreNeighbours vertices (length edges.now)
-        neighbours.now.starts.items neighbours.now.ways.items }
-    requires vertex { vertex < vertices }
+    requires lone { AreLone graph.now.vertices graph.now.edges.items lone.now }
+    requires branches { AreBranches graph.now.vertices graph.now.edges.items branches.now }
+    requires each { length branches.now + 1 ≡ vertex }
+    requires vertex { vertex < graph.now.vertices }
     requires parent { parent < vertex }
-    ensures { IfOk result (λ branch. IsBranch vertices edges.now vertex branch) }
+    ensures { IfOk result (λ branch. IsBranch graph.now.vertices graph.now.edges.items vertex branch) }
 {
-    let graph = Graph {
-        vertices,
-        edges,
-        source: vertex,
-        sink: parent,
-    };
-    let cut = least_cut_along(alloc, &graph, neighbours)?;
+    let most = lone[vertex as usize].min(lone[parent as usize]);
+    let rooms = near_rooms(alloc, graph, branches, parent, most)?;
+    let cut = cut_between(alloc, graph, lone, vertex, parent, most, &rooms)?;
     Ok(Branch { parent, cut })
 }
 

@@ -1,12 +1,13 @@
 ghost use Rattle.std.specs.Prelude.{◌≡◌, ◌≢◌, ◌<◌, ◌≤◌, ℕ, Bool, All, IfOk, sum_by};
 ghost use Rattle.th_limits.specs.Limits.{max_total_weight};
-ghost use Rattle.th_cuts.specs.Cuts.{IsLeastCut, cut_weight};
+ghost use Rattle.th_cuts.specs.Cuts.{IsLeastCut, IsLeastSide, cut_weight};
 
 use crate::branches::Branches;
 use crate::edges::Edge;
-use crate::merges::merged;
+use crate::graphs::Graph;
 use std::alloc::{AllocError, Global};
 use std::marker::Model;
+use th_progress::Progress;
 
 /// One least cut for each vertex but 0 (Gusfield 1990), from which the least cut between any two
 /// vertices can be read.
@@ -21,23 +22,28 @@ impl Model for CutTree {
     ghost Value = { Weighted };
 
     ghost view = { λ tree. record {
-      vertices = tree.branches.vertices;
-      edges = tree.branches.edges.items;
+      vertices = tree.branches.graph.vertices;
+      edges = tree.branches.graph.edges.items;
     } };
 }
 
 impl CutTree {
-    /// Makes the cuts. The time is that of one least cut for each vertex, the memory a byte for each
-    /// pair of vertices.
-    pub fn of(alloc: Global, vertices: u32, edges: Vec<Edge>) -> Result<CutTree, AllocError>
+    /// Makes the cuts, and shows how many there are. The time is that of one least cut for each
+    /// vertex, the memory a byte for each pair of vertices.
+    pub fn of<P: Progress>(
+        alloc: Global,
+        vertices: u32,
+        edges: Vec<Edge>,
+        progress: &mut P,
+    ) -> Result<CutTree, AllocError>
         requires ends { All (λ edge. (edge.tail < vertices) × (edge.head < vertices)) edges.items }
         requires light { sum_by (λ edge. edge.weight) edges.items ≤ max_total_weight }
         ensures vertices { IfOk result (λ tree. tree.vertices ≡ vertices) }
         ensures cuts { IfOk result (λ tree. (inside : ℕ → Bool)
             → cut_weight inside tree.edges ≡ cut_weight inside edges.items) }
     {
-        let merged = merged(alloc, &edges)?;
-        let branches = Branches::of(alloc, vertices, merged)?;
+        let graph = Graph::of(alloc, vertices, &edges)?;
+        let branches = Branches::of(alloc, graph, progress)?;
         Ok(CutTree { branches })
     }
 
@@ -51,5 +57,21 @@ impl CutTree {
         ensures { IfOk result (λ value. IsLeastCut self.now.edges first second value) }
     {
         self.branches.least(alloc, first, second)
+    }
+
+    /// A side of the lightest cut between two vertices: for each vertex whether it is on it. The time
+    /// is that of `least`, and that of a copy of the side.
+    pub fn least_side(
+        &self,
+        alloc: Global,
+        first: u32,
+        second: u32,
+    ) -> Result<Vec<bool>, AllocError>
+        requires first { first < self.now.vertices }
+        requires second { second < self.now.vertices }
+        requires apart { first ≢ second }
+        ensures { IfOk result (λ side. IsLeastSide self.now.edges first second side.items) }
+    {
+        self.branches.least_side(alloc, first, second)
     }
 }

@@ -1,29 +1,34 @@
-//! Least cuts between two vertices of a graph with weighted edges.
+//! Least cuts of a graph with weighted edges.
 //!
-//! `least_cut` sends flow along shortest ways with room from the source to the sink until none is left.
-//! The vertices that the last search reached are the side of a cut whose weight is the flow's value,
-//! and no cut weighs less. `CutTree` merges edges between the same vertices, keeps one such cut for each
-//! vertex, and finds the least cut between any two from them.
+//! One operation finds them: flow from a source, with room for some of it at each vertex, up to an
+//! amount. Where not all of it can flow, a side that nothing more can leave is a least one. `least_drain`
+//! compares what sets drain with an amount in this way. `CutTree` keeps one least cut for each vertex,
+//! and finds the least cut between any two from them.
 #![tactic(auto)]
 
-// The graph: edges, the ways along them, and the ways from each vertex.
+// The graph: edges without loops, most of those between the same vertices merged, and the ways along
+// them from each vertex.
 mod edges;
 mod graphs;
 mod merges;
 mod neighbours;
 
-// One cut: room along ways, searches, flows.
-mod cuts;
+// Flow: along the ways that a guide proposes, and where it proposes none, along those of a search that
+// is proved to find all.
+mod drains;
 mod flows;
 mod guides;
 mod paths;
 mod rooms;
 mod trees;
 
-// A cut for each vertex.
+// A least cut for each vertex.
 mod branches;
 mod cut_trees;
+mod cuts;
+mod near;
 
 pub use cut_trees::CutTree;
-pub use cuts::{Cut, least_cut};
+pub use drains::{Drained, least_drain};
 pub use edges::Edge;
+pub use graphs::Graph;

@@ -1,19 +1,14 @@
-ghost use Rattle.std.specs.Prelude.{◌≡◌, ◌+◌, ◌-◌, ◌<◌, ◌≤◌, false, true, IfOk, length};
-ghost use Rattle.th_cuts.specs.Inside.Flows.{AreBounded};
-ghost use Rattle.th_cuts.specs.Inside.Guides.{IsGuide};
-ghost use Rattle.th_cuts.specs.Inside.Neighbours.{AreNeighbours};
-ghost use Rattle.th_cuts.specs.Inside.Paths.{IsPath, LeadsTo};
+ghost use Rattle.std.specs.Prelude.{◌≡◌, ◌-◌, ◌<◌, ◌≤◌, IfOk, length, true};
+ghost use Rattle.th_cuts.specs.Inside.Paths.{IsPath, LeadsToRoom};
 ghost use Rattle.th_cuts.specs.Inside.Trees.{step_at};
 
 use crate::edges::Way;
-use crate::graphs::Graph;
+use crate::flows::{Flow, least};
 use crate::guides::Guide;
-use crate::neighbours::Neighbours;
-use crate::rooms::room;
-use crate::trees::{WayStep, first_step, least};
+use crate::trees::{WayStep, first_step};
 use std::alloc::{AllocError, Global};
 
-/// Steps from the source, each from the one before it and nearer to the sink.
+/// Steps from the source, each from the one before it and one level on.
 #[derive(Drop)]
 pub(crate) struct Path {
     pub steps: Vec<WayStep>,
@@ -28,36 +23,27 @@ impl Path {
     }
 
     /// Searches in depth from the source, along ways with room that lead one level on, and returns whether
-    /// the path leads to the sink. Otherwise no such way is left to be tried.
-    pub fn find(
-        &mut self,
-        graph: &Graph,
-        flows: &[i64],
-        neighbours: &Neighbours,
-        guide: &mut Guide,
-    ) -> Result<bool, AllocError>
-        requires flows { AreBounded graph.now.edges.now flows.now }
-        requires neighbours { AreNeighbours graph.now.vertices (length graph.now.edges.now)
-            neighbours.now.starts.items neighbours.now.ways.items }
-        requires guide { IsGuide graph.now.vertices guide.old }
-        ensures guide { IfOk result (λ _. IsGuide graph.now.vertices guide.new) }
-        ensures path { IfOk result (λ _. IsPath graph.now.vertices graph.now.edges.now flows.now
-            graph.now.source guide.new.levels.items self.new.steps.items) }
-        ensures sink { IfOk result (λ found. found ≡ true
-            → LeadsTo graph.now.sink self.new.steps.items) }
+    /// the path leads to where more may end. Otherwise no such way is left to be tried.
+    pub fn find(&mut self, flow: &Flow<'_>, guide: &mut Guide) -> Result<bool, AllocError>
+        ensures path { IfOk result (λ found. found ≡ true → IsPath flow.now.drain.graph.now.edges.items
+            flow.now.flows.items flow.now.drain.source guide.new.ahead.levels.items self.new.steps.items) }
+        ensures room { IfOk result (λ found. found ≡ true
+            → LeadsToRoom flow.now.left.items self.new.steps.items) }
     {
         self.steps.clear();
-        self.steps.push(first_step(graph))?;
-        let tries = neighbours
+        self.steps.push(first_step(flow.drain.source))?;
+        let graph = flow.drain.graph;
+        let tries = graph
+            .neighbours
             .ways
             .len()
             .saturating_add(2 * graph.vertices as usize);
         'diving: for _ in 0..tries {
             let last = self.last();
-            if last.vertex == graph.sink {
+            if flow.left_at(last.vertex) != 0 {
                 return Ok(true);
             }
-            if !self.go_on(graph, flows, neighbours, guide, last)? {
+            if !self.go_on(flow, guide, last)? {
                 return Ok(false);
             }
         }
@@ -76,33 +62,26 @@ impl Path {
     /// there was either.
     fn go_on(
         &mut self,
-        graph: &Graph,
-        flows: &[i64],
-        neighbours: &Neighbours,
+        flow: &Flow<'_>,
         guide: &mut Guide,
         last: WayStep,
     ) -> Result<bool, AllocError>
-        requires flows { AreBounded graph.now.edges.now flows.now }
-        requires neighbours { AreNeighbours graph.now.vertices (length graph.now.edges.now)
-            neighbours.now.starts.items neighbours.now.ways.items }
-        requires guide { IsGuide graph.now.vertices guide.old }
-        requires path { IsPath graph.now.vertices graph.now.edges.now flows.now
-            graph.now.source guide.old.levels.items self.old.steps.items }
+        requires path { IsPath flow.now.drain.graph.now.edges.items flow.now.flows.items
+            flow.now.drain.source guide.old.ahead.levels.items self.old.steps.items }
         requires last { last ≡ step_at self.old.steps.items (length self.old.steps.items - 1) }
-        ensures guide { IfOk result (λ _. IsGuide graph.now.vertices guide.new) }
-        ensures path { IfOk result (λ _. IsPath graph.now.vertices graph.now.edges.now flows.now
-            graph.now.source guide.new.levels.items self.new.steps.items) }
+        ensures path { IfOk result (λ _. IsPath flow.now.drain.graph.now.edges.items flow.now.flows.items
+            flow.now.drain.source guide.new.ahead.levels.items self.new.steps.items) }
     {
-        let number = guide.cursors[last.vertex as usize];
-        let (_, end) = neighbours.range(last.vertex);
-        if number < end {
-            let neighbour = neighbours.ways[number];
-            if !guide.leads_on(last.vertex, neighbour.finish)
-                || !self.take(graph, flows, guide, neighbour.way, last)?
-            {
-                guide.skip(last.vertex);
+        if let Some(number) = guide.next_way(last.vertex) {
+            let graph = flow.drain.graph;
+            let (_, end) = graph.range(last.vertex);
+            if number < end {
+                let neighbour = graph.way(number);
+                if !self.take(flow, guide, neighbour.way, last)? {
+                    guide.skip(last.vertex);
+                }
+                return Ok(true);
             }
-            return Ok(true);
         }
         if self.steps.len() == 1 {
             return Ok(false);
@@ -117,28 +96,26 @@ impl Path {
     /// does.
     fn take(
         &mut self,
-        graph: &Graph,
-        flows: &[i64],
+        flow: &Flow<'_>,
         guide: &Guide,
         way: Way,
         last: WayStep,
     ) -> Result<bool, AllocError>
-        requires flows { AreBounded graph.now.edges.now flows.now }
-        requires way { way.edge < length graph.now.edges.now }
-        requires guide { IsGuide graph.now.vertices guide.now }
-        requires path { IsPath graph.now.vertices graph.now.edges.now flows.now
-            graph.now.source guide.now.levels.items self.old.steps.items }
+        requires way { way.edge < length flow.now.drain.graph.now.edges.items }
+        requires path { IsPath flow.now.drain.graph.now.edges.items flow.now.flows.items
+            flow.now.drain.source guide.now.ahead.levels.items self.old.steps.items }
         requires last { last ≡ step_at self.old.steps.items (length self.old.steps.items - 1) }
-        ensures { IfOk result (λ _. IsPath graph.now.vertices graph.now.edges.now flows.now
-            graph.now.source guide.now.levels.items self.new.steps.items) }
+        ensures { IfOk result (λ _. IsPath flow.now.drain.graph.now.edges.items flow.now.flows.items
+            flow.now.drain.source guide.now.ahead.levels.items self.new.steps.items) }
     {
+        let graph = flow.drain.graph;
         let edge = graph.edges[way.edge];
         let finish = way.finish(edge);
         if way.start(edge) != last.vertex || !guide.leads_on(last.vertex, finish) {
             return Ok(false);
         }
-        let room = room(graph, flows, way);
-        if room == 0 {
+        let room = flow.room(way);
+        if room == 0 || !guide.is_wide(room) {
             return Ok(false);
         }
         let parent = self.steps.len() - 1;

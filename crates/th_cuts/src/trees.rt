@@ -1,12 +1,9 @@
-ghost use Rattle.std.specs.Prelude.{◌≡◌, ◌<◌, ◌≤◌, false, true, suc, IfOk, length, map};
-ghost use Rattle.th_cuts.specs.Inside.Flows.{AreBounded, AreFullOut, IsFullOut};
-ghost use Rattle.th_cuts.specs.Inside.Neighbours.{AreNeighbours};
-ghost use Rattle.th_cuts.specs.Inside.Trees.{IsTree, is_placed, place_at, reached, step_at};
+ghost use Rattle.std.specs.Prelude.{◌≡◌, ◌<◌, ◌≤◌, ℕ, false, true, suc, All, Contains, IfOk, IfSome, None, length, map};
+ghost use Rattle.th_cuts.specs.Inside.Flows.{AreFullOut, IsFullOut, room_at};
+ghost use Rattle.th_cuts.specs.Inside.Trees.{IsFound, IsTree, is_placed, place_at, reached, step_at};
 
 use crate::edges::Way;
-use crate::graphs::Graph;
-use crate::neighbours::Neighbours;
-use crate::rooms::room;
+use crate::flows::{Flow, least};
 use std::alloc::{AllocError, Global};
 
 /// A step of a search, along a way.
@@ -22,204 +19,136 @@ pub(crate) struct WayStep {
     pub limit: u32,
 }
 
-/// The steps of a search, in the order in which they were taken.
+/// The steps of a search from the source of a flow along ways with room, in the order in which they were
+/// taken.
 #[derive(Drop)]
-pub(crate) struct Tree {
-    pub steps: Vec<WayStep>,
+pub(crate) struct Tree<'a, 'b> {
+    flow: &'a Flow<'b>,
+    steps: Vec<WayStep>,
     /// For each vertex that is reached the place of the step that reaches it.
-    pub places: Vec<Option<usize>>,
+    places: Vec<Option<usize>>,
+    ghost tree: { IsTree flow.now.drain.graph.now.vertices flow.now.drain.graph.now.edges.items
+        flow.now.flows.items flow.now.drain.source steps.items places.items },
 }
 
-impl Tree {
-    /// Searches from the source along ways with room, until the sink is reached or no such way leads on.
-    pub fn grow(
-        alloc: Global,
-        graph: &Graph,
-        flows: &[i64],
-        neighbours: &Neighbours,
-    ) -> Result<Tree, AllocError>
-        requires flows { AreBounded graph.now.edges.now flows.now }
-        requires neighbours { AreNeighbours graph.now.vertices (length graph.now.edges.now)
-            neighbours.now.starts.items neighbours.now.ways.items }
-        ensures tree { IfOk result (λ tree. IsTree graph.now.vertices graph.now.edges.now flows.now
-            graph.now.source tree.steps.items tree.places.items) }
-        ensures full { IfOk result (λ tree. reached tree.places.items graph.now.sink ≡ false
-            → AreFullOut graph.now.edges.now flows.now (reached tree.places.items)) }
-    {
-        let mut tree = Tree::new(alloc, graph, flows)?;
-        let mut next = 0;
-        'growing: loop {
-            tree.spread(graph, flows, neighbours, &mut next)?;
-            if tree.places[graph.sink as usize].is_some() || !tree.take_any(graph, flows)? {
-                return Ok(tree);
-            }
-        }
-    }
-
+impl<'a, 'b> Tree<'a, 'b> {
     /// The source alone.
-    fn new(alloc: Global, graph: &Graph, flows: &[i64]) -> Result<Tree, AllocError>
-        ensures { IfOk result (λ tree. IsTree graph.now.vertices graph.now.edges.now flows.now
-            graph.now.source tree.steps.items tree.places.items) }
+    pub fn new(alloc: Global, flow: &'a Flow<'b>) -> Result<Tree<'a, 'b>, AllocError>
+        ensures { IfOk result (λ tree. tree.flow.now ≡ flow.now) }
     {
+        let source = flow.drain.source;
+        let graph = flow.drain.graph;
         let mut steps = Vec::new(alloc);
-        steps.push(first_step(graph))?;
+        steps.push(first_step(source))?;
         let mut places = vec![in alloc; None; graph.vertices as usize]?;
-        places[graph.source as usize] = Some(0);
-        Ok(Tree { steps, places })
+        places[source as usize] = Some(0);
+        Ok(Tree {
+            flow,
+            steps,
+            places,
+        })
     }
 
-    /// Goes over the steps from the next one on, and takes each step that leads on from them, until the sink
-    /// is reached. With this the search is a search in breadth. Only the speed of the search depends on it.
-    fn spread(
-        &mut self,
-        graph: &Graph,
-        flows: &[i64],
-        neighbours: &Neighbours,
-        next: &mut usize,
-    ) -> Result<(), AllocError>
-        requires flows { AreBounded graph.now.edges.now flows.now }
-        requires neighbours { AreNeighbours graph.now.vertices (length graph.now.edges.now)
-            neighbours.now.starts.items neighbours.now.ways.items }
-        requires tree { IsTree graph.now.vertices graph.now.edges.now flows.now
-            graph.now.source self.old.steps.items self.old.places.items }
-        ensures tree { IfOk result (λ _. IsTree graph.now.vertices graph.now.edges.now flows.now
-            graph.now.source self.new.steps.items self.new.places.items) }
-        ensures grown { IfOk result (λ _. length self.old.steps.items ≤ length self.new.steps.items) }
+    /// Whether all of some vertices are reached.
+    pub fn has_all(&self, wanted: &[u32]) -> bool
+        ensures yes { result ≡ true → All (λ vertex. reached self.now.places.items vertex ≡ true) wanted.now }
+        ensures no { result ≡ false → (vertex : ℕ) × Contains wanted.now vertex
+            × (reached self.now.places.items vertex ≡ false) }
     {
-        'steps: while *next < self.steps.len() && self.places[graph.sink as usize].is_none() {
-            let vertex = self.steps[*next].vertex;
-            *next += 1;
-            self.spread_from(graph, flows, neighbours, vertex)?;
-        }
-        Ok(())
-    }
-
-    /// Takes each step that leads on from a vertex.
-    fn spread_from(
-        &mut self,
-        graph: &Graph,
-        flows: &[i64],
-        neighbours: &Neighbours,
-        vertex: u32,
-    ) -> Result<(), AllocError>
-        requires flows { AreBounded graph.now.edges.now flows.now }
-        requires neighbours { AreNeighbours graph.now.vertices (length graph.now.edges.now)
-            neighbours.now.starts.items neighbours.now.ways.items }
-        requires vertex { vertex < graph.now.vertices }
-        requires tree { IsTree graph.now.vertices graph.now.edges.now flows.now
-            graph.now.source self.old.steps.items self.old.places.items }
-        ensures tree { IfOk result (λ _. IsTree graph.now.vertices graph.now.edges.now flows.now
-            graph.now.source self.new.steps.items self.new.places.items) }
-        ensures grown { IfOk result (λ _. length self.old.steps.items ≤ length self.new.steps.items) }
-    {
-        let (first, end) = neighbours.range(vertex);
-        for number in first..end {
-            let neighbour = neighbours.ways[number];
-            if self.places[neighbour.finish as usize].is_none() {
-                self.reach(graph, flows, neighbour.way)?;
-            }
-        }
-        Ok(())
-    }
-
-    /// Takes a step along any way that leads on, and says whether there is one.
-    fn take_any(&mut self, graph: &Graph, flows: &[i64]) -> Result<bool, AllocError>
-        requires flows { AreBounded graph.now.edges.now flows.now }
-        requires tree { IsTree graph.now.vertices graph.now.edges.now flows.now
-            graph.now.source self.old.steps.items self.old.places.items }
-        ensures tree { IfOk result (λ _. IsTree graph.now.vertices graph.now.edges.now flows.now
-            graph.now.source self.new.steps.items self.new.places.items) }
-        ensures grown { IfOk result (λ grown. grown ≡ true
-            → length self.old.steps.items < length self.new.steps.items) }
-        ensures kept { IfOk result (λ grown. grown ≡ false
-            → self.new.places.items ≡ self.old.places.items) }
-        ensures full { IfOk result (λ grown. grown ≡ false
-            → AreFullOut graph.now.edges.now flows.now (reached self.new.places.items)) }
-    {
-        if self.is_closed(graph, flows) {
-            return Ok(false);
-        }
-        for number in 0..graph.edges.len() {
-            let forward = Way {
-                edge: number,
-                is_forward: true,
-            };
-            if self.reach(graph, flows, forward)? {
-                return Ok(true);
-            }
-            let back = Way {
-                edge: number,
-                is_forward: false,
-            };
-            if self.reach(graph, flows, back)? {
-                return Ok(true);
-            }
-        }
-        Ok(false)
-    }
-
-    /// Whether each way that leads out of what is reached is full.
-    fn is_closed(&self, graph: &Graph, flows: &[i64]) -> bool
-        requires flows { AreBounded graph.now.edges.now flows.now }
-        requires places { length self.now.places.items ≡ graph.now.vertices }
-        ensures { result ≡ true
-            → AreFullOut graph.now.edges.now flows.now (reached self.now.places.items) }
-    {
-        for number in 0..graph.edges.len() {
-            if !self.is_closed_at(graph, flows, number) {
+        for vertex in wanted {
+            if self.place_of(*vertex).is_none() {
                 return false;
             }
         }
         true
     }
 
-    /// Whether an edge leads out of what is reached along full ways only.
-    fn is_closed_at(&self, graph: &Graph, flows: &[i64], number: usize) -> bool
-        requires flows { AreBounded graph.now.edges.now flows.now }
-        requires places { length self.now.places.items ≡ graph.now.vertices }
-        requires number { number < length graph.now.edges.now }
-        ensures forward { result ≡ true → IsFullOut graph.now.edges.now flows.now
-            (reached self.now.places.items) (record { edge = number; is_forward = true }) }
-        ensures back { result ≡ true → IsFullOut graph.now.edges.now flows.now
-            (reached self.now.places.items) (record { edge = number; is_forward = false }) }
+    /// Searches in breadth until some vertices are reached, or as far as the graph lists its ways.
+    pub fn spread(&mut self, wanted: &[u32]) -> Result<(), AllocError>
+        ensures { IfOk result (λ _. self.new.flow.now ≡ self.old.flow.now) }
     {
-        let edge = graph.edges[number];
-        let tail = self.has_reached(edge.tail);
-        let head = self.has_reached(edge.head);
-        if tail == head {
-            return true;
+        let mut next = 0;
+        'steps: while next < self.steps.len() && !self.has_all(wanted) {
+            let vertex = self.steps[next].vertex;
+            next += 1;
+            self.spread_from(vertex)?;
         }
-        let weight = edge.weight as i64;
-        if tail {
-            flows[number] == weight
-        } else {
-            flows[number] == -weight
-        }
+        Ok(())
     }
 
-    /// Whether a vertex is reached.
-    fn has_reached(&self, vertex: u32) -> bool
-        requires { vertex < length self.now.places.items }
-        ensures { result ≡ reached self.now.places.items vertex }
+    /// Searches until no way with room leads on.
+    pub fn close(&mut self) -> Result<(), AllocError>
+        ensures flow { IfOk result (λ _. self.new.flow.now ≡ self.old.flow.now) }
+        ensures full { IfOk result (λ _. AreFullOut self.new.flow.now.drain.graph.now.edges.items
+            self.new.flow.now.flows.items (reached self.new.places.items)) }
     {
-        self.places[vertex as usize].is_some()
+        'closing: while self.take_any()? {}
+        Ok(())
+    }
+
+    /// Takes each step that leads on from a vertex.
+    fn spread_from(&mut self, vertex: u32) -> Result<(), AllocError>
+        ensures flow { IfOk result (λ _. self.new.flow.now ≡ self.old.flow.now) }
+        ensures grown { IfOk result (λ _. length self.old.steps.items ≤ length self.new.steps.items) }
+    {
+        let flow = self.flow;
+        let graph = flow.drain.graph;
+        let (first, end) = graph.range(vertex);
+        for number in first..end {
+            let neighbour = graph.way(number);
+            if self.place_of(neighbour.finish).is_none() {
+                self.reach(neighbour.way)?;
+            }
+        }
+        Ok(())
+    }
+
+    /// Takes a step along any way that leads on, and says whether there is one.
+    fn take_any(&mut self) -> Result<bool, AllocError>
+        ensures flow { IfOk result (λ _. self.new.flow.now ≡ self.old.flow.now) }
+        ensures grown { IfOk result (λ grown. grown ≡ true
+            → length self.old.steps.items < length self.new.steps.items) }
+        ensures kept { IfOk result (λ grown. grown ≡ false
+            → self.new.places.items ≡ self.old.places.items) }
+        ensures full { IfOk result (λ grown. grown ≡ false
+            → AreFullOut self.new.flow.now.drain.graph.now.edges.items self.new.flow.now.flows.items
+            (reached self.new.places.items)) }
+    {
+        let flow = self.flow;
+        let graph = flow.drain.graph;
+        for number in 0..graph.edges.len() {
+            let forward = Way {
+                edge: number,
+                is_forward: true,
+            };
+            if self.reach(forward)? {
+                return Ok(true);
+            }
+            let back = Way {
+                edge: number,
+                is_forward: false,
+            };
+            if self.reach(back)? {
+                return Ok(true);
+            }
+        }
+        Ok(false)
     }
 
     /// Takes a step along a way, if it leads with room from a vertex that is reached to one that is not,
     /// and says whether it does.
-    fn reach(&mut self, graph: &Graph, flows: &[i64], way: Way) -> Result<bool, AllocError>
-        requires flows { AreBounded graph.now.edges.now flows.now }
-        requires way { way.edge < length graph.now.edges.now }
-        requires tree { IsTree graph.now.vertices graph.now.edges.now flows.now
-            graph.now.source self.old.steps.items self.old.places.items }
-        ensures tree { IfOk result (λ _. IsTree graph.now.vertices graph.now.edges.now flows.now
-            graph.now.source self.new.steps.items self.new.places.items) }
+    fn reach(&mut self, way: Way) -> Result<bool, AllocError>
+        requires { way.edge < length self.old.flow.now.drain.graph.now.edges.items }
+        ensures flow { IfOk result (λ _. self.new.flow.now ≡ self.old.flow.now) }
         ensures grown { IfOk result (λ grown. grown ≡ true
             → length self.new.steps.items ≡ suc (length self.old.steps.items)) }
         ensures kept { IfOk result (λ grown. grown ≡ false → self.new ≡ self.old) }
         ensures full { IfOk result (λ grown. grown ≡ false
-            → IsFullOut graph.now.edges.now flows.now (reached self.old.places.items) way) }
+            → IsFullOut self.old.flow.now.drain.graph.now.edges.items self.old.flow.now.flows.items
+            (reached self.old.places.items) way) }
     {
+        let flow = self.flow;
+        let graph = flow.drain.graph;
         let edge = graph.edges[way.edge];
         let start = way.start(edge);
         let finish = way.finish(edge);
@@ -229,7 +158,7 @@ impl Tree {
         let None = self.place_of(finish) else {
             return Ok(false);
         };
-        let room = room(graph, flows, way);
+        let room = flow.room(way);
         if room == 0 {
             return Ok(false);
         }
@@ -247,19 +176,37 @@ impl Tree {
     }
 
     /// The place of the step that reaches a vertex, if any does.
-    pub fn place_of(&self, vertex: u32) -> Option<usize>
-        requires { vertex < length self.now.places.items }
+    fn place_of(&self, vertex: u32) -> Option<usize>
         ensures { result ≡ place_at self.now.places.items vertex }
     {
-        self.places[vertex as usize]
+        match self.places.get(vertex as usize) {
+            Some(place) => *place,
+            None => None,
+        }
     }
 
     /// The step at a place.
-    pub fn step(&self, place: usize) -> WayStep
+    fn step(&self, place: usize) -> WayStep
         requires { place < length self.now.steps.items }
         ensures { result ≡ step_at self.now.steps.items place }
     {
         self.steps[place]
+    }
+
+    /// The place of a step that leads to where more may end, if any does.
+    pub fn end(&self) -> Option<usize>
+        ensures some { IfSome result (λ last. (last < length self.now.steps.items)
+            × (1 ≤ room_at self.now.flow.now.left.items (step_at self.now.steps.items last).vertex)) }
+        ensures none { result ≡ None → (vertex : ℕ) → reached self.now.places.items vertex ≡ true
+            → room_at self.now.flow.now.left.items vertex ≡ 0 }
+    {
+        let flow = self.flow;
+        for place in 0..self.steps.len() {
+            if flow.left_at(self.steps[place].vertex) != 0 {
+                return Some(place);
+            }
+        }
+        None
     }
 
     /// For each vertex whether it is reached.
@@ -273,13 +220,35 @@ impl Tree {
     }
 }
 
+/// What a search for ways to where more may end finds.
+#[derive(Drop)]
+pub(crate) enum Found {
+    /// Steps, and the place of the one that leads there.
+    Way(Vec<WayStep>, usize),
+    /// A side that nothing more can leave.
+    Side(Vec<bool>),
+}
+
+/// Searches for ways to where more may end.
+pub(crate) fn search(alloc: Global, flow: &Flow<'_>) -> Result<Found, AllocError>
+    ensures { IfOk result (IsFound flow.now.drain.graph.now.vertices flow.now.drain.graph.now.edges.items
+        flow.now.drain.source flow.now.left.items flow.now.flows.items) }
+{
+    let mut tree = Tree::new(alloc, flow)?;
+    tree.close()?;
+    match tree.end() {
+        Some(last) => Ok(Found::Way(tree.steps, last)),
+        None => Ok(Found::Side(tree.side(alloc)?)),
+    }
+}
+
 /// The step that reaches the source.
-pub(crate) fn first_step(graph: &Graph) -> WayStep
-    ensures vertex { result.vertex ≡ graph.now.source }
+pub(crate) fn first_step(source: u32) -> WayStep
+    ensures vertex { result.vertex ≡ source }
     ensures limit { 1 ≤ result.limit }
 {
     WayStep {
-        vertex: graph.source,
+        vertex: source,
         parent: 0,
         way: Way {
             edge: 0,
@@ -287,13 +256,4 @@ pub(crate) fn first_step(graph: &Graph) -> WayStep
         },
         limit: u32::MAX,
     }
-}
-
-/// The smaller of two amounts.
-pub(crate) fn least(a: u32, b: u32) -> u32
-    ensures first { result ≤ a }
-    ensures second { result ≤ b }
-    ensures some { 1 ≤ a → 1 ≤ b → 1 ≤ result }
-{
-    if a < b { a } else { b }
 }

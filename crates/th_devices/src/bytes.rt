@@ -3,6 +3,7 @@ ghost use Rattle.std.specs.Prelude.{◌≡◌, ◌<◌, ◌≤◌, ◌↔◌, �
 ghost use Rattle.th_devices.specs.Devices.{Gives};
 
 use crate::devices::Failed;
+use crate::reasons::Reasons;
 use std::io;
 use std::io::Read;
 
@@ -21,18 +22,28 @@ pub(crate) fn copy_front(from: &[u8], most: usize, into: &mut [u8]) -> usize
 }
 
 /// Reads into the front of `into`, and leaves the rest as it was; all of it if the read fails.
-pub(crate) fn read_some<T: Read>(reader: &mut T, into: &mut [u8]) -> Result<usize, Failed>
+pub(crate) fn read_some<T: Read>(
+    reader: &mut T,
+    into: &mut [u8],
+    reasons: &Reasons,
+) -> Result<usize, Failed>
     ensures { Gives (T.remaining reader.old) (T.remaining reader.new) into.old into.new result }
 {
     let mut chunk = [0u8; MAX_READ];
     let asked = MAX_READ.min(into.len());
-    let count = reader.read(&mut chunk[..asked]).map_err(|_| Failed)?;
-    Ok(copy_front(&chunk[..count], count, into))
+    match reader.read(&mut chunk[..asked]) {
+        Ok(count) => Ok(copy_front(&chunk[..count], count, into)),
+        Err(error) => Err(reasons.failed(&error)),
+    }
 }
 
 /// How many bytes a write took that the system answered so: one that took none of bytes that were
 /// there failed.
-pub(crate) fn taken_of(answer: io::Result<usize>, bytes: &[u8]) -> Result<usize, Failed>
+pub(crate) fn taken_of(
+    answer: io::Result<usize>,
+    bytes: &[u8],
+    reasons: &Reasons,
+) -> Result<usize, Failed>
     requires { IfOk answer (λ count. count ≤ length bytes.now) }
     ensures within { IfOk result (λ count. count ≤ length bytes.now) }
     ensures some { IfOk result (λ count. 0 < length bytes.now → 0 < count) }
@@ -41,6 +52,7 @@ pub(crate) fn taken_of(answer: io::Result<usize>, bytes: &[u8]) -> Result<usize,
 {
     match answer {
         Ok(count) if count > 0 || bytes.is_empty() => Ok(count),
-        Ok(_) | Err(_) => Err(Failed),
+        Ok(_) => Err(Failed),
+        Err(error) => Err(reasons.failed(&error)),
     }
 }

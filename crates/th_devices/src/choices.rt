@@ -60,7 +60,8 @@ pub struct Untold<S> {
 }
 
 impl<S: Source> Source for Untold<S> {
-    ghost state = { λ own. record { left = None; counts = (S.state own.source).counts } };
+    ghost state = { λ own. let source = S.state own.source in
+        record { left = None; may_fail = source.may_fail; counts = source.counts } };
 
     fn read(&mut self, into: &mut [u8]) -> Result<usize, Failed> {
         self.source.read(into)

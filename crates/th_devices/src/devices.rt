@@ -2,7 +2,8 @@
 //!
 //! A source reports the bytes that it has left, and a sink those that it holds, to contracts:
 //! `Some` of them, or `None`, as for real files. Both count their calls, and how many of these
-//! failed. A sink also reports whether it was finished.
+//! failed, and a call fails only if the device may fail, which is fixed for its life. A sink also
+//! reports whether it was finished.
 ghost use Rattle.std.specs.Prelude.{◌≡◌, ◌<◌, ◌≤◌};
 ghost use Rattle.th_devices.specs.Limits.{call_limit};
 

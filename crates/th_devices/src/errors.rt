@@ -1,5 +1,5 @@
 //! Standard error as a sink. It does not report its bytes.
-ghost use Rattle.std.specs.Prelude.{◌≡◌, ◌<◌, false, IfOk, length};
+ghost use Rattle.std.specs.Prelude.{◌≡◌, ◌<◌, true, false, IfOk, length};
 ghost use Rattle.th_devices.specs.Devices.{IsMade, untold};
 ghost use Rattle.th_devices.specs.Spots.{errors as errors_spot};
 
@@ -31,7 +31,7 @@ impl<'a, R: Eprint> Model for StandardError<'a, R> {
 impl<'a, R: Eprint> StandardError<'a, R> {
     /// Standard error.
     pub fn new(errors: &'a R) -> StandardError<'a, R>
-        ensures { IsMade false errors_spot (untold result) }
+        ensures { IsMade false true errors_spot (untold result) }
     {
         StandardError {
             errors,

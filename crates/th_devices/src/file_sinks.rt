@@ -1,51 +1,63 @@
-//! Real files as sinks. The bytes go to a file beside the named one, which takes the name when it
-//! is finished. So the name has either the whole text or what it had before. These sinks do not
-//! report their bytes.
-ghost use Rattle.std.specs.Prelude.{◌≡◌, ◌<◌, ◌||◌, true, false, is_ok, is_some, None, IfOk, OnOk, IsErr, option_and_then};
+//! Real files as sinks. The bytes go to a file beside the named one. When they are whole and on the
+//! disk, it can take the name. So the name has either the whole text or what it had before. These
+//! sinks do not report their bytes.
+ghost use Rattle.std.specs.Prelude.{◌≡◌, ◌<◌, ◌||◌, true, false, is_ok, is_some, None, IfOk, OnErr, OnOk, IsErr, option_and_then};
 ghost use Rattle.std.specs.Io.KnownBytes.{Keeps};
 ghost use Rattle.th_devices.specs.Devices.{IsBegun, IsFinish, IsMade, IsWrite, Takes, untold};
-ghost use Rattle.th_devices.specs.Files.{TakesBytes};
+ghost use Rattle.th_devices.specs.Files.{IsWhole, TakesBytes};
 ghost use Rattle.th_devices.specs.Limits.{call_limit};
 ghost use Rattle.th_devices.specs.Spots.{file};
 
 use crate::bytes::taken_of;
 use crate::devices::{Counts, Failed, Sink};
+use crate::reasons::Reasons;
 use std::alloc::{AllocError, Global};
-use std::fs::{File, OpenFile, OpenOptions};
+use std::fs::{Metadata, OpenFile, OpenOptions, Permissions};
 use std::io::{ErrorKind, Write};
 use std::marker::Model;
+use std::os::unix::fs::{MetadataExt, OpenOptionsExt, PermissionsExt};
 use std::rt::Files;
 use std::{fs, io};
 
-/// What follows the name of a file in the name of the one that is written beside it.
-pub const UNFINISHED: &str = ".unfinished";
+/// Who may read, write and run a file, without the bits that lend the rights of its owner or group.
+const PERMISSIONS: u32 = 0o777;
+
+/// The permissions of a file that is being written: its owner alone may use it.
+const PRIVATE: u32 = 0o600;
+
+/// The permissions that the system reduces by the umask for a new file.
+const ORDINARY: u32 = 0o666;
+
+/// Where devices are. A name that was typed below it may be one.
+const DEVICES: &str = "/dev/";
 
 /// Where the bytes of a file go.
 #[derive(Clone, Copy, Debug, PartialEq, Eq)]
 enum Way {
-    /// To a file beside it, which takes its name.
-    Beside,
+    /// To a file beside it, which gets these permissions when it is whole.
+    Beside(u32),
     /// Directly to what has its name: a device or a pipe.
     Straight,
 }
 
-/// A file that is written beside its name, and takes the name at `finish`. Until then, and if a
-/// call fails, a file of that name stays as it was. A device or a pipe of that name is written
-/// directly.
+/// A file that is written beside its name, and takes the name at `place`. Until then, and if a call
+/// fails, a file of that name stays as it was. A device or a pipe is written directly, if its name
+/// begins with `/dev/`. Other names that lead to a device, a pipe or a folder are refused.
 #[derive(Drop)]
 pub struct FileSink<'a, R: Files> {
     files: &'a R,
+    reasons: &'a Reasons,
     name: String,
     unfinished: String,
     way: Way,
     file: Option<R::File>,
-    placed: bool,
+    whole: bool,
     finished: bool,
     counts: Counts,
 }
 
 impl<'a, R: Files> Model for FileSink<'a, R> {
-    ghost use Rattle.std.specs.Prelude.{◌≡◌, ◌++◌, codes, is_some, option_and_then, string_bytes};
+    ghost use Rattle.std.specs.Prelude.{◌≡◌, is_some, length, option_and_then, string_bytes, take};
     ghost use Rattle.th_devices.specs.Files.{FileSinkState};
     ghost use Rattle.th_devices.specs.Spots.{file as file_spot};
 
@@ -59,29 +71,36 @@ impl<'a, R: Files> Model for FileSink<'a, R> {
       };
       opened = is_some sink.file;
       contents = option_and_then R.File.contents sink.file;
-      placed = sink.placed;
+      whole = sink.whole;
     } };
 
+    // The file beside it is in the same folder.
     ghost invariant = { λ sink.
-        string_bytes sink.unfinished ≡ string_bytes sink.name ++ codes ".unfinished" };
+        take (length (string_bytes sink.name)) (string_bytes sink.unfinished) ≡ string_bytes sink.name };
 }
 
 impl<'a, R: Files> FileSink<'a, R> {
-    /// The file of this name, not touched yet.
-    pub fn new(alloc: Global, files: &'a R, name: &str) -> Result<FileSink<'a, R>, AllocError>
-        ensures made { IfOk result (λ sink. IsMade false (file name.now) (untold sink.device)) }
+    /// The file of this name, not touched yet. The name of the file beside it has the number of the
+    /// run, which no other run has.
+    pub fn new(
+        alloc: Global,
+        files: &'a R,
+        name: &str,
+        run: u64,
+        reasons: &'a Reasons,
+    ) -> Result<FileSink<'a, R>, AllocError>
+        ensures made { IfOk result (λ sink. IsMade false true (file name.now) (untold sink.device)) }
         ensures unopened { IfOk result (λ sink. sink.opened ≡ false) }
-        ensures unplaced { IfOk result (λ sink. sink.placed ≡ false) }
+        ensures not_whole { IfOk result (λ sink. sink.whole ≡ false) }
     {
-        let mut unfinished = String::from_str(alloc, name)?;
-        unfinished.push_str(UNFINISHED)?;
         Ok(FileSink {
             files,
+            reasons,
             name: String::from_str(alloc, name)?,
-            unfinished,
-            way: Way::Beside,
+            unfinished: format!(in alloc; "{name}.{run}.unfinished")?,
+            way: Way::Straight,
             file: None,
-            placed: false,
+            whole: false,
             finished: false,
             counts: Counts::new(),
         })
@@ -91,93 +110,203 @@ impl<'a, R: Files> FileSink<'a, R> {
     pub fn discard(&mut self)
         ensures { self.new ≡ record self.old { opened = false; contents = None } }
     {
-        let is_left = self.file.is_some() && !self.placed;
+        let is_left = self.file.is_some();
         self.file = None;
-        if is_left && self.way == Way::Beside {
+        if is_left && self.way != Way::Straight {
             let _ = fs::remove_file(self.files, self.unfinished.as_str());
         }
     }
 
-    /// Brings what was written to the disk, and gives it its name.
-    fn place(&mut self) -> Result<(), Failed>
+    /// Gives the finished file its name, in place of the file that has it, and closes it. If that
+    /// fails, the file of that name stays as it was.
+    pub fn place(&mut self) -> Result<(), Failed>
+        ensures whole { OnOk result (IsWhole self.old) }
+        ensures placed { OnOk result (self.new ≡ record self.old { opened = false; contents = None }) }
+        ensures failed { OnErr result (self.new ≡ self.old) }
+    {
+        if self.file.is_none() || !self.finished {
+            return Err(Failed);
+        }
+        if self.way != Way::Straight {
+            let renamed = fs::rename(self.files, self.unfinished.as_str(), self.name.as_str());
+            if let Err(error) = renamed {
+                return Err(self.reasons.failed(&error));
+            }
+        }
+        self.file = None;
+        Ok(())
+    }
+
+    /// Brings what was written to the disk, with the permissions that the file is to have.
+    fn complete(&mut self) -> Result<(), Failed>
         ensures takes { OnOk result (TakesBytes self.old) }
         ensures same { self.new ≡ record self.old { contents = self.new.contents } }
         ensures bytes { Keeps self.old.contents self.new.contents }
     {
-        if self.placed {
+        if self.whole {
             return Err(Failed);
         }
-        flush_opened(&mut self.file)?;
+        flush_opened(&mut self.file, self.reasons)?;
         match self.way {
-            Way::Beside => {
-                sync_opened(&self.file)?;
-                fs::rename(self.files, self.unfinished.as_str(), self.name.as_str()).map_err(
-                    |_| Failed,
-                )
-            }
+            Way::Beside(mode) => keep_opened(&self.file, mode, self.reasons),
             Way::Straight => Ok(()),
         }
     }
-}
 
-/// Opens what takes the bytes of the file of this name.
-///
-/// A regular file that has the name must be one that may be written, and the file beside it gets its
-/// permissions. What an earlier run left beside it is removed.
-fn begin_file<R: Files>(files: &R, name: &str, unfinished: &str) -> io::Result<(R::File, Way)> {
-    let old = match OpenOptions::new().write(true).open(files, name) {
-        Ok(old) => old,
-        Err(error) if error.kind() == ErrorKind::NotFound => {
-            return Ok((new_file(files, unfinished)?, Way::Beside));
+    /// Opens what takes the bytes of the file.
+    fn open(&mut self) -> io::Result<()>
+        ensures opened { OnOk result (self.new.opened ≡ true) }
+        ensures same { self.new ≡ record self.old {
+          opened = self.new.opened;
+          contents = self.new.contents;
+        } }
+    {
+        match fs::metadata(self.files, self.name.as_str()) {
+            Ok(known) if known.is_file() => self.open_over(),
+            Ok(_) if is_below_devices(self.name.as_str()) => self.open_straight(),
+            Ok(known) if known.is_dir() => Err(io::Error::from(ErrorKind::IsADirectory)),
+            Ok(_) => Err(io::Error::from(ErrorKind::InvalidInput)),
+            Err(error) if error.kind() == ErrorKind::NotFound => self.open_ordinary(),
+            Err(error) => Err(error),
         }
-        Err(error) => return Err(error),
-    };
-    let known = old.metadata()?;
-    if !known.is_file() {
-        return Ok((old, Way::Straight));
     }
-    let file = new_file(files, unfinished)?;
-    let _ = file.set_permissions(known.permissions());
-    Ok((file, Way::Beside))
+
+    /// Opens a file that is to replace the one that has the name, which must be one that may be
+    /// written. Its permissions are kept if both files have one owner: nobody else is to choose them.
+    fn open_over(&mut self) -> io::Result<()>
+        ensures opened { OnOk result (self.new.opened ≡ true) }
+        ensures same { self.new ≡ record self.old {
+          opened = self.new.opened;
+          contents = self.new.contents;
+        } }
+    {
+        let name = self.name.as_str();
+        OpenOptions::new().write(true).open(self.files, name)?;
+        let old = fs::symlink_metadata(self.files, name)?;
+        self.create(PRIVATE)?;
+        if is_by_one_owner(&self.file, &old)? {
+            self.way = Way::Beside(old.mode() & PERMISSIONS);
+            return Ok(());
+        }
+        self.discard();
+        self.open_ordinary()
+    }
+
+    /// Opens a file that is to get the permissions which the system gives a new file.
+    fn open_ordinary(&mut self) -> io::Result<()>
+        ensures opened { OnOk result (self.new.opened ≡ true) }
+        ensures same { self.new ≡ record self.old {
+          opened = self.new.opened;
+          contents = self.new.contents;
+        } }
+    {
+        self.create(ORDINARY)?;
+        if let Some(file) = &self.file {
+            self.way = Way::Beside(file.metadata()?.mode() & PERMISSIONS);
+            let _ = file.set_permissions(Permissions::from_mode(PRIVATE));
+        }
+        Ok(())
+    }
+
+    /// Makes the file beside the named one, with these permissions less the umask.
+    fn create(&mut self, mode: u32) -> io::Result<()>
+        ensures opened { OnOk result (self.new.opened ≡ true) }
+        ensures same { self.new ≡ record self.old {
+          opened = self.new.opened;
+          contents = self.new.contents;
+        } }
+    {
+        let file = OpenOptions::new()
+            .write(true)
+            .create_new(true)
+            .mode(mode)
+            .open(self.files, self.unfinished.as_str())?;
+        self.file = Some(file);
+        self.way = Way::Beside(mode);
+        Ok(())
+    }
+
+    /// Opens the device or pipe of this name.
+    fn open_straight(&mut self) -> io::Result<()>
+        ensures opened { OnOk result (self.new.opened ≡ true) }
+        ensures same { self.new ≡ record self.old {
+          opened = self.new.opened;
+          contents = self.new.contents;
+        } }
+    {
+        let device = OpenOptions::new()
+            .write(true)
+            .open(self.files, self.name.as_str())?;
+        self.file = Some(device);
+        self.way = Way::Straight;
+        Ok(())
+    }
 }
 
-/// An empty file of this name, in place of one that is there.
-fn new_file<R: Files>(files: &R, name: &str) -> io::Result<R::File> {
-    let _ = fs::remove_file(files, name);
-    File::create_new(files, name)
+/// Whether a name is below `/dev/`, and no `..` in it leads out again.
+fn is_below_devices(name: &str) -> bool {
+    name.starts_with(DEVICES) && !name.contains("..")
+}
+
+/// Whether the file that is open has the owner of this one, and this one is no link.
+fn is_by_one_owner<F: OpenFile>(file: &Option<F>, old: &Metadata) -> io::Result<bool> {
+    match file {
+        Some(open) => Ok(old.is_file() && open.metadata()?.uid() == old.uid()),
+        None => Ok(false),
+    }
 }
 
 /// Writes to the file that `begin` opened.
-fn write_opened<F: Write>(file: &mut Option<F>, bytes: &[u8]) -> Result<usize, Failed>
+fn write_opened<F: Write>(
+    file: &mut Option<F>,
+    bytes: &[u8],
+    reasons: &Reasons,
+) -> Result<usize, Failed>
     ensures unopened { file.old ≡ None → IsErr result }
     ensures opened { is_some file.new ≡ is_some file.old }
     ensures bytes { Takes (option_and_then F.contents file.old)
         (option_and_then F.contents file.new) bytes.now result }
 {
     match file {
-        Some(open) => taken_of(open.write(bytes), bytes),
+        Some(open) => taken_of(open.write(bytes), bytes, reasons),
         None => Err(Failed),
     }
 }
 
 /// Brings what was written to the file.
-fn flush_opened<F: Write>(file: &mut Option<F>) -> Result<(), Failed>
+fn flush_opened<F: Write>(file: &mut Option<F>, reasons: &Reasons) -> Result<(), Failed>
     ensures unopened { file.old ≡ None → IsErr result }
     ensures opened { is_some file.new ≡ is_some file.old }
     ensures bytes { Keeps (option_and_then F.contents file.old) (option_and_then F.contents file.new) }
 {
     match file {
-        Some(open) => open.flush().map_err(|_| Failed),
+        Some(open) => match open.flush() {
+            Ok(()) => Ok(()),
+            Err(error) => Err(reasons.failed(&error)),
+        },
         None => Err(Failed),
     }
 }
 
-/// Brings what was written to the disk.
-fn sync_opened<F: OpenFile>(file: &Option<F>) -> Result<(), Failed> {
-    match file {
-        Some(open) => open.sync_all().map_err(|_| Failed),
-        None => Err(Failed),
+/// Gives the file these permissions, and brings it and what was written to the disk.
+fn keep_opened<F: OpenFile>(file: &Option<F>, mode: u32, reasons: &Reasons) -> Result<(), Failed> {
+    let Some(open) = file else {
+        return Err(Failed);
+    };
+    match permit(open, mode).and_then(|()| open.sync_all()) {
+        Ok(()) => Ok(()),
+        Err(error) => Err(reasons.failed(&error)),
     }
+}
+
+/// Gives a file these permissions. That fails only if it has others afterwards: some file systems
+/// know no permissions.
+fn permit<F: OpenFile>(file: &F, mode: u32) -> io::Result<()> {
+    let given = file.set_permissions(Permissions::from_mode(mode));
+    if given.is_err() && file.metadata()?.mode() & PERMISSIONS == mode {
+        return Ok(());
+    }
+    given
 }
 
 impl<'a, R: Files> Sink for FileSink<'a, R> {
@@ -187,18 +316,17 @@ impl<'a, R: Files> Sink for FileSink<'a, R> {
         requires { self.old.device.counts.calls < call_limit }
         ensures begun { IsBegun (untold self.old.device) (untold self.new.device) result }
         ensures opened { self.new.opened ≡ is_ok result }
-        ensures unplaced { self.new.placed ≡ false }
+        ensures not_whole { self.new.whole ≡ false }
     {
         self.discard();
-        let answer = match begin_file(self.files, self.name.as_str(), self.unfinished.as_str()) {
-            Ok((file, way)) => {
-                self.file = Some(file);
-                self.way = way;
-                Ok(())
-            }
-            Err(_) => Err(Failed),
+        let answer = match self.open() {
+            Ok(()) => Ok(()),
+            Err(error) => Err(self.reasons.failed(&error)),
         };
-        self.placed = false;
+        if answer.is_err() {
+            self.discard();
+        }
+        self.whole = false;
         self.finished = false;
         self.counts.count(&answer);
         answer
@@ -210,12 +338,12 @@ impl<'a, R: Files> Sink for FileSink<'a, R> {
         ensures takes { OnOk result (TakesBytes self.old) }
         ensures bytes { Takes self.old.contents self.new.contents bytes.now result }
         ensures opened { self.new.opened ≡ self.old.opened }
-        ensures placed { self.new.placed ≡ self.old.placed }
+        ensures whole { self.new.whole ≡ self.old.whole }
     {
-        let answer = if self.placed {
+        let answer = if self.whole {
             Err(Failed)
         } else {
-            write_opened(&mut self.file, bytes)
+            write_opened(&mut self.file, bytes, self.reasons)
         };
         self.finished = false;
         self.counts.count(&answer);
@@ -228,11 +356,11 @@ impl<'a, R: Files> Sink for FileSink<'a, R> {
         ensures takes { OnOk result (TakesBytes self.old) }
         ensures bytes { Keeps self.old.contents self.new.contents }
         ensures opened { self.new.opened ≡ self.old.opened }
-        ensures placed { self.new.placed ≡ (self.old.placed || is_ok result) }
+        ensures whole { self.new.whole ≡ (self.old.whole || is_ok result) }
     {
-        let answer = self.place();
+        let answer = self.complete();
         self.finished = answer.is_ok();
-        self.placed = self.placed || answer.is_ok();
+        self.whole = self.whole || answer.is_ok();
         self.counts.count(&answer);
         answer
     }

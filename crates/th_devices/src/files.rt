@@ -6,6 +6,7 @@ ghost use Rattle.th_devices.specs.Limits.{call_limit};
 
 use crate::bytes::read_some;
 use crate::devices::{Counts, Failed, Source};
+use crate::reasons::Reasons;
 use std::fs;
 use std::marker::Model;
 use std::rt::Files;
@@ -14,13 +15,14 @@ use std::rt::Files;
 #[derive(Drop)]
 pub struct FileSource<'a, R: Files> {
     files: &'a R,
+    reasons: &'a Reasons,
     name: String,
     file: Option<R::File>,
     counts: Counts,
 }
 
 impl<'a, R: Files> Model for FileSource<'a, R> {
-    ghost use Rattle.std.specs.Prelude.{is_some, option_and_then, string_bytes};
+    ghost use Rattle.std.specs.Prelude.{true, is_some, option_and_then, string_bytes};
     ghost use Rattle.th_devices.specs.Files.{FileSourceState};
 
     ghost Value = { FileSourceState };
@@ -30,6 +32,7 @@ impl<'a, R: Files> Model for FileSource<'a, R> {
       opened = is_some source.file;
       device = record {
         left = option_and_then R.File.remaining source.file;
+        may_fail = true;
         counts = source.counts;
       };
     } };
@@ -37,13 +40,14 @@ impl<'a, R: Files> Model for FileSource<'a, R> {
 
 impl<'a, R: Files> FileSource<'a, R> {
     /// The file of this name, not opened yet.
-    pub fn new(files: &'a R, name: String) -> FileSource<'a, R>
+    pub fn new(files: &'a R, name: String, reasons: &'a Reasons) -> FileSource<'a, R>
         ensures name { result.name ≡ string_bytes name }
         ensures unopened { result.opened ≡ false }
-        ensures device { IsOpened None result.device }
+        ensures device { IsOpened true None result.device }
     {
         FileSource {
             files,
+            reasons,
             name,
             file: None,
             counts: Counts::new(),
@@ -57,18 +61,23 @@ fn read_opened<R: Files>(
     name: &str,
     file: &mut Option<R::File>,
     into: &mut [u8],
+    reasons: &Reasons,
 ) -> Result<usize, Failed>
     ensures opened { OnOk result (is_some file.new ≡ true) }
     ensures bytes { Gives (option_and_then R.File.remaining file.old)
         (option_and_then R.File.remaining file.new) into.old into.new result }
 {
     if let Some(open) = file {
-        return read_some(open, into);
+        return read_some(open, into, reasons);
     }
-    let mut open = fs::open(files, name).map_err(|_| Failed)?;
-    let answer = read_some(&mut open, into);
-    *file = Some(open);
-    answer
+    match fs::open(files, name) {
+        Ok(mut open) => {
+            let answer = read_some(&mut open, into, reasons);
+            *file = Some(open);
+            answer
+        }
+        Err(error) => Err(reasons.failed(&error)),
+    }
 }
 
 impl<'a, R: Files> Source for FileSource<'a, R> {
@@ -80,7 +89,13 @@ impl<'a, R: Files> Source for FileSource<'a, R> {
         ensures opened { OnOk result (self.new.opened ≡ true) }
         ensures name { self.new.name ≡ self.old.name }
     {
-        let answer = read_opened(self.files, self.name.as_str(), &mut self.file, into);
+        let answer = read_opened(
+            self.files,
+            self.name.as_str(),
+            &mut self.file,
+            into,
+            self.reasons,
+        );
         self.counts.count(&answer);
         answer
     }

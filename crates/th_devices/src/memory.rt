@@ -127,7 +127,7 @@ impl TextSink {
         ensures held { IfOk result (λ sink. sink.held ≡ []) }
         ensures settings { IfOk result (λ sink.
             sink.settings ≡ record { room = room; piece = piece; fail_at = fail_at }) }
-        ensures made { IfOk result (λ sink. IsMade true nowhere (text_sink sink)) }
+        ensures made { IfOk result (λ sink. IsMade true true nowhere (text_sink sink)) }
     {
         Ok(TextSink {
             held: Vec::with_capacity(alloc, room)?,
@@ -156,7 +156,7 @@ impl TextSink {
     /// A sink without room, which takes no memory.
     pub fn without_room(alloc: Global) -> TextSink
         ensures held { result.held ≡ [] }
-        ensures made { IsMade true nowhere (text_sink result) }
+        ensures made { IsMade true true nowhere (text_sink result) }
     {
         TextSink {
             held: Vec::new(alloc),

@@ -1,5 +1,5 @@
 //! A source in memory that owns its bytes.
-ghost use Rattle.std.specs.Prelude.{◌≡◌, ◌<◌, ◌≤◌, ◌↔◌, IfSome, IsErr, None, vec_len};
+ghost use Rattle.std.specs.Prelude.{◌≡◌, ◌<◌, ◌≤◌, ◌↔◌, IfSome, IsErr, None, is_none, vec_len};
 ghost use Rattle.th_devices.specs.Devices.{Gives, IsOpened, IsRead};
 ghost use Rattle.th_devices.specs.Limits.{call_limit};
 ghost use Rattle.th_devices.specs.Memory.{IsMissing, left_of};
@@ -8,7 +8,7 @@ use crate::bytes::copy_front;
 use crate::devices::{Counts, Failed, Source};
 use std::marker::Model;
 
-/// A source over bytes of its own; or over no file, so that each read fails.
+/// A source over bytes of its own, which never fails; or over no file, so that each read fails.
 #[derive(Drop)]
 pub struct MemorySource {
     text: Option<Vec<u8>>,
@@ -18,7 +18,7 @@ pub struct MemorySource {
 }
 
 impl Model for MemorySource {
-    ghost use Rattle.std.specs.Prelude.{◌≤◌, IfSome, vec_len};
+    ghost use Rattle.std.specs.Prelude.{◌≤◌, IfSome, is_none, vec_len};
     ghost use Rattle.th_devices.specs.Devices.{SourceState};
     ghost use Rattle.th_devices.specs.Memory.{left_of};
 
@@ -26,6 +26,7 @@ impl Model for MemorySource {
 
     ghost view = { λ source. record {
       left = left_of source.text source.done;
+      may_fail = is_none source.text;
       counts = source.counts;
     } };
 
@@ -38,7 +39,7 @@ impl MemorySource {
     /// fails.
     pub fn new(text: Option<Vec<u8>>, piece: usize) -> MemorySource
         requires { 1 ≤ piece }
-        ensures { IsOpened (left_of text 0) result }
+        ensures { IsOpened (is_none text) (left_of text 0) result }
     {
         MemorySource {
             text,

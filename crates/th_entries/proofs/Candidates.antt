@@ -5,10 +5,10 @@ use Rattle.std.specs.Option.{option_map_or}
 use Rattle.std.proofs.lemmas.Bool.{and_parts, and_from, cond-false, cond-true, leb-true, true≢false}
 use Rattle.std.proofs.lemmas.List.{append-nil}
 use Rattle.std.proofs.lemmas.Option.{none-some}
-use Rattle.th_book.specs.Lines.{ParsedLine, holds, is_setup, is_sight}
-use Rattle.th_book.specs.Places.{holds_from, last_below, last_with, setup_of, words_at}
+use Rattle.th_book.specs.Lines.{ParsedLine, is_setup, is_sight}
+use Rattle.th_book.specs.Places.{last_below, setup_of, words_at}
 use Rattle.th_entries.specs.Below.{all_below, count_below}
-use Rattle.th_entries.specs.Entries.{index_of, uses}
+use Rattle.th_entries.specs.Entries.{begins, begins_from, entry_line, index_of, uses}
 use Rattle.th_entries.specs.Inside.Running.{with_sight}
 use Rattle.th_entries.specs.Inside.Tallies.{both_at, candidate, candidate_at, open_at, opens, place_in}
 use Rattle.th_entries.specs.declared.entries.HeightKind.{HeightKind}
@@ -64,8 +64,8 @@ used-once-more book parsed kind n line small is =
 -- which lines a sight uses: only that of the height that is open behind it
 pub uses-open : (index : ℕ) (parsed : List ParsedLine) (n line : ℕ) → is_sight (words_at parsed n) ≡ true → is_setup (words_at parsed n) ≡ false → uses index parsed line n ≡ option_map_or (λ own. own == line) (open_at index parsed (suc n)) false
 uses-open index parsed n line sight none =
-    ap (λ own. own && option_map_or (λ own. own == line) (last_with index parsed n) false) sight
-    ∙ ap (λ (setup : Option ℕ). option_map_or (λ own. own == line) (option_and_then (λ from. last_below (holds_from parsed index from) (suc n)) setup) false) (sym (cond-false (is_setup (words_at parsed n)) (Some n) (setup_of parsed n) none))
+    ap (λ own. own && option_map_or (λ own. own == line) (entry_line index parsed n) false) sight
+    ∙ ap (λ (setup : Option ℕ). option_map_or (λ own. own == line) (option_and_then (λ from. last_below (begins_from parsed index from) (suc n)) setup) false) (sym (cond-false (is_setup (words_at parsed n)) (Some n) (setup_of parsed n) none))
 
 -- an open height is in a setup
 pub open-opens : (kind : HeightKind) (parsed : List ParsedLine) (n line : ℕ) → open_at (index_of kind) parsed n ≡ Some line → (line < n) × (opens parsed kind line ≡ true)
@@ -79,8 +79,8 @@ open-opens kind parsed n line h = go (setup_of parsed n) refl h
     begun setup is before =
         some (setup_of parsed (suc line)) setup (λ none. true≢false (sym (last-true (λ own. is_setup (words_at parsed own)) n setup is) ∙ none-below (λ own. is_setup (words_at parsed own)) (suc line) setup none (omega (arith, before))))
 
-    go : (setup : Option ℕ) → setup_of parsed n ≡ setup → option_and_then (λ from. last_below (holds_from parsed (index_of kind) from) n) setup ≡ Some line → (line < n) × (opens parsed kind line ≡ true)
+    go : (setup : Option ℕ) → setup_of parsed n ≡ setup → option_and_then (λ from. last_below (begins_from parsed (index_of kind) from) n) setup ≡ Some line → (line < n) × (opens parsed kind line ≡ true)
     go None is e = absurd (none-some line e)
     go (Some setup) is e =
-        let parts = and_parts (nat_le setup line) (holds (index_of kind) (words_at parsed line)) (last-true (holds_from parsed (index_of kind) setup) n line e) in
-        (last-lt (holds_from parsed (index_of kind) setup) n line e, and_from _ _ parts.1 (begun setup is (leb-true setup line parts.0)))
+        let parts = and_parts (nat_le setup line) (begins (index_of kind) parsed line) (last-true (begins_from parsed (index_of kind) setup) n line e) in
+        (last-lt (begins_from parsed (index_of kind) setup) n line e, and_from _ _ parts.1 (begun setup is (leb-true setup line parts.0)))

@@ -4,17 +4,17 @@ use Rattle.std.specs.Prelude.{is_some, nat_lt, option_map, option_to_list}
 use Rattle.std.specs.Option.{option_map_or}
 use Rattle.std.proofs.lemmas.Bool.{and_from, cond-true, lt-ltb}
 use Rattle.std.proofs.lemmas.List.Elements.{filter-append}
-use Rattle.th_book.specs.Lines.{ParsedLine, holds}
-use Rattle.th_book.specs.Places.{last_below, setup_of, station_at, words_at}
+use Rattle.th_book.specs.Lines.{ParsedLine}
+use Rattle.th_book.specs.Places.{last_below, setup_of, station_at}
 use Rattle.th_book.specs.Books.{known_name}
 use Rattle.th_entries.specs.Below.{all_below, count_below}
-use Rattle.th_entries.specs.Entries.{entries_at, entries_of, entry_at, entry_until, index_of, uses}
+use Rattle.th_entries.specs.Entries.{begins, entries_at, entries_of, entry_at, entry_until, index_of, uses}
 use Rattle.th_entries.specs.Inside.Tallies.{both_at, candidate, candidate_at, opens}
 use Rattle.th_entries.specs.declared.entries.Entry.{Entry}
 use Rattle.th_entries.specs.declared.entries.HeightKind.{HeightKind}
 use Rattle.th_entries.specs.declared.entries.HeightKind.TheVariants.{Reflector, Instrument}
 use Rattle.th_entries.proofs.BelowLemmas.{count-none, count-some, last-true}
-use Rattle.th_entries.proofs.Uses.{IsUsed, same-setup, same-station, used, used-holds, used-le}
+use Rattle.th_entries.proofs.Uses.{IsUsed, same-setup, same-station, used, used-begins, used-le}
 
 -- an entry that a sight uses
 abbrev pub is_used : Entry → Bool
@@ -23,7 +23,7 @@ is_used entry = nat_lt 0 entry.sights
 -- a line that a sight uses opens an entry
 used-opens : (kind : HeightKind) (parsed : List ParsedLine) (line last : ℕ) → IsUsed (index_of kind) parsed line last → opens parsed kind line ≡ true
 used-opens kind parsed line last u =
-    and_from (holds (index_of kind) (words_at parsed line)) (is_some (setup_of parsed (suc line))) (used-holds (index_of kind) parsed line last u).1
+    and_from (begins (index_of kind) parsed line) (is_some (setup_of parsed (suc line))) (used-begins (index_of kind) parsed line last u).1
     (ap is_some (same-setup (index_of kind) parsed line last (suc line) u (omega arith) (omega (arith, used-le (index_of kind) parsed line last u))))
 
 -- of each line what a sight uses is left

@@ -1,5 +1,6 @@
 mod BelowLemmas
 mod Uses
+mod Continued
 mod Candidates
 mod Served
 mod Entering
@@ -9,4 +10,3 @@ mod MentionLemmas
 mod SeenLemmas
 mod StationLemmas
 mod SeveralLemmas
-mod Reading

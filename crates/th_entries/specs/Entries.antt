@@ -1,7 +1,8 @@
-use Rattle.std.specs.Prelude.{ℕ, ◌+◌, ◌==◌, ◌&&◌, ◌++◌, Bool, false, List, Option, length, option_map, option_to_list}
+use Rattle.std.specs.Prelude.{ℕ, suc, ℤ, ◌+◌, ◌==◌, ◌&&◌, ◌++◌, not, Bool, false, List, Option, length, nat_le, option_and_then, option_map, option_to_list}
 use Rattle.std.specs.Option.{option_map_or}
-use Rattle.th_book.specs.Lines.{ParsedLine, is_sight, length_in}
-use Rattle.th_book.specs.Places.{last_below, last_with, station_at, words_at}
+use Rattle.std.specs.Ordering.{int_eq}
+use Rattle.th_book.specs.Lines.{ParsedLine, holds, is_sight, length_in}
+use Rattle.th_book.specs.Places.{holds_from, last_below, setup_of, station_at, words_at}
 use Rattle.th_book.specs.Books.{known, known_name}
 use Rattle.th_book.specs.Indexes.{reflector_height, instrument_height}
 use Rattle.th_entries.specs.Below.{all_below, count_below}
@@ -14,10 +15,35 @@ abbrev pub index_of : HeightKind → ℕ
 index_of Reflector = reflector_height
 index_of Instrument = instrument_height
 
--- the sight at a place uses the height of a line: the last line that holds the index, from the sight's setup to the sight itself
+-- the length that a line enters for an index, in units of 10 nm
+abbrev pub length_at : ℕ → List ParsedLine → ℕ → ℤ
+length_at index parsed line = known (length_in index (words_at parsed line))
+
+-- the last line before a place that holds an index, in the setup that the line at the place begins, or else in the running one
+abbrev pub last_before : ℕ → List ParsedLine → ℕ → Option ℕ
+last_before index parsed place = option_and_then (λ setup. last_below (holds_from parsed index setup) place) (setup_of parsed (suc place))
+
+-- a line continues an entry: its length is that of the word before it, in the same setup
+abbrev pub continues : ℕ → List ParsedLine → ℕ → Bool
+continues index parsed place =
+    option_map_or (λ before. int_eq (length_at index parsed before) (length_at index parsed place)) (last_before index parsed place) false
+
+-- a line begins an entry: it holds the index, and continues none
+abbrev pub begins : ℕ → List ParsedLine → ℕ → Bool
+begins index parsed place = holds index (words_at parsed place) && not (continues index parsed place)
+
+-- line `k` is at or after the place `from`, and it begins an entry
+abbrev pub begins_from : List ParsedLine → ℕ → ℕ → ℕ → Bool
+begins_from parsed index from k = nat_le from k && begins index parsed k
+
+-- the line of the entry that a sight uses: the last one that begins an entry, from the setup's line to the sight's own
+abbrev pub entry_line : ℕ → List ParsedLine → ℕ → Option ℕ
+entry_line index parsed place = option_and_then (λ setup. last_below (begins_from parsed index setup) (suc place)) (setup_of parsed place)
+
+-- the sight at a place uses the entry of a line
 abbrev pub uses : ℕ → List ParsedLine → ℕ → ℕ → Bool
 uses index parsed line place =
-    is_sight (words_at parsed place) && option_map_or (λ own. own == line) (last_with index parsed place) false
+    is_sight (words_at parsed place) && option_map_or (λ own. own == line) (entry_line index parsed place) false
 
 -- the entry of a line, given the place of the last sight that uses it; its lines count from 1
 abbrev pub entry_until : ℕ → List ParsedLine → HeightKind → ℕ → ℕ → Entry
@@ -26,7 +52,7 @@ entry_until book parsed kind line last = record {
   line = line + 1;
   kind = kind;
   station = known_name (station_at parsed last);
-  length = known (length_in (index_of kind) (words_at parsed line));
+  length = length_at (index_of kind) parsed line;
   sights = count_below (uses (index_of kind) parsed line) (length parsed);
   last = last + 1;
 }

@@ -1,4 +1,3 @@
 pub mod Running
 pub mod Seen
 pub mod Tallies
-pub mod Feeds

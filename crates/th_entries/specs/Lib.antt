@@ -5,5 +5,5 @@ pub mod Reviews
 pub mod Spellings
 pub mod Seen
 pub mod Several
-pub mod Feeds
+pub mod Tallied
 pub mod Inside

@@ -1,12 +1,10 @@
-use Rattle.std.specs.Prelude.{◌≡◌, ℕ, ◌+◌, ◌&&◌, not, Bool, true, false, List, [], ◌∷◌, Some, None, Ok, Err, if◌then◌else◌, length, map}
+use Rattle.std.specs.Prelude.{◌≡◌, ℕ, ◌+◌, ◌==◌, ◌&&◌, ◌||◌, not, Bool, true, false, List, [], ◌∷◌, Some, None, Ok, Err, if◌then◌else◌, length}
+use Rattle.std.specs.List.{list_any}
 use Rattle.gsi_word.specs.Words.{Parts}
-use Rattle.gsi_block.specs.Lines.{lines_of}
-use Rattle.gsi_block.specs.Blocks.{block_at}
-use Rattle.th_book.specs.Observed.{Observed}
 use Rattle.th_book.specs.Lines.{ParsedLine, holds, is_setup, is_sight, point_name}
 use Rattle.th_book.specs.Places.{line_at, station_at, words_at}
 use Rattle.th_book.specs.Faults.{are_one, begins_with_point}
-use Rattle.th_book.specs.Books.{book_answer}
+pub use Rattle.th_book.specs.Books.{IsFaultless, parsed_of}
 use Rattle.th_book.specs.Indexes.{instrument_height}
 use Rattle.th_entries.specs.Below.{all_below, count_below}
 use Rattle.th_entries.specs.Entries.{entries_of}
@@ -28,10 +26,14 @@ counts_of parsed = record {
   sights = count_below (λ place. is_sight (words_at parsed place)) (length parsed);
 }
 
--- a block looks like a setup if it begins with a point and holds an instrument height, but is neither a sight nor a setup
+-- a word that a measurement writes: a horizontal or vertical angle, or a slope or horizontal distance
+abbrev pub is_measured : Parts → Bool
+is_measured word = word.index == 21 || (word.index == 22 || (word.index == 31 || word.index == 32))
+
+-- a block looks like a setup if it begins with a point and holds an instrument height, but is neither a sight nor a setup, and measures nothing
 abbrev pub resembles_setup : List Parts → Bool
 resembles_setup words =
-    begins_with_point words && (holds instrument_height words && (not (is_sight words) && not (is_setup words)))
+    begins_with_point words && (holds instrument_height words && (not (is_sight words) && (not (is_setup words) && not (list_any is_measured words))))
 
 -- the line at a place looks like a setup, and its point is not the current station, if there is one
 abbrev pub is_lookalike : List ParsedLine → ℕ → Bool
@@ -41,14 +43,6 @@ is_lookalike parsed place =
 -- the lines, counted from 1, that look like a setup but are none
 abbrev pub lookalikes_of : List ParsedLine → List ℕ
 lookalikes_of parsed = all_below (λ place. if is_lookalike parsed place then (place + 1) ∷ [] else []) (length parsed)
-
--- the parsed lines of a book
-abbrev pub parsed_of : List ℕ → List ParsedLine
-parsed_of bytes = map block_at (lines_of bytes)
-
--- a book has no fault
-abbrev pub IsFaultless : ℕ → List ℕ → Type 0
-IsFaultless book bytes = (observations : List Observed) × (book_answer book bytes ≡ Ok observations)
 
 -- `review` is the review of a book with these parsed lines
 pub record Reviews (book : ℕ) (parsed : List ParsedLine) (review : BookReview) : Type 0 where

@@ -1,12 +1,12 @@
 //! Laws that relate the definitions to one another. They call nothing of the code.
 
 ghost use Rattle.std.specs.Prelude.{◌≡◌, ◌≢◌, ◌<◌, ◌≤◌, ◌++◌, [], All, Contains, ℕ, List, Ok, Some, true, length};
-ghost use Rattle.th_book.specs.Books.{book_answer};
+ghost use Rattle.th_book.specs.Books.{book_answer, known};
 ghost use Rattle.th_book.specs.Lines.{ParsedLine, is_sight};
 ghost use Rattle.th_book.specs.Observed.{Observed};
-ghost use Rattle.th_book.specs.Places.{last_below, words_at};
+ghost use Rattle.th_book.specs.Places.{height_at, last_below, words_at};
 ghost use Rattle.th_entries.specs.declared.entries.Entry.{Entry};
-ghost use Rattle.th_entries.specs.Entries.{entries_of, uses};
+ghost use Rattle.th_entries.specs.Entries.{entries_of, length_at, uses};
 ghost use Rattle.th_entries.specs.Reviews.{parsed_of};
 ghost use Rattle.th_entries.specs.Several.{AreObserved, entries_of_books, numbered};
 ghost use Rattle.th_entries.specs.Stations.{HasOneStation};
@@ -22,6 +22,13 @@ pub fn sights_from_line_to_last_use_it()
     ensures others { (index : ℕ) (parsed : List ParsedLine) (line last place : ℕ) →
         last_below (uses index parsed line) (length parsed) ≡ Some last → place < length parsed →
         uses index parsed line place ≡ true → (line ≤ place) × (place ≤ last) }
+{}
+
+/// The length of an entry is the height that each of its sights uses: the words from the entry's line
+/// to that of the sight's own last word repeat it.
+pub fn entry_has_the_height_of_its_sights()
+    ensures { (index : ℕ) (parsed : List ParsedLine) (line place : ℕ) →
+        uses index parsed line place ≡ true → known (height_at index parsed place) ≡ length_at index parsed line }
 {}
 
 /// The sights of an entry are from one station, where the book has no fault.

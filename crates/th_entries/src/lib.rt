@@ -2,21 +2,18 @@
 //! many blocks, setups and sights there are, and lines that only look like a setup. Of several
 //! books: the names that they spell in more than one way.
 //!
-//! A `ReviewFeed` takes the same pieces of bytes as a `th_book::BookFeed`, and gives the
-//! `BookReview` of a book that has no fault. The `SeenNames` pass from one book to the next.
+//! A `Tally` is a witness of a `th_book::BookFeed`: it sees each line of a book while it is read, and
+//! gives the `BookReview` of a book that has no fault. The `SeenNames` pass from one book to the next.
 #![tactic(auto)]
 
 // An entered height, and the sights that use it.
 mod entries;
 
-// The running setup, and its entries.
+// The entries of the running setup.
 mod running;
 
 // What is known of a book after some of its lines.
 mod tallies;
-
-// Books by pieces of their bytes.
-mod feeds;
 
 // The review of a book.
 mod reviews;
@@ -31,7 +28,7 @@ mod seen;
 pub mod laws;
 
 pub use entries::{Entry, HeightKind};
-pub use feeds::{ReviewFeed, read_review};
 pub use reviews::{BookCount, BookReview};
 pub use seen::SeenNames;
 pub use spellings::Spelling;
+pub use tallies::Tally;

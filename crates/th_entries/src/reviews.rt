@@ -16,7 +16,7 @@ pub struct BookReview {
     /// The entries by line, the reflector's before the instrument's within a line.
     pub entries: Vec<Entry>,
     /// The lines, from 1, that only look like a setup: blocks with a point number and an instrument
-    /// height, but with neither a height difference nor a coordinate of the station, whose point is
-    /// not the current station.
+    /// height, but with no height difference, no coordinate of the station, no angle and no distance,
+    /// whose point is not the current station.
     pub lookalikes: Vec<u32>,
 }

@@ -1,82 +1,123 @@
 ghost use Rattle.std.specs.Prelude.{◌≡◌, ◌++◌, option_to_list, IfOk, OnOk};
-ghost use Rattle.th_entries.specs.Inside.Running.{entering_after, place_of, served};
+ghost use Rattle.th_entries.specs.Inside.Running.{entering_after, entry_in, is_repeated, place_of, served, setup_on};
 
 use crate::entries::{Entry, HeightKind};
-use gsi_word::Name;
 use std::alloc::AllocError;
-use th_book::Entered;
+use th_book::{Entered, Setup};
 use th_units::Len;
 
-/// The current station, and where among the entries its last reflector height and its last instrument
-/// height are.
+/// Where among the entries the last reflector height and the last instrument height of the running setup
+/// are.
 #[derive(Clone, Copy, Debug)]
-pub struct Running {
-    pub station: Option<Name>,
+pub struct Latest {
     pub reflector: Option<usize>,
     pub instrument: Option<usize>,
 }
 
-impl Running {
-    ghost use Rattle.th_entries.specs.Inside.Running.{begun_by, entry_in};
+impl Latest {
+    ghost use Rattle.th_entries.specs.Inside.Running.{begun_by};
 
-    /// Begins a setup where a block enters one: it has no height yet.
+    /// Leaves the entries of the setup before, where a block begins one.
     fn begin(&mut self, entered: &Entered)
         ensures { self.new ≡ begun_by entered.now self.old }
     {
         if entered.station.is_some() {
-            *self = Running {
-                station: entered.station,
+            *self = Latest {
                 reflector: None,
                 instrument: None,
             };
         }
     }
-
-    /// The entry of a height that no sight uses yet, where a line enters one at a station.
-    fn entry(&self, book: u32, line: u32, kind: HeightKind, length: Option<Len>) -> Option<Entry>
-        ensures { result ≡ entry_in self.now.station book line kind length }
-    {
-        match (self.station, length) {
-            (Some(station), Some(length)) => Some(Entry {
-                book,
-                line,
-                kind,
-                station,
-                length,
-                sights: 0,
-                last: 0,
-            }),
-            _ => None,
-        }
-    }
 }
 
-/// Enters what a block enters: its heights, in the setup that it begins or that runs, and then the
-/// sight that uses the last heights.
+/// Enters what a block enters: its heights, in the setup that it begins or that runs before it, and then
+/// the sight that uses the last heights.
 pub fn enter(
-    running: &mut Running,
+    latest: &mut Latest,
     entries: &mut Vec<Entry>,
     book: u32,
     line: u32,
+    running: &Option<Setup>,
     entered: &Entered,
 ) -> Result<(), AllocError>
-    ensures { OnOk result (record { running = running.new; entries = entries.new.items }
-        ≡ entering_after book line entered.now (record { running = running.old; entries = entries.old.items })) }
+    ensures { OnOk result (record { latest = latest.new; entries = entries.new.items }
+        ≡ entering_after book line running.now entered.now (record { latest = latest.old; entries = entries.old.items })) }
 {
-    running.begin(entered);
-    let reflector = running.entry(book, line, HeightKind::Reflector, entered.reflector);
-    running.reflector = open(entries, reflector, running.reflector)?;
-    let instrument = running.entry(book, line, HeightKind::Instrument, entered.instrument);
-    running.instrument = open(entries, instrument, running.instrument)?;
+    latest.begin(entered);
+    let setup = setup_on(running, entered);
+    let reflector = entry_in(&setup, book, line, HeightKind::Reflector, entered.reflector);
+    latest.reflector = add(entries, reflector, latest.reflector)?;
+    let instrument = entry_in(
+        &setup,
+        book,
+        line,
+        HeightKind::Instrument,
+        entered.instrument,
+    );
+    latest.instrument = add(entries, instrument, latest.instrument)?;
     if entered.target.is_some() {
-        serve(entries, running.reflector, line);
-        serve(entries, running.instrument, line);
+        serve(entries, latest.reflector, line);
+        serve(entries, latest.instrument, line);
     }
     Ok(())
 }
 
-/// Adds an entry where there is one, and gives its place: or else the place that was given before.
-fn open(
+/// The setup of a line, before its heights: the one that it begins, or else the running one.
+fn setup_on(running: &Option<Setup>, entered: &Entered) -> Option<Setup>
+    ensures { result ≡ setup_on running.now entered.now.station }
+{
+    match entered.station {
+        Some(station) => Some(Setup {
+            station,
+            instrument: None,
+            reflector: None,
+        }),
+        None => *running,
+    }
+}
+
+/// The entry that a length begins in a setup, which no sight uses yet: there is none if it repeats the
+/// last one.
+fn entry_in(
+    setup: &Option<Setup>,
+    book: u32,
+    line: u32,
+    kind: HeightKind,
+    length: Option<Len>,
+) -> Option<Entry>
+    ensures { result ≡ entry_in setup.now book line kind length }
+{
+    match (setup, length) {
+        (Some(setup), Some(length)) if !is_repeated(setup, kind, length) => Some(Entry {
+            book,
+            line,
+            kind,
+            station: setup.station,
+            length,
+            sights: 0,
+            last: 0,
+        }),
+        _ => None,
+    }
+}
+
+/// Whether a length is the last one of its kind in a setup.
+fn is_repeated(setup: &Setup, kind: HeightKind, length: Len) -> bool
+    ensures { result ≡ is_repeated kind length setup.now }
+{
+    let last = match kind {
+        HeightKind::Reflector => setup.reflector,
+        HeightKind::Instrument => setup.instrument,
+    };
+    match last {
+        Some(last) => last == length,
+        None => false,
+    }
+}
+
+/// Adds an entry where one begins, and returns the place of the last entry: the one added, or else the
+/// one before.
+fn add(
     entries: &mut Vec<Entry>,
     entry: Option<Entry>,
     before: Option<usize>,

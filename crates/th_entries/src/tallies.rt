@@ -1,28 +1,40 @@
-ghost use Rattle.std.specs.Prelude.{◌≡◌, ◌++◌, ℕ, List, None, length, map, OnOk};
+ghost use Rattle.std.specs.Prelude.{◌≡◌, ℕ, List, length, map, option_map, IfOk, OnOk};
+ghost use Rattle.std.specs.List.{list_any};
 ghost use Rattle.gsi_word.specs.Words.{parts_of};
-ghost use Rattle.th_book.specs.Faults.{are_one, first_applying, own_faults};
+ghost use Rattle.th_book.specs.Entered.{entered_by};
+ghost use Rattle.th_book.specs.Faults.{are_one};
 ghost use Rattle.th_entries.specs.Inside.Tallies.{looks};
+ghost use Rattle.th_entries.specs.Reviews.{is_measured};
 
 use crate::entries::Entry;
 use crate::reviews::{BookCount, BookReview};
-use crate::running::{Running, enter};
+use crate::running::{Latest, enter};
 use crate::seen::{SeenNames, mention};
-use arrayvec::ArrayVec;
-use gsi_block::{MAX_WORDS, read_words};
 use gsi_word::{Name, Word, name_of};
 use std::alloc::{AllocError, Global};
 use th_book::laws::faultless_book_is_sound;
-use th_book::{Entered, POINT_NUMBER};
+use th_book::{Entered, POINT_NUMBER, Setup, Witness};
 
-/// What is known of a book after some of its lines.
+/// What a measurement writes: angles and distances (Leica GSI Online manual, table of word indexes).
+const HORIZONTAL_ANGLE: u8 = 21;
+
+const VERTICAL_ANGLE: u8 = 22;
+
+const SLOPE_DISTANCE: u8 = 31;
+
+const HORIZONTAL_DISTANCE: u8 = 32;
+
+/// What is known of a book after some of its lines, and the names of it and of the books before: a
+/// witness of its reading. It keeps the first allocation failure until it gives the review.
 #[derive(Drop)]
 pub struct Tally {
-    pub book: u32,
-    pub counts: BookCount,
-    pub running: Running,
-    pub entries: Vec<Entry>,
-    pub lookalikes: Vec<u32>,
-    pub names: SeenNames,
+    book: u32,
+    counts: BookCount,
+    latest: Latest,
+    entries: Vec<Entry>,
+    lookalikes: Vec<u32>,
+    names: SeenNames,
+    failed: Option<AllocError>,
 }
 
 impl BookCount {
@@ -51,14 +63,16 @@ impl BookCount {
 
 impl Tally {
     ghost use Rattle.th_book.specs.Lines.{ParsedLine};
-    ghost use Rattle.th_entries.specs.Inside.Tallies.{HasBlock, HasTaken, IsEmpty, IsTallied};
+    ghost use Rattle.th_entries.specs.Inside.Tallies.{HasBlock};
+    ghost use Rattle.th_entries.specs.Tallied.{HasSeen};
     ghost use Rattle.th_entries.specs.declared.seen.SeenNames.{SeenNames};
     ghost use Rattle.th_entries.specs.Reviews.{Reviews};
     ghost use Rattle.th_entries.specs.Seen.{AddsBook};
 
-    /// What is known of a book before its first line, and the names of the books before.
+    /// What is known of a book with its number, from 1, before its first line, and the names of the
+    /// books before.
     pub fn new(alloc: Global, book: u32, names: SeenNames) -> Tally
-        ensures { IsEmpty names book result }
+        ensures { (parsed : List ParsedLine) → HasSeen names book parsed 0 result }
     {
         Tally {
             book,
@@ -68,80 +82,91 @@ impl Tally {
                 setups: 0,
                 sights: 0,
             },
-            running: Running {
-                station: None,
+            latest: Latest {
                 reflector: None,
                 instrument: None,
             },
             entries: Vec::new(alloc),
             lookalikes: Vec::new(alloc),
             names,
+            failed: None,
         }
     }
 
-    /// Takes the next line. Its words are read into the caller's array. A faulty line has no
-    /// effect.
-    pub fn take<'a>(
-        &mut self,
-        line: &'a [u8],
-        words: &mut ArrayVec<Word<'a>, MAX_WORDS>,
-    ) -> Result<(), AllocError>
-        ensures { OnOk result (HasTaken self.old self.new line.now) }
-    {
-        faultless_book_is_sound();
-        self.counts.line();
-        match read_words(line, words) {
-            Ok(Some(_)) => self.block(words.as_slice()),
-            Ok(None) => Ok(()),
-            Err(_) => Ok(()),
-        }
-    }
-
-    /// The review of a book whose lines were all taken, and the names that were seen.
-    pub fn review(self) -> (BookReview, SeenNames)
-        ensures review { (names : SeenNames) (number : ℕ) (parsed : List ParsedLine) →
-            IsTallied names number parsed (length parsed) self → Reviews number parsed result.0 }
-        ensures names { (names : SeenNames) (number : ℕ) (parsed : List ParsedLine) →
-            IsTallied names number parsed (length parsed) self → AddsBook number parsed names result.1 }
+    /// The review of a book whose lines were all seen, and the names that were seen. Fails if memory ran
+    /// out for a line.
+    pub fn review(self) -> Result<(BookReview, SeenNames), AllocError>
+        ensures review { IfOk result (λ read. (names : SeenNames) (number : ℕ) (parsed : List ParsedLine) →
+            HasSeen names number parsed (length parsed) self → Reviews number parsed read.0) }
+        ensures names { IfOk result (λ read. (names : SeenNames) (number : ℕ) (parsed : List ParsedLine) →
+            HasSeen names number parsed (length parsed) self → AddsBook number parsed names read.1) }
     {
         let Tally {
             counts,
             mut entries,
             lookalikes,
             names,
+            failed,
             ..
         } = self;
+        if let Some(error) = failed {
+            return Err(error);
+        }
         entries.retain(|entry| entry.sights > 0);
         let review = BookReview {
             counts,
             entries,
             lookalikes,
         };
-        (review, names)
+        Ok((review, names))
     }
 
-    /// Takes the words of a block.
-    fn block(&mut self, words: &[Word<'_>]) -> Result<(), AllocError>
-        ensures { OnOk result
-            (first_applying (own_faults (map parts_of words.now)) ≡ None → HasBlock (map parts_of words.now) self.old self.new) }
+    /// Takes the words of a block, which enter this in the running setup.
+    fn take(
+        &mut self,
+        running: &Option<Setup>,
+        entered: &Entered,
+        words: &[Word<'_>],
+    ) -> Result<(), AllocError>
+        ensures { OnOk result (entered.now ≡ entered_by (map parts_of words.now)
+            → HasBlock running.now (map parts_of words.now) self.old self.new) }
     {
-        match Entered::of(words) {
-            Ok(entered) => {
-                let line = self.counts.lines;
-                self.counts.block(&entered);
-                if is_lookalike(words, &entered, &self.running.station) {
-                    self.lookalikes.push(line)?;
-                }
-                mention(&mut self.names, self.book, line, &entered, words)?;
-                enter(
-                    &mut self.running,
-                    &mut self.entries,
-                    self.book,
-                    line,
-                    &entered,
-                )
+        let line = self.counts.lines;
+        self.counts.block(entered);
+        if is_lookalike(words, entered, &station_of(running)) {
+            self.lookalikes.push(line)?;
+        }
+        mention(&mut self.names, self.book, line, entered, words)?;
+        enter(
+            &mut self.latest,
+            &mut self.entries,
+            self.book,
+            line,
+            running,
+            entered,
+        )
+    }
+}
+
+impl Witness for Tally {
+    ghost use Rattle.th_entries.specs.Tallied.{HasSeen};
+    ghost use Rattle.th_entries.specs.declared.seen.SeenNames.{SeenNames};
+
+    ghost Start = { SeenNames };
+
+    ghost has_seen = { HasSeen };
+
+    fn blank(&mut self) {
+        self.counts.line();
+    }
+
+    fn block(&mut self, running: &Option<Setup>, entered: &Entered, words: &[Word<'_>]) {
+        faultless_book_is_sound();
+        self.counts.line();
+        if self.failed.is_none() {
+            if let Err(error) = self.take(running, entered, words) {
+                self.failed = Some(error);
             }
-            Err(_) => Ok(()),
         }
     }
 }
@@ -155,11 +180,43 @@ fn is_lookalike(words: &[Word<'_>], entered: &Entered, station: &Option<Name>) -
             let resembles = word.index() == POINT_NUMBER
                 && entered.instrument.is_some()
                 && entered.target.is_none()
-                && entered.station.is_none();
+                && entered.station.is_none()
+                && !measures(words);
             resembles && !are_one(station, &name_of(word.body()))
         }
         None => false,
     }
+}
+
+/// The station of the running setup.
+fn station_of(running: &Option<Setup>) -> Option<Name>
+    ensures { result ≡ option_map (λ setup. setup.station) running.now }
+{
+    match running {
+        Some(setup) => Some(setup.station),
+        None => None,
+    }
+}
+
+/// Whether a block measures an angle or a distance.
+fn measures(words: &[Word<'_>]) -> bool
+    ensures { result ≡ list_any is_measured (map parts_of words.now) }
+{
+    let mut measured = false;
+    for word in words {
+        measured = measured | is_measured(word);
+    }
+    measured
+}
+
+/// Whether a measurement writes a word: an angle or a distance.
+fn is_measured(word: &Word<'_>) -> bool
+    ensures { result ≡ is_measured (parts_of word.now) }
+{
+    matches!(
+        word.index(),
+        HORIZONTAL_ANGLE | VERTICAL_ANGLE | SLOPE_DISTANCE | HORIZONTAL_DISTANCE
+    )
 }
 
 /// Whether two names are there, and are one.

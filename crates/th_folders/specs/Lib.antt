@@ -1,2 +1,3 @@
 pub mod Folders
 pub mod MemoryFolders
+pub mod Inside

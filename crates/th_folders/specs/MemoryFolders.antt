@@ -1,5 +1,5 @@
 -- A folder in memory: its files, the last that was closed first, and its standard streams.
-use Rattle.std.specs.Prelude.{ℕ, Bool, false, List, [], ◌∷◌, Option, Some, None, if◌then◌else◌, nat_lt, option_map, string_bytes}
+use Rattle.std.specs.Prelude.{ℕ, Bool, true, false, List, [], ◌∷◌, Option, Some, None, if◌then◌else◌, nat_lt, option_map, string_bytes}
 use Rattle.std.specs.Option.{option_map_or}
 use Rattle.std.specs.Str.{bytes_eq}
 use Rattle.th_devices.specs.Devices.{SinkState}
@@ -22,7 +22,7 @@ sink_of (sink.Errors own) = own
 
 abbrev pub memory_sink : MemorySink → SinkState
 memory_sink own =
-    record { spot = spot_of own; held = Some (sink_of own).held; is_finished = (sink_of own).finished; counts = (sink_of own).counts }
+    record { spot = spot_of own; held = Some (sink_of own).held; is_finished = (sink_of own).finished; may_fail = true; counts = (sink_of own).counts }
 
 -- names of files, each with its sink
 abbrev pub Named : Type 0

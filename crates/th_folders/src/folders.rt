@@ -2,13 +2,14 @@
 //!
 //! A contract of a program over a folder mentions the folder before and after, and none of the
 //! devices that it gave.
-ghost use Rattle.std.specs.Prelude.{◌≡◌, ◌↔◌, Bool, List, None, Option, ℕ, IfOk, IsTrue, false, true};
+ghost use Rattle.std.specs.Prelude.{◌≡◌, ◌↔◌, Bool, List, None, Option, ℕ, IfOk, IsTrue, OnErr, OnOk, false, true};
 ghost use Rattle.th_devices.specs.Devices.{IsMade, IsOpened};
-ghost use Rattle.th_folders.specs.Folders.{IsClosed, spot_of_origin, spot_of_target};
+ghost use Rattle.th_folders.specs.Folders.{IsClosed, IsPlaced, spot_of_origin, spot_of_target};
 ghost use Rattle.th_devices.specs.Spots.{Spot, errors};
 
 use std::alloc::{AllocError, Global};
-use th_devices::{Sink, Source};
+use th_devices::{Failed, Reason, Sink, Source};
+use th_progress::Progress;
 
 /// Where bytes are read from.
 #[derive(Clone, Copy, Debug)]
@@ -36,6 +37,9 @@ pub trait Folder {
     /// What it gives for writing.
     type Out: Sink + Drop;
 
+    /// What shows people how far a run is.
+    type Shown: Progress + Drop;
+
     // Whether it reports the bytes that are written.
     ghost tells: { Bool };
 
@@ -46,6 +50,12 @@ pub trait Folder {
     // bytes knows.
     ghost has_failed: { Self → Spot → Bool };
 
+    // Whether reading what is at a spot may fail, as it does where nothing is.
+    ghost reading_may_fail: { Self → Spot → Bool };
+
+    // Whether writing to a spot may fail. Taking sinks back changes that of no spot.
+    ghost writing_may_fail: { Self → Spot → Bool };
+
     /// Whether writing the file `output` would change the file `input`: they are one file under two
     /// names, or one of them is written in place of the other.
     fn would_change(&self, alloc: Global, output: &str, input: &str) -> Result<bool, AllocError>
@@ -54,25 +64,48 @@ pub trait Folder {
     /// A source of the bytes there. Nothing is opened yet.
     fn source(&mut self, alloc: Global, origin: Origin<'_>) -> Result<Self::In, AllocError>
         ensures same { self.new ≡ self.old }
-        ensures opened { IfOk result (λ source. IsOpened
-            (held self.old (spot_of_origin origin.entry)) (Self.In.state source)) };
+        ensures opened { IfOk result (λ source. let spot = spot_of_origin origin.entry in
+            IsOpened (reading_may_fail self.old spot) (held self.old spot) (Self.In.state source)) };
 
     /// A sink for the bytes there. Nothing is changed yet.
     fn sink(&mut self, alloc: Global, target: Target<'_>) -> Result<Self::Out, AllocError>
         ensures same { self.new ≡ self.old }
-        ensures made { IfOk result (λ sink. IsMade tells (spot_of_target target.entry)
-            (Self.Out.state sink)) };
+        ensures made { IfOk result (λ sink. let spot = spot_of_target target.entry in
+            IsMade tells (writing_may_fail self.old spot) spot (Self.Out.state sink)) };
 
     /// A sink for standard error. It allocates nothing, so that a program that is out of memory can
     /// report it.
     fn standard_error(&mut self) -> Self::Out
         ensures same { self.new ≡ self.old }
-        ensures made { IsMade tells errors (Self.Out.state result) };
+        ensures made { IsMade tells (writing_may_fail self.old errors) errors
+            (Self.Out.state result) };
 
-    /// Takes a sink back. If it was finished, its bytes are at its spot. If it was not, its file is
-    /// as it was.
+    /// Takes a sink back. Its bytes stay where it is a stream. Where it is a file, they are dropped,
+    /// and the file of that name is as it was.
     fn close(&mut self, sink: Self::Out)
-        ensures { IsClosed tells held has_failed (Self.Out.state sink) self.old self.new };
+        ensures closed { IsClosed tells held has_failed (Self.Out.state sink) self.old self.new }
+        ensures fixed { (spot : Spot) → writing_may_fail self.new spot ≡ writing_may_fail self.old spot };
+
+    /// Takes a finished sink back, and gives its bytes their place. If that fails, what was there stays
+    /// as it was.
+    fn place(&mut self, sink: Self::Out) -> Result<(), Failed>
+        requires { (Self.Out.state sink).is_finished ≡ true }
+        ensures placed { OnOk result
+            (IsPlaced tells held has_failed (Self.Out.state sink) self.old self.new) }
+        ensures left { OnErr result (self.new ≡ self.old) }
+        ensures allowed { OnErr result
+            (writing_may_fail self.old (Self.Out.state sink).spot ≡ true) }
+        ensures fixed { (spot : Spot) → writing_may_fail self.new spot ≡ writing_may_fail self.old spot };
+
+    /// What shows people how far a run is that they know by this name.
+    fn progress(&self, name: &'static str) -> Self::Shown;
+
+    /// Makes the places that files took beside the file of this name last through a loss of power, as
+    /// far as the system can.
+    fn settle(&self, name: &str);
+
+    /// Why a call of the system failed last, where the folder knows. Contracts leave it open.
+    fn reason(&self) -> Option<Reason>;
 
     // A folder that does not report the bytes that are written reports none.
     ghost tells_or_not: { (folder : Self) (spot : Spot) → tells ≡ false → held folder spot ≡ None };

@@ -8,6 +8,9 @@
 // What a folder is.
 mod folders;
 
+// The files of a run.
+mod placing;
+
 // The system's folder, and one in memory for tests.
 mod host_folders;
 mod memory_folders;
@@ -15,3 +18,4 @@ mod memory_folders;
 pub use folders::{Folder, Origin, Target};
 pub use host_folders::HostFolder;
 pub use memory_folders::{MemoryFolder, MemorySink};
+pub use placing::place_all;

@@ -1,5 +1,6 @@
-//! A folder in memory, for tests. It reports all of its bytes.
-ghost use Rattle.std.specs.Prelude.{◌≡◌, ◌≤◌, ℕ, true, List, Some, None, IfOk, OnOk, option_map, string_bytes};
+//! A folder in memory, for tests. It reports all of its bytes. Reading what is there never fails;
+//! writing may, where the room of a sink ends.
+ghost use Rattle.std.specs.Prelude.{◌≡◌, ◌≤◌, ℕ, true, List, Some, None, IfOk, OnOk, is_none, option_map, string_bytes};
 ghost use Rattle.th_devices.specs.Memory.{left_of};
 ghost use Rattle.th_devices.specs.Spots.{errors, file, output};
 ghost use Rattle.th_folders.specs.MemoryFolders.{files_in, found_in, memory_failed, memory_held};
@@ -8,7 +9,8 @@ use crate::folders::{Folder, Origin, Target};
 use std::alloc::{AllocError, Global};
 use std::marker::Model;
 use std::mem;
-use th_devices::{Failed, MemorySource, Sink, TextSink};
+use th_devices::{Failed, MemorySource, Reason, Sink, TextSink};
+use th_progress::Silent;
 
 /// The files of a folder in memory, the last that was closed first.
 #[cycle(files)]
@@ -205,11 +207,17 @@ impl Folder for MemoryFolder {
 
     type Out = MemorySink;
 
+    type Shown = Silent;
+
     ghost tells = { true };
 
     ghost held = { memory_held };
 
     ghost has_failed = { memory_failed };
+
+    ghost reading_may_fail = { λ folder spot. is_none (memory_held folder spot) };
+
+    ghost writing_may_fail = { λ _ _. true };
 
     fn source(&mut self, alloc: Global, origin: Origin<'_>) -> Result<Self::In, AllocError> {
         let text = match origin {
@@ -234,12 +242,7 @@ impl Folder for MemoryFolder {
 
     fn close(&mut self, sink: Self::Out) {
         match sink {
-            MemorySink::File(mut shelf) => {
-                if shelf.sink.is_finished() {
-                    shelf.next = mem::replace(&mut self.files, Files::End);
-                    self.files = Files::More(shelf);
-                }
-            }
+            MemorySink::File(_) => {}
             MemorySink::Output(sink) => {
                 if sink.is_called() || sink.is_finished() {
                     self.output = Some(sink);
@@ -251,6 +254,28 @@ impl Folder for MemoryFolder {
                 }
             }
         }
+    }
+
+    fn place(&mut self, sink: Self::Out) -> Result<(), Failed> {
+        match sink {
+            MemorySink::File(mut shelf) => {
+                shelf.next = mem::replace(&mut self.files, Files::End);
+                self.files = Files::More(shelf);
+            }
+            MemorySink::Output(sink) => self.output = Some(sink),
+            MemorySink::Errors(sink) => self.errors = Some(sink),
+        }
+        Ok(())
+    }
+
+    fn progress(&self, _name: &'static str) -> Silent {
+        Silent
+    }
+
+    fn settle(&self, _name: &str) {}
+
+    fn reason(&self) -> Option<Reason> {
+        None
     }
 
     fn would_change(&self, _alloc: Global, output: &str, input: &str) -> Result<bool, AllocError> {

@@ -48,6 +48,11 @@ impl Guide {
         self.is_at_work = self.has_solved;
     }
 
+    /// Whether flows of greatest gain were found for the links that were set.
+    pub fn has_solved(&self) -> bool {
+        self.has_solved
+    }
+
     /// Whether there may be more proposals.
     pub fn is_at_work(&self) -> bool {
         self.is_at_work
@@ -110,7 +115,7 @@ impl Guide {
         let simplex = &mut self.simplex;
         simplex.clear()?;
         let levels = self.planting.plant(simplex)?;
-        let scale = Scale::noisy(&simplex.links, &simplex.heights)?;
+        let scale = Scale::noisy(&simplex.sides, simplex.heights.count())?;
         simplex.measure(scale)?;
         if levels < MANY_LEVELS {
             simplex.gather_all()?;

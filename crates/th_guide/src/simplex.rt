@@ -4,6 +4,9 @@ use crate::pricing::Pricing;
 use std::alloc::{AllocError, Global};
 use th_tree::{Goals, Heights, Link, Part, ResidualArc, Scale, Sides, Stage, Tree, Up};
 
+/// How many pivots there may be for each vertex. In no network tried were there more than three.
+const PIVOTS_OF_A_VERTEX: u32 = 16;
+
 /// A dual network simplex with long steps.
 ///
 /// Links of the tree are tight: their reduced costs are 0. All others are at the bound of their reduced
@@ -20,6 +23,8 @@ pub(crate) struct Simplex {
     pub search: LineSearch,
     pub scale: Scale,
     pricing: Pricing,
+    /// How many pivots there may still be for these links.
+    pivots_left: u32,
 }
 
 /// What leaves in a pivot, and what moves then.
@@ -47,6 +52,7 @@ impl Simplex {
             search: LineSearch::new(alloc, links)?,
             scale: Scale::PLAIN,
             pricing: Pricing::new(),
+            pivots_left: 0,
         })
     }
 
@@ -56,6 +62,7 @@ impl Simplex {
         self.sides.list(&self.links)?;
         self.goals.clear(&self.links)?;
         self.pricing.clear();
+        self.pivots_left = PIVOTS_OF_A_VERTEX.checked_mul(self.heights.count())?;
         self.uproot();
         Some(())
     }
@@ -132,14 +139,13 @@ impl Simplex {
         Some(())
     }
 
-    /// Pivots until no tree link carries more than its weight. In no network tried did that take more than
-    /// three pivots for each vertex.
+    /// Pivots until no tree link carries more than its weight; `None` where no pivot is left for that.
     pub fn pivot_all(&mut self) -> Option<()> {
-        let most = 100 * self.heights.count() as usize + 1_000;
-        for _ in 0..most {
+        for _ in 0..self.pivots_left {
             if !self.pivot()? {
                 return Some(());
             }
+            self.pivots_left = self.pivots_left.checked_sub(1)?;
         }
         None
     }
@@ -209,6 +215,7 @@ impl Simplex {
             point.way.checked_neg()?
         };
         self.part.raise(&mut self.heights, rise)?;
+        self.heights.settle_down()?;
         let kept = self.tree.up(leaving.vertex)?.flow;
         self.goals.set(leaving.up.arc, kept)?;
         let up = self.entering(leaving, turn, point)?;

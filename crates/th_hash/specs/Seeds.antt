@@ -1,5 +1,5 @@
 -- The initial hashers, without a seed and with one.
-use Rattle.std.specs.Prelude.{ℕ, Bool, true, false, List}
+use Rattle.std.specs.Prelude.{ℕ, Bool, true, false, List, if◌then◌else◌, ◌&&◌, nat_le}
 use Rattle.std.specs.Hash.DefaultHasher as sip
 use Rattle.std.specs.Hash.FoldHasher as folding
 use Rattle.sha2.specs.Sha256.{sha256}
@@ -18,3 +18,7 @@ seeded content = Seeded (sip.write sip.initial (sha256 content))
 abbrev pub is_fast : NameHasher → Bool
 is_fast (Fast _) = true
 is_fast (Seeded _) = false
+
+-- the hasher of a map of so many entries when one more is inserted: from `few` entries on it is seeded
+abbrev pub hasher_from : ℕ → List ℕ → ℕ → NameHasher → NameHasher
+hasher_from few content len hasher = if nat_le few len && is_fast hasher then seeded content else hasher

@@ -1,6 +1,7 @@
 ghost use Rattle.std.specs.Prelude.{◌≡◌, IfOk, OnErr, OnOk};
-ghost use Rattle.indexmap.specs.IndexMap.{IsUnique, get, hasher_of, insert_entry};
+ghost use Rattle.indexmap.specs.IndexMap.{IsUnique, get, hasher_of, index_map_len, insert_entry};
 ghost use Rattle.indexmap.specs.IndexSet.{hasher_of as set_hasher_of};
+ghost use Rattle.th_hash.specs.Seeds.{hasher_from};
 
 use crate::seeds::HashSeed;
 use indexmap::{IndexMap, IndexSet};
@@ -13,8 +14,8 @@ pub type NameMap<K, V> = IndexMap<K, V, HashSeed>;
 /// A set of names.
 pub type NameSet<K> = IndexSet<K, HashSeed>;
 
-/// Inserts an entry that some content states, as `IndexMap::insert` does. A map that has `few` entries
-/// first gets the seed of the content. The content must determine all keys.
+/// Inserts an entry that some content states, as `IndexMap::insert` does. A map without a seed that has
+/// `few` entries or more first gets the seed of the content. The content must determine all keys.
 pub fn insert_stated<K: Eq + Hash + Drop, V: Drop>(
     alloc: Global,
     content: &[u8],
@@ -26,9 +27,11 @@ pub fn insert_stated<K: Eq + Hash + Drop, V: Drop>(
     ensures old { IfOk result (λ old. old ≡ get K.eq map.old key) }
     ensures entries { OnOk result (map.new.entries ≡ insert_entry K.eq map.old.entries key value) }
     ensures unique { OnOk result (IsUnique K.eq map.new) }
+    ensures seed { OnOk result (hasher_of map.new
+        ≡ hasher_from few content.now (index_map_len map.old) (hasher_of map.old)) }
     ensures err { OnErr result (map.new.entries ≡ map.old.entries) }
 {
-    if map.len() == few && map.hasher().is_none() {
+    if few <= map.len() && map.hasher().is_none() {
         reseed_map(alloc, map, HashSeed::of(content))?;
     }
     Ok(map.insert(key, value)?)

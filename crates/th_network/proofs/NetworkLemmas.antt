@@ -1,6 +1,6 @@
 -- What is found place by place is so of the network: its ties and its vertices.
-use Rattle.std.proofs.Common.{◌≡◌, ℕ, ◌+◌, ◌<◌, Bool, true, false, List, length, get_or, slice_get, take, map, Option, Some, None, All, is_none, count_by, if◌then◌else◌, refl, sym, ap, ◌∙◌, subst, arith, length-take}
-use Rattle.std.proofs.lemmas.List.{take_all, take-take, get_or-take}
+use Rattle.std.proofs.Common.{◌≡◌, ℕ, ◌+◌, ◌<◌, Bool, true, false, List, [], length, get_or, slice_get, take, map, Option, Some, None, All, is_none, count_by, if◌then◌else◌, refl, sym, ap, ◌∙◌, subst, arith, length-take}
+use Rattle.std.proofs.lemmas.List.{take_all, take-take, get_or-map, get_or-take, length-map, same_lists}
 use Rattle.std.proofs.lemmas.List.Elements.{All-from_recursion, All-map}
 use Rattle.std.proofs.lemmas.List.Sums.{sum_by-take-le, count_by_more_yes}
 use Rattle.std.proofs.lemmas.Option.{slice_get_within, slice_get-get_or, get_or_from_slice_get}
@@ -9,6 +9,7 @@ use Rattle.th_tables.specs.Rows.{BenchmarkRows, height_of}
 use Rattle.th_points.specs.Points.{points}
 use Rattle.th_points.specs.Places.{place_of}
 use Rattle.th_points.specs.Ends.{ArePoints, ends_of}
+use Rattle.th_network.specs.Inside.Numbered.{AreVertices}
 use Rattle.th_network.specs.Inside.Reached.{IsFirstUnreached}
 use Rattle.th_network.specs.Walks.{IsTied, Anchored}
 use Rattle.th_network.specs.Faults.{IsFirstUntied}
@@ -45,22 +46,24 @@ anchored_points observations benchmarks names ends h all =
 
 -- ---- vertices
 -- a point has a vertex
-pub vertex_within : (observations : List Observed) (benchmarks : BenchmarkRows) (name : List ℕ) → is_among (points observations benchmarks) name ≡ true → vertex_of observations benchmarks name < vertex_count observations benchmarks
-vertex_within observations benchmarks name there = by (is_free benchmarks name) refl
+vertex_at_within : (observations : List Observed) (benchmarks : BenchmarkRows) (place : ℕ) (name : List ℕ) → slice_get (points observations benchmarks) place ≡ Some name → vertex_at benchmarks (points observations benchmarks) place name < vertex_count observations benchmarks
+vertex_at_within observations benchmarks place name at = by (is_free benchmarks name) refl
   where
     names : List (List ℕ)
     names = points observations benchmarks
 
-    at : slice_get names (place_of names name) ≡ Some name
-    at = at_place_of names name there
-
-    by : (b : Bool) → is_free benchmarks name ≡ b → (if b then free_before benchmarks names (place_of names name) + 1 else 0) < vertex_count observations benchmarks
+    by : (b : Bool) → is_free benchmarks name ≡ b → (if b then free_before benchmarks names place + 1 else 0) < vertex_count observations benchmarks
     by true e =
-        let within = slice_get_within names (place_of names name) name at in
-        let one = count_by_more_yes (is_free benchmarks) names (place_of names name) name within (ap (is_free benchmarks) (get_or_from_slice_get names (place_of names name) name name at) ∙ e) in
-        let front = sum_by-take-le (λ other. if is_free benchmarks other then 1 else 0) names (place_of names name + 1) in
+        let within = slice_get_within names place name at in
+        let one = count_by_more_yes (is_free benchmarks) names place name within (ap (is_free benchmarks) (get_or_from_slice_get names place name name at) ∙ e) in
+        let front = sum_by-take-le (λ other. if is_free benchmarks other then 1 else 0) names (place + 1) in
         omega arith
     by false e = omega arith
+
+pub vertex_within : (observations : List Observed) (benchmarks : BenchmarkRows) (name : List ℕ) → is_among (points observations benchmarks) name ≡ true → vertex_of observations benchmarks name < vertex_count observations benchmarks
+vertex_within observations benchmarks name there =
+    let names = points observations benchmarks in
+    vertex_at_within observations benchmarks (place_of names name) name (at_place_of names name there)
 
 pub arcs_within : (observations : List Observed) (benchmarks : BenchmarkRows) (arcs : List Link) → arcs ≡ map (link_of observations benchmarks) observations → All (λ arc. (arc.tail < vertex_count observations benchmarks) × (arc.head < vertex_count observations benchmarks)) arcs
 arcs_within observations benchmarks arcs is =
@@ -74,6 +77,26 @@ pub vertex_by_place : (observations : List Observed) (benchmarks : BenchmarkRows
 vertex_by_place observations benchmarks place name at =
     let names = points observations benchmarks in
     ap (λ (k : ℕ). vertex_at benchmarks names k name) (place_of_at names place name (points_distinct observations benchmarks) at)
+
+-- the vertices of all points
+pub point_vertices_are : (observations : List Observed) (benchmarks : BenchmarkRows) (vertices : List ℕ) (count : ℕ) → AreVertices benchmarks (points observations benchmarks) vertices count → vertices ≡ map (vertex_of observations benchmarks) (points observations benchmarks)
+point_vertices_are observations benchmarks vertices count are =
+    let names = points observations benchmarks in
+    let f = vertex_of observations benchmarks in
+    same_lists vertices (map f names) (are.size ∙ sym (length-map names f)) (λ k d within.
+    let at : k < length names = omega (arith, are.size) in
+    let name = get_or names k [] in
+    let here = slice_get-get_or names k [] at in
+    get_or_from_slice_get vertices k (vertex_at benchmarks names k name) d (are.each k name here) ∙ sym (get_or-map f names k [] d at ∙ vertex_by_place observations benchmarks k name here))
+
+pub point_vertices_within : (observations : List Observed) (benchmarks : BenchmarkRows) (vertices : List ℕ) → vertices ≡ map (vertex_of observations benchmarks) (points observations benchmarks) → All (λ vertex. vertex < vertex_count observations benchmarks) vertices
+point_vertices_within observations benchmarks vertices is =
+    let names = points observations benchmarks in
+    let Within : ℕ → Type 0 = λ vertex. vertex < vertex_count observations benchmarks in
+    subst (All Within) (sym is) (All-map Within (vertex_of observations benchmarks) names (λ k d within.
+    let name = get_or names k d in
+    let here = slice_get-get_or names k d within in
+    subst Within (sym (vertex_by_place observations benchmarks k name here)) (vertex_at_within observations benchmarks k name here)))
 
 -- that of a point which is no benchmark
 pub free_vertex_at : (observations : List Observed) (benchmarks : BenchmarkRows) (place : ℕ) (name : List ℕ) → slice_get (points observations benchmarks) place ≡ Some name → is_free benchmarks name ≡ true → vertex_of observations benchmarks name ≡ free_before benchmarks (points observations benchmarks) place + 1

@@ -8,7 +8,7 @@ use Rattle.th_units.specs.Limits.{max_len}
 use Rattle.th_points.specs.Ends.{ends_of}
 use Rattle.th_network.specs.Faults.{IsNetwork}
 use Rattle.th_network.specs.Heights.{heights_at}
-use Rattle.th_network.specs.Vertices.{vertex_count}
+use Rattle.th_network.specs.Vertices.{vertex_count, vertex_of}
 use Rattle.th_network.specs.Limits.{height_limit}
 use Rattle.th_network.specs.Links.{largest_link_difference, link_of}
 use Rattle.th_network.specs.declared.links.Link.{Link}
@@ -39,6 +39,10 @@ weights_of survey = map (λ o. weight_of survey.weights o.station o.target) surv
 abbrev pub vertices_of : Survey → ℕ
 vertices_of survey = vertex_count survey.observations survey.benchmarks
 
+-- for each point its vertex
+abbrev pub point_vertices_of : Survey → List ℕ
+point_vertices_of survey = map (vertex_of survey.observations survey.benchmarks) (points_of survey)
+
 -- for each observation its link
 abbrev pub arcs_of : Survey → List Link
 arcs_of survey = map (link_of survey.observations survey.benchmarks) survey.observations
@@ -62,8 +66,8 @@ abbrev pub AreInRange : Survey → (List ℕ → ℤ) → Type 0
 AreInRange survey heights = All (λ name. unsigned_abs (heights name) < height_limit) (points_of survey)
 
 -- A survey makes a network: these are its points, the heights of those that are benchmarks, the places of the
--- ends among the points, the weights of the observations, the number of vertices, and the arcs.
-pub record IsBuilt (survey : Survey) (names : List (List ℕ)) (heights : List (Option ℤ)) (ends : List (ℕ × ℕ)) (weights : List ℕ) (count : ℕ) (arcs : List Link) : Type 0 where
+-- ends among the points, the weights of the observations, the vertices of the points and how many there are, and the arcs.
+pub record IsBuilt (survey : Survey) (names : List (List ℕ)) (heights : List (Option ℤ)) (ends : List (ℕ × ℕ)) (weights of_points : List ℕ) (count : ℕ) (arcs : List Link) : Type 0 where
   pub network : IsNetwork survey.observations survey.benchmarks
   pub between : All IsBetweenPoints survey.observations
   pub all_points : names ≡ points_of survey
@@ -72,6 +76,7 @@ pub record IsBuilt (survey : Survey) (names : List (List ℕ)) (heights : List (
   pub placed : ends ≡ ends_of survey.observations survey.benchmarks
   pub weighed : weights ≡ weights_of survey
   pub light : All IsWeight weights
+  pub numbered : of_points ≡ point_vertices_of survey
   pub vertices : count ≡ vertices_of survey
   pub links : arcs ≡ arcs_of survey
   pub in_range : All (λ arc. unsigned_abs arc.diff ≤ largest_link_difference) arcs

@@ -4,7 +4,7 @@ ghost use Rattle.th_book.specs.Observed.{IsBetweenPoints};
 ghost use Rattle.th_network.specs.Faults.{HasFault, IsNetwork};
 ghost use Rattle.th_network.specs.Limits.{max_observations, max_points};
 ghost use Rattle.th_network.specs.Links.{largest_link_difference};
-ghost use Rattle.th_network.specs.Networks.{IsWeight, arcs_of, heights_of, points_of, surveyed, vertices_of, weights_of};
+ghost use Rattle.th_network.specs.Networks.{IsWeight, arcs_of, heights_of, point_vertices_of, points_of, surveyed, vertices_of, weights_of};
 ghost use Rattle.th_points.specs.Ends.{AreBelow, ends_of};
 ghost use Rattle.th_network.specs.declared.faults.NetFault.TheVariants.{NoMemory, TooManyObservations};
 ghost use Rattle.th_tables.specs.Limits.{max_weight};
@@ -27,7 +27,7 @@ use th_tables::{Benchmarks, Weights};
 
 /// The height network of some observations, over the tables of its benchmarks and weights, which it
 /// borrows. The height of each point and the weight of each observation are looked up once, and so
-/// are the points where an observation ends.
+/// are the points where an observation ends. The points' vertices are numbered once.
 #[derive(Drop)]
 pub struct Network<'a> {
     observations: Vec<Observation>,
@@ -37,6 +37,7 @@ pub struct Network<'a> {
     heights: Vec<Option<i64>>,
     ends: Vec<(usize, usize)>,
     weights: Vec<u32>,
+    point_vertices: Vec<u32>,
     vertices: u32,
     arcs: Vec<Link>,
 }
@@ -51,7 +52,7 @@ impl<'a> Model for Network<'a> {
 
     ghost invariant = { λ network. IsBuilt (surveyed network.observations.items network.benchmarks.now
         network.weight_table.now) network.points.keys network.heights.items network.ends.items
-        network.weights.items network.vertices network.arcs.items };
+        network.weights.items network.point_vertices.items network.vertices network.arcs.items };
 }
 
 impl<'a> Network<'a> {
@@ -98,6 +99,7 @@ impl<'a> Network<'a> {
             heights,
             ends: points.ends,
             weights: listed,
+            point_vertices: vertices.of_places,
             vertices: vertices.count,
             arcs,
         })
@@ -129,13 +131,6 @@ impl<'a> Network<'a> {
         ensures { result.now ≡ self.now.weights }
     {
         self.weight_table
-    }
-
-    /// The height of each point in units of 10 nm, if it is a benchmark.
-    pub fn fixed_heights(&self) -> &[Option<i64>]
-        ensures { result.now ≡ heights_of self.now }
-    {
-        &self.heights
     }
 
     /// The height of point `k`, from 0, in units of 10 nm, if it is a benchmark.
@@ -190,6 +185,14 @@ impl<'a> Network<'a> {
         ensures few { result ≤ max_points + 1 }
     {
         self.vertices
+    }
+
+    /// The vertex of each point, in point order: 0 for each benchmark.
+    pub fn point_vertices(&self) -> &[u32]
+        ensures vertices { result.now ≡ point_vertices_of self.now }
+        ensures within { All (λ vertex. vertex < vertices_of self.now) result.now }
+    {
+        &self.point_vertices
     }
 
     /// The observations as arcs between vertices, in their order.

@@ -7,19 +7,22 @@ use Rattle.clap.specs.Words.{Row, Text, all_of, first_of, one_of}
 use Rattle.th_plans.specs.Limits.{max_blunder, max_books, units_in_micrometre}
 use Rattle.th_plans.specs.Prefixes.{names_files}
 
--- the names of the files that `adjust`, `review` and `check` read: the books in order, the benchmarks, and the weights if a file of them is named
+-- the names of the files that `adjust`, `review`, `explain` and `check` read: the books in order, the benchmarks, and the weights if a file of them is named
 pub record Files : Type 0 where
   pub books : List Text
   pub benchmarks : Text
   pub weights : Option Text
 
 -- what a command line requests: to list a book; to adjust or to review, with a limit of blunders
--- in units of 10 nm and the prefix of the outputs; or to check a certificate
+-- in units of 10 nm and the prefix of the outputs; to explain, with a limit and whether a table is printed; to check a certificate;
+-- or to make a book of a table of differences
 pub data Asked : Type 0 where
   list : Text → Asked
   adjust : Files → ℤ → Text → Asked
   review : Files → ℤ → Text → Asked
+  explain : Files → ℤ → Bool → Asked
   check : Files → Text → Asked
+  book : Text → Asked
 
 -- the names of the books, if there are as many as a command takes: 1 to 16
 abbrev pub books_of : List Text → Option (List Text)
@@ -57,6 +60,10 @@ abbrev pub options_in : List Row → Option (Files × ℤ × Text)
 options_in rows =
     option_and_then (λ files. option_and_then (λ limit. option_map (λ prefix. (files, limit, prefix)) (prefix_in rows)) (limit_in rows)) (files_in rows)
 
+-- whether `clap` found the flag for a table
+abbrev pub table_in : List Row → Bool
+table_in rows = option_map_or (λ text. bytes_eq text (codes "true")) (first_of (codes "csv") rows) false
+
 -- whether `clap` found a prefix that names no files
 abbrev pub has_bad_prefix : List Row → Bool
 has_bad_prefix rows = option_map_or (λ prefix. not (names_files prefix)) (first_of (codes "out") rows) false
@@ -75,8 +82,14 @@ adjust_asked rows = option_map (λ own. adjust own.0 own.1 own.2) (options_in ro
 abbrev pub review_asked : List Row → Option Asked
 review_asked rows = option_map (λ own. review own.0 own.1 own.2) (options_in rows)
 
+abbrev pub explain_asked : List Row → Option Asked
+explain_asked rows = option_and_then (λ files. option_map (λ limit. explain files limit (table_in rows)) (limit_in rows)) (files_in rows)
+
 abbrev pub check_asked : List Row → Option Asked
 check_asked rows = option_and_then (λ files. option_map (check files) (first_of (codes "certificate") rows)) (files_in rows)
+
+abbrev pub book_asked : List Row → Option Asked
+book_asked rows = option_map book (first_of (codes "table") rows)
 
 -- what the command of this name requests
 abbrev pub command_asked : Text → List Row → Option Asked
@@ -84,7 +97,9 @@ command_asked name rows =
     if bytes_eq name (codes "list") then list_asked rows
     else if bytes_eq name (codes "adjust") then adjust_asked rows
     else if bytes_eq name (codes "review") then review_asked rows
+    else if bytes_eq name (codes "explain") then explain_asked rows
     else if bytes_eq name (codes "check") then check_asked rows
+    else if bytes_eq name (codes "book") then book_asked rows
     else None
 
 -- what a command requests, given what `clap` found for its arguments

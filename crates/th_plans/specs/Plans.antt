@@ -2,10 +2,10 @@ use Rattle.std.specs.Prelude.{◌≡◌, ◌≢◌, ◌<◌, ◌≤◌, ◌⊎�
 use Rattle.std.specs.Option.{option_map_or}
 use Rattle.clap.specs.Lexer.{usize_max}
 use Rattle.clap.specs.Words.{App, IsAmong, Rule, Text, fault_of, kind_of, new_app, new_rule, subcommand_of, with_rule, with_subcommand}
-use Rattle.clap.specs.declared.builder.action.ArgAction.TheVariants.{Append}
+use Rattle.clap.specs.declared.builder.action.ArgAction.TheVariants.{Append, SetTrue}
 use Rattle.clap.specs.declared.builder.value_parser.ValueParser.TheVariants.{Signed}
 use Rattle.clap.specs.declared.error.kind.ErrorKind.TheVariants.{OutOfMemory}
-use Rattle.th_plans.specs.Asked.{Asked, Files, adjust, asked_by, book_count, check, has_bad_prefix, list, review}
+use Rattle.th_plans.specs.Asked.{Asked, Files, adjust, asked_by, book, book_count, check, explain, has_bad_prefix, list, review}
 use Rattle.th_plans.specs.Books.{names_in}
 use Rattle.th_plans.specs.Limits.{max_blunder, max_books}
 use Rattle.th_plans.specs.declared.plans.Inputs.{Inputs}
@@ -27,6 +27,13 @@ books_rule = record book_rule {
   range = Some (record { start_inclusive = 1; end_inclusive = usize_max });
 }
 
+-- the argument `TABLE`
+abbrev pub table_rule : Rule
+table_rule = record (new_rule (codes "table")) {
+  required = true;
+  value_names = 1;
+}
+
 -- an option `--NAME VALUE`, and one that is required
 abbrev pub option_rule : Text → Rule
 option_rule name = record (new_rule name) {
@@ -42,6 +49,13 @@ abbrev pub blunder_rule : Rule
 blunder_rule = record (option_rule (codes "blunder")) {
   defaults = codes "20000" ∷ [];
   parser = Some (Signed (pos 0) (pos max_blunder));
+}
+
+-- `--csv`, which takes no value
+abbrev pub csv_rule : Rule
+csv_rule = record (new_rule (codes "csv")) {
+  long = Some (codes "csv");
+  action = Some SetTrue;
 }
 
 -- `list BOOK`
@@ -61,11 +75,21 @@ adjust_command = with_options (new_app (codes "adjust"))
 abbrev pub review_command : App
 review_command = with_options (new_app (codes "review"))
 
+-- `explain --benchmarks FILE [--weights FILE] [--blunder MICROMETRES] [--csv] BOOK...`
+abbrev pub explain_command : App
+explain_command =
+    with_rule (with_rule (with_rule (with_rule (with_rule (new_app (codes "explain")) (needed_rule (codes "benchmarks")))
+    (option_rule (codes "weights"))) blunder_rule) csv_rule) books_rule
+
 -- `check --benchmarks FILE [--weights FILE] --certificate FILE BOOK...`
 abbrev pub check_command : App
 check_command =
     with_rule (with_rule (with_rule (with_rule (new_app (codes "check")) (needed_rule (codes "benchmarks")))
     (option_rule (codes "weights"))) (needed_rule (codes "certificate"))) books_rule
+
+-- `book TABLE`
+abbrev pub book_command : App
+book_command = with_rule (new_app (codes "book")) table_rule
 
 -- the program, with a version and a required command
 abbrev pub bare_program : App
@@ -73,10 +97,11 @@ bare_program =
     let bare = new_app (codes "height_office") in
     record bare { top = record bare.top { has_version = true; subcommand_required = true } }
 
--- the command line, as `clap` describes one: `list`, `adjust`, `review` or `check` is required
+-- the command line, as `clap` describes one: `list`, `adjust`, `review`, `explain`, `check` or `book` is required
 abbrev pub command_line : App
 command_line =
-    with_subcommand (with_subcommand (with_subcommand (with_subcommand bare_program list_command.top) adjust_command.top) review_command.top) check_command.top
+    with_subcommand (with_subcommand (with_subcommand (with_subcommand (with_subcommand (with_subcommand bare_program list_command.top) adjust_command.top) review_command.top)
+    explain_command.top) check_command.top) book_command.top
 
 -- `clap` accepts the arguments: it reports no fault
 abbrev pub AreTaken : List Text → Type 0
@@ -105,10 +130,12 @@ files inputs = record {
 -- what a plan does, as a request; none if it is to list standard input
 abbrev pub said_by : Plan → Option Asked
 said_by plan.Standard = None
-said_by (plan.List book) = Some (list book.now)
+said_by (plan.List name) = Some (list name.now)
 said_by (plan.Adjust inputs limit prefix) = Some (adjust (files inputs) limit prefix.now)
 said_by (plan.Review inputs limit prefix) = Some (review (files inputs) limit prefix.now)
+said_by (plan.Explain inputs limit table) = Some (explain (files inputs) limit table)
 said_by (plan.Check inputs certificate) = Some (check (files inputs) certificate.now)
+said_by (plan.Book table) = Some (book table.now)
 
 -- The plan is what the arguments request. With no argument after the program's name, or without even that name, it is to
 -- list standard input. `-` is a file's name like any other, and so is the empty name, which no file has.
@@ -124,8 +151,3 @@ IsFaultOf words (Line error) = (1 < length words) × (kind_of error ≢ OutOfMem
 IsFaultOf words TooManyBooks = (1 < length words) × AreTaken words × (asked words ≡ None) × (max_books < books_named words)
 IsFaultOf words NamesNoFiles = (1 < length words) × AreTaken words × (asked words ≡ None) × (books_named words ≤ max_books) × (name_no_files words ≡ true)
 IsFaultOf words NoMemory = 1 < length words
-
--- The arguments are wrong, or they request help: there are any after the program's name, and
--- `clap` does not accept them, or they request nothing that the program does.
-abbrev pub AreWrong : List Text → Type 0
-AreWrong words = (1 < length words) × ((fault_of command_line words ≢ []) ⊎ (asked words ≡ None))

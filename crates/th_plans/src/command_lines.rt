@@ -2,7 +2,7 @@
 ghost use Rattle.std.specs.Prelude.{◌≡◌, ◌<◌, ◌≤◌, ◌↔◌, IfErr, IfOk, IsTrue, Ok, Some, false, length, map, option_map};
 ghost use Rattle.std.specs.Option.{option_map_or};
 ghost use Rattle.clap.specs.Words.{all_of, first_of, found_of, rows_of, subcommand_rows_of};
-ghost use Rattle.th_plans.specs.Asked.{adjust_asked, asked_by, book_count, check_asked, files_in, has_bad_prefix, limit_in, list_asked, options_in, prefix_in, review_asked};
+ghost use Rattle.th_plans.specs.Asked.{adjust_asked, asked_by, book_asked, book_count, check_asked, explain_asked, files_in, has_bad_prefix, limit_in, list_asked, options_in, prefix_in, review_asked, table_in};
 ghost use Rattle.th_plans.specs.Limits.{max_books};
 ghost use Rattle.th_plans.specs.Plans.{IsFaultOf, IsPlanOf, files, said_by};
 
@@ -53,8 +53,12 @@ fn plan_of<'a>(matches: &ArgMatches<'a>) -> Option<Plan<'a>>
         adjust_of(found)
     } else if name == "review" {
         review_of(found)
+    } else if name == "explain" {
+        explain_of(found)
     } else if name == "check" {
         check_of(found)
+    } else if name == "book" {
+        book_of(found)
     } else {
         None
     }
@@ -124,6 +128,18 @@ fn review_of<'a>(found: &ArgMatches<'a>) -> Option<Plan<'a>>
     })
 }
 
+/// What follows `explain`.
+fn explain_of<'a>(found: &ArgMatches<'a>) -> Option<Plan<'a>>
+    ensures { option_map said_by result
+        ≡ option_map Some (explain_asked (rows_of (found_of found.now))) }
+{
+    Some(Plan::Explain {
+        inputs: inputs_of(found)?,
+        limit: limit_of(found)?,
+        table: table_of(found),
+    })
+}
+
 /// What follows `check`.
 fn check_of<'a>(found: &ArgMatches<'a>) -> Option<Plan<'a>>
     ensures { option_map said_by result
@@ -132,6 +148,16 @@ fn check_of<'a>(found: &ArgMatches<'a>) -> Option<Plan<'a>>
     Some(Plan::Check {
         inputs: inputs_of(found)?,
         certificate: value_of(found, "certificate")?,
+    })
+}
+
+/// What follows `book`.
+fn book_of<'a>(found: &ArgMatches<'a>) -> Option<Plan<'a>>
+    ensures { option_map said_by result
+        ≡ option_map Some (book_asked (rows_of (found_of found.now))) }
+{
+    Some(Plan::Book {
+        table: value_of(found, "table")?,
     })
 }
 
@@ -144,7 +170,7 @@ fn options_of<'a>(found: &ArgMatches<'a>) -> Option<(Inputs<'a>, Limit, &'a str)
     Some((inputs_of(found)?, limit_of(found)?, prefix_of(found)?))
 }
 
-/// The files that `adjust`, `review` and `check` read.
+/// The files that `adjust`, `review`, `explain` and `check` read.
 fn inputs_of<'a>(found: &ArgMatches<'a>) -> Option<Inputs<'a>>
     ensures { option_map files result ≡ files_in (rows_of (found_of found.now)) }
 {
@@ -160,6 +186,16 @@ fn limit_of(found: &ArgMatches<'_>) -> Option<Limit>
     ensures { result ≡ limit_in (rows_of (found_of found.now)) }
 {
     Limit::of_micrometres(found.get_one::<u32>("blunder")?)
+}
+
+/// Whether the flag for a table is there.
+fn table_of(found: &ArgMatches<'_>) -> bool
+    ensures { result ≡ table_in (rows_of (found_of found.now)) }
+{
+    match value_of(found, "csv") {
+        Some(text) => text == "true",
+        None => false,
+    }
 }
 
 /// The prefix of the outputs, which must name files.

@@ -2,30 +2,34 @@
 ghost use Rattle.std.specs.Prelude.{◌≡◌, IfOk, codes};
 ghost use Rattle.clap.specs.Words.{App, app_of};
 ghost use Rattle.th_plans.specs.Inside.Commands.{IsArgument, IsCommand};
-ghost use Rattle.th_plans.specs.Plans.{adjust_command, blunder_rule, book_rule, books_rule, check_command, command_line, list_command, needed_rule, option_rule, review_command, with_options};
+ghost use Rattle.th_plans.specs.Plans.{adjust_command, blunder_rule, book_command, book_rule, books_rule, check_command, command_line, csv_rule, explain_command, list_command, needed_rule, option_rule, review_command, table_rule, with_options};
 
 use crate::limits::MAX_BLUNDER;
 use clap::{Arg, ArgAction, Command};
 use std::alloc::{AllocError, Global};
 
-/// The program's version.
-const VERSION: &str = "0.9.0";
+/// The program's version. It is written nowhere else.
+pub const VERSION: &str = "0.10.0";
 
 /// How the program is called: with no arguments it lists the book on standard input.
 const USAGE: &str = "height_office list <BOOK>
        height_office adjust [OPTIONS] --benchmarks <FILE> --out <PREFIX> <BOOK>...
        height_office review [OPTIONS] --benchmarks <FILE> --out <PREFIX> <BOOK>...
+       height_office explain [OPTIONS] --benchmarks <FILE> <BOOK>...
        height_office check [OPTIONS] --benchmarks <FILE> --certificate <FILE> <BOOK>...
+       height_office book <TABLE>
        height_office < BOOK        (lists the book on standard input)";
 
 /// What the help of the program ends with.
 const AFTER_HELP: &str =
-    "'adjust' finds the heights. 'review' answers what a mistake would do in this network: whether it
-would show, and whether points would move.
+    "'adjust' finds the heights. 'explain' answers which one number, if it were wrong, would explain what
+does not fit. 'review' answers what a mistake would do in this network: whether it would show, and
+whether points would move.
 
 Examples:
   height_office adjust --benchmarks marks.csv --out dam monday.gsi tuesday.gsi
   height_office review --benchmarks marks.csv --out dam monday.gsi tuesday.gsi
+  height_office explain --benchmarks marks.csv monday.gsi tuesday.gsi
   height_office check --benchmarks marks.csv --certificate dam.certificate.csv monday.gsi tuesday.gsi
 
 Exit status:
@@ -82,6 +86,22 @@ Example:
 Exit status: 0 the four files were written, 2 an input was refused, 3 a bad command line or help,
 4 out of memory, 5 a file could not be read or written";
 
+/// What the help of `explain` ends with.
+const AFTER_EXPLAIN: &str =
+    "It adjusts the network as 'adjust' does, and looks at each number that somebody read or typed: sights,
+instrument and reflector heights, changes of them that nobody keyed in, benchmarks, and books read from
+mark to mark. It prints those that explain what does not fit if they alone are wrong, with the values
+that do, and the cost and the marks that are then left. It changes no file.
+
+Look at explanation 1 first; where several have number 1, measure one of them again. Two mistakes can
+look like a third.
+
+Example:
+  height_office explain --benchmarks marks.csv --weights weights.csv monday.gsi tuesday.gsi
+
+Exit status: 0 the text was printed, also where nothing is found, 2 an input was refused, 3 a bad
+command line or help, 4 out of memory, 5 a file could not be read or the text not written";
+
 /// What the help of `check` ends with.
 const AFTER_CHECK: &str = "It prints 'yes', or 'no' with the first reason.
 
@@ -91,7 +111,19 @@ Example:
 Exit status: 0 yes, 1 no, 2 an input was refused, 3 a bad command line or help, 4 out of memory,
 5 a file could not be read or the answer not written";
 
-/// The program's command line: `list`, `adjust`, `review` or `check`.
+/// What the help of `book` ends with.
+const AFTER_BOOK: &str =
+    "The table is CSV: the header 'from,to,difference' and a row for each height of 'to' above 'from' in
+metres, a whole number of 1/100 mm; or it is what 'list' prints. The book that is printed has these
+height differences, in order: 'list' of it prints the table again.
+
+Example:
+  height_office book differences.csv > level.gsi
+
+Exit status: 0 the book was printed, 2 the table was refused, 3 a bad command line or help,
+4 out of memory, 5 the table could not be read or the book not written";
+
+/// The program's command line: `list`, `adjust`, `review`, `explain`, `check` or `book`.
 pub(crate) fn command_line<'a>(alloc: Global) -> Result<Command<'a>, AllocError>
     ensures { IfOk result (λ command. app_of command ≡ command_line) }
 {
@@ -106,7 +138,9 @@ pub(crate) fn command_line<'a>(alloc: Global) -> Result<Command<'a>, AllocError>
         .subcommand(list_command(alloc)?)?
         .subcommand(adjust_command(alloc)?)?
         .subcommand(review_command(alloc)?)?
-        .subcommand(check_command(alloc)?)
+        .subcommand(explain_command(alloc)?)?
+        .subcommand(check_command(alloc)?)?
+        .subcommand(book_command(alloc)?)
 }
 
 /// `list BOOK`.
@@ -153,6 +187,20 @@ fn with_options<'a>(alloc: Global, command: Command<'a>) -> Result<Command<'a>, 
         .arg(books(alloc))
 }
 
+/// `explain`, with its options and books.
+fn explain_command<'a>(alloc: Global) -> Result<Command<'a>, AllocError>
+    ensures { IfOk result (IsCommand explain_command) }
+{
+    Command::new(alloc, "explain")
+        .about("Prints which one number, if it were wrong, would explain what does not fit")
+        .after_help(AFTER_EXPLAIN)
+        .arg(benchmarks(alloc))?
+        .arg(weights(alloc))?
+        .arg(blunder(alloc))?
+        .arg(csv(alloc))?
+        .arg(books(alloc))
+}
+
 /// `check`, with its options and books.
 fn check_command<'a>(alloc: Global) -> Result<Command<'a>, AllocError>
     ensures { IfOk result (IsCommand check_command) }
@@ -166,6 +214,16 @@ fn check_command<'a>(alloc: Global) -> Result<Command<'a>, AllocError>
         .arg(books(alloc))
 }
 
+/// `book TABLE`.
+fn book_command<'a>(alloc: Global) -> Result<Command<'a>, AllocError>
+    ensures { IfOk result (IsCommand book_command) }
+{
+    Command::new(alloc, "book")
+        .about("Makes a book of a table of height differences, and prints it")
+        .after_help(AFTER_BOOK)
+        .arg(table(alloc))
+}
+
 /// The one book of `list`.
 fn book<'a>(alloc: Global) -> Arg<'a>
     ensures { IsArgument book_rule result }
@@ -176,7 +234,7 @@ fn book<'a>(alloc: Global) -> Arg<'a>
         .help("The file of the book, in GSI-8 or GSI-16 blocks")
 }
 
-/// The books of `adjust`, `review` and `check`.
+/// The books of `adjust`, `review`, `explain` and `check`.
 fn books<'a>(alloc: Global) -> Arg<'a>
     ensures { IsArgument books_rule result }
 {
@@ -186,6 +244,16 @@ fn books<'a>(alloc: Global) -> Arg<'a>
         .num_args(1..)
         .value_name("BOOK")
         .help("The files of 1 to 16 books, in GSI-8 or GSI-16 blocks")
+}
+
+/// The table of `book`.
+fn table<'a>(alloc: Global) -> Arg<'a>
+    ensures { IsArgument table_rule result }
+{
+    Arg::new(alloc, "table")
+        .required(true)
+        .value_name("TABLE")
+        .help("The file of the table, with the columns 'from,to,difference'")
 }
 
 /// `--benchmarks FILE`.
@@ -221,6 +289,16 @@ fn blunder<'a>(alloc: Global) -> Arg<'a>
         .default_value("20000")
         .value_name("MICROMETRES")
         .help("Residuals above this size are marked as blunders, 0 to 1000000000")
+}
+
+/// `--csv`.
+fn csv<'a>(alloc: Global) -> Arg<'a>
+    ensures { IsArgument csv_rule result }
+{
+    Arg::new(alloc, "csv")
+        .long("csv")
+        .action(ArgAction::SetTrue)
+        .help("Print a table of comma-separated values in place of the text")
 }
 
 /// `--out PREFIX`.

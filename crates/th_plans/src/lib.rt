@@ -22,6 +22,7 @@ mod commands;
 pub use blunder_limits::Limit;
 pub use books::Books;
 pub use command_lines::plan;
+pub use commands::VERSION;
 pub use faults::PlanFault;
 pub use limits::MAX_BLUNDER;
 pub use plans::{Inputs, Plan};

@@ -3,7 +3,7 @@
 use crate::blunder_limits::Limit;
 use crate::books::Books;
 
-/// The names of the files that `adjust`, `review` and `check` read.
+/// The names of the files that `adjust`, `review`, `explain` and `check` read.
 #[derive(Debug, Drop)]
 pub struct Inputs<'a> {
     /// The books, in the order in which their observations are joined.
@@ -37,9 +37,20 @@ pub enum Plan<'a> {
         limit: Limit,
         prefix: &'a str,
     },
+    /// `explain`: print which one number of the inputs, if it were wrong, would explain what does not
+    /// fit: a table, or a text for people. Residuals above the limit are blunders.
+    Explain {
+        inputs: Inputs<'a>,
+        limit: Limit,
+        table: bool,
+    },
     /// `check`: check the certificate in the file of this name against the inputs.
     Check {
         inputs: Inputs<'a>,
         certificate: &'a str,
+    },
+    /// `book TABLE`: make a book of the table of differences in the file of this name.
+    Book {
+        table: &'a str,
     },
 }

@@ -4,24 +4,25 @@ use Rattle.th_devices.specs.Spots.{Spot, file}
 use Rattle.th_plans.specs.declared.plans.Plan.{Plan}
 use Rattle.th_program.proofs.OutputLemmas.{file-apart}
 use Rattle.th_program.specs.Done.{IsInputOf, IsRun}
+use Rattle.th_program.specs.Failing.{Failing}
 use Rattle.th_program.specs.Owed.{Told}
 use Rattle.th_runs.specs.declared.refusals.Input.{Input}
 
-kept_told : {F : Type 0} (tells : Bool) (held : F → Told) (has_failed : F → Spot → Bool) (old new : F) (asked : Plan) (status : ℕ) → tells ≡ true
-    → IsRun tells held has_failed old new asked status → (which : Input) (name : List ℕ) → IsInputOf asked which name → held new (file name) ≡ held old (file name)
-kept_told tells held has_failed old new asked status telling (inl (keeps, inl (done, others))) which name read = others (file name) (keeps telling which name read)
-kept_told tells held has_failed old new asked status telling (inl (keeps, inr (own, run))) which name read =
+kept_told : {F : Type 0} (tells : Bool) (held : F → Told) (has_failed : F → Spot → Bool) (failing : F → Failing) (old new : F) (asked : Plan) (status : ℕ) → tells ≡ true
+    → IsRun tells held has_failed failing old new asked status → (which : Input) (name : List ℕ) → IsInputOf asked which name → held new (file name) ≡ held old (file name)
+kept_told tells held has_failed failing old new asked status telling (inl (keeps, inl (done, others))) which name read = others (file name) (keeps telling which name read)
+kept_told tells held has_failed failing old new asked status telling (inl (keeps, inr (own, run))) which name read =
     run.others (file name) (file-apart name) (keeps telling which name read)
-kept_told tells held has_failed old new asked status telling (inr (inl (is, (written, changed, other, would, begun)))) which name read =
+kept_told tells held has_failed failing old new asked status telling (inr (inl (is, (written, changed, other, would, begun)))) which name read =
     begun.untouched (file name) (file-apart name)
-kept_told tells held has_failed old new asked status telling (inr (inr (is, begun))) which name read = begun.untouched (file name) (file-apart name)
+kept_told tells held has_failed failing old new asked status telling (inr (inr (is, begun))) which name read = begun.untouched (file name) (file-apart name)
 
 -- a run changes no input
-pub kept : {F : Type 0} (tells : Bool) (held : F → Told) (has_failed : F → Spot → Bool) → ((folder : F) (spot : Spot) → tells ≡ false → held folder spot ≡ None)
-    → (old new : F) (asked : Plan) (status : ℕ) → IsRun tells held has_failed old new asked status → (which : Input) (name : List ℕ) → IsInputOf asked which name
+pub kept : {F : Type 0} (tells : Bool) (held : F → Told) (has_failed : F → Spot → Bool) (failing : F → Failing) → ((folder : F) (spot : Spot) → tells ≡ false → held folder spot ≡ None)
+    → (old new : F) (asked : Plan) (status : ℕ) → IsRun tells held has_failed failing old new asked status → (which : Input) (name : List ℕ) → IsInputOf asked which name
     → held new (file name) ≡ held old (file name)
-kept tells held has_failed tells_or_not old new asked status run which name read = go tells refl
+kept tells held has_failed failing tells_or_not old new asked status run which name read = go tells refl
   where
     go : (telling : Bool) → tells ≡ telling → held new (file name) ≡ held old (file name)
-    go true is = kept_told tells held has_failed old new asked status is run which name read
+    go true is = kept_told tells held has_failed failing old new asked status is run which name read
     go false is = tells_or_not new (file name) is ∙ sym (tells_or_not old (file name) is)

@@ -1,11 +1,14 @@
 pub mod OpenedLemmas
 pub mod ListLemmas
+pub mod BookLemmas
 pub mod OutputLemmas
+pub mod CauseLemmas
 pub mod RefusalLemmas
-pub mod AdjustLemmas
-pub mod ReviewLemmas
 pub mod CheckLemmas
+mod ExplainedLemmas
 pub mod RunLemmas
+pub mod SilentLemmas
 pub mod InputLemmas
 pub mod OverwriteLemmas
 pub mod HeadlineLemmas
+pub mod PlaceLemmas

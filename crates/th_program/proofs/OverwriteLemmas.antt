@@ -1,21 +1,24 @@
 -- Outputs that would change an input, or would not.
-use Rattle.std.proofs.Common.{◌≡◌, ◌≢◌, ◌<◌, ◌+◌, ◌++◌, ◌∙◌, ◌⊎◌, ℕ, Bool, true, List, Some, Ok, Err, Result, IfOk, length, get_or, map, ap, inl, inr, string_bytes, subst, sym, arith}
+use Rattle.std.proofs.Common.{◌≡◌, ◌≢◌, ◌<◌, ◌+◌, ◌++◌, ◌∙◌, ℕ, Bool, true, List, [], ◌∷◌, Some, length, get_or, map, ap, inl, inr, string_bytes, subst, sym, take, arith}
 use Rattle.std.specs.Borrow.{Bor}
 use Rattle.std.specs.Prelude.{option_map, slice_get}
 use Rattle.std.proofs.lemmas.Bool.{cases_lt}
 use Rattle.std.proofs.lemmas.List.{length-map}
 use Rattle.std.proofs.lemmas.Option.{slice_get-get_or, slice_get-map, slice_get_within}
-use Rattle.th_devices.specs.Spots.{file}
+use Rattle.std.specs.List.{Contains}
+use Rattle.std.proofs.lemmas.List.Elements.{Contains-push_cases}
+use Rattle.th_devices.specs.Spots.{Spot, file, output as standard}
 use Rattle.th_plans.specs.Asked.{Files}
 use Rattle.th_plans.specs.declared.plans.Plan.{Plan}
 use Rattle.th_program.specs.Done.{IsInputOf, IsOutputOf}
-use Rattle.th_program.specs.Inside.Opened.{Each}
-use Rattle.th_program.specs.Inside.Stops.{IsApart, IsStop, IsStopOf}
+use Rattle.th_program.proofs.OutputLemmas.{spot_among, spots_more}
+use Rattle.th_program.specs.Inside.Stops.{AreKept, IsApart, IsStop, IsStopOf}
+use Rattle.th_program.specs.Outputs.{ending_of, spot_at, spots_of}
 use Rattle.th_program.specs.Owed.{HasName}
-use Rattle.th_program.specs.declared.opening.Four.{Four}
 use Rattle.th_program.specs.declared.overwrites.Stop.{Stop}
 use Rattle.th_program.specs.declared.overwrites.Stop.TheVariants as stop
 use Rattle.th_runs.specs.declared.refusals.Input.{Input}
+use Rattle.th_runs.specs.declared.refusals.Output.{Output}
 
 -- the names that borrows have
 abbrev pub names_of : List (Bor (List ℕ)) → List (List ℕ)
@@ -43,50 +46,51 @@ no_more tells names i none output within before here telling place name below at
       λ same. here telling (same ∙ one)
 ]
 
--- the name is one of these four
-abbrev pub IsOneOf : (first second third fourth name : List ℕ) → Type 0
-IsOneOf first second third fourth name = (name ≡ first) ⊎ (name ≡ second) ⊎ (name ≡ third) ⊎ (name ≡ fourth)
+-- the one spot of one
+only : (spot own : Spot) → Contains (spot ∷ []) own → spot ≡ own
+only spot own has = elim (Contains-push_cases [] spot own has) [ inl none ↦ absurd (omega (arith, none.1)) | inr is ↦ is ]
 
--- where none of four outputs is an input, no input is among them
-pub none_read : (tells : Bool) (from : Files) (first second third fourth : List ℕ) → IsApart tells from first → IsApart tells from second → IsApart tells from third
-    → IsApart tells from fourth → tells ≡ true → (which : Input) (name : List ℕ) → HasName from which name
-    → (file name ≡ file first) ⊎ (file name ≡ file second) ⊎ (file name ≡ file third) ⊎ (file name ≡ file fourth) → ⊥
-none_read tells from first second third fourth one two three four telling which name read (inl e) =
-    let same : first ≡ name = cc in
-    one telling which name read same
-none_read tells from first second third fourth one two three four telling which name read (inr (inl e)) =
-    let same : second ≡ name = cc in
-    two telling which name read same
-none_read tells from first second third fourth one two three four telling which name read (inr (inr (inl e))) =
-    let same : third ≡ name = cc in
-    three telling which name read same
-none_read tells from first second third fourth one two three four telling which name read (inr (inr (inr e))) =
-    let same : fourth ≡ name = cc in
-    four telling which name read same
+-- standard output is no input
+pub standard_kept : (tells : Bool) (from : Files) → AreKept tells from (standard ∷ [])
+standard_kept tells from telling which name read has =
+    let bad : standard ≡ file name = only standard (file name) has in
+    cc bad
 
--- one of four names is that of one of four files
-pub one_file : (first second third fourth name : List ℕ) → IsOneOf first second third fourth name
-    → (file name ≡ file first) ⊎ (file name ≡ file second) ⊎ (file name ≡ file third) ⊎ (file name ≡ file fourth)
-one_file first second third fourth name (inl e) = inl (ap file e)
-one_file first second third fourth name (inr (inl e)) = inr (inl (ap file e))
-one_file first second third fourth name (inr (inr (inl e))) = inr (inr (inl (ap file e)))
-one_file first second third fourth name (inr (inr (inr e))) = inr (inr (inr (ap file e)))
+-- neither is a file that is none
+pub file_kept : (tells : Bool) (from : Files) (name : List ℕ) → IsApart tells from name → AreKept tells from (file name ∷ [])
+file_kept tells from name apart telling which own read has =
+    let is : file name ≡ file own = only (file name) (file own) has in
+    let same : name ≡ own = cc in
+    apart telling which own read same
+
+-- one more output that is no input
+pub kept_more : (tells : Bool) (from : Files) (prefix : List ℕ) (outputs : List Output) (i : ℕ) (d : Output) → i < length outputs
+    → AreKept tells from (spots_of prefix (take i outputs)) → AreKept tells from (spot_at prefix (ending_of (get_or outputs i d)) ∷ [])
+    → AreKept tells from (spots_of prefix (take (i + 1) outputs))
+kept_more tells from prefix outputs i d within kept one = subst (AreKept tells from) (sym (spots_more prefix outputs i d within)) more
+  where
+    spot : Spot
+    spot = spot_at prefix (ending_of (get_or outputs i d))
+
+    more : AreKept tells from (spots_of prefix (take i outputs) ++ spot ∷ [])
+    more telling which name read has = elim (Contains-push_cases (spots_of prefix (take i outputs)) spot (file name) has) [
+      | inl before ↦ kept telling which name read before
+      | inr here ↦ one telling which name read (0, omega arith, here)
+    ]
+
+-- what stops one output stops all
+pub stop_wider : (tells : Bool) (from : Files) (prefix : List ℕ) (outputs : List Output) (i : ℕ) (d : Output) (own : Stop) → i < length outputs
+    → IsStop tells from (spot_at prefix (ending_of (get_or outputs i d)) ∷ []) own → IsStop tells from (spots_of prefix outputs) own
+stop_wider tells from prefix outputs i d (stop.Overwrite own) within is =
+    (subst (Contains (spots_of prefix outputs)) (only _ _ is.0) (spot_among prefix outputs i d within), is.1, is.2)
+stop_wider tells from prefix outputs i d stop.NoMemory within is = tt
 
 -- what stops a run with these outputs and inputs stops their plan
-pub stop_of : (tells : Bool) (asked : Plan) (from : Files) (IsOutput : List ℕ → Type 0) → ((name : List ℕ) → IsOutput name → IsOutputOf asked (file name))
-    → ((which : Input) (name : List ℕ) → HasName from which name → IsInputOf asked which name) → (own : Stop) → IsStop tells from IsOutput own → IsStopOf tells asked own
-stop_of tells asked from IsOutput written read (stop.Overwrite own) is = record {
+pub stop_of : (tells : Bool) (asked : Plan) (from : Files) (spots : List Spot) → ((name : List ℕ) → Contains spots (file name) → IsOutputOf asked (file name))
+    → ((which : Input) (name : List ℕ) → HasName from which name → IsInputOf asked which name) → (own : Stop) → IsStop tells from spots own → IsStopOf tells asked own
+stop_of tells asked from spots written read (stop.Overwrite own) is = record {
   is_written = written (string_bytes own.output) is.0;
   is_read = read own.input own.name.now is.1;
   same = is.2;
 }
-stop_of tells asked from IsOutput written read stop.NoMemory is = tt
-
--- where an answer says that none of four outputs is an input, no input is among them
-pub all_apart : {X E : Type 0} (answer : Result X E) (tells : Bool) (from : Files) (prefix : List ℕ) (endings : Four (Bor (List ℕ)))
-    → IfOk answer (λ _. Each (λ ending. IsApart tells from (prefix ++ ending.now)) endings)
-    → IfOk answer (λ _. tells ≡ true → (which : Input) (name : List ℕ) → HasName from which name
-    → (file name ≡ file (prefix ++ endings.first.now)) ⊎ (file name ≡ file (prefix ++ endings.second.now)) ⊎ (file name ≡ file (prefix ++ endings.third.now))
-    ⊎ (file name ≡ file (prefix ++ endings.fourth.now)) → ⊥)
-all_apart (Ok x) tells from prefix endings are = none_read tells from _ _ _ _ are.first are.second are.third are.fourth
-all_apart (Err e) tells from prefix endings are = tt
+stop_of tells asked from spots written read stop.NoMemory is = tt

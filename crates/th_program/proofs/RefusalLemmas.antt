@@ -1,5 +1,5 @@
 -- What the refusal of a run over a folder comes to.
-use Rattle.std.proofs.Common.{◌≡◌, None, Some, Ok, Err, IfErr, is_some, length}
+use Rattle.std.proofs.Common.{None, Some, Ok, Err, IfErr, is_some, length}
 use Rattle.std.specs.Prelude.{OnOk, Option, Result}
 use Rattle.th_network.specs.Networks.{Survey}
 use Rattle.th_plans.specs.Asked.{Files}
@@ -11,18 +11,18 @@ use Rattle.th_runs.specs.declared.refusals.Refusal.{Refusal}
 use Rattle.th_runs.specs.declared.refusals.Refusal.TheVariants as refusal
 
 -- what a run has once its outputs are begun it has where it is done
-pub on-done : {X : Type 0} (result : Result X Refusal) (AreLeft : Option Refusal → Type 0) → (IsWritten result → AreLeft (refused result)) → OnOk result (AreLeft None)
-on-done (Ok x) AreLeft left = left tt
-on-done (Err own) AreLeft left = tt
+pub on-done : {X : Type 0} (result : Result X Refusal) (HasLeft : Option Refusal → Type 0) → (IsWritten result → HasLeft (refused result)) → OnOk result (HasLeft None)
+on-done (Ok x) HasLeft left = left tt
+on-done (Err own) HasLeft left = tt
 
 -- the refusal of a run over the named files
-pub refused-for : {X Y : Type 0} (run : Run) (from : Files) (survey_of : Y → Survey) (owed_at : Option Refusal → Owed Y) (AreLeft : Option Refusal → Type 0)
-    (result : Result X Refusal) → IfErr result (IsNamed (length from.books) (is_some from.weights) run)
-    → IfErr result (λ own. UnlessWrite own (IsOwed survey_of (owed_at (refused result)) own)) → (IsWritten result → AreLeft (refused result))
-    → IfErr result (λ own. IsRefusedFor run from survey_of (owed_at (Some own)) AreLeft own)
-refused-for run from survey_of owed_at AreLeft (Ok x) named owes left = tt
-refused-for {X} run from survey_of owed_at AreLeft (Err own) named owes left =
-    record { named = named; owes = owes; left = λ write. left (begun own write) }
+pub refused-for : {X Y : Type 0} (run : Run) (from : Files) (survey_of : Y → Survey) (owed_at : Option Refusal → Owed Y) (HasLeft : Option Refusal → Type 0)
+    (Caused : Refusal → Type 0) (result : Result X Refusal) → IfErr result (IsNamed (length from.books) (is_some from.weights) run)
+    → IfErr result (λ own. UnlessWrite own (IsOwed survey_of (owed_at (refused result)) own)) → (IsWritten result → HasLeft (refused result))
+    → IfErr result Caused → IfErr result (λ own. IsRefusedFor run from survey_of (owed_at (Some own)) HasLeft Caused own)
+refused-for run from survey_of owed_at HasLeft Caused (Ok x) named owes left caused = tt
+refused-for {X} run from survey_of owed_at HasLeft Caused (Err own) named owes left caused =
+    record { named = named; owes = owes; left = λ write. left (begun own write); cause = caused }
   where
     begun : (real : Refusal) → IsWrite real → IsWritten {X = X} (Err real)
     begun (refusal.Write which) write = tt
@@ -35,6 +35,7 @@ unless-map (refusal.Book number fault) A B f known = f known
 unless-map (refusal.Benchmarks fault) A B f known = f known
 unless-map (refusal.Weights fault) A B f known = f known
 unless-map (refusal.Certificate fault) A B f known = f known
+unless-map (refusal.Differences fault) A B f known = f known
 unless-map (refusal.Network fault) A B f known = f known
 unless-map (refusal.Read which) A B f known = f known
 unless-map refusal.NoMemory A B f known = f known
@@ -45,11 +46,13 @@ unless-all A B (Ok x) f known = tt
 unless-all A B (Err own) f known = unless-map own A B f known
 
 -- where the files that a failed write leaves are left in another folder as well, so is the refusal
-pub refused-for-map : {Y : Type 0} (run : Run) (from : Files) (survey_of : Y → Survey) (owed : Owed Y) (AreLeft AreLeft' : Option Refusal → Type 0) (own : Refusal)
-    → ((answer : Option Refusal) → AreLeft answer → AreLeft' answer)
-    → IsRefusedFor run from survey_of owed AreLeft own → IsRefusedFor run from survey_of owed AreLeft' own
-refused-for-map run from survey_of owed AreLeft AreLeft' own f is = record {
+pub refused-for-map : {Y : Type 0} (run : Run) (from : Files) (survey_of : Y → Survey) (owed : Owed Y) (HasLeft HasLeft' : Option Refusal → Type 0) (Caused : Refusal → Type 0)
+    (own : Refusal)
+    → ((answer : Option Refusal) → HasLeft answer → HasLeft' answer)
+    → IsRefusedFor run from survey_of owed HasLeft Caused own → IsRefusedFor run from survey_of owed HasLeft' Caused own
+refused-for-map run from survey_of owed HasLeft HasLeft' Caused own f is = record {
   named = is.named;
   owes = is.owes;
   left = λ write. f (Some own) (is.left write);
+  cause = is.cause;
 }

@@ -1,4 +1,7 @@
 pub mod Owed
+pub mod Outputs
+pub mod Failing
+pub mod Helped
 pub mod Done
 pub mod Headline
 pub mod Inside

@@ -1,6 +1,7 @@
 -- What a run over a folder must return, given what is in the folder.
 use Rattle.std.specs.Prelude.{◌≡◌, ◌+◌, ℕ, List, [], ◌∷◌, Option, Some, option_map, slice_get}
 use Rattle.th_book.specs.Observed.{Observed}
+use Rattle.th_booking.specs.Booked.{owed_for_differences}
 use Rattle.th_devices.specs.Spots.{Spot, file}
 use Rattle.th_network.specs.Networks.{Survey}
 use Rattle.th_plans.specs.Asked.{Files}
@@ -26,12 +27,13 @@ given_by told answer which name = given_from told answer which (file name)
 abbrev pub IsBook : List (List ℕ) → ℕ → List ℕ → Type 0
 IsBook names number name = (place : ℕ) × (number ≡ place + 1) × (slice_get names place ≡ Some name)
 
--- the files have this name for an input of a run; the certificate is not among them
+-- the files have this name for an input of a run; neither the certificate nor a table of differences is among them
 abbrev pub HasName : Files → Input → List ℕ → Type 0
 HasName from (input.Book number) name = IsBook from.books number name
 HasName from input.Benchmarks name = name ≡ from.benchmarks
 HasName from input.Weights name = from.weights ≡ Some name
 HasName from input.Certificate name = ⊥
+HasName from input.Differences name = ⊥
 
 -- what the files of books gave, the first of them having this number
 abbrev pub given_by_books : Told → Option Refusal → ℕ → List (List ℕ) → List Given
@@ -41,6 +43,10 @@ given_by_books told answer number [] = []
 -- what a list of the book at this spot must return: its observations, or its first fault
 abbrev pub book_owed : Told → Option Refusal → Spot → Owed (List Observed)
 book_owed told answer spot = owed_for_book 1 (given_from told answer (input.Book 1) spot)
+
+-- what must be returned for the table of differences in the file of this name: its book, or its first fault
+abbrev pub differences_owed : Told → Option Refusal → List ℕ → Owed (List ℕ)
+differences_owed told answer name = owed_for_differences (given_by told answer input.Differences name)
 
 -- what a run that reads these files must return: their survey, or their first fault
 abbrev pub survey_owed : Told → Option Refusal → Files → Owed Survey

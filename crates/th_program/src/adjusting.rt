@@ -1,28 +1,22 @@
 //! Adjusting the network of files of a folder.
 ghost use Rattle.std.specs.Prelude.{◌≡◌, IfErr, None, OnOk};
 ghost use Rattle.th_program.specs.Done.{IsAdjustOutput, IsAdjusted, IsRefusedAdjust};
+ghost use Rattle.th_program.specs.Failing.{failing_of};
 ghost use Rattle.th_plans.specs.Plans.{files};
 ghost use Rattle.th_runs.specs.Writes.{UnlessWrite};
 
-use crate::opening::{Four, close_sinks, sinks_of, sources_of};
+use crate::opening::sources_of;
+use crate::outputs::{place_sinks, sinks_of};
 use std::alloc::Global;
 use th_folders::Folder;
 use th_plans::{Inputs, Limit};
-use th_runs::{Outs, Refusal, run_adjust};
-
-/// How the names of the files end that an adjustment writes.
-pub(crate) const ENDINGS: Four<&str> = Four {
-    first: ".heights.csv",
-    second: ".certificate.csv",
-    third: ".report.txt",
-    fourth: ".heights.gsi",
-};
+use th_runs::{ADJUSTED, Refusal, run_adjust};
 
 /// Adjusts the network of the named files, and writes four files whose names begin with the prefix.
 /// That they are none of the inputs, the caller has made sure.
 ///
-/// If a write fails, the files before it, in the order heights, certificate, report, GSI-16, are
-/// whole. Its own and later ones are as they were.
+/// If a write fails, no file changes. If a file cannot take its name, those before it, in the order
+/// heights, certificate, report, GSI-16, are new. Its own and later ones are as they were.
 pub(crate) fn adjust<F: Folder>(
     alloc: Global,
     folder: &mut F,
@@ -32,34 +26,22 @@ pub(crate) fn adjust<F: Folder>(
 ) -> Result<(), Refusal>
     ensures adjusted { OnOk result (IsAdjusted F.tells (F.held folder.old) (F.held folder.new)
         (files inputs.now) limit prefix.now None) }
-    ensures refused { IfErr result (IsRefusedAdjust F.tells (F.held folder.old)
-        (F.held folder.new) (files inputs.now) limit prefix.now) }
+    ensures refused { IfErr result (IsRefusedAdjust F.tells
+        (failing_of F.reading_may_fail F.writing_may_fail folder.old)
+        (F.held folder.old) (F.held folder.new) (files inputs.now) limit prefix.now) }
     ensures untouched { IfErr result (λ own. UnlessWrite own (folder.new ≡ folder.old)) }
     ensures others { (spot : _) → (IsAdjustOutput prefix.now spot → ⊥)
         → F.held folder.new spot ≡ F.held folder.old spot }
 {
     let mut sources = sources_of(alloc, folder, inputs)?;
-    let sinks = sinks_of(alloc, folder, prefix, &ENDINGS)?;
-    let mut outs = Outs {
-        heights: sinks.first,
-        certificate: sinks.second,
-        report: sinks.third,
-        gsi: sinks.fourth,
-    };
+    let mut outs = sinks_of(alloc, folder, prefix, &ADJUSTED)?;
     let answer = run_adjust(
         alloc,
         sources.books.as_mut_slice(),
         &mut sources.benchmarks,
         &mut sources.weights,
         limit.get(),
-        &mut outs,
+        outs.as_mut_slice(),
     );
-    let sinks = Four {
-        first: outs.heights,
-        second: outs.certificate,
-        third: outs.report,
-        fourth: outs.gsi,
-    };
-    close_sinks(folder, sinks);
-    answer
+    place_sinks(folder, outs, &ADJUSTED, prefix, answer)
 }

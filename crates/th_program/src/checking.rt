@@ -3,14 +3,16 @@ ghost use Rattle.std.specs.Prelude.{◌≡◌, ◌≢◌, IfErr, IfOk};
 ghost use Rattle.th_devices.specs.Spots.{output};
 ghost use Rattle.th_plans.specs.Plans.{files};
 ghost use Rattle.th_program.specs.Done.{IsChecked, IsRefusedCheck};
+ghost use Rattle.th_program.specs.Failing.{failing_of};
 ghost use Rattle.th_runs.specs.Writes.{UnlessWrite};
 
 use crate::opening::sources_of;
+use crate::outputs::{close_sinks, sinks_of};
 use std::alloc::Global;
 use th_checker::Verdict;
-use th_folders::{Folder, Origin, Target};
+use th_folders::{Folder, Origin};
 use th_plans::Inputs;
-use th_runs::{Refusal, run_check};
+use th_runs::{CHECKED, Refusal, run_check};
 
 /// Checks the certificate in the named file against the other named files.
 pub fn check<F: Folder>(
@@ -21,22 +23,23 @@ pub fn check<F: Folder>(
 ) -> Result<Verdict, Refusal>
     ensures checked { IfOk result (IsChecked F.tells (F.held folder.old) (F.held folder.new)
         (files inputs.now) certificate.now) }
-    ensures refused { IfErr result (IsRefusedCheck (F.held folder.old) (files inputs.now)
-        certificate.now) }
+    ensures refused { IfErr result (IsRefusedCheck
+        (failing_of F.reading_may_fail F.writing_may_fail folder.old)
+        (F.held folder.old) (files inputs.now) certificate.now) }
     ensures untouched { IfErr result (λ own. UnlessWrite own (folder.new ≡ folder.old)) }
     ensures others { (spot : _) → spot ≢ output → F.held folder.new spot ≡ F.held folder.old spot }
 {
     let mut sources = sources_of(alloc, folder, inputs)?;
     let mut certificate = folder.source(alloc, Origin::File(certificate))?;
-    let mut out = folder.sink(alloc, Target::Output)?;
+    let mut outs = sinks_of(alloc, folder, "", &CHECKED)?;
     let answer = run_check(
         alloc,
         sources.books.as_mut_slice(),
         &mut sources.benchmarks,
         &mut sources.weights,
         &mut certificate,
-        &mut out,
+        outs.as_mut_slice(),
     );
-    folder.close(out);
+    close_sinks(folder, outs);
     answer
 }

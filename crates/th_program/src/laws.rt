@@ -1,15 +1,17 @@
 //! The headline of the program. A law is its contract: it calls nothing of the product.
 
-ghost use Rattle.std.specs.Prelude.{◌≡◌, ◌⊎◌, ℕ, ℤ, List, None, Ok, Some};
+ghost use Rattle.std.specs.Prelude.{◌≡◌, ◌⊎◌, ℕ, ℤ, List, [], None, Ok, Some};
 ghost use Rattle.th_devices.specs.Spots.{file};
 ghost use Rattle.th_network.specs.Networks.{Survey};
 ghost use Rattle.th_plans.specs.Asked.{Files, adjust, check};
 ghost use Rattle.th_plans.specs.declared.plans.Plan.{Plan};
 ghost use Rattle.th_program.specs.Done.{AreDone, IsAdjusted, IsInputOf, IsRun};
-ghost use Rattle.th_program.specs.Headline.{AskFor, IsAccepted, IsUnlucky, SparesInputs};
+ghost use Rattle.th_program.specs.Failing.{IsInClaim, IsInFiles, failing_of};
+ghost use Rattle.th_program.specs.Headline.{AskFor, IsAccepted, IsUnlucky, NoneMayFail, SomeMayFail, SparesInputs};
+ghost use Rattle.th_program.specs.Outputs.{spots_of};
 ghost use Rattle.th_program.specs.Owed.{claim_owed};
-ghost use Rattle.th_runs.specs.Adjusted.{AreOutputs, OutTexts};
-ghost use Rattle.th_runs.specs.Checked.{IsRight};
+ghost use Rattle.th_runs.specs.Adjusted.{AreOutputs, OutTexts, adjusting};
+ghost use Rattle.th_runs.specs.Checked.{IsRight, checking};
 ghost use Rattle.th_runs.specs.Inputs.{Claim, Meets};
 ghost use Rattle.th_runs.specs.declared.refusals.Input.{Input};
 
@@ -20,36 +22,73 @@ use th_runs::laws::{
 
 /// The headline, over a folder.
 ///
-/// If the arguments ask for an adjustment of inputs that are accepted, and none of them is an output, the
-/// program ends, and with status
-/// 0 the four files hold the heights, the certificate, the report and the GSI blocks of the survey that
-/// the inputs give: the lowest heights of all that keep the benchmarks and cost least, shown by the
-/// printed circulation. It ends otherwise only with status 4, out of memory, or 5, where a device failed.
-/// A check of a certificate that was printed so, with inputs that give the same survey, says yes unless
-/// it ends with 4 or 5. And whatever certificate a check says yes to, its heights are least.
+/// Let the arguments ask for an adjustment of inputs that are accepted. None of them is an output, and
+/// no device of the run may fail: reading may not at the spot of an input, nor writing at that of an
+/// output. Then the program ends with status 0 or 4. With 0 the four files hold the heights, the
+/// certificate, the report and the GSI blocks of the survey that the inputs give: the lowest heights of
+/// all that keep the benchmarks and cost least, shown by the printed circulation. With 4 it is out of
+/// memory.
+///
+/// A check of a certificate that was printed so, with inputs that give the same survey, says yes or ends
+/// with 4, if none of its devices may fail. And whatever certificate a check says yes to, its heights
+/// are least.
 pub fn headline<F: Folder>()
     ensures adjusted { (old new : _) (words : List (List ℕ)) (status : ℕ)
         (from : Files) (limit : ℤ) (prefix : List ℕ) (survey : Survey)
-        → AreDone F.tells F.held F.has_failed old new words status
+        → AreDone F.tells F.held F.has_failed
+        (failing_of F.reading_may_fail F.writing_may_fail) old new words status
         → AskFor words (adjust from limit prefix)
         → IsAccepted (F.held old) from survey
         → SparesInputs from prefix
+        → NoneMayFail (failing_of F.reading_may_fail F.writing_may_fail old)
+        (IsInFiles from) (spots_of prefix adjusting.outputs)
         → ((status ≡ 0) × IsAdjusted F.tells (F.held old) (F.held new) from limit prefix None)
-        ⊎ IsUnlucky status }
+        ⊎ (status ≡ 4) }
     ensures confirmed { (old new : _) (words : List (List ℕ)) (status : ℕ)
         (from : Files) (certificate : List ℕ) (survey : Survey) (limit : ℤ) (texts : OutTexts)
-        → AreDone F.tells F.held F.has_failed old new words status
+        → AreDone F.tells F.held F.has_failed
+        (failing_of F.reading_may_fail F.writing_may_fail) old new words status
         → AskFor words (check from certificate)
         → IsAccepted (F.held old) from survey
         → AreOutputs survey limit texts
         → F.held old (file certificate) ≡ Some texts.certificate
-        → (status ≡ 0) ⊎ IsUnlucky status }
+        → NoneMayFail (failing_of F.reading_may_fail F.writing_may_fail old)
+        (IsInClaim from certificate) (spots_of [] checking.outputs)
+        → (status ≡ 0) ⊎ (status ≡ 4) }
     ensures believed { (old new : _) (words : List (List ℕ)) (from : Files) (certificate : List ℕ)
-        → AreDone F.tells F.held F.has_failed old new words 0
+        → AreDone F.tells F.held F.has_failed
+        (failing_of F.reading_may_fail F.writing_may_fail) old new words 0
         → AskFor words (check from certificate)
         → (claim : Claim)
         × Meets (claim_owed (F.held old) None from certificate) (Ok claim)
         × IsRight claim }
+{
+    headline_if_devices_may_fail::<F>();
+}
+
+/// What is left of the headline if devices may fail: status 5 is then possible, too.
+pub fn headline_if_devices_may_fail<F: Folder>()
+    ensures adjusted { (old new : _) (words : List (List ℕ)) (status : ℕ)
+        (from : Files) (limit : ℤ) (prefix : List ℕ) (survey : Survey)
+        → AreDone F.tells F.held F.has_failed
+        (failing_of F.reading_may_fail F.writing_may_fail) old new words status
+        → AskFor words (adjust from limit prefix)
+        → IsAccepted (F.held old) from survey
+        → SparesInputs from prefix
+        → ((status ≡ 0) × IsAdjusted F.tells (F.held old) (F.held new) from limit prefix None)
+        ⊎ IsUnlucky (SomeMayFail (failing_of F.reading_may_fail F.writing_may_fail old)
+        (IsInFiles from) (spots_of prefix adjusting.outputs)) status }
+    ensures confirmed { (old new : _) (words : List (List ℕ)) (status : ℕ)
+        (from : Files) (certificate : List ℕ) (survey : Survey) (limit : ℤ) (texts : OutTexts)
+        → AreDone F.tells F.held F.has_failed
+        (failing_of F.reading_may_fail F.writing_may_fail) old new words status
+        → AskFor words (check from certificate)
+        → IsAccepted (F.held old) from survey
+        → AreOutputs survey limit texts
+        → F.held old (file certificate) ≡ Some texts.certificate
+        → (status ≡ 0)
+        ⊎ IsUnlucky (SomeMayFail (failing_of F.reading_may_fail F.writing_may_fail old)
+        (IsInClaim from certificate) (spots_of [] checking.outputs)) status }
 {
     accepted_inputs_are_refused_for_memory_alone();
     printed_certificate_is_accepted();
@@ -58,7 +97,8 @@ pub fn headline<F: Folder>()
 /// No run changes an input: each file that a plan reads holds what it held before.
 pub fn inputs_are_kept<F: Folder>()
     ensures { (old new : _) (asked : Plan) (status : ℕ)
-        → IsRun F.tells F.held F.has_failed old new asked status
+        → IsRun F.tells F.held F.has_failed
+        (failing_of F.reading_may_fail F.writing_may_fail) old new asked status
         → (which : Input) (name : List ℕ)
         → IsInputOf asked which name
         → F.held new (file name) ≡ F.held old (file name) }

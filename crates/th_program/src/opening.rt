@@ -1,16 +1,19 @@
-//! The sources and sinks of a run, as a folder gives them.
-ghost use Rattle.std.specs.Prelude.{◌≢◌, ◌≤◌, ◌≡◌, ◌++◌, IfOk, length, map, option_map};
-ghost use Rattle.th_devices.specs.Devices.{IsMade};
-ghost use Rattle.th_devices.specs.Spots.{file};
+//! The sources of a run, as a folder gives them.
+ghost use Rattle.std.specs.Prelude.{◌≤◌, ◌≡◌, IfOk, length, map, option_map};
 ghost use Rattle.th_plans.specs.Limits.{max_books};
 ghost use Rattle.th_plans.specs.Plans.{files};
-ghost use Rattle.th_program.specs.Inside.Opened.{AreApart, AreOpened, Each, EachIsOpened, EachPair, IsOpenedIfAny, IsTaken, IsUntouched};
+ghost use Rattle.th_program.specs.Inside.Opened.{AreOpened, EachIsOpened, IsOpenedIfAny};
 
 use std::alloc::{AllocError, Global};
-use th_folders::{Folder, Origin, Target};
+use th_folders::{Folder, Origin};
 use th_plans::Inputs;
 
 /// The sources that `adjust`, `review` and `check` read.
+///
+/// A run reads them before it opens an output, and keeps them until the outputs are placed. So where a
+/// standard stream is closed, an input gets its number, and no output gets what is written to it. If
+/// more streams are closed than there are inputs, an output has the number of standard error, and is
+/// closed before a line is written there.
 #[derive(Drop)]
 pub(crate) struct Sources<S> {
     pub(crate) books: Vec<S>,
@@ -25,8 +28,9 @@ pub(crate) fn sources_of<F: Folder>(
     inputs: &Inputs<'_>,
 ) -> Result<Sources<F::In>, AllocError>
     ensures same { folder.new ≡ folder.old }
-    ensures opened { IfOk result (λ sources. AreOpened F.In.state (F.held folder.old)
-        (files inputs.now) sources.books.items sources.benchmarks sources.weights) }
+    ensures opened { IfOk result (λ sources. AreOpened F.In.state (F.reading_may_fail folder.old)
+        (F.held folder.old) (files inputs.now)
+        sources.books.items sources.benchmarks sources.weights) }
     ensures few_books { IfOk result (λ sources. length sources.books.items ≤ max_books) }
 {
     Ok(Sources {
@@ -43,8 +47,8 @@ fn books_of<F: Folder>(
     names: &[&str],
 ) -> Result<Vec<F::In>, AllocError>
     ensures same { folder.new ≡ folder.old }
-    ensures opened { IfOk result (λ sources. EachIsOpened F.In.state (F.held folder.old)
-        (map (λ name. name.now) names.now) sources.items) }
+    ensures opened { IfOk result (λ sources. EachIsOpened F.In.state (F.reading_may_fail folder.old)
+        (F.held folder.old) (map (λ name. name.now) names.now) sources.items) }
 {
     let mut sources = Vec::new(alloc);
     for name in names {
@@ -60,77 +64,11 @@ fn source_if_any<F: Folder>(
     name: Option<&str>,
 ) -> Result<Option<F::In>, AllocError>
     ensures same { folder.new ≡ folder.old }
-    ensures opened { IfOk result (IsOpenedIfAny F.In.state (F.held folder.old)
-        (option_map (λ own. own.now) name.entry)) }
+    ensures opened { IfOk result (IsOpenedIfAny F.In.state (F.reading_may_fail folder.old)
+        (F.held folder.old) (option_map (λ own. own.now) name.entry)) }
 {
     match name {
         Some(name) => Ok(Some(folder.source(alloc, Origin::File(name))?)),
         None => Ok(None),
     }
-}
-
-/// Four things, one for each file that a run writes, in the order in which it writes them.
-#[derive(Drop)]
-pub(crate) struct Four<T> {
-    pub(crate) first: T,
-    pub(crate) second: T,
-    pub(crate) third: T,
-    pub(crate) fourth: T,
-}
-
-/// The sinks for the files whose names are the prefix and these endings.
-pub(crate) fn sinks_of<F: Folder>(
-    alloc: Global,
-    folder: &mut F,
-    prefix: &str,
-    endings: &Four<&str>,
-) -> Result<Four<F::Out>, AllocError>
-    ensures same { folder.new ≡ folder.old }
-    ensures made { IfOk result (EachPair (λ ending sink. IsMade F.tells
-        (file (prefix.now ++ ending.now)) (F.Out.state sink)) endings.now) }
-{
-    Ok(Four {
-        first: sink_of(alloc, folder, prefix, endings.first)?,
-        second: sink_of(alloc, folder, prefix, endings.second)?,
-        third: sink_of(alloc, folder, prefix, endings.third)?,
-        fourth: sink_of(alloc, folder, prefix, endings.fourth)?,
-    })
-}
-
-/// The sink for the file whose name is this prefix and this ending.
-fn sink_of<F: Folder>(
-    alloc: Global,
-    folder: &mut F,
-    prefix: &str,
-    ending: &str,
-) -> Result<F::Out, AllocError>
-    ensures same { folder.new ≡ folder.old }
-    ensures made { IfOk result (λ sink. IsMade F.tells (file (prefix.now ++ ending.now))
-        (F.Out.state sink)) }
-{
-    let mut name = String::from_str(alloc, prefix)?;
-    name.push_str(ending)?;
-    folder.sink(alloc, Target::File(name.as_str()))
-}
-
-/// Gives four sinks back.
-pub(crate) fn close_sinks<F: Folder>(folder: &mut F, sinks: Four<F::Out>)
-    requires { AreApart F.Out.state sinks }
-    ensures taken { Each (λ sink. IsTaken (F.held folder.old) (F.held folder.new)
-        (F.Out.state sink)) sinks }
-    ensures untouched { Each (λ sink. IsUntouched (F.Out.state sink)) sinks
-        → folder.new ≡ folder.old }
-    ensures others { (spot : _) → Each (λ sink. spot ≢ (F.Out.state sink).spot) sinks
-        → F.held folder.new spot ≡ F.held folder.old spot }
-{
-    let Four {
-        first,
-        second,
-        third,
-        fourth,
-    } = sinks;
-    folder.close(first);
-    folder.close(second);
-    folder.close(third);
-    folder.close(fourth);
 }

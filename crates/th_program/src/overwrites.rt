@@ -1,42 +1,24 @@
 //! Outputs that would overwrite an input. Nothing is read or written here.
-ghost use Rattle.std.specs.Prelude.{◌≡◌, ◌≤◌, ◌++◌, IfErr, IfOk, IfSome, None, length, map, true};
+ghost use Rattle.std.specs.Prelude.{◌≡◌, ◌≤◌, ◌++◌, [], ◌∷◌, IfErr, IfOk, IfSome, None, length, map, option_map, true};
 ghost use Rattle.th_plans.specs.Limits.{max_books};
 ghost use Rattle.th_plans.specs.Plans.{files};
 ghost use Rattle.th_program.specs.Done.{KeepsInputs};
-ghost use Rattle.th_program.specs.Inside.Opened.{Each, OneOfFour};
-ghost use Rattle.th_program.specs.Inside.Stops.{IsApart, IsNoBook, IsStop, IsStopOf};
+ghost use Rattle.th_program.specs.Inside.Stops.{AreKept, IsApart, IsNoBook, IsStop, IsStopOf};
+ghost use Rattle.th_program.specs.Outputs.{spot_at, spots_of};
 ghost use Rattle.th_program.specs.Owed.{HasName, IsBook};
 
-use crate::opening::Four;
-use crate::{adjusting, reviewing};
+use crate::outputs::ending_of;
 use std::alloc::{AllocError, Global};
-use std::fmt;
 use th_folders::Folder;
 use th_plans::{Inputs, Plan};
-use th_runs::Input;
+use th_runs::{ADJUSTED, Input, Output, REVIEWED};
 
-/// An output that would overwrite an input. It displays as the line for standard error.
+/// An output that would overwrite an input.
 #[derive(Drop)]
 pub(crate) struct Overwrite<'a> {
-    output: String,
-    input: Input,
-    name: &'a str,
-}
-
-impl fmt::Display for Overwrite<'_> {
-    ghost use Rattle.std.specs.Prelude.{Some, string_bytes};
-    ghost use Rattle.th_program.specs.Done.{overwrite_text};
-
-    ghost output = { λ own. Some (overwrite_text (string_bytes own.output) own.input own.name.now) };
-
-    fn fmt<W: fmt::Write>(&self, f: &mut fmt::Formatter<W>) -> fmt::Result {
-        let Overwrite {
-            output,
-            input,
-            name,
-        } = self;
-        write!(f, "error: output {output} would overwrite {input} {name}")
-    }
+    pub(crate) output: String,
+    pub(crate) input: Input,
+    pub(crate) name: &'a str,
 }
 
 /// Why a plan is not begun.
@@ -70,47 +52,55 @@ pub(crate) fn keep_inputs<'a, F: Folder>(
 {
     match plan {
         Plan::Adjust { inputs, prefix, .. } => {
-            keep_all(alloc, folder, inputs, *prefix, &adjusting::ENDINGS)
+            keep_all(alloc, folder, inputs, *prefix, &ADJUSTED)
         }
         Plan::Review { inputs, prefix, .. } => {
-            keep_all(alloc, folder, inputs, *prefix, &reviewing::ENDINGS)
+            keep_all(alloc, folder, inputs, *prefix, &REVIEWED)
         }
-        Plan::Standard | Plan::List { .. } | Plan::Check { .. } => Ok(()),
+        Plan::Standard
+        | Plan::List { .. }
+        | Plan::Explain { .. }
+        | Plan::Check { .. }
+        | Plan::Book { .. } => Ok(()),
     }
 }
 
-/// Answers that none of the files whose names are the prefix and these endings is an input, or why this
-/// stops a plan.
+/// Answers that none of the files of these outputs is an input, or why this stops a plan.
 fn keep_all<'a, F: Folder>(
     alloc: Global,
     folder: &F,
     inputs: &Inputs<'a>,
     prefix: &str,
-    endings: &Four<&str>,
+    outputs: &[Output],
 ) -> Result<(), Stop<'a>>
-    ensures apart { IfOk result (λ _. Each (λ ending.
-        IsApart F.tells (files inputs.now) (prefix.now ++ ending.now)) endings.now) }
-    ensures stopped { IfErr result (IsStop F.tells (files inputs.now) (λ output.
-        OneOfFour (λ ending. output ≡ prefix.now ++ ending.now) endings.now)) }
+    ensures apart { IfOk result (λ _.
+        AreKept F.tells (files inputs.now) (spots_of prefix.now outputs.now)) }
+    ensures stopped { IfErr result
+        (IsStop F.tells (files inputs.now) (spots_of prefix.now outputs.now)) }
 {
-    keep(alloc, folder, inputs, prefix, endings.first)?;
-    keep(alloc, folder, inputs, prefix, endings.second)?;
-    keep(alloc, folder, inputs, prefix, endings.third)?;
-    keep(alloc, folder, inputs, prefix, endings.fourth)
+    for output in outputs {
+        keep(alloc, folder, inputs, prefix, ending_of(*output))?;
+    }
+    Ok(())
 }
 
 /// Answers that the file whose name is the prefix and this ending is no input, or why this stops a plan.
+/// Standard output is none.
 fn keep<'a, F: Folder>(
     alloc: Global,
     folder: &F,
     inputs: &Inputs<'a>,
     prefix: &str,
-    ending: &str,
+    ending: Option<&str>,
 ) -> Result<(), Stop<'a>>
-    ensures apart { IfOk result (λ _. IsApart F.tells (files inputs.now) (prefix.now ++ ending.now)) }
-    ensures stopped { IfErr result (IsStop F.tells (files inputs.now) (λ output.
-        output ≡ prefix.now ++ ending.now)) }
+    ensures apart { IfOk result (λ _. AreKept F.tells (files inputs.now)
+        (spot_at prefix.now (option_map (λ own. own.now) ending.entry) ∷ [])) }
+    ensures stopped { IfErr result (IsStop F.tells (files inputs.now)
+        (spot_at prefix.now (option_map (λ own. own.now) ending.entry) ∷ [])) }
 {
+    let Some(ending) = ending else {
+        return Ok(());
+    };
     let mut output = String::from_str(alloc, prefix)?;
     output.push_str(ending)?;
     match changed_by(alloc, folder, output.as_str(), inputs)? {

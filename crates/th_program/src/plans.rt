@@ -1,46 +1,54 @@
 //! Running a plan.
 ghost use Rattle.std.specs.Prelude.{◌≡◌, IfErr, IfOk};
 ghost use Rattle.th_program.specs.Done.{IsCarriedOut, IsDone, IsOutputOf, IsRefused, IsRun};
+ghost use Rattle.th_program.specs.Failing.{failing_of};
 ghost use Rattle.th_runs.specs.Writes.{UnlessWrite};
 
 use crate::adjusting::adjust;
+use crate::booking::make_book;
 use crate::checking::check;
+use crate::explaining::{explain, form_of};
 use crate::listing::list;
 use crate::overwrites::{Stop, keep_inputs};
-use crate::refusals::{refuse, refuse_overwrite};
+use crate::refusals::{refuse, refuse_memory, refuse_overwrite};
 use crate::reviewing::review;
 use std::alloc::Global;
 use th_folders::{Folder, Origin};
 use th_plans::Plan;
 use th_runs::{DONE, Refusal, status_of_verdict};
 
-/// Runs a plan, and returns the exit status. A refusal has its line on standard error. A plan whose
+/// Runs a plan, and returns the exit status. A refusal has its lines on standard error. A plan whose
 /// outputs would overwrite an input is refused before anything is read or written.
 pub fn run_plan<F: Folder>(alloc: Global, folder: &mut F, plan: &Plan<'_>) -> u8
-    ensures { IsRun F.tells F.held F.has_failed folder.old folder.new plan.now result }
+    ensures { IsRun F.tells F.held F.has_failed
+        (failing_of F.reading_may_fail F.writing_may_fail)
+        folder.old folder.new plan.now result }
 {
     match keep_inputs(alloc, folder, plan) {
         Ok(()) => run_apart(alloc, folder, plan),
-        Err(Stop::Overwrite(overwrite)) => refuse_overwrite(alloc, folder, &overwrite),
-        Err(Stop::NoMemory) => refuse(alloc, folder, &Refusal::NoMemory),
+        Err(Stop::Overwrite(overwrite)) => refuse_overwrite(folder, &overwrite),
+        Err(Stop::NoMemory) => refuse_memory(folder),
     }
 }
 
 /// Runs a plan that overwrites no input, and answers the status to end with.
 fn run_apart<F: Folder>(alloc: Global, folder: &mut F, plan: &Plan<'_>) -> u8
-    ensures { IsCarriedOut F.tells F.held F.has_failed folder.old folder.new plan.now result }
+    ensures { IsCarriedOut F.tells F.held F.has_failed
+        (failing_of F.reading_may_fail F.writing_may_fail)
+        folder.old folder.new plan.now result }
 {
     match carry_out(alloc, folder, plan) {
         Ok(status) => status,
-        Err(refusal) => refuse(alloc, folder, &refusal),
+        Err(refusal) => refuse(folder, plan, &refusal),
     }
 }
 
 /// Runs a plan, and returns the exit status, or why it was refused.
 fn carry_out<F: Folder>(alloc: Global, folder: &mut F, plan: &Plan<'_>) -> Result<u8, Refusal>
     ensures done { IfOk result (IsDone F.tells (F.held folder.old) (F.held folder.new) plan.now) }
-    ensures refused { IfErr result (IsRefused F.tells (F.held folder.old) (F.held folder.new)
-        plan.now) }
+    ensures refused { IfErr result (IsRefused F.tells
+        (failing_of F.reading_may_fail F.writing_may_fail folder.old)
+        (F.held folder.old) (F.held folder.new) plan.now) }
     ensures untouched { IfErr result (λ own. UnlessWrite own (folder.new ≡ folder.old)) }
     ensures others { (spot : _) → (IsOutputOf plan.now spot → ⊥)
         → F.held folder.new spot ≡ F.held folder.old spot }
@@ -58,6 +66,11 @@ fn carry_out<F: Folder>(alloc: Global, folder: &mut F, plan: &Plan<'_>) -> Resul
             limit,
             prefix,
         } => review(alloc, folder, inputs, *limit, *prefix)?,
+        Plan::Explain {
+            inputs,
+            limit,
+            table,
+        } => explain(alloc, folder, inputs, *limit, form_of(*table))?,
         Plan::Check {
             inputs,
             certificate,
@@ -65,6 +78,7 @@ fn carry_out<F: Folder>(alloc: Global, folder: &mut F, plan: &Plan<'_>) -> Resul
             let verdict = check(alloc, folder, inputs, *certificate)?;
             return Ok(status_of_verdict(&verdict));
         }
+        Plan::Book { table } => make_book(alloc, folder, *table)?,
     }
     Ok(DONE)
 }

@@ -1,10 +1,9 @@
 -- What the controls of a group's observations tell of a mistake that the group shares.
-use Rattle.std.proofs.Common.{◌≡◌, ℕ, suc, ◌+◌, ◌<◌, ◌≤◌, inl, inr, Bool, true, false, List, [], ◌∷◌, get_or, length, Option, Some, None, All, Contains, eqb, ltb, if◌then◌else◌, refl, sym, ap, ◌∙◌, subst, arith}
-use Rattle.std.specs.Prelude.{IfSome}
-use Rattle.std.proofs.lemmas.Bool.{cases_eq, cases_lt, eqb-false, eqb-true, false≢true, ltb-false, ltb-true}
+use Rattle.std.proofs.Common.{◌≡◌, ℕ, suc, ◌+◌, ◌<◌, ◌≤◌, inl, inr, Bool, true, false, List, [], ◌∷◌, get_or, length, Option, Some, None, All, Contains, if◌then◌else◌, refl, sym, ap, ◌∙◌, subst, arith}
+use Rattle.std.proofs.lemmas.Bool.{cases_eq, cases_lt, false≢true, ltb-true}
 use Rattle.std.proofs.lemmas.List.{get_or_default}
 use Rattle.std.proofs.lemmas.List.Elements.{All-contains, All-from_recursion}
-use Rattle.std.proofs.lemmas.List.Sums.{get_or-le-sum_by, sum_by-cons}
+use Rattle.std.proofs.lemmas.List.Sums.{sum_by-cons}
 use Rattle.th_book.specs.Observed.{Observed}
 use Rattle.th_tables.specs.Rows.{weight_of}
 use Rattle.th_points.specs.Points.{points}
@@ -13,29 +12,18 @@ use Rattle.th_network.specs.Networks.{Survey, points_of}
 use Rattle.th_network.specs.Walks.{Anchored, IsTied}
 use Rattle.th_network.proofs.WalkLemmas.{untied_inside}
 use Rattle.th_reliability.specs.Blunders.{weight_in}
-use Rattle.th_reliability.specs.Cuts.{IsControl, crosses, cut, differ}
+use Rattle.th_reliability.specs.Cuts.{crosses, cut, differ}
 use Rattle.th_reliability.specs.Groups.{own_cut}
 use Rattle.th_reliability.specs.Numbers.{HasControl}
-use Rattle.th_reliability.specs.SharedMistakes.{IsFreeWithPoint, IsSharedMistake, own, rest, single_mistake_of, worse}
+use Rattle.th_reliability.specs.SharedMistakes.{IsFreeWithPoint, IsSharedMistake, own, rest}
 use Rattle.th_reliability.specs.Sights.{in_sights}
 use Rattle.th_reliability.specs.declared.sights.Sights.{Sights}
-use Rattle.th_reliability.specs.Inside.Runs.{HoldsSights}
-use Rattle.th_reliability.specs.Inside.Bounds.{AreNoLess, IsNoBetter, IsNoLess, IsNoWorse, bounded, worst_of}
-use Rattle.th_reliability.specs.declared.mistakes.SharedMistake.{SharedMistake}
-use Rattle.th_reliability.specs.declared.mistakes.SharedMistake.TheVariants.{Drags, Shows, Ties}
+use Rattle.th_reliability.specs.Runs.{HoldsSights}
+use Rattle.th_reliability.specs.Inside.Bounds.{AreNoLess, IsNoLess, is_above_twice}
+use Rattle.th_reliability.specs.declared.mistakes.SharedMistake.TheVariants.{Shows}
 use Rattle.th_reliability.proofs.GroupLemmas.{parts}
 use Rattle.th_reliability.proofs.LevelLemmas.{none_crosses}
 use Rattle.th_reliability.proofs.SumLemmas.{sums-le}
-
--- nothing better than one and nothing worse than the other
-pub is_bounded : (survey : Survey) (group : Observed → Bool) (best worst : SharedMistake) → IsNoBetter survey group best → IsNoWorse survey group worst → IfSome (bounded best worst) (IsSharedMistake survey group)
-is_bounded survey group Shows Shows better worse = worse
-is_bounded survey group Shows Ties better worse = tt
-is_bounded survey group Shows Drags better worse = tt
-is_bounded survey group Ties Shows better worse = tt
-is_bounded survey group Ties Ties better worse = let most = worse better.0 better.1 in let least = better.2 in (worse, (better.0, better.1, omega arith))
-is_bounded survey group Ties Drags better worse = tt
-is_bounded survey group Drags worst better worse = better
 
 -- each observation weighs something
 abbrev pub WeighSome : Survey → Type 0
@@ -52,7 +40,6 @@ cuts_some survey inside are tied is =
       | inr some ↦ omega arith
     ]
 
--- ---- at best: the set that the control of an observation is of
 -- a set that crosses an observation holds a point
 pub end_inside : (survey : Survey) (o : Observed) (inside : List ℕ → Bool) → Contains survey.observations o → crosses inside o ≡ true → (name : List ℕ) × Contains (points_of survey) name × (inside name ≡ true)
 end_inside survey o inside has crossing = by (inside o.station) refl
@@ -64,40 +51,7 @@ end_inside survey o inside has crossing = by (inside o.station) refl
     by true e = (o.station, listed.0, e)
     by false e = (o.target, listed.1, ap (λ (s : Bool). differ s (inside o.target)) (sym e) ∙ crossing)
 
--- the others across that set's border weigh no more than the control, and the group no less than the observation
-control_set : (survey : Survey) (group : Observed → Bool) (o : Observed) (control : ℕ) → Contains survey.observations o → group o ≡ true → IsControl survey.observations survey.benchmarks survey.weights o control → (inside : List ℕ → Bool) × IsFreeWithPoint survey inside × (rest survey group inside ≤ control) × (weight_of survey.weights o.station o.target ≤ own survey group inside)
-control_set survey group o control has is is_control =
-    let inside = is_control.reached.0 in
-    let crossing = is_control.reached.2 in
-    let term : Observed → ℕ = λ x. if group x then (if crosses inside x then weight_of survey.weights x.station x.target else 0) else 0 in
-    let here : term o ≡ weight_of survey.weights o.station o.target = ap (λ (b : Bool). if b then (if crosses inside o then weight_of survey.weights o.station o.target else 0) else 0) is ∙ ap (λ (b : Bool). if b then weight_of survey.weights o.station o.target else 0) crossing in
-    let part : term (get_or survey.observations has.0 o) ≤ own survey group inside = get_or-le-sum_by term survey.observations has.0 o has.1 in
-    let at = ap term has.2 in
-    let all = is_control.reached.3 in
-    let both = parts survey.observations survey.weights group inside in
-    (inside, record { free = is_control.reached.1; point = end_inside survey o inside has crossing }, omega arith, omega arith)
-
-pub no_better : (survey : Survey) (group : Observed → Bool) (o : Observed) (control : Option ℕ) → Contains survey.observations o → group o ≡ true → HasControl survey o control → IsNoBetter survey group (single_mistake_of control (weight_of survey.weights o.station o.target))
-no_better survey group o None has is own = tt
-no_better survey group o (Some control) has is is_control = by (ltb (weight_of survey.weights o.station o.target) control) (eqb control (weight_of survey.weights o.station o.target)) refl refl
-  where
-    by : (more same : Bool) → ltb (weight_of survey.weights o.station o.target) control ≡ more → eqb control (weight_of survey.weights o.station o.target) ≡ same → IsNoBetter survey group (if more then Shows else (if same then Ties else Drags))
-    by true same e f = tt
-    by false true e f =
-        let there = control_set survey group o control has is is_control in
-        let rest_is = there.2 in
-        let own_is = there.3 in
-        let equal = eqb-true control (weight_of survey.weights o.station o.target) f in
-        (there.0, there.1, omega arith)
-    by false false e f =
-        let there = control_set survey group o control has is is_control in
-        let rest_is = there.2 in
-        let own_is = there.3 in
-        let differs = eqb-false control (weight_of survey.weights o.station o.target) f in
-        let least = ltb-false (weight_of survey.weights o.station o.target) control e in
-        (there.0, there.1, omega arith)
-
--- ---- at worst: each set with a cut of the group's crosses one of its observations
+-- ---- each set with a cut of the group's crosses one of its observations
 member : (survey : Survey) (group : Observed → Bool) (inside : List ℕ → Bool) (observations : List Observed) → 0 < own_cut observations survey.weights group inside → (o : Observed) × Contains observations o × (group o ≡ true) × (crosses inside o ≡ true)
 member survey group inside [] some = absurd (omega arith)
 member survey group inside (o ∷ observations) some = by (group o) (crosses inside o) refl refl (λ none. more (member survey group inside observations none))
@@ -128,7 +82,7 @@ own_part w true true = omega arith
 own_part w true false = omega arith
 own_part w false e = omega arith
 
-own_most : (survey : Survey) (group : Observed → Bool) (inside : List ℕ → Bool) → own survey group inside ≤ weight_in survey.observations survey.weights group
+pub own_most : (survey : Survey) (group : Observed → Bool) (inside : List ℕ → Bool) → own survey group inside ≤ weight_in survey.observations survey.weights group
 own_most survey group inside = sums-le (λ o. if group o then (if crosses inside o then weight_of survey.weights o.station o.target else 0) else 0) (λ o. if group o then weight_of survey.weights o.station o.target else 0) (λ o. own_part (weight_of survey.weights o.station o.target) (group o) (crosses inside o)) survey.observations
 
 -- and it cuts as much as that one's control and weight
@@ -148,53 +102,29 @@ cuts_least survey group least inside all is some =
         (n, e, omega arith)
 
 -- a set without one cuts something
-cuts_other : (survey : Survey) (group : Observed → Bool) (inside : List ℕ → Bool) → WeighSome survey → Anchored survey.observations survey.benchmarks → IsFreeWithPoint survey inside → own survey group inside ≡ 0 → own survey group inside < rest survey group inside
+pub cuts_other : (survey : Survey) (group : Observed → Bool) (inside : List ℕ → Bool) → WeighSome survey → Anchored survey.observations survey.benchmarks → IsFreeWithPoint survey inside → own survey group inside ≡ 0 → own survey group inside < rest survey group inside
 cuts_other survey group inside are tied is none =
     let some = cuts_some survey inside are tied is in
     let both = parts survey.observations survey.weights group inside in
     omega arith
 
-pub no_worse : (survey : Survey) (group : Observed → Bool) (least : Option ℕ) → WeighSome survey → Anchored survey.observations survey.benchmarks → AreNoLess survey group least (length survey.observations) → IsNoWorse survey group (worst_of least (weight_in survey.observations survey.weights group))
-no_worse survey group None are tied all = λ inside is. elim (cases_eq (own survey group inside) 0) [
+-- so the mistake shows where that is above twice the weight of the group
+pub shows_above : (survey : Survey) (group : Observed → Bool) (least : Option ℕ) → WeighSome survey → Anchored survey.observations survey.benchmarks → AreNoLess survey group least (length survey.observations) → is_above_twice least (weight_in survey.observations survey.weights group) ≡ true → IsSharedMistake survey group Shows
+shows_above survey group None are tied all above = λ inside is. elim (cases_eq (own survey group inside) 0) [
   | inl none ↦ cuts_other survey group inside are tied is none
   | inr some ↦ let least = cuts_least survey group None inside all is (omega arith) in cc least.1
 ]
-no_worse survey group (Some n) are tied all = by (ltb (weight_in survey.observations survey.weights group + weight_in survey.observations survey.weights group) n) (eqb n (weight_in survey.observations survey.weights group + weight_in survey.observations survey.weights group)) refl refl
-  where
-    weight : ℕ
-    weight = weight_in survey.observations survey.weights group
-
-    cuts : (inside : List ℕ → Bool) → IsFreeWithPoint survey inside → 0 < own survey group inside → n ≤ cut survey.observations survey.weights inside
-    cuts inside is some = let least = cuts_least survey group (Some n) inside all is some in let same : n ≡ least.0 = cc least.1 in let less = least.2 in omega arith
-
-    by : (more same : Bool) → ltb (weight_in survey.observations survey.weights group + weight_in survey.observations survey.weights group) n ≡ more → eqb n (weight_in survey.observations survey.weights group + weight_in survey.observations survey.weights group) ≡ same → IsNoWorse survey group (if more then Shows else (if same then Ties else Drags))
-    by true same e f = λ inside is. elim (cases_eq (own survey group inside) 0) [
-      | inl none ↦ cuts_other survey group inside are tied is none
-      | inr some ↦
-          let less = cuts inside is (omega arith) in
-          let most = own_most survey group inside in
-          let more = ltb-true (weight_in survey.observations survey.weights group + weight_in survey.observations survey.weights group) n e in
-          let both = parts survey.observations survey.weights group inside in
-          omega arith
-    ]
-    by false true e f = λ inside is. elim (cases_eq (own survey group inside) 0) [
-      | inl none ↦ let less = cuts_other survey group inside are tied is none in omega arith
-      | inr some ↦
-          let less = cuts inside is (omega arith) in
-          let most = own_most survey group inside in
-          let equal = eqb-true n (weight_in survey.observations survey.weights group + weight_in survey.observations survey.weights group) f in
-          let both = parts survey.observations survey.weights group inside in
-          omega arith
-    ]
-    by false false e f = tt
-
--- what holds of two mistakes holds of the worse
-pub no_better_worse : (survey : Survey) (group : Observed → Bool) (first second : SharedMistake) → IsNoBetter survey group first → IsNoBetter survey group second → IsNoBetter survey group (worse first second)
-no_better_worse survey group Shows second a b = b
-no_better_worse survey group Ties Shows a b = a
-no_better_worse survey group Ties Ties a b = a
-no_better_worse survey group Ties Drags a b = b
-no_better_worse survey group Drags second a b = a
+shows_above survey group (Some n) are tied all above = λ inside is. elim (cases_eq (own survey group inside) 0) [
+  | inl none ↦ cuts_other survey group inside are tied is none
+  | inr some ↦
+      let least = cuts_least survey group (Some n) inside all is (omega arith) in
+      let same : n ≡ least.0 = cc least.1 in
+      let less = least.2 in
+      let most = own_most survey group inside in
+      let more = ltb-true (weight_in survey.observations survey.weights group + weight_in survey.observations survey.weights group) n above in
+      let both = parts survey.observations survey.weights group inside in
+      omega arith
+]
 
 -- one more observation, of the group or not
 pub more_held : (survey : Survey) (group : Observed → Bool) (least less : Option ℕ) (count : ℕ) (o : Observed) → o ≡ get_or survey.observations count o → count < length survey.observations → AreNoLess survey group least count → ((control : Option ℕ) (weight : ℕ) → IsNoLess least control weight → IsNoLess less control weight) → (group o ≡ true → (control : Option ℕ) × HasControl survey o control × IsNoLess less control (weight_of survey.weights o.station o.target)) → AreNoLess survey group less (count + 1)
@@ -208,12 +138,9 @@ more_held survey group least less count o is within before kept here = λ k d sm
 ]
 
 -- one that is
-pub one_held : (survey : Survey) (group : Observed → Bool) (best one more : SharedMistake) (least less control : Option ℕ) (count weight : ℕ) (o : Observed) → o ≡ get_or survey.observations count o → count < length survey.observations → group o ≡ true → HasControl survey o control → weight ≡ weight_of survey.weights o.station o.target → one ≡ single_mistake_of control weight → more ≡ worse best one → IsNoLess less control weight → ((other : Option ℕ) (own : ℕ) → IsNoLess least other own → IsNoLess less other own) → IsNoBetter survey group best → AreNoLess survey group least count → IsNoBetter survey group more × AreNoLess survey group less (count + 1)
-one_held survey group best one more least less control count weight o is within own has weighs one_is more_is here kept better before =
-    let single : IsNoBetter survey group (single_mistake_of control (weight_of survey.weights o.station o.target)) = no_better survey group o control (count, within, sym is) own has in (
-      subst (IsNoBetter survey group) (sym more_is) (no_better_worse survey group best one better (subst (IsNoBetter survey group) (sym (one_is ∙ ap (single_mistake_of control) weighs)) single)),
-      more_held survey group least less count o is within before kept (λ _. (control, has, subst (IsNoLess less control) weighs here)),
-    )
+pub one_held : (survey : Survey) (group : Observed → Bool) (least less control : Option ℕ) (count weight : ℕ) (o : Observed) → o ≡ get_or survey.observations count o → count < length survey.observations → HasControl survey o control → weight ≡ weight_of survey.weights o.station o.target → IsNoLess less control weight → ((other : Option ℕ) (own : ℕ) → IsNoLess least other own → IsNoLess less other own) → AreNoLess survey group least count → AreNoLess survey group less (count + 1)
+one_held survey group least less control count weight o is within has weighs here kept before =
+    more_held survey group least less count o is within before kept (λ _. (control, has, subst (IsNoLess less control) weighs here))
 
 -- one that is not
 pub none_held : (survey : Survey) (group : Observed → Bool) (least : Option ℕ) (count : ℕ) (o : Observed) → o ≡ get_or survey.observations count o → count < length survey.observations → group o ≡ false → AreNoLess survey group least count → AreNoLess survey group least (count + 1)

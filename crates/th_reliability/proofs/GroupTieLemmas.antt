@@ -22,7 +22,7 @@ use Rattle.th_reliability.proofs.TieLemmas.{blamed, clamped_whole, one_cost, spr
 use Rattle.th_reliability.proofs.ShiftLemmas.{shifted, shifted_keeps}
 
 -- ---- what the group's part of a map's changes is
-abbrev own_spread : List Observed → WeightRows → (Observed → Bool) → (List ℕ → ℤ) → ℕ
+abbrev pub own_spread : List Observed → WeightRows → (Observed → Bool) → (List ℕ → ℤ) → ℕ
 own_spread observations weights group z = sum_by (λ o. if group o then weight_of weights o.station o.target * unsigned_abs (z o.target -ℤ z o.station) else 0) observations
 
 one_more : (w old new : ℕ) (b c : Bool) → new ≡ old + (if c then 1 else 0) → (if b then w * new else 0) ≡ (if b then w * old else 0) + (if b then (if c then w else 0) else 0)
@@ -30,7 +30,7 @@ one_more w old new true true same = let scaled = ap (λ n. w * n) same in omega 
 one_more w old new true false same = let scaled = ap (λ n. w * n) same in omega arith
 one_more w old new false c same = omega arith
 
-own_more : (observations : List Observed) (weights : WeightRows) (group : Observed → Bool) (size : ℕ) (u : List ℕ → ℤ) → own_spread observations weights group (cut_off (suc size) u) ≡ own_spread observations weights group (cut_off size u) + own_cut observations weights group (layer size u)
+pub own_more : (observations : List Observed) (weights : WeightRows) (group : Observed → Bool) (size : ℕ) (u : List ℕ → ℤ) → own_spread observations weights group (cut_off (suc size) u) ≡ own_spread observations weights group (cut_off size u) + own_cut observations weights group (layer size u)
 own_more observations weights group size u =
     let w = λ (o : Observed). weight_of weights o.station o.target in
     let change = λ (k : ℕ) (o : Observed). unsigned_abs (cut_off k u o.target -ℤ cut_off k u o.station) in
@@ -41,9 +41,14 @@ one_none : (w e : ℕ) (b : Bool) → e ≤ 0 → (if b then w * e else 0) ≤ 0
 one_none w e true none = let scaled = mul-le-mul_left w none in omega arith
 one_none w e false none = omega arith
 
+pub own_none : (observations : List Observed) (weights : WeightRows) (group : Observed → Bool) (u : List ℕ → ℤ) → own_spread observations weights group (cut_off 0 u) ≤ 0
+own_none observations weights group u =
+    let none = sum_by-le (λ (o : Observed). if group o then weight_of weights o.station o.target * unsigned_abs (cut_off 0 u o.target -ℤ cut_off 0 u o.station) else 0) 0 observations (λ k d within. one_none (weight_of weights (slice_index_or observations k d).station (slice_index_or observations k d).target) (unsigned_abs (cut_off 0 u (slice_index_or observations k d).target -ℤ cut_off 0 u (slice_index_or observations k d).station)) (group (slice_index_or observations k d)) (clamped_low 0 (u (slice_index_or observations k d).station) (u (slice_index_or observations k d).target))) in
+    omega arith
+
 own_most : (observations : List Observed) (weights : WeightRows) (group : Observed → Bool) (u : List ℕ → ℤ) → ((below : ℕ) → 2 * own_cut observations weights group (layer below u) ≤ cut observations weights (layer below u)) → (size : ℕ) → 2 * own_spread observations weights group (cut_off size u) ≤ spread observations weights (cut_off size u)
 own_most observations weights group u strong zero =
-    let none = sum_by-le (λ (o : Observed). if group o then weight_of weights o.station o.target * unsigned_abs (cut_off 0 u o.target -ℤ cut_off 0 u o.station) else 0) 0 observations (λ k d within. one_none (weight_of weights (slice_index_or observations k d).station (slice_index_or observations k d).target) (unsigned_abs (cut_off 0 u (slice_index_or observations k d).target -ℤ cut_off 0 u (slice_index_or observations k d).station)) (group (slice_index_or observations k d)) (clamped_low 0 (u (slice_index_or observations k d).station) (u (slice_index_or observations k d).target))) in
+    let none = own_none observations weights group u in
     omega arith
 own_most observations weights group u strong (suc size) =
     let rest = own_most observations weights group u strong size in
@@ -58,7 +63,7 @@ one_crosses w true true e = absurd (grind arith)
 one_crosses w true false e = refl
 one_crosses w false c e = refl
 
-crossed : (observations : List Observed) (weights : WeightRows) (group : Observed → Bool) (inside : List ℕ → Bool) (names : List (List ℕ)) → All (λ o. Contains names o.station × Contains names o.target) observations → ((point : List ℕ) × Contains names point × (inside point ≡ true)) ⊎ (own_cut observations weights group inside ≤ 0)
+pub crossed : (observations : List Observed) (weights : WeightRows) (group : Observed → Bool) (inside : List ℕ → Bool) (names : List (List ℕ)) → All (λ o. Contains names o.station × Contains names o.target) observations → ((point : List ℕ) × Contains names point × (inside point ≡ true)) ⊎ (own_cut observations weights group inside ≤ 0)
 crossed observations weights group inside names listed = go observations (recursion_from_All (λ o. Contains names o.station × Contains names o.target) observations listed)
   where
     go : (xs : List Observed) → AllByRecursion (λ o. Contains names o.station × Contains names o.target) xs → ((point : List ℕ) × Contains names point × (inside point ≡ true)) ⊎ (own_cut xs weights group inside ≤ 0)

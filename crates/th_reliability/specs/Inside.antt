@@ -1,5 +1,7 @@
 -- what private functions promise one another
 pub mod Graphs
-pub mod Pulls
+pub mod Sides
+pub mod Targets
 pub mod Runs
 pub mod Bounds
+pub mod Effects

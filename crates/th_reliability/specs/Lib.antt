@@ -5,5 +5,10 @@ pub mod Mistakes
 pub mod Edges
 pub mod Numbers
 pub mod Sights
+pub mod Runs
 pub mod SharedMistakes
+pub mod Moves
+pub mod Benchmarks
+pub mod Blames
+pub mod Effects
 pub mod Inside

@@ -1,21 +1,23 @@
 //! Laws that relate the definitions to one another. A law is its contract: it computes nothing.
 
-ghost use Rattle.std.specs.Prelude.{◌≡◌, ◌≢◌, ℕ, ◌-◌, ◌*◌, ◌<◌, ◌≤◌, ℤ, pos, ◌-ℤ◌, Bool, true, false, List, ◌∷◌, ◌++◌, All, Contains, IsSome, Option, Some, slice_get, unsigned_abs};
+ghost use Rattle.std.specs.Prelude.{◌≡◌, ◌≢◌, ℕ, ◌+◌, ◌-◌, ◌*◌, ◌<◌, ◌≤◌, ℤ, pos, ◌+ℤ◌, ◌-ℤ◌, Bool, true, false, List, ◌∷◌, ◌++◌, ◌⊎◌, All, Contains, IsSome, Option, Some, map, min, slice_get, unsigned_abs};
 ghost use Rattle.th_book.specs.Observed.{Observed};
 ghost use Rattle.th_cuts.specs.Cuts.{cut_weight};
 ghost use Rattle.th_network.specs.Heights.{IsHeights, Least, residual};
-ghost use Rattle.th_network.specs.Networks.{Survey};
+ghost use Rattle.th_network.specs.Networks.{Survey, points_of};
 ghost use Rattle.th_network.specs.Vertices.{vertex_of};
 ghost use Rattle.th_network.specs.Walks.{Anchored};
 ghost use Rattle.th_points.specs.Points.{points};
+ghost use Rattle.th_reliability.specs.Benchmarks.{IsOffAt, has_end, with_height};
 ghost use Rattle.th_reliability.specs.Blunders.{cost_outside, cost_up_to, weight_in};
-ghost use Rattle.th_reliability.specs.Cuts.{IsControl, IsFreeSet, IsStrength, cut};
+ghost use Rattle.th_reliability.specs.Cuts.{IsControl, IsFreeSet, IsStrength, crosses, cut};
 ghost use Rattle.th_reliability.specs.Edges.{edges_of, names_in, vertices_in};
 ghost use Rattle.th_reliability.specs.Groups.{IsGroupControl, IsOnly};
+ghost use Rattle.th_reliability.specs.Moves.{ErrsAt, IsLeastSet, erred, moved, way};
 ghost use Rattle.th_reliability.specs.Numbers.{HasControl};
-ghost use Rattle.th_reliability.specs.SharedMistakes.{IsFreeWithPoint, IsSharedMistake, shared_mistake_of, single_mistake_of};
+ghost use Rattle.th_reliability.specs.SharedMistakes.{IsFreeWithPoint, IsSharedMistake, own, rest, shared_mistake_of, single_mistake_of};
 ghost use Rattle.th_reliability.specs.declared.mistakes.SharedMistake.{SharedMistake};
-ghost use Rattle.th_reliability.specs.declared.mistakes.SharedMistake.TheVariants.{Shows};
+ghost use Rattle.th_reliability.specs.declared.mistakes.SharedMistake.TheVariants.{Shows, Ties, Unchecked};
 ghost use Rattle.th_tables.specs.Rows.{AreWeights, BenchmarkRows, WeightRows, height_of, weight_of};
 
 /// A cut of a network is a cut of the graph over its vertices.
@@ -169,6 +171,43 @@ pub fn shared_mistake_shows()
         → Least observations benchmarks weights heights
         → All (λ point. heights point ≡ truth point) (points observations benchmarks)
         × All (λ o. residual o heights ≡ residual o truth) observations }
+    ensures by_word { (survey : Survey) (truth heights : List ℕ → ℤ) (group : Observed → Bool)
+        → IsSharedMistake survey group Shows
+        → IsHeights survey.benchmarks truth
+        → All (λ o. group o ≡ false → residual o truth ≡ pos 0) survey.observations
+        → Least survey.observations survey.benchmarks survey.weights heights
+        → All (λ point. heights point ≡ truth point) (points_of survey)
+        × All (λ o. residual o heights ≡ residual o truth) survey.observations }
+{}
+
+/// Where a mistake shows, the heights move no further than the small errors of the others allow.
+///
+/// A group of observations may err as it likes. The distance of a point's best height from any
+/// heights that keep the benchmarks, times what the control is above the weight, is at most twice
+/// what these heights cost the other observations. If one observation errs, it is so with the lesser
+/// of what its control is above its weight and of the point's strength.
+pub fn mistake_that_shows_moves_little()
+    ensures near { (observations : List Observed) (benchmarks : BenchmarkRows)
+        (weights : WeightRows) (truth heights : List ℕ → ℤ) (group : Observed → Bool) (control : ℕ)
+        (point : List ℕ)
+        → IsGroupControl observations benchmarks weights group control
+        → IsHeights benchmarks truth
+        → Least observations benchmarks weights heights
+        → Contains (points observations benchmarks) point
+        → unsigned_abs (heights point -ℤ truth point)
+        * (control - weight_in observations weights group)
+        ≤ 2 * cost_outside observations weights group truth }
+    ensures one { (survey : Survey) (truth heights : List ℕ → ℤ) (group : Observed → Bool)
+        (place : ℕ) (o : Observed) (control : ℕ) (point : List ℕ) (strength : ℕ)
+        → IsOnly survey.observations group place
+        → slice_get survey.observations place ≡ Some o
+        → IsControl survey.observations survey.benchmarks survey.weights o control
+        → IsStrength survey.observations survey.benchmarks survey.weights point strength
+        → IsHeights survey.benchmarks truth
+        → Least survey.observations survey.benchmarks survey.weights heights
+        → unsigned_abs (heights point -ℤ truth point)
+        * min (control - weight_of survey.weights o.station o.target) strength
+        ≤ 2 * cost_outside survey.observations survey.weights group truth }
 {}
 
 /// A mistake that the sights of one station share may show or drag if their control equals their
@@ -199,10 +238,27 @@ pub fn shared_mistake_ties()
         × ((point : List ℕ)
         × Contains (points observations benchmarks) point
         × (unsigned_abs (others point -ℤ truth point) ≡ unsigned_abs error)) }
+    ensures least_by_word { (survey : Survey) (truth : List ℕ → ℤ) (group : Observed → Bool)
+        → IsSharedMistake survey group Ties
+        → IsHeights survey.benchmarks truth
+        → All (λ o. group o ≡ false → residual o truth ≡ pos 0) survey.observations
+        → Least survey.observations survey.benchmarks survey.weights truth }
+    ensures drags_by_word { (survey : Survey) (truth : List ℕ → ℤ) (group : Observed → Bool)
+        (station : List ℕ) (error : ℤ)
+        → IsSharedMistake survey group Ties
+        → All (λ o. group o ≡ true → o.station ≡ station) survey.observations
+        → All (λ o. group o ≡ true → residual o truth ≡ error) survey.observations
+        → IsHeights survey.benchmarks truth
+        → All (λ o. group o ≡ false → residual o truth ≡ pos 0) survey.observations
+        → (others : List ℕ → ℤ)
+        × Least survey.observations survey.benchmarks survey.weights others
+        × ((point : List ℕ)
+        × Contains (points_of survey) point
+        × (unsigned_abs (others point -ℤ truth point) ≡ unsigned_abs error)) }
 {}
 
 /// A mistake that the sights of one station share drags points along if their control is below
-/// their weight.
+/// their weight, whether others are blamed or nothing checks it.
 ///
 /// Best heights never leave all such sights with the same residual other than 0. So if they all err
 /// by the same amount from the true heights, best heights are not the true ones, whatever the
@@ -228,6 +284,206 @@ pub fn shared_mistake_drags()
         → Least observations benchmarks weights heights
         → All (λ point. heights point ≡ truth point) (points observations benchmarks)
         → ⊥ }
+    ensures agrees_by_word { (survey : Survey) (heights : List ℕ → ℤ) (group : Observed → Bool)
+        (mistake : SharedMistake) (station : List ℕ) (error : ℤ)
+        → IsSharedMistake survey group mistake
+        → mistake ≢ Shows
+        → mistake ≢ Ties
+        → All (λ o. group o ≡ true → o.station ≡ station) survey.observations
+        → All (λ o. group o ≡ true → residual o heights ≡ error) survey.observations
+        → Least survey.observations survey.benchmarks survey.weights heights
+        → error ≡ pos 0 }
+    ensures drags_by_word { (survey : Survey) (truth heights : List ℕ → ℤ)
+        (group : Observed → Bool) (mistake : SharedMistake) (station : List ℕ) (error : ℤ)
+        → IsSharedMistake survey group mistake
+        → mistake ≢ Shows
+        → mistake ≢ Ties
+        → All (λ o. group o ≡ true → o.station ≡ station) survey.observations
+        → All (λ o. group o ≡ true → residual o truth ≡ error) survey.observations
+        → error ≢ pos 0
+        → Least survey.observations survey.benchmarks survey.weights heights
+        → All (λ point. heights point ≡ truth point) (points_of survey)
+        → ⊥ }
+{}
+
+/// A mistake at a point that does not show moves a set of points by the whole mistake, and others
+/// are blamed for it.
+///
+/// All observations of a group err by the mistake, seen from the point, and all others fit the true
+/// heights exactly. If a least set is cut by the others with no more weight than by the group, the
+/// true heights, with that set moved by the mistake, are best. In these the others that cross the
+/// set have residuals as large as the mistake, and the rest of them have none; the group errs only
+/// where it does not cross.
+///
+/// There is a least set if some free set holds a point, and it is cut so unless the mistake shows.
+/// In a group of one observation, each set that its control is of is a least set, unless the control
+/// is above the weight.
+pub fn mistake_moves_a_least_set()
+    ensures least { (survey : Survey) (truth : List ℕ → ℤ) (group : Observed → Bool)
+        (inside : List ℕ → Bool) (point : List ℕ) (error : ℤ)
+        → IsLeastSet survey group inside
+        → rest survey group inside ≤ own survey group inside
+        → All (λ o. group o ≡ true → ErrsAt point error truth o) survey.observations
+        → IsHeights survey.benchmarks truth
+        → All (λ o. group o ≡ false → residual o truth ≡ pos 0) survey.observations
+        → Least survey.observations survey.benchmarks survey.weights
+        (moved inside (way (inside point) error) truth) }
+    ensures blames { (survey : Survey) (truth : List ℕ → ℤ) (group : Observed → Bool)
+        (inside : List ℕ → Bool) (point : List ℕ) (error : ℤ)
+        → All (λ o. group o ≡ true → ErrsAt point error truth o) survey.observations
+        → All (λ o. group o ≡ false → residual o truth ≡ pos 0) survey.observations
+        → All (λ o. group o ≡ false → crosses inside o ≡ true
+        → unsigned_abs (residual o (moved inside (way (inside point) error) truth))
+        ≡ unsigned_abs error) survey.observations
+        × All (λ o. group o ≡ false → crosses inside o ≡ false
+        → residual o (moved inside (way (inside point) error) truth) ≡ pos 0) survey.observations
+        × All (λ o. group o ≡ true → crosses inside o ≡ true
+        → residual o (moved inside (way (inside point) error) truth) ≡ pos 0) survey.observations
+        × All (λ o. group o ≡ true → crosses inside o ≡ false
+        → residual o (moved inside (way (inside point) error) truth)
+        ≡ residual o truth) survey.observations }
+    ensures found { (survey : Survey) (group : Observed → Bool) (inside : List ℕ → Bool)
+        → IsFreeWithPoint survey inside
+        → (other : List ℕ → Bool) × IsLeastSet survey group other }
+    ensures unshown { (survey : Survey) (group : Observed → Bool) (mistake : SharedMistake)
+        (inside : List ℕ → Bool)
+        → IsLeastSet survey group inside
+        → IsSharedMistake survey group mistake
+        → mistake ≢ Shows
+        → rest survey group inside ≤ own survey group inside }
+    ensures one { (survey : Survey) (group : Observed → Bool) (place : ℕ) (o : Observed)
+        (control : ℕ) (inside : List ℕ → Bool)
+        → IsOnly survey.observations group place
+        → slice_get survey.observations place ≡ Some o
+        → IsControl survey.observations survey.benchmarks survey.weights o control
+        → control ≤ weight_of survey.weights o.station o.target
+        → IsFreeSet survey.benchmarks inside
+        → crosses inside o ≡ true
+        → cut survey.observations survey.weights inside
+        ≡ control + weight_of survey.weights o.station o.target
+        → IsLeastSet survey group inside
+        × (rest survey group inside ≤ own survey group inside) }
+{}
+
+/// Nothing checks a mistake at a point if all of the group that shares it crosses a free set, and
+/// nothing else does. A group has such a set just where its control is 0.
+///
+/// Whatever the mistake, best heights move that set along, and all residuals stay as they were.
+pub fn shared_mistake_unchecked()
+    ensures unmarked { (observations : List Observed) (benchmarks : BenchmarkRows)
+        (weights : WeightRows) (heights : List ℕ → ℤ) (group : Observed → Bool)
+        (inside : List ℕ → Bool) (point : List ℕ) (error : ℤ)
+        → IsFreeSet benchmarks inside
+        → All (λ o. crosses inside o ≡ group o) observations
+        → All (λ o. group o ≡ true → (o.station ≡ point) ⊎ (o.target ≡ point)) observations
+        → Least observations benchmarks weights heights
+        → Least (map (erred group point error) observations) benchmarks weights
+        (moved inside (way (inside point) error) heights)
+        × All (λ o. residual (erred group point error o)
+        (moved inside (way (inside point) error) heights) ≡ residual o heights) observations }
+    ensures alone { (survey : Survey) (group : Observed → Bool) (inside : List ℕ → Bool)
+        → AreWeights survey.weights
+        → rest survey group inside ≡ 0
+        → own survey group inside ≡ weight_in survey.observations survey.weights group
+        → All (λ o. crosses inside o ≡ group o) survey.observations }
+    ensures by_word { (survey : Survey) (group : Observed → Bool)
+        → AreWeights survey.weights
+        → IsSharedMistake survey group Unchecked
+        → (inside : List ℕ → Bool)
+        × IsFreeSet survey.benchmarks inside
+        × All (λ o. crosses inside o ≡ group o) survey.observations }
+    ensures control { (survey : Survey) (group : Observed → Bool)
+        → IsGroupControl survey.observations survey.benchmarks survey.weights group 0
+        → (inside : List ℕ → Bool)
+        × IsFreeWithPoint survey inside
+        × (rest survey group inside ≡ 0)
+        × (own survey group inside ≡ weight_in survey.observations survey.weights group) }
+    ensures no_control { (survey : Survey) (group : Observed → Bool) (inside : List ℕ → Bool)
+        → IsFreeWithPoint survey inside
+        → rest survey group inside ≡ 0
+        → own survey group inside ≡ weight_in survey.observations survey.weights group
+        → IsGroupControl survey.observations survey.benchmarks survey.weights group 0 }
+{}
+
+/// A wrong height of a benchmark is a mistake that all observations with an end there share.
+///
+/// The table has the true heights, but for one benchmark, whose height it has wrong. If all
+/// observations fit the true heights exactly: where the mistake shows, best heights are the true
+/// ones at every other point, and each observation at the benchmark has the whole mistake as its
+/// residual; where it ties, these are best, but so are others; where it drags or nothing checks it,
+/// they are not best;
+/// where it does not show, a least set moves along with the benchmark. If they err (`near`), best
+/// heights are off by no more than the errors of those that have no end there allow.
+pub fn wrong_benchmark()
+    ensures shows { (survey : Survey) (truth heights : List ℕ → ℤ) (point : List ℕ) (error : ℤ)
+        → IsSharedMistake survey (has_end point) Shows
+        → IsOffAt survey.benchmarks point error truth
+        → All (λ o. o.station ≢ o.target) survey.observations
+        → All (λ o. residual o truth ≡ pos 0) survey.observations
+        → Least survey.observations survey.benchmarks survey.weights heights
+        → All (λ name. name ≢ point → heights name ≡ truth name) (points_of survey)
+        × All (λ o. (o.station ≡ point → residual o heights ≡ error)
+        × (o.target ≡ point → residual o heights ≡ pos 0 -ℤ error)
+        × (has_end point o ≡ false → residual o heights ≡ pos 0)) survey.observations }
+    ensures near { (survey : Survey) (truth heights : List ℕ → ℤ) (point : List ℕ) (error : ℤ)
+        (control : ℕ) (name : List ℕ)
+        → IsGroupControl survey.observations survey.benchmarks survey.weights (has_end point) control
+        → IsOffAt survey.benchmarks point error truth
+        → Least survey.observations survey.benchmarks survey.weights heights
+        → Contains (points_of survey) name
+        → name ≢ point
+        → unsigned_abs (heights name -ℤ truth name)
+        * (control - weight_in survey.observations survey.weights (has_end point))
+        ≤ 2 * cost_outside survey.observations survey.weights (has_end point) truth }
+    ensures ties { (survey : Survey) (truth : List ℕ → ℤ) (point : List ℕ) (error : ℤ)
+        → IsSharedMistake survey (has_end point) Ties
+        → IsOffAt survey.benchmarks point error truth
+        → All (λ o. residual o truth ≡ pos 0) survey.observations
+        → Least survey.observations survey.benchmarks survey.weights
+        (with_height point (truth point +ℤ error) truth) }
+    ensures ties_too { (survey : Survey) (truth : List ℕ → ℤ) (point : List ℕ) (error : ℤ)
+        → IsSharedMistake survey (has_end point) Ties
+        → IsOffAt survey.benchmarks point error truth
+        → All (λ o. o.station ≢ o.target) survey.observations
+        → All (λ o. residual o truth ≡ pos 0) survey.observations
+        → (others : List ℕ → ℤ)
+        × Least survey.observations survey.benchmarks survey.weights others
+        × ((name : List ℕ)
+        × Contains (points_of survey) name
+        × (name ≢ point)
+        × (unsigned_abs (others name -ℤ truth name) ≡ unsigned_abs error)) }
+    ensures drags { (survey : Survey) (truth heights : List ℕ → ℤ) (mistake : SharedMistake)
+        (point : List ℕ) (error : ℤ)
+        → IsSharedMistake survey (has_end point) mistake
+        → mistake ≢ Shows
+        → mistake ≢ Ties
+        → IsOffAt survey.benchmarks point error truth
+        → All (λ o. o.station ≢ o.target) survey.observations
+        → All (λ o. residual o truth ≡ pos 0) survey.observations
+        → error ≢ pos 0
+        → Least survey.observations survey.benchmarks survey.weights heights
+        → All (λ name. name ≢ point → heights name ≡ truth name) (points_of survey)
+        → ⊥ }
+    ensures moves { (survey : Survey) (truth : List ℕ → ℤ) (inside : List ℕ → Bool)
+        (point : List ℕ) (error : ℤ)
+        → IsLeastSet survey (has_end point) inside
+        → rest survey (has_end point) inside ≤ own survey (has_end point) inside
+        → IsOffAt survey.benchmarks point error truth
+        → All (λ o. o.station ≢ o.target) survey.observations
+        → All (λ o. residual o truth ≡ pos 0) survey.observations
+        → Least survey.observations survey.benchmarks survey.weights
+        (moved inside error (with_height point (truth point +ℤ error) truth)) }
+{}
+
+/// A group has a control if some free set holds a point. So a shared mistake does one of three
+/// things in each group, whether its control is known or not.
+pub fn group_has_a_control()
+    ensures control { (survey : Survey) (group : Observed → Bool) (inside : List ℕ → Bool)
+        → IsFreeWithPoint survey inside
+        → (control : ℕ)
+        × IsGroupControl survey.observations survey.benchmarks survey.weights group control }
+    ensures word { (survey : Survey) (group : Observed → Bool)
+        → (mistake : SharedMistake) × IsSharedMistake survey group mistake }
 {}
 
 /// The control of a group and its weight decide what a shared mistake does, and it does one thing

@@ -3,26 +3,35 @@
 //! The strength of a point bounds the weight of blunders that it withstands: anything below half of
 //! it. The control of an observation is the weight of the others that check it. `Reliability` finds
 //! both by least cuts over the network's vertices; `Mistake` says what a mistake does.
-//! `shared_mistakes` finds what a mistake does that all sights of one entry share. `specs/` has the
-//! definitions, and `laws` proves what they are for.
+//! `shared_mistakes` finds what a mistake does that all sights of one entry share. Where a mistake does
+//! not show, both say what it would move. `specs/` has the definitions, and `laws` proves what they are
+//! for.
 #![tactic(auto)]
 
 // The network as a graph.
 mod edges;
 
-// The least cuts of its points and of its observations.
+// What moves where a mistake does not show, and what is blamed, given which observations share it.
+mod blames;
+mod marks;
+
+// The least cuts of its points and of its observations, and what a mistake in one of these moves.
 mod controls;
+mod own_blames;
 mod strengths;
-// Both, from one cut tree.
+// All of them, from one cut tree.
 mod numbers;
 
 // The effect of a mistake, by control and weight.
 mod mistakes;
 
-// What a mistake in an entry would do: its sights, the bounds that their controls give, the graphs
-// in which the sights are turned round, and the least cuts of these.
+// What a mistake does that several observations share: their other ends, and a flow to these.
+mod effects;
+mod ground;
+mod targets;
+
+// Entries: their sights, and the bounds that the controls of these give.
 mod bounds;
-mod pulls;
 mod runs;
 mod shared;
 mod sights;
@@ -30,6 +39,8 @@ mod sights;
 // Laws of the definitions.
 pub mod laws;
 
+pub use blames::Blame;
+pub use effects::Effect;
 pub use mistakes::{Mistake, SharedMistake};
 pub use numbers::{Reliability, point_strengths};
 pub use runs::Runs;

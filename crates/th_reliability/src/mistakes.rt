@@ -1,6 +1,6 @@
 ghost use Rattle.std.specs.Prelude.{◌≡◌};
 ghost use Rattle.th_reliability.specs.Mistakes.{mistake_of};
-ghost use Rattle.th_reliability.specs.SharedMistakes.{shared_mistake_of, single_mistake_of, worse};
+ghost use Rattle.th_reliability.specs.SharedMistakes.{shared_mistake_of};
 
 /// The effect of a mistake in one observation.
 #[derive(Clone, Copy, Debug, PartialEq, Eq)]
@@ -15,15 +15,17 @@ pub enum Mistake {
     Unchecked,
 }
 
-/// The effect of a mistake that all sights of one entry share.
+/// The effect of a mistake that several observations share, as all sights of one entry do.
 #[derive(Clone, Copy, Debug, PartialEq, Eq)]
 pub enum SharedMistake {
-    /// The others outweigh the sights: each sight has the whole mistake as its residual.
+    /// The others outweigh them: each of them has the whole mistake as its residual.
     Shows,
     /// The others weigh just as much: the mistake may show, or drag points along.
     Ties,
     /// The others weigh less: the mistake moves points from their true heights.
     Drags,
+    /// Nothing checks them: the mistake moves points, and no residual changes at all.
+    Unchecked,
 }
 
 impl Mistake {
@@ -43,7 +45,7 @@ impl Mistake {
 }
 
 impl SharedMistake {
-    /// What a mistake does if sights with this control and weight share it.
+    /// What a mistake does if observations with this control and weight share it.
     pub fn of(control: u32, weight: u32) -> SharedMistake
         ensures { result ≡ shared_mistake_of control weight }
     {
@@ -51,29 +53,10 @@ impl SharedMistake {
             SharedMistake::Shows
         } else if control == weight {
             SharedMistake::Ties
+        } else if control == 0 {
+            SharedMistake::Unchecked
         } else {
             SharedMistake::Drags
-        }
-    }
-
-    /// What a mistake does in an entry that serves one observation alone, with this control and weight.
-    pub(crate) fn of_one(control: Option<u32>, weight: u32) -> SharedMistake
-        ensures { result ≡ single_mistake_of control weight }
-    {
-        match control {
-            None => SharedMistake::Shows,
-            Some(control) => SharedMistake::of(control, weight),
-        }
-    }
-
-    /// The worse of two: dragging is worse than a tie, and a tie worse than showing.
-    pub(crate) fn worse(self, other: SharedMistake) -> SharedMistake
-        ensures { result ≡ worse self other }
-    {
-        match (self, other) {
-            (SharedMistake::Drags, _) | (_, SharedMistake::Drags) => SharedMistake::Drags,
-            (SharedMistake::Ties, _) | (_, SharedMistake::Ties) => SharedMistake::Ties,
-            (SharedMistake::Shows, SharedMistake::Shows) => SharedMistake::Shows,
         }
     }
 }

@@ -1,8 +1,9 @@
 //! Where the sights of an entry are among the observations of a network.
-ghost use Rattle.std.specs.Prelude.{◌≡◌, ◌≤◌, ◌↔◌, false, length, true};
+ghost use Rattle.std.specs.Prelude.{◌≡◌, ◌≤◌, ◌↔◌, All, false, length, true};
 ghost use Rattle.std.specs.List.Sorted.{IsPartitionPoint};
 ghost use Rattle.th_reliability.specs.Blunders.{weight_in};
-ghost use Rattle.th_reliability.specs.Inside.Runs.{AreInOrder, HoldsSights, is_before};
+ghost use Rattle.th_reliability.specs.Inside.Runs.{AreInOrder, is_before};
+ghost use Rattle.th_reliability.specs.Runs.{HoldsSights};
 ghost use Rattle.th_reliability.specs.Sights.{in_sights};
 
 use crate::sights::Sights;
@@ -45,9 +46,28 @@ impl<'a> Runs<'a> {
         sum
     }
 
-    /// From where to where the sights are, counted from 0. Where the observations are not in order,
-    /// that is all of them.
-    pub(crate) fn run_of(&self, sights: &Sights) -> (usize, usize)
+    /// Whether two entries have the same sights.
+    pub(crate) fn are_same(&self, first: &Sights, second: &Sights) -> bool
+        ensures { result ≡ true
+            → All (λ o. in_sights first.now o ≡ in_sights second.now o) self.now.observations.now }
+    {
+        let observations = self.observations;
+        let (start, end) = self.run_of(first);
+        let (other_start, other_end) = self.run_of(second);
+        if start != other_start || end != other_end {
+            return false;
+        }
+        for i in start..end {
+            if first.hold(&observations[i]) != second.hold(&observations[i]) {
+                return false;
+            }
+        }
+        true
+    }
+
+    /// From where to where the sights are, counted from 0: up to the second place, without it. Where
+    /// the observations are not in order, that is all of them.
+    pub fn run_of(&self, sights: &Sights) -> (usize, usize)
         ensures { HoldsSights self.now.observations.now sights.now result }
     {
         let observations = self.observations;

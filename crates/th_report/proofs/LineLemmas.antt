@@ -29,11 +29,6 @@ no_lines = record { behind = refl }
 pub more_lines : (front back : List ℕ) → IsTidy front → IsTidy back → IsTidy (front ++ back)
 more_lines front back h k = record { behind = tidy_behind-append 10 front back h.behind k.behind }
 
--- the lines of rows, each of which is tidy
-pub lines_of_rows : {X : Type 0} → (line : X → List ℕ) → ((x : X) → IsTidy (line x)) → (xs : List X) → IsTidy (flat_map line xs)
-lines_of_rows line each [] = no_lines
-lines_of_rows line each (x ∷ xs) = more_lines (line x) (flat_map line xs) (each x) (lines_of_rows line each xs)
-
 ended : (last : ℕ) (front text : List ℕ) → IsTidyBehind last text → text ≢ [] → (lines : List ℕ) × (text ≡ lines ++ 10 ∷ [])
 ended last front [] h some = absurd (some refl)
 ended last front (byte ∷ []) h some = ([], ap (λ byte. byte ∷ []) h.1)

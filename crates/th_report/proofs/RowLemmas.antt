@@ -22,10 +22,6 @@ module _ {X : Type 0} (line : X → List ℕ) where
       ∙ ap (λ rows. text ++ flat_map line rows) (sym first)
       ∙ so_far
 
-  -- no row is left
-  pub finished : (left : List X) (text all : List ℕ) → left ≡ [] → text ++ flat_map line left ≡ all → text ≡ all
-  finished left text all none so_far = sym (append-nil text) ∙ ap (λ rows. text ++ flat_map line rows) (sym none) ∙ so_far
-
 -- the rows from a place on
 pub drop-first : {X : Type 0} → (xs : List X) (k : ℕ) (x : X) → k < length xs → x ≡ get_or xs k x → drop k xs ≡ x ∷ drop (k + 1) xs
 drop-first xs k x within is = drop_more xs k x within ∙ ap (λ first. first ∷ drop (k + 1) xs) (sym is)

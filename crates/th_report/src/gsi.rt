@@ -63,7 +63,7 @@ fn block_of<'a>(first: &Word<'a>, second: &Word<'a>) -> Block<'a>
 }
 
 /// The word with these parts, which is spelled in GSI-16.
-fn word_of<'a>(index: u8, info: [u8; 4], negative: bool, body: &'a [u8]) -> Word<'a>
+pub fn word_of<'a>(index: u8, info: [u8; 4], negative: bool, body: &'a [u8]) -> Word<'a>
     requires { let word = parts index info negative body.now in
         Spells word (spelling_of word) Sixteen }
     ensures parts { parts_of result ≡ parts index info negative body.now }
@@ -76,7 +76,7 @@ fn word_of<'a>(index: u8, info: [u8; 4], negative: bool, body: &'a [u8]) -> Word
 }
 
 /// The word 11 of a point's number and of its name in 16 bytes.
-fn number_word<'a>(number: u64, name: &'a [u8; 16]) -> Word<'a>
+pub fn number_word<'a>(number: u64, name: &'a [u8; 16]) -> Word<'a>
     requires { list_all is_data name.now ≡ true }
     ensures parts { parts_of result ≡ parts 11 (last_digits 4 number) false name.now }
     ensures spelled { Spells (parts_of result) (spelling_of (parts_of result)) Sixteen }
@@ -94,7 +94,7 @@ fn height_word<'a>(negative: bool, digits: &'a [u8; 16]) -> Word<'a>
 }
 
 /// A name with zeros before it, in the data of a word.
-fn padded_name(name: &Name) -> [u8; 16]
+pub fn padded_name(name: &Name) -> [u8; 16]
     ensures value { result ≡ padded_name name.now }
     ensures data { list_all is_data result ≡ true }
 {
@@ -105,7 +105,7 @@ fn padded_name(name: &Name) -> [u8; 16]
 }
 
 /// The last `N` digits of a number, with zeros before a shorter number.
-fn last_digits<const N: usize>(number: u64) -> [u8; N]
+pub fn last_digits<const N: usize>(number: u64) -> [u8; N]
     ensures value { result ≡ last_digits N number }
     ensures data { list_all is_data result ≡ true }
 {

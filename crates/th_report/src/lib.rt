@@ -24,9 +24,9 @@ mod reports;
 // Laws of the definitions.
 pub mod laws;
 
-// For texts of other crates: columns, label lines, and the columns of observations.
+// For texts of other crates: columns, label lines, the columns of observations, and words of GSI-16.
 pub use columns::{LINE, Page};
-pub use gsi::heights_gsi;
+pub use gsi::{heights_gsi, last_digits, number_word, padded_name, word_of};
 pub use heads::{benchmark_count, write_count, write_label, write_limit};
 pub use heights::heights_csv;
 pub use lists::list_text;

@@ -55,6 +55,7 @@ abbrev pub is_weak : SharedMistake → Bool
 is_weak shared.Shows = false
 is_weak shared.Ties = true
 is_weak shared.Drags = true
+is_weak shared.Unchecked = true
 
 -- the counts of observations whose mistake is unchecked, hides or ties
 unfoldable pub mistake_lines : List ObservationRow → List ℕ
@@ -67,7 +68,7 @@ mistake_lines observations =
 unfoldable pub entry_count_lines : List EntryRow → List ℕ
 entry_count_lines entries =
     label_line (codes "entries") (decimal (length entries))
-    ++ label_line (codes "weak entries") (decimal (count_by (λ row. is_weak row.mistake) entries))
+    ++ label_line (codes "weak entries") (decimal (count_by (λ row. is_weak row.effect.mistake) entries))
 
 -- the lesser of two strengths, of which one may be missing
 abbrev pub lesser : Option ℕ → Option ℕ → Option ℕ

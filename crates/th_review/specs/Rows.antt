@@ -9,7 +9,8 @@ use Rattle.th_entries.specs.declared.entries.Entry.{Entry}
 use Rattle.th_reliability.specs.Blunders.{weight_in}
 use Rattle.th_reliability.specs.Mistakes.{mistake_of}
 use Rattle.th_reliability.specs.Sights.{in_sights}
-use Rattle.th_reliability.specs.declared.mistakes.SharedMistake.{SharedMistake}
+use Rattle.th_reliability.specs.declared.blames.Blame.{Blame}
+use Rattle.th_reliability.specs.declared.effects.Effect.{Effect}
 use Rattle.th_review.specs.Entries.{sights_of}
 use Rattle.th_review.specs.declared.rows.PointRow.{PointRow}
 use Rattle.th_review.specs.declared.rows.ObservationRow.{ObservationRow}
@@ -33,31 +34,32 @@ point_row low high (name, (strength, unit_strength)) = point_row_of name (low na
 abbrev pub point_rows : Survey → (List ℕ → ℤ) → (List ℕ → ℤ) → List (Option ℕ) → List (Option ℕ) → List PointRow
 point_rows survey low high strengths unit_strengths = map (point_row low high) (zip (points_of survey) (zip strengths unit_strengths))
 
--- the row of an observation, given its number, weight, residual and control
-abbrev pub observation_row_of : ℕ → Observed → ℕ → ℤ → Option ℕ → ObservationRow
-observation_row_of number o weight residual control =
-    record { number = number; observation = o; weight = weight; residual = residual; control = control; mistake = mistake_of control weight }
+-- the row of an observation, given its number, weight, residual and control, and what a mistake in it would move
+abbrev pub observation_row_of : ℕ → Observed → ℕ → ℤ → Option ℕ → Option Blame → ObservationRow
+observation_row_of number o weight residual control blame =
+    record { number = number; observation = o; weight = weight; residual = residual; control = control; mistake = mistake_of control weight; blame = blame }
 
 -- the row of an observation, given the table of weights
-abbrev pub observation_row : WeightRows → ℕ × (Observed × (ℤ × Option ℕ)) → ObservationRow
-observation_row weights (number, (o, (residual, control))) = observation_row_of number o (weight_of weights o.station o.target) residual control
+abbrev pub observation_row : WeightRows → ℕ × (Observed × (ℤ × (Option ℕ × Option Blame))) → ObservationRow
+observation_row weights (number, (o, (residual, (control, blame)))) = observation_row_of number o (weight_of weights o.station o.target) residual control blame
 
--- the rows of observations with these residuals and controls, numbered from 1
-abbrev pub rows_of : Survey → List ℤ → List (Option ℕ) → List ObservationRow
-rows_of survey residuals controls = map (observation_row survey.weights) (enumerate_from 1 (zip survey.observations (zip residuals controls)))
+-- the rows of observations with these residuals, controls and moves, numbered from 1
+abbrev pub rows_of : Survey → List ℤ → List (Option ℕ) → List (Option Blame) → List ObservationRow
+rows_of survey residuals controls blames = map (observation_row survey.weights) (enumerate_from 1 (zip survey.observations (zip residuals (zip controls blames))))
 
--- the rows of the observations, with their residuals at the lowest best heights and their controls; observations and controls are in the same order
-abbrev pub observation_rows : Survey → (List ℕ → ℤ) → List (Option ℕ) → List ObservationRow
-observation_rows survey low controls = rows_of survey (residuals survey.observations low) controls
+-- the rows of the observations, with their residuals at the lowest best heights, their controls, and what a mistake in each would move, which are
+-- in the same order
+abbrev pub observation_rows : Survey → (List ℕ → ℤ) → List (Option ℕ) → List (Option Blame) → List ObservationRow
+observation_rows survey low controls blames = rows_of survey (residuals survey.observations low) controls blames
 
 -- the weight of an entry: the sum of the weights of its sights
 abbrev pub entry_weight : Survey → Entry → ℕ
 entry_weight survey entry = weight_in survey.observations survey.weights (in_sights (sights_of entry))
 
 -- the row of an entry, given what a mistake in it would do
-abbrev pub entry_row : Survey → Entry × SharedMistake → EntryRow
-entry_row survey (entry, mistake) = record { entry = entry; weight = entry_weight survey entry; mistake = mistake }
+abbrev pub entry_row : Survey → Entry × Effect → EntryRow
+entry_row survey (entry, effect) = record { entry = entry; weight = entry_weight survey entry; effect = effect }
 
--- the rows of entries, in their order, as are the mistakes
-abbrev pub entry_rows : Survey → List Entry → List SharedMistake → List EntryRow
-entry_rows survey entries mistakes = map (entry_row survey) (zip entries mistakes)
+-- the rows of entries, in their order, as are the effects
+abbrev pub entry_rows : Survey → List Entry → List Effect → List EntryRow
+entry_rows survey entries effects = map (entry_row survey) (zip entries effects)

@@ -3,7 +3,7 @@ use Rattle.std.specs.Prelude.{ℕ, List, [], ◌∷◌, Option, None, Some, code
 use Rattle.th_units.specs.Metres.{metres}
 use Rattle.th_csv.specs.Records.{Fields}
 use Rattle.th_csv.specs.Texts.{csv_text}
-use Rattle.th_review.specs.Words.{mistake_word, shared_mistake_word, kind_word}
+use Rattle.th_review.specs.Words.{blamed_of, blames_of, kind_word, mistake_word, moves_of, shared_mistake_word}
 use Rattle.th_review.specs.declared.rows.PointRow.{PointRow}
 use Rattle.th_review.specs.declared.rows.ObservationRow.{ObservationRow}
 use Rattle.th_review.specs.declared.rows.EntryRow.{EntryRow}
@@ -25,26 +25,28 @@ abbrev pub points_text : List PointRow → List ℕ
 points_text rows = csv_text (points_header ∷ map point_record rows)
 
 unfoldable pub observations_header : Fields
-observations_header = codes "number" ∷ codes "book" ∷ codes "line" ∷ codes "from" ∷ codes "to" ∷ codes "difference" ∷ codes "weight" ∷ codes "residual" ∷ codes "control" ∷ codes "mistake" ∷ []
+observations_header = codes "number" ∷ codes "book" ∷ codes "line" ∷ codes "from" ∷ codes "to" ∷ codes "difference" ∷ codes "weight" ∷ codes "residual" ∷ codes "control" ∷ codes "mistake" ∷ codes "moves" ∷ codes "blames" ∷ codes "blamed" ∷ []
 
 -- the fields of an observation
 unfoldable pub observation_record : ObservationRow → Fields
 observation_record row =
     decimal row.number ∷ decimal row.observation.book ∷ decimal row.observation.line ∷ row.observation.station ∷ row.observation.target ∷ metres row.observation.difference
-    ∷ decimal row.weight ∷ metres row.residual ∷ number_field row.control ∷ mistake_word row.mistake ∷ []
+    ∷ decimal row.weight ∷ metres row.residual ∷ number_field row.control ∷ mistake_word row.mistake
+    ∷ number_field (moves_of row.blame) ∷ number_field (blames_of row.blame) ∷ number_field (blamed_of row.blame) ∷ []
 
 -- the text of the table of observations
 abbrev pub observations_text : List ObservationRow → List ℕ
 observations_text rows = csv_text (observations_header ∷ map observation_record rows)
 
-abbrev pub entries_header : Fields
-entries_header = codes "book" ∷ codes "line" ∷ codes "word" ∷ codes "station" ∷ codes "length" ∷ codes "sights" ∷ codes "weight" ∷ codes "mistake" ∷ []
+unfoldable pub entries_header : Fields
+entries_header = codes "book" ∷ codes "line" ∷ codes "word" ∷ codes "station" ∷ codes "length" ∷ codes "sights" ∷ codes "weight" ∷ codes "mistake" ∷ codes "moves" ∷ codes "blames" ∷ codes "blamed" ∷ []
 
 -- the fields of an entry
-abbrev pub entry_record : EntryRow → Fields
+unfoldable pub entry_record : EntryRow → Fields
 entry_record row =
     decimal row.entry.book ∷ decimal row.entry.line ∷ kind_word row.entry.kind ∷ row.entry.station ∷ metres row.entry.length
-    ∷ decimal row.entry.sights ∷ decimal row.weight ∷ shared_mistake_word row.mistake ∷ []
+    ∷ decimal row.entry.sights ∷ decimal row.weight ∷ shared_mistake_word row.effect.mistake
+    ∷ number_field (moves_of row.effect.blame) ∷ number_field (blames_of row.effect.blame) ∷ number_field (blamed_of row.effect.blame) ∷ []
 
 -- the text of the table of entries
 abbrev pub entries_text : List EntryRow → List ℕ

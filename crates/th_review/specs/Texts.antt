@@ -3,7 +3,8 @@ use Rattle.std.specs.Prelude.{◌≡◌, ℕ, ℤ, List, Option}
 use Rattle.th_network.specs.Networks.{Survey}
 use Rattle.th_entries.specs.declared.reviews.BookReview.{BookReview}
 use Rattle.th_entries.specs.declared.spellings.Spelling.{Spelling}
-use Rattle.th_reliability.specs.declared.mistakes.SharedMistake.{SharedMistake}
+use Rattle.th_reliability.specs.declared.blames.Blame.{Blame}
+use Rattle.th_reliability.specs.declared.effects.Effect.{Effect}
 use Rattle.th_notes.specs.Books.{counts_of_books}
 use Rattle.th_notes.specs.Findings.{notes_of}
 use Rattle.th_review.specs.Entries.{entries_of}
@@ -14,19 +15,21 @@ use Rattle.th_review.specs.declared.texts.Findings.{Findings}
 use Rattle.th_review.specs.declared.texts.ReviewTexts.{ReviewTexts}
 
 -- what was found about a survey: for each point its strength, and its strength if all weights are 1;
--- for each observation its control; for each entry what a mistake in it would do
+-- for each observation its control, and what a mistake in it would move; for each entry what a mistake in it would do
 pub record Found : Type 0 where
   pub strengths : List (Option ℕ)
   pub unit_strengths : List (Option ℕ)
   pub controls : List (Option ℕ)
-  pub mistakes : List SharedMistake
+  pub blames : List (Option Blame)
+  pub effects : List Effect
 
 abbrev pub found_in : Findings → Found
 found_in findings = record {
   strengths = findings.strengths.items;
   unit_strengths = findings.unit_strengths.items;
   controls = findings.controls.items;
-  mistakes = findings.mistakes.items;
+  blames = findings.blames.items;
+  effects = findings.effects.items;
 }
 
 -- the bytes of the texts of a review
@@ -48,10 +51,10 @@ bytes_of texts = record {
 -- the books, the names that are spelled in more than one way, and the limit of blunders
 pub record AreReviewTexts (survey : Survey) (low high : List ℕ → ℤ) (found : Found) (books : List BookReview) (spellings : List Spelling) (limit : ℤ) (texts : ReviewOutTexts) : Type 0 where
   pub points : texts.points ≡ points_text (point_rows survey low high found.strengths found.unit_strengths)
-  pub observations : texts.observations ≡ observations_text (observation_rows survey low found.controls)
-  pub entries : texts.entries ≡ entries_text (entry_rows survey (entries_of books) found.mistakes)
+  pub observations : texts.observations ≡ observations_text (observation_rows survey low found.controls found.blames)
+  pub entries : texts.entries ≡ entries_text (entry_rows survey (entries_of books) found.effects)
   pub review : texts.review ≡ review_text survey
       (point_rows survey low high found.strengths found.unit_strengths)
-      (observation_rows survey low found.controls)
-      (entry_rows survey (entries_of books) found.mistakes)
+      (observation_rows survey low found.controls found.blames)
+      (entry_rows survey (entries_of books) found.effects)
       (counts_of_books books) (notes_of survey books spellings) limit

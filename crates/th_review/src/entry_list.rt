@@ -7,7 +7,7 @@ use crate::rows::EntryRow;
 use std::alloc::{AllocError, Global};
 use th_entries::Entry;
 use th_network::Network;
-use th_reliability::{Runs, SharedMistake};
+use th_reliability::{Effect, Runs};
 
 /// The rows of entries, with what a mistake in each would do, listed in the order of the entries.
 ///
@@ -17,10 +17,10 @@ pub(crate) fn entry_rows(
     alloc: Global,
     network: &Network,
     entries: &[Entry],
-    mistakes: &[SharedMistake],
+    effects: &[Effect],
 ) -> Result<Vec<EntryRow>, AllocError>
-    requires { length mistakes.now ≡ length entries.now }
-    ensures { IfOk result (λ rows. rows.items ≡ entry_rows network.now entries.now mistakes.now) }
+    requires { length effects.now ≡ length entries.now }
+    ensures { IfOk result (λ rows. rows.items ≡ entry_rows network.now entries.now effects.now) }
 {
     let runs = Runs::of(network.observations());
     let mut rows = Vec::with_capacity(alloc, entries.len())?;
@@ -28,7 +28,7 @@ pub(crate) fn entry_rows(
         rows.push(EntryRow {
             entry: *entry,
             weight: entry_weight(network, &runs, entry),
-            mistake: mistakes[k],
+            effect: effects[k],
         })?;
     }
     Ok(rows)

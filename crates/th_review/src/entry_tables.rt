@@ -3,8 +3,9 @@ ghost use Rattle.std.specs.Prelude.{◌≡◌, ◌++◌, OnOk, decimal};
 ghost use Rattle.std.specs.List.{flat_map};
 ghost use Rattle.th_units.specs.Metres.{metres};
 ghost use Rattle.th_review.specs.Reviews.{entry_line, entry_lines, entry_places, entry_values};
-ghost use Rattle.th_review.specs.Words.{kind_word, shared_mistake_mark};
+ghost use Rattle.th_review.specs.Words.{kind_word};
 
+use crate::moves::{write_moved, write_moved_columns};
 use crate::rows::EntryRow;
 use crate::words::{kind_word, shared_mistake_mark};
 use itoa::Buffer;
@@ -19,7 +20,8 @@ pub(crate) fn write_entries(page: &mut Page, entries: &[EntryRow]) -> Result<(),
     ensures { OnOk result (page.new ≡ page.old ++ entry_lines entries.now) }
 {
     write_place_columns(page, b"BK", b"LINE", b"WORD", b"STATION")?;
-    write_value_columns(page, b"LENGTH", b"SIGHTS", b"WEIGHT", b"")?;
+    write_value_columns(page, b"LENGTH", b"SIGHTS", b"WEIGHT")?;
+    write_moved_columns(page, b"MOVES", b"BLAMES", b"")?;
     write_rows(page, entries)
 }
 
@@ -39,7 +41,12 @@ fn write_entry(page: &mut Page, row: &EntryRow) -> Result<(), AllocError>
     ensures { OnOk result (page.new ≡ page.old ++ entry_line row.now) }
 {
     write_place(page, &row.entry)?;
-    write_values(page, row)
+    write_values(page, row)?;
+    write_moved(
+        page,
+        row.effect.blame,
+        shared_mistake_mark(&row.effect.mistake),
+    )
 }
 
 /// Writes which entry it is.
@@ -58,11 +65,10 @@ fn write_place(page: &mut Page, entry: &Entry) -> Result<(), AllocError>
     )
 }
 
-/// Writes an entry's length, sights and weight, and its mark.
+/// Writes an entry's length, sights and weight.
 fn write_values(page: &mut Page, row: &EntryRow) -> Result<(), AllocError>
     ensures { OnOk result (page.new ≡ page.old ++ entry_values (metres row.now.entry.length)
-        (decimal row.now.entry.sights) (decimal row.now.weight)
-        (shared_mistake_mark row.now.mistake)) }
+        (decimal row.now.entry.sights) (decimal row.now.weight)) }
 {
     let length = metre_text(row.entry.length.get());
     let mut sights = Buffer::new();
@@ -72,7 +78,6 @@ fn write_values(page: &mut Page, row: &EntryRow) -> Result<(), AllocError>
         length.as_bytes(),
         sights.format(row.entry.sights).as_bytes(),
         weight.format(row.weight).as_bytes(),
-        shared_mistake_mark(&row.mistake),
     )
 }
 
@@ -95,21 +100,17 @@ fn write_place_columns(
     page.left_gap(16, station)
 }
 
-/// Writes the other columns of entries.
+/// Writes the columns of a length, a number of sights and a weight.
 #[tactic(auto, unfolding(crate::specs::Reviews::entry_values))]
 fn write_value_columns(
     page: &mut Page,
     length: &[u8],
     sights: &[u8],
     weight: &[u8],
-    mark: &[u8],
 ) -> Result<(), AllocError>
-    ensures { OnOk result (page.new
-        ≡ page.old ++ entry_values length.now sights.now weight.now mark.now) }
+    ensures { OnOk result (page.new ≡ page.old ++ entry_values length.now sights.now weight.now) }
 {
     page.right(20, length)?;
     page.gap_right(6, sights)?;
-    page.gap_right(8, weight)?;
-    page.add(mark)?;
-    page.end_line()
+    page.gap_right(8, weight)
 }

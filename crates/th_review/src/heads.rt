@@ -121,11 +121,11 @@ fn write_entry_counts(page: &mut Page, entries: &[EntryRow]) -> Result<(), Alloc
 
 /// How many entries have a mistake that may not show.
 fn weak_count(entries: &[EntryRow]) -> usize
-    ensures { result ≡ count_by (λ row. is_weak row.mistake) entries.now }
+    ensures { result ≡ count_by (λ row. is_weak row.effect.mistake) entries.now }
 {
     let mut count = 0;
     for row in entries {
-        if !matches!(row.mistake, SharedMistake::Shows) {
+        if !matches!(row.effect.mistake, SharedMistake::Shows) {
             count += 1;
         }
     }

@@ -24,6 +24,7 @@ mod book_tables;
 mod entry_tables;
 mod heads;
 mod largest;
+mod moves;
 mod observation_tables;
 mod point_tables;
 // A part uses those before it in the review.

@@ -3,9 +3,10 @@ ghost use Rattle.std.specs.Prelude.{◌≡◌, ◌++◌, OnOk, decimal};
 ghost use Rattle.std.specs.List.{flat_map};
 ghost use Rattle.th_units.specs.Metres.{metres};
 ghost use Rattle.th_review.specs.Words.{number_or_dash};
-ghost use Rattle.th_review.specs.Reviews.{checked_columns, largest_line, largest_lines, marked_line, observation_header, observation_line, observation_lines};
+ghost use Rattle.th_review.specs.Reviews.{checked_columns, checked_header, checked_line, largest_line, largest_lines, observation_line, observation_lines};
 
 use crate::largest::largest;
+use crate::moves::{write_moved, write_moved_columns};
 use crate::rows::ObservationRow;
 use crate::words::{mistake_mark, number_or_dash};
 use itoa::Buffer;
@@ -31,6 +32,7 @@ pub(crate) fn write_largest(
     write_count(page, b"largest", rows.len())?;
     write_limit(page, limit)?;
     write_header(page)?;
+    page.end_line()?;
     write_largest_rows(page, &rows, limit)
 }
 
@@ -53,7 +55,9 @@ fn write_largest_rows(
 fn write_largest_row(page: &mut Page, row: &ObservationRow, limit: i64) -> Result<(), AllocError>
     ensures { OnOk result (page.new ≡ page.old ++ largest_line limit row.now) }
 {
-    write_marked(page, row, blunder_mark(row.residual, limit))
+    write_checked(page, row)?;
+    page.add(blunder_mark(row.residual, limit))?;
+    page.end_line()
 }
 
 /// Writes the table of observations.
@@ -65,6 +69,7 @@ pub(crate) fn write_observations(
     ensures { OnOk result (page.new ≡ page.old ++ observation_lines observations.now) }
 {
     write_header(page)?;
+    write_moved_columns(page, b"MOVES", b"BLAMES", b"")?;
     write_rows(page, observations)
 }
 
@@ -83,33 +88,34 @@ fn write_rows(page: &mut Page, observations: &[ObservationRow]) -> Result<(), Al
 fn write_observation(page: &mut Page, row: &ObservationRow) -> Result<(), AllocError>
     ensures { OnOk result (page.new ≡ page.old ++ observation_line row.now) }
 {
-    write_marked(page, row, mistake_mark(&row.mistake))
+    write_checked(page, row)?;
+    write_moved(page, row.blame, mistake_mark(&row.mistake))
 }
 
-/// Writes the names of the columns.
-#[tactic(auto, unfolding(crate::specs::Reviews::observation_header))]
+/// Writes the names of the columns that both tables have.
+#[tactic(auto, unfolding(crate::specs::Reviews::checked_header))]
 fn write_header(page: &mut Page) -> Result<(), AllocError>
-    ensures { OnOk result (page.new ≡ page.old ++ observation_header) }
+    ensures { OnOk result (page.new ≡ page.old ++ checked_header) }
 {
     write_place_columns(page, b"NO", b"BK", b"LINE")?;
     write_end_columns(page, b"FROM", b"TO")?;
-    write_columns(page, b"WT", b"RESIDUAL", b"CONTROL", b"")
+    write_columns(page, b"WT", b"RESIDUAL", b"CONTROL")
 }
 
-/// Writes the line of an observation with a mark.
-#[tactic(auto, unfolding(crate::specs::Reviews::marked_line))]
-fn write_marked(page: &mut Page, row: &ObservationRow, mark: &[u8]) -> Result<(), AllocError>
-    ensures { OnOk result (page.new ≡ page.old ++ marked_line mark.now row.now) }
+/// Writes what both tables have of an observation's line.
+#[tactic(auto, unfolding(crate::specs::Reviews::checked_line))]
+fn write_checked(page: &mut Page, row: &ObservationRow) -> Result<(), AllocError>
+    ensures { OnOk result (page.new ≡ page.old ++ checked_line row.now) }
 {
     write_place(page, u64::from(row.number), &row.observation)?;
     write_ends(page, &row.observation)?;
-    write_checked(page, row, mark)
+    write_values(page, row)
 }
 
-/// Writes an observation's weight, residual and control, and a mark.
-fn write_checked(page: &mut Page, row: &ObservationRow, mark: &[u8]) -> Result<(), AllocError>
+/// Writes an observation's weight, residual and control.
+fn write_values(page: &mut Page, row: &ObservationRow) -> Result<(), AllocError>
     ensures { OnOk result (page.new ≡ page.old ++ checked_columns (decimal row.now.weight)
-        (metres row.now.residual) (number_or_dash row.now.control) mark.now) }
+        (metres row.now.residual) (number_or_dash row.now.control)) }
 {
     let mut weight = Buffer::new();
     let residual = metre_text(row.residual);
@@ -119,25 +125,21 @@ fn write_checked(page: &mut Page, row: &ObservationRow, mark: &[u8]) -> Result<(
         weight.format(row.weight).as_bytes(),
         residual.as_bytes(),
         number_or_dash(&mut control, row.control),
-        mark,
     )
 }
 
-/// Writes the last columns.
+/// Writes the columns of a weight, a residual and a control.
 #[tactic(auto, unfolding(crate::specs::Reviews::checked_columns))]
 fn write_columns(
     page: &mut Page,
     weight: &[u8],
     residual: &[u8],
     control: &[u8],
-    mark: &[u8],
 ) -> Result<(), AllocError>
     ensures { OnOk result (page.new
-        ≡ page.old ++ checked_columns weight.now residual.now control.now mark.now) }
+        ≡ page.old ++ checked_columns weight.now residual.now control.now) }
 {
     page.right(4, weight)?;
     page.gap_right(20, residual)?;
-    page.gap_right(8, control)?;
-    page.add(mark)?;
-    page.end_line()
+    page.gap_right(8, control)
 }

@@ -1,19 +1,24 @@
 //! The table of points.
 ghost use Rattle.std.specs.Prelude.{◌≡◌, ◌++◌, OnOk, option_map};
 ghost use Rattle.std.specs.List.{flat_map};
-ghost use Rattle.th_review.specs.Reviews.{point_columns, point_line, point_lines, withstood};
+ghost use Rattle.th_review.specs.Reviews.{largest_weight, point_columns, point_line, point_lines, withstood};
 
 use crate::rows::PointRow;
 use crate::words::{number_or_dash, point_mark};
 use itoa::Buffer;
 use std::alloc::AllocError;
+use th_network::Network;
 use th_report::Page;
 use th_units::metre_text;
 
-/// Writes the table of points.
+/// Writes the table of points, given the largest weight of the observations.
 #[tactic(auto, unfolding(crate::specs::Reviews::point_lines))]
-pub(crate) fn write_points(page: &mut Page, points: &[PointRow]) -> Result<(), AllocError>
-    ensures { OnOk result (page.new ≡ page.old ++ point_lines points.now) }
+pub(crate) fn write_points(
+    page: &mut Page,
+    points: &[PointRow],
+    largest: u32,
+) -> Result<(), AllocError>
+    ensures { OnOk result (page.new ≡ page.old ++ point_lines largest points.now) }
 {
     write_columns(
         page,
@@ -24,23 +29,23 @@ pub(crate) fn write_points(page: &mut Page, points: &[PointRow]) -> Result<(), A
         b"WITHSTANDS",
         b"",
     )?;
-    write_rows(page, points)
+    write_rows(page, points, largest)
 }
 
 /// Writes the line of each point.
-fn write_rows(page: &mut Page, points: &[PointRow]) -> Result<(), AllocError>
-    ensures { OnOk result (page.new ≡ page.old ++ flat_map point_line points.now) }
+fn write_rows(page: &mut Page, points: &[PointRow], largest: u32) -> Result<(), AllocError>
+    ensures { OnOk result (page.new ≡ page.old ++ flat_map (point_line largest) points.now) }
 {
     for row in points {
-        write_point(page, row)?;
+        write_point(page, row, largest)?;
     }
     Ok(())
 }
 
 /// Writes the line of a point.
 #[tactic(auto, unfolding(crate::specs::Reviews::point_line))]
-fn write_point(page: &mut Page, row: &PointRow) -> Result<(), AllocError>
-    ensures { OnOk result (page.new ≡ page.old ++ point_line row.now) }
+fn write_point(page: &mut Page, row: &PointRow, largest: u32) -> Result<(), AllocError>
+    ensures { OnOk result (page.new ≡ page.old ++ point_line largest row.now) }
 {
     let height = metre_text(row.low);
     let spread = metre_text(row.spread);
@@ -52,17 +57,17 @@ fn write_point(page: &mut Page, row: &PointRow) -> Result<(), AllocError>
         height.as_bytes(),
         spread.as_bytes(),
         number_or_dash(&mut strength, row.strength),
-        number_or_dash(&mut blunders, withstood(row.strength)),
+        number_or_dash(&mut blunders, withstood(row.strength, largest)),
         point_mark(row.alone, row.spread != 0),
     )
 }
 
-/// The weight of blunders that a point of this strength withstands.
-fn withstood(strength: Option<u32>) -> Option<u32>
-    ensures { result ≡ option_map withstood strength }
+/// How many wrong sights of the largest weight a point of this strength withstands.
+fn withstood(strength: Option<u32>, largest: u32) -> Option<u32>
+    ensures { result ≡ option_map (withstood largest) strength }
 {
     match strength {
-        Some(strength) => Some(strength.saturating_sub(1) / 2),
+        Some(strength) => Some(strength.saturating_sub(1) / 2 / largest.max(1)),
         None => None,
     }
 }
@@ -88,4 +93,16 @@ fn write_columns(
     page.gap_right(10, withstands)?;
     page.add(mark)?;
     page.end_line()
+}
+
+/// The largest weight of a network's observations; 0 if there are none.
+pub(crate) fn largest_weight(network: &Network) -> u32
+    ensures { result ≡ largest_weight network.now }
+{
+    let weights = network.weights();
+    let mut largest = 0;
+    for weight in weights {
+        largest = largest.max(*weight);
+    }
+    largest
 }

@@ -7,7 +7,7 @@ use crate::book_tables::write_books;
 use crate::entry_tables::write_entries;
 use crate::heads::write_head;
 use crate::observation_tables::{write_largest, write_observations};
-use crate::point_tables::write_points;
+use crate::point_tables::{largest_weight, write_points};
 use crate::rows::{EntryRow, ObservationRow, PointRow};
 use std::alloc::{AllocError, Global};
 use th_entries::BookReview;
@@ -44,7 +44,7 @@ pub(crate) fn review_text(
         reviews,
         limit,
     )?;
-    write_tables(&mut page, points, observations, entries)?;
+    write_tables(&mut page, network, points, observations, entries)?;
     write_notes(&mut page, notes)?;
     Ok(page.into_bytes())
 }
@@ -76,14 +76,15 @@ fn write_front(
 #[tactic(auto, unfolding(crate::specs::Reviews::table_part))]
 fn write_tables(
     page: &mut Page,
+    network: &Network,
     points: &[PointRow],
     observations: &[ObservationRow],
     entries: &[EntryRow],
 ) -> Result<(), AllocError>
     ensures { OnOk result (page.new
-        ≡ page.old ++ table_part points.now observations.now entries.now) }
+        ≡ page.old ++ table_part network.now points.now observations.now entries.now) }
 {
-    write_points(page, points)?;
+    write_points(page, points, largest_weight(network))?;
     page.end_line()?;
     write_observations(page, observations)?;
     page.end_line()?;

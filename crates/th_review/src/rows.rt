@@ -1,7 +1,7 @@
 use gsi_word::Name;
 use th_book::Observation;
 use th_entries::Entry;
-use th_reliability::{Mistake, SharedMistake};
+use th_reliability::{Blame, Effect, Mistake};
 
 /// A point of a network, and what was found of it. Heights are in units of 10 nm.
 #[derive(Clone, Copy, Debug)]
@@ -32,6 +32,8 @@ pub struct ObservationRow {
     pub control: Option<u32>,
     /// What a mistake in it would do.
     pub mistake: Mistake,
+    /// What that would move, and what would be blamed for it; `None` where it shows.
+    pub blame: Option<Blame>,
 }
 
 /// An entry of a book, and what was found of it.
@@ -41,5 +43,5 @@ pub struct EntryRow {
     /// The sum of the weights of its sights.
     pub weight: u32,
     /// What a mistake in it would do.
-    pub mistake: SharedMistake,
+    pub effect: Effect,
 }

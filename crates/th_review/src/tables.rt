@@ -1,10 +1,10 @@
 //! The three tables.
 ghost use Rattle.std.specs.Prelude.{◌≡◌, ◌++◌, IfOk, OnOk};
 ghost use Rattle.th_csv.specs.Texts.{row_text};
-ghost use Rattle.th_review.specs.Tables.{entries_text, entry_record, number_field, observation_record, observations_header, observations_text, point_record, points_text};
+ghost use Rattle.th_review.specs.Tables.{entries_header, entries_text, entry_record, number_field, observation_record, observations_header, observations_text, point_record, points_text};
 
 use crate::rows::{EntryRow, ObservationRow, PointRow};
-use crate::words::{kind_word, mistake_word, shared_mistake_word};
+use crate::words::{blamed_of, blames_of, kind_word, mistake_word, moves_of, shared_mistake_word};
 use itoa::Buffer;
 use std::alloc::{AllocError, Global};
 use th_csv::RowWriter;
@@ -69,6 +69,9 @@ fn write_observations_header(rows: &mut RowWriter) -> Result<(), AllocError>
         b"residual",
         b"control",
         b"mistake",
+        b"moves",
+        b"blames",
+        b"blamed",
     ])
 }
 
@@ -82,6 +85,9 @@ fn write_observation(rows: &mut RowWriter, row: &ObservationRow) -> Result<(), A
     let mut line = Buffer::new();
     let mut weight = Buffer::new();
     let mut control = Buffer::new();
+    let mut moves = Buffer::new();
+    let mut blames = Buffer::new();
+    let mut blamed = Buffer::new();
     let difference = metre_text(row.observation.difference());
     let residual = metre_text(row.residual);
     rows.write(&[
@@ -95,6 +101,9 @@ fn write_observation(rows: &mut RowWriter, row: &ObservationRow) -> Result<(), A
         residual.as_bytes(),
         number_field(&mut control, row.control),
         mistake_word(&row.mistake),
+        count_field(&mut moves, moves_of(row.blame)),
+        count_field(&mut blames, blames_of(row.blame)),
+        count_field(&mut blamed, blamed_of(row.blame)),
     ])
 }
 
@@ -103,16 +112,26 @@ pub(crate) fn entries_csv(alloc: Global, entries: &[EntryRow]) -> Result<Vec<u8>
     ensures { IfOk result (λ text. text.items ≡ entries_text entries.now) }
 {
     let mut rows = RowWriter::new(alloc);
-    rows.write(&[
-        b"book", b"line", b"word", b"station", b"length", b"sights", b"weight", b"mistake",
-    ])?;
+    write_entries_header(&mut rows)?;
     for row in entries {
         write_entry(&mut rows, row)?;
     }
     rows.into_text()
 }
 
+/// Writes the names of an entry's fields.
+#[tactic(auto, unfolding(crate::specs::Tables::entries_header))]
+fn write_entries_header(rows: &mut RowWriter) -> Result<(), AllocError>
+    ensures { OnOk result (rows.new.text ≡ rows.old.text ++ row_text entries_header) }
+{
+    rows.write(&[
+        b"book", b"line", b"word", b"station", b"length", b"sights", b"weight", b"mistake",
+        b"moves", b"blames", b"blamed",
+    ])
+}
+
 /// Writes the record of an entry.
+#[tactic(auto, unfolding(crate::specs::Tables::entry_record))]
 fn write_entry(rows: &mut RowWriter, row: &EntryRow) -> Result<(), AllocError>
     ensures { OnOk result (rows.new.text ≡ rows.old.text ++ row_text (entry_record row.now)) }
 {
@@ -120,6 +139,9 @@ fn write_entry(rows: &mut RowWriter, row: &EntryRow) -> Result<(), AllocError>
     let mut line = Buffer::new();
     let mut sights = Buffer::new();
     let mut weight = Buffer::new();
+    let mut moves = Buffer::new();
+    let mut blames = Buffer::new();
+    let mut blamed = Buffer::new();
     let length = metre_text(row.entry.length.get());
     rows.write(&[
         book.format(row.entry.book).as_bytes(),
@@ -129,7 +151,10 @@ fn write_entry(rows: &mut RowWriter, row: &EntryRow) -> Result<(), AllocError>
         length.as_bytes(),
         sights.format(row.entry.sights).as_bytes(),
         weight.format(row.weight).as_bytes(),
-        shared_mistake_word(&row.mistake),
+        shared_mistake_word(&row.effect.mistake),
+        count_field(&mut moves, moves_of(row.effect.blame)),
+        count_field(&mut blames, blames_of(row.effect.blame)),
+        count_field(&mut blamed, blamed_of(row.effect.blame)),
     ])
 }
 
@@ -139,6 +164,16 @@ fn number_field(digits: &mut Buffer, number: Option<u32>) -> &[u8]
 {
     match number {
         Some(number) => digits.format(number).as_bytes(),
+        None => b"",
+    }
+}
+
+/// The digits of a count, and an empty field where there is none.
+fn count_field(digits: &mut Buffer, count: Option<usize>) -> &[u8]
+    ensures { result.now ≡ number_field count }
+{
+    match count {
+        Some(count) => digits.format(count).as_bytes(),
         None => b"",
     }
 }

@@ -16,7 +16,7 @@ use std::alloc::{AllocError, Global};
 use th_entries::{BookReview, Spelling};
 use th_network::Network;
 use th_notes::notes_of;
-use th_reliability::SharedMistake;
+use th_reliability::{Blame, Effect};
 
 /// What was found of a network.
 #[derive(Drop)]
@@ -27,8 +27,10 @@ pub struct Findings {
     pub unit_strengths: Vec<Option<u32>>,
     /// The control of each observation, in their order; one between two benchmarks has none.
     pub controls: Vec<Option<u32>>,
+    /// What a mistake in each observation would move, in their order.
+    pub blames: Vec<Option<Blame>>,
     /// What a mistake in each entry would do, in the order of books and entries.
-    pub mistakes: Vec<SharedMistake>,
+    pub effects: Vec<Effect>,
 }
 
 /// The texts of a review.
@@ -64,7 +66,8 @@ pub fn review_texts(
     requires strengths { length findings.now.strengths.items ≡ length (points_of network.now) }
     requires unit_strengths { length findings.now.unit_strengths.items ≡ length (points_of network.now) }
     requires controls { length findings.now.controls.items ≡ length network.now.observations }
-    requires mistakes { length findings.now.mistakes.items ≡ length (entries_of reviews.now) }
+    requires blames { length findings.now.blames.items ≡ length network.now.observations }
+    requires effects { length findings.now.effects.items ≡ length (entries_of reviews.now) }
     requires books { length reviews.now ≤ max_reviewed }
     ensures { IfOk result (λ texts. AreReviewTexts network.now
         (heights_at (points_of network.now) low.now) (heights_at (points_of network.now) high.now)
@@ -79,8 +82,8 @@ pub fn review_texts(
         &findings.strengths,
         &findings.unit_strengths,
     )?;
-    let observations = observation_rows(alloc, network, low, &findings.controls)?;
-    let entries = entry_rows(alloc, network, &entries, &findings.mistakes)?;
+    let observations = observation_rows(alloc, network, low, &findings.controls, &findings.blames)?;
+    let entries = entry_rows(alloc, network, &entries, &findings.effects)?;
     let notes = notes_of(alloc, network, reviews, spellings)?;
     let review = review_text(
         alloc,

@@ -1,10 +1,10 @@
 //! The words and marks of a review.
 ghost use Rattle.std.specs.Prelude.{◌≡◌};
-ghost use Rattle.th_review.specs.Words.{kind_word, mistake_mark, mistake_word, number_or_dash, point_mark, shared_mistake_mark, shared_mistake_word};
+ghost use Rattle.th_review.specs.Words.{blamed_of, blames_of, kind_word, mistake_mark, mistake_word, moves_of, number_or_dash, point_mark, shared_mistake_mark, shared_mistake_word};
 
 use itoa::Buffer;
 use th_entries::HeightKind;
-use th_reliability::{Mistake, SharedMistake};
+use th_reliability::{Blame, Mistake, SharedMistake};
 
 /// The word for what a mistake in an observation would do.
 pub(crate) fn mistake_word(mistake: &Mistake) -> &[u8]
@@ -26,6 +26,7 @@ pub(crate) fn shared_mistake_word(mistake: &SharedMistake) -> &[u8]
         SharedMistake::Shows => b"shows",
         SharedMistake::Ties => b"ties",
         SharedMistake::Drags => b"drags",
+        SharedMistake::Unchecked => b"unchecked",
     }
 }
 
@@ -59,6 +60,7 @@ pub(crate) fn shared_mistake_mark(mistake: &SharedMistake) -> &[u8]
         SharedMistake::Shows => b"",
         SharedMistake::Ties => b"  =",
         SharedMistake::Drags => b"  <",
+        SharedMistake::Unchecked => b"  0",
     }
 }
 
@@ -81,5 +83,45 @@ pub(crate) fn number_or_dash(digits: &mut Buffer, number: Option<u32>) -> &[u8]
     match number {
         Some(number) => digits.format(number).as_bytes(),
         None => b"-",
+    }
+}
+
+/// The digits of a count, and a dash where there is none.
+pub(crate) fn count_or_dash(digits: &mut Buffer, count: Option<usize>) -> &[u8]
+    ensures { result.now ≡ number_or_dash count }
+{
+    match count {
+        Some(count) => digits.format(count).as_bytes(),
+        None => b"-",
+    }
+}
+
+/// How many points a mistake would move; `None` if it shows.
+pub(crate) fn moves_of(blame: Option<Blame>) -> Option<usize>
+    ensures { result ≡ moves_of blame }
+{
+    match blame {
+        Some(blame) => Some(blame.moves),
+        None => None,
+    }
+}
+
+/// How many observations would be blamed for a mistake; `None` if it shows.
+pub(crate) fn blames_of(blame: Option<Blame>) -> Option<usize>
+    ensures { result ≡ blames_of blame }
+{
+    match blame {
+        Some(blame) => Some(blame.blames),
+        None => None,
+    }
+}
+
+/// The number of the heaviest of these; `None` if there is none, or the mistake shows.
+pub(crate) fn blamed_of(blame: Option<Blame>) -> Option<usize>
+    ensures { result ≡ blamed_of blame }
+{
+    match blame {
+        Some(blame) => blame.blamed,
+        None => None,
     }
 }

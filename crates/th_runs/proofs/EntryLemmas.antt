@@ -8,9 +8,9 @@ use Rattle.th_book.specs.Observed.{Observed}
 use Rattle.th_entries.specs.Stations.{HasOneStation}
 use Rattle.th_entries.specs.declared.entries.Entry.{Entry}
 use Rattle.th_network.specs.Networks.{Survey}
-use Rattle.th_reliability.specs.SharedMistakes.{IsSharedMistake}
+use Rattle.th_reliability.specs.Effects.{IsEffect}
 use Rattle.th_reliability.specs.Sights.{IsOfOneStation, in_sights}
-use Rattle.th_reliability.specs.declared.mistakes.SharedMistake.{SharedMistake}
+use Rattle.th_reliability.specs.declared.effects.Effect.{Effect}
 use Rattle.th_review.specs.Entries.{sights_of}
 
 both : (first second : Bool) → (first && second) ≡ true → (first ≡ true) × (second ≡ true)
@@ -37,10 +37,10 @@ all_of_one_station observations entries all =
     (All-weaker (HasOneStation observations) (λ (entry : Entry). IsOfOneStation observations (sights_of entry)) (one_station observations) entries all)
 
 -- what the sights of entries share, the entries do
-pub of_entries : (survey : Survey) (entries : List Entry) (mistakes : List SharedMistake)
-    → AllZip (λ sights mistake. IsSharedMistake survey (in_sights sights) mistake) (map sights_of entries) mistakes
-    → AllZip (λ entry mistake. IsSharedMistake survey (in_sights (sights_of entry)) mistake) entries mistakes
+pub of_entries : (survey : Survey) (entries : List Entry) (effects : List Effect)
+    → AllZip (λ sights effect. IsEffect survey (in_sights sights) effect) (map sights_of entries) effects
+    → AllZip (λ entry effect. IsEffect survey (in_sights (sights_of entry)) effect) entries effects
 of_entries survey [] [] all = tt
-of_entries survey [] (mistake ∷ mistakes) all = absurd all
+of_entries survey [] (effect ∷ effects) all = absurd all
 of_entries survey (entry ∷ entries) [] all = absurd all
-of_entries survey (entry ∷ entries) (mistake ∷ mistakes) all = (all.0, of_entries survey entries mistakes all.1)
+of_entries survey (entry ∷ entries) (effect ∷ effects) all = (all.0, of_entries survey entries effects all.1)

@@ -23,6 +23,7 @@ use Rattle.th_entries.specs.declared.reviews.BookReview.{BookReview}
 use Rattle.th_review.specs.Entries.{entries_of}
 use Rattle.th_runs.proofs.Fronts.{book_long}
 use Rattle.th_runs.specs.Inside.Readers.{HasReadBooks, IsReviewedNext}
+use Rattle.th_runs.specs.Explained.{AreReviewsOfBooks}
 use Rattle.th_runs.specs.Reviewed.{AreReviewsOf, AreTold, IsReviewOf}
 
 -- the front of a text of a book that gives observations is the text
@@ -124,6 +125,14 @@ reviews_of_all number tolds after new names more_names found read none finds = r
   told = read.told;
   reviewed = subst (AllZip IsReviewOf (numbered number read.texts)) (sym read.joined) read.reviewed;
   spelled = finds (numbered number read.texts) (read.named [] none);
+}
+
+pub reviews_of_books : (tolds : List (Option (List ℕ))) (after : List Observed) (new : List BookReview) (names more_names : SeenNames)
+    → AreAllRead 1 tolds [] after [] new names more_names → AreReviewsOfBooks tolds new
+reviews_of_books tolds after new names more_names read = record {
+  texts = read.texts;
+  told = read.told;
+  reviewed = subst (AllZip IsReviewOf (numbered 1 read.texts)) (sym read.joined) read.reviewed;
 }
 
 -- there are as many reviews as books

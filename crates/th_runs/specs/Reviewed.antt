@@ -1,5 +1,5 @@
 -- What a review prints.
-use Rattle.std.specs.Prelude.{◌≡◌, ℕ, ℤ, List, [], Option, IfSome}
+use Rattle.std.specs.Prelude.{◌≡◌, ℕ, ℤ, false, List, [], ◌∷◌, Option, IfSome}
 use Rattle.std.specs.List.{AllZip}
 use Rattle.th_book.specs.Lines.{ParsedLine}
 use Rattle.th_circulation.specs.Best.{Best, IsBest}
@@ -9,25 +9,23 @@ use Rattle.th_entries.specs.Spellings.{spellings_of}
 use Rattle.th_entries.specs.declared.reviews.BookReview.{BookReview}
 use Rattle.th_network.specs.Networks.{Survey, at_points_of}
 use Rattle.th_reliability.specs.Numbers.{AreControls, AreStrengths}
-use Rattle.th_reliability.specs.SharedMistakes.{IsSharedMistake}
+use Rattle.th_reliability.specs.Effects.{AreBlames, IsEffect}
 use Rattle.th_reliability.specs.Sights.{in_sights}
 use Rattle.th_entries.specs.declared.spellings.Spelling.{Spelling}
 use Rattle.th_review.specs.Entries.{entries_of, sights_of}
 use Rattle.th_review.specs.Texts.{AreReviewTexts, Found, ReviewOutTexts}
-use Rattle.th_runs.specs.Writes.{Four}
-use Rattle.th_runs.specs.declared.outputs.ReviewOuts.{ReviewOuts}
-use Rattle.th_runs.specs.declared.refusals.Output.{Output}
+use Rattle.th_runs.specs.Reads.{Run}
+use Rattle.th_runs.specs.Writes.{Texts}
 use Rattle.th_runs.specs.declared.refusals.Output.TheVariants as output
 
--- the sinks of a review, their outputs, and their texts, in the order in which they are written
-abbrev pub sinks_of : {P O E R : Type 0} → ReviewOuts P O E R → P × O × E × R
-sinks_of outs = (outs.points, outs.observations, outs.entries, outs.review)
+-- a review, and what it writes
+abbrev pub reviewing : Run
+reviewing = record { has_certificate = false; outputs = output.Points ∷ output.Observations ∷ output.Entries ∷ output.Review ∷ [] }
 
-abbrev pub outputs : Four Output
-outputs = record { first = output.Points; second = output.Observations; third = output.Entries; fourth = output.Review }
-
-abbrev pub in_order : ReviewOutTexts → Four (List ℕ)
-in_order texts = record { first = texts.points; second = texts.observations; third = texts.entries; fourth = texts.review }
+-- the texts of its outputs, in the order in which they are written
+abbrev pub in_order : ReviewOutTexts → Texts
+in_order texts =
+    (output.Points, texts.points) ∷ (output.Observations, texts.observations) ∷ (output.Entries, texts.entries) ∷ (output.Review, texts.review) ∷ []
 
 -- for each source the text that it gave: the one that it reported, if it reported one
 abbrev pub AreTold : List (Option (List ℕ)) → List (List ℕ) → Type 0
@@ -45,12 +43,13 @@ pub record AreReviewsOf (number : ℕ) (tolds : List (Option (List ℕ))) (revie
   pub spelled : spellings ≡ spellings_of (numbered number texts)
 
 -- What was found about a survey and the entries of its books: the strengths of its points, with its weights and with
--- all weights 1; the controls of its observations; and for each entry what a mistake in it would do.
+-- all weights 1; the controls of its observations, and what a mistake in each would move; and for each entry what a mistake in it would do.
 pub record AreFound (survey : Survey) (books : List BookReview) (found : Found) : Type 0 where
   pub strengths : AreStrengths survey found.strengths
   pub unit_strengths : AreStrengths (record survey { weights = [] }) found.unit_strengths
   pub controls : AreControls survey found.controls
-  pub mistakes : AllZip (λ entry mistake. IsSharedMistake survey (in_sights (sights_of entry)) mistake) (entries_of books) found.mistakes
+  pub blames : AreBlames survey found.controls found.blames
+  pub effects : AllZip (λ entry effect. IsEffect survey (in_sights (sights_of entry)) effect) (entries_of books) found.effects
 
 -- The texts are the review of a survey and of its books, for this limit of blunders in units
 -- of 10 nm. The heights in them are best, and the rest is what was found.
@@ -60,3 +59,14 @@ pub record AreReviewed (survey : Survey) (books : List BookReview) (spellings : 
   pub found : Found
   pub finds : AreFound survey books found
   pub printed : AreReviewTexts survey (at_points_of survey answer.low) (at_points_of survey answer.high) found books spellings limit texts
+
+-- these are the texts of a review with these reviews of its books
+abbrev pub ArePrintedOf : List BookReview → List Spelling → ℤ → Survey → Texts → Type 0
+ArePrintedOf reviews spellings limit survey texts =
+    (own : ReviewOutTexts) × AreReviewed survey reviews spellings limit own × (texts ≡ in_order own)
+
+-- a run that ends in a review of this survey, and of the books that sources told, writes these texts
+abbrev pub AreOfReview : List (Option (List ℕ)) → ℤ → Survey → Texts → Type 0
+AreOfReview tolds limit survey texts =
+    (reviews : List BookReview) × (spellings : List Spelling) × AreReviewsOf 1 tolds reviews spellings
+    × ArePrintedOf reviews spellings limit survey texts

@@ -1,16 +1,16 @@
 //! A run that checks a certificate.
 ghost use Rattle.std.specs.Prelude.{◌≡◌, IfErr, IfOk, is_some, length};
 ghost use Rattle.th_devices.specs.Devices.{IsReady};
-ghost use Rattle.th_runs.specs.Checked.{IsVerdictOn, claim_owed_by_sources, verdict_line, verdict_on};
+ghost use Rattle.th_runs.specs.Checked.{IsVerdictOn, checking, claim_owed_by_sources, judged, verdict_line, verdict_on};
 ghost use Rattle.th_runs.specs.Inputs.{AnswersOwed, MakesNetwork};
 ghost use Rattle.th_runs.specs.Inside.Judged.{IsJudged};
 ghost use Rattle.th_runs.specs.Inside.Refused.{IsOfNetwork};
-ghost use Rattle.th_runs.specs.Reads.{AreRead, AreReady, Checking, IsNamed, IsReadFor, IsWithin, network_place, refused};
+ghost use Rattle.th_runs.specs.Reads.{AreRead, AreReady, IsNamed, IsReadFor, IsWithin, network_place, refused};
 ghost use Rattle.th_runs.specs.Outcomes.{SurveyOutcome};
-ghost use Rattle.th_runs.specs.Writes.{IsWrittenFor};
+ghost use Rattle.th_runs.specs.Writes.{AreWritable, AreWritten};
 
 use crate::inputs::certificate_from;
-use crate::outputs::write_out;
+use crate::outputs::{OutputText, write_outs};
 use crate::readers::ObservationReader;
 use crate::refusals::{Input, Output, Refusal};
 use crate::surveys::{Survey, network_of, read_survey};
@@ -21,6 +21,9 @@ use th_checker::laws::yes_implies_least;
 use th_checker::{Verdict, check};
 use th_devices::{Sink, Source};
 use th_network::Network;
+
+/// What a check writes.
+pub const CHECKED: [Output; 1] = [Output::Verdict];
 
 /// Checks a certificate against up to 16 books, benchmarks and optional weights, and writes the
 /// line of the verdict.
@@ -35,20 +38,20 @@ pub fn run_check<B: Source, T: Source, W: Source, C: Source, K: Sink>(
     benchmarks: &mut T,
     weights: &mut Option<W>,
     certificate: &mut C,
-    out: &mut K,
+    outs: &mut [K],
 ) -> Result<Verdict, Refusal>
     requires ready { AreReady B.state T.state W.state books.old benchmarks.old weights.old }
     requires certificate { IsReady (C.state certificate.old).counts }
-    requires out { IsReady (K.state out.old).counts }
+    requires outs { AreWritable K.state checking.outputs outs.old }
 
     // What the answer means.
     ensures outcome { SurveyOutcome (λ claim. claim.survey)
         (claim_owed_by_sources B.state T.state W.state C.state books.old books.new
         benchmarks.old benchmarks.new weights.old weights.new certificate.old certificate.new)
-        (λ claim. IfOk result (IsVerdictOn claim) × IsWrittenFor K.state Output.Verdict
-        (refused result) (verdict_line (verdict_on claim)) out.old out.new)
-        result out.old out.new }
-    ensures named { IfErr result (IsNamed (length books.old) (is_some weights.old) Checking) }
+        (λ claim. IfOk result (IsVerdictOn claim)
+        × AreWritten K.state (refused result) (judged (verdict_on claim)) outs.old outs.new)
+        result outs.old outs.new }
+    ensures named { IfErr result (IsNamed (length books.old) (is_some weights.old) checking) }
 
     // How the sources are read.
     ensures sources { AreRead B.state T.state W.state (refused result) books.old books.new
@@ -58,8 +61,9 @@ pub fn run_check<B: Source, T: Source, W: Source, C: Source, K: Sink>(
 {
     let stated = read_stated(alloc, books, benchmarks, weights, certificate)?;
     let judged = judge(alloc, stated)?;
-    write_out(Output::Verdict, out, judged.line.as_slice())?;
-    Ok(judged.verdict)
+    let Judged { verdict, line } = judged;
+    write_outs(outs, &[OutputText::new(Output::Verdict, line)])?;
+    Ok(verdict)
 }
 
 /// What is checked: a survey, and a certificate for it.
@@ -91,7 +95,7 @@ fn read_stated<B: Source, T: Source, W: Source, C: Source>(
         books.old books.new benchmarks.old benchmarks.new weights.old weights.new
         certificate.old certificate.new) result }
     ensures at { IfErr result (IsWithin 1 network_place) }
-    ensures named { IfErr result (IsNamed (length books.old) (is_some weights.old) Checking) }
+    ensures named { IfErr result (IsNamed (length books.old) (is_some weights.old) checking) }
     ensures sources { AreRead B.state T.state W.state (refused result) books.old books.new
         benchmarks.old benchmarks.new weights.old weights.new }
     ensures certificate { IsReadFor C.state Input.Certificate (refused result)

@@ -11,7 +11,7 @@ use crate::refusals::{Input, Refusal};
 use std::alloc::AllocError;
 use th_book::BookFeed;
 use th_devices::{Failed, Source};
-use th_entries::ReviewFeed;
+use th_entries::Tally;
 
 /// How many bytes of a book are read at once, at most.
 const PIECE: usize = 4_096;
@@ -48,25 +48,22 @@ impl Feed for BookFeed {
 #[derive(Drop)]
 pub(crate) struct ReviewedFeed {
     pub(crate) observations: BookFeed,
-    pub(crate) review: ReviewFeed,
+    pub(crate) review: Tally,
 }
 
 impl Feed for ReviewedFeed {
-    ghost use Rattle.std.specs.Prelude.{◌≡◌, ℕ, List};
-    ghost use Rattle.th_book.specs.Books.{book_answer};
-    ghost use Rattle.th_book.specs.Feeds.{feed_due};
+    ghost use Rattle.std.specs.Prelude.{ℕ, List};
+    ghost use Rattle.th_book.specs.Witnesses.{IsSeeing};
+    ghost use Rattle.th_entries.specs.Tallied.{HasSeen};
     ghost use Rattle.th_entries.specs.declared.seen.SeenNames.{SeenNames};
-    ghost use Rattle.th_entries.specs.Feeds.{IsReading};
 
     ghost Start = { SeenNames × ℕ × List ℕ };
 
     ghost has_taken = { λ start rest feed.
-        (feed_due feed.observations rest ≡ book_answer start.1 start.2)
-        × IsReading start.0 start.1 start.2 rest feed.review };
+        IsSeeing HasSeen start.0 start.1 start.2 rest feed.observations feed.review };
 
     fn take(&mut self, piece: &[u8]) -> Result<(), AllocError> {
-        self.observations.feed(piece)?;
-        self.review.feed(piece)
+        self.observations.feed_to(piece, &mut self.review)
     }
 }
 

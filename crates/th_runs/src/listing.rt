@@ -1,39 +1,46 @@
 //! A run that lists the observations of one book.
 ghost use Rattle.std.specs.Prelude.{IfErr, Ok};
 ghost use Rattle.th_devices.specs.Devices.{IsReady};
-ghost use Rattle.th_report.specs.Lists.{list_text};
 ghost use Rattle.th_runs.specs.Inputs.{Meets, MeetsRefusal, given, owed_for_book};
-ghost use Rattle.th_runs.specs.Reads.{IsOfList, IsReadFor, refused};
+ghost use Rattle.th_runs.specs.Listed.{IsOfList, listed, listing};
+ghost use Rattle.th_runs.specs.Reads.{IsReadFor, refused};
 ghost use Rattle.th_runs.specs.Outcomes.{Outcome};
-ghost use Rattle.th_runs.specs.Writes.{IsWrittenFor};
+ghost use Rattle.th_runs.specs.Writes.{AreWritable, AreWritten};
 
-use crate::outputs::write_out;
+use crate::outputs::{OutputText, write_outs};
 use crate::readers::{BookReader, ObservationReader};
 use crate::refusals::{Input, Output, Refusal};
 use std::alloc::Global;
 use th_devices::{Sink, Source};
 use th_report::list_text;
 
+/// What a list of a book writes.
+pub const LISTED: [Output; 1] = [Output::List];
+
 /// Lists the observations of a book.
 ///
 /// The book is read to its end, or to one byte more than it may have, before its faults are
 /// reported. The list is made in memory before the output is begun.
-pub fn run_list<S: Source, K: Sink>(alloc: Global, book: &mut S, out: &mut K) -> Result<(), Refusal>
+pub fn run_list<S: Source, K: Sink>(
+    alloc: Global,
+    book: &mut S,
+    outs: &mut [K],
+) -> Result<(), Refusal>
     requires book { IsReady (S.state book.old).counts }
-    requires out { IsReady (K.state out.old).counts }
+    requires outs { AreWritable K.state listing outs.old }
 
     // What the answer means.
     ensures outcome { Outcome
         (MeetsRefusal (owed_for_book 1 (given S.state book.old book.new)))
         (λ own. Meets (owed_for_book 1 (given S.state book.old book.new)) (Ok own))
-        (λ own. IsWrittenFor K.state Output.List (refused result) (list_text own) out.old out.new)
-        result out.old out.new }
+        (λ own. AreWritten K.state (refused result) (listed own) outs.old outs.new)
+        result outs.old outs.new }
     ensures named { IfErr result IsOfList }
 
     // How the book is read.
     ensures book { IsReadFor S.state (Input.Book 1) (refused result) book.old book.new }
 {
     let observations = ObservationReader.read(alloc, 1, book)?;
-    let text = list_text(alloc, observations.as_slice())?;
-    write_out(Output::List, out, text.as_slice())
+    let list = list_text(alloc, observations.as_slice())?;
+    write_outs(outs, &[OutputText::new(Output::List, list)])
 }

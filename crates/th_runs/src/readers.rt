@@ -13,7 +13,7 @@ use std::alloc::{AllocError, Global};
 use std::mem;
 use th_book::{BookFault, BookFeed, BookKind, Observation};
 use th_devices::Source;
-use th_entries::{BookReview, ReviewFeed, SeenNames};
+use th_entries::{BookReview, SeenNames, Tally};
 
 /// What reads the books of a run, one after the other: their observations, and what else the run needs.
 pub(crate) trait BookReader {
@@ -86,11 +86,11 @@ impl ReviewReader {
         }
     }
 
-    /// Puts the review of the next book behind the others, if the book has no fault.
-    fn add(&mut self, feed: ReviewFeed) -> Result<(), AllocError>
-        ensures { OnOk result (IsAdded feed self.old.reviews.items self.new.reviews.items self.new.names) }
+    /// Puts the review of the next book, which has no fault, behind the others.
+    fn add(&mut self, tally: Tally) -> Result<(), AllocError>
+        ensures { OnOk result (IsAdded tally self.old.reviews.items self.new.reviews.items self.new.names) }
     {
-        let (review, names) = feed.finish()?;
+        let (review, names) = tally.review()?;
         self.reviews.push(review)?;
         self.names = names;
         Ok(())
@@ -112,14 +112,14 @@ impl BookReader for ReviewReader {
         let names = mem::replace(&mut self.names, SeenNames::new(alloc));
         let mut feed = ReviewedFeed {
             observations: BookFeed::new(alloc, number),
-            review: ReviewFeed::new(alloc, number, names),
+            review: Tally::new(alloc, number, names),
         };
         feed_from(number, book, &mut feed)?;
         let ReviewedFeed {
             observations,
-            review,
+            mut review,
         } = feed;
-        match observations.finish() {
+        match observations.finish_to(&mut review) {
             Ok(observations) => {
                 self.add(review)?;
                 Ok(observations)

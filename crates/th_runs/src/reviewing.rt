@@ -6,21 +6,21 @@ ghost use Rattle.th_entries.specs.declared.reviews.BookReview.{BookReview};
 ghost use Rattle.th_entries.specs.declared.spellings.Spelling.{Spelling};
 ghost use Rattle.th_limits.specs.Limits.{max_books};
 ghost use Rattle.th_reliability.specs.Numbers.{AreControls, AreStrengths};
-ghost use Rattle.th_reliability.specs.SharedMistakes.{IsSharedMistake};
+ghost use Rattle.th_reliability.specs.Effects.{IsEffect};
 ghost use Rattle.th_reliability.specs.Sights.{in_sights};
 ghost use Rattle.th_review.specs.Entries.{entries_of, sights_of};
-ghost use Rattle.th_review.specs.Texts.{ReviewOutTexts, bytes_of, found_in};
+ghost use Rattle.th_review.specs.Texts.{bytes_of, found_in};
 ghost use Rattle.th_runs.specs.Inputs.{MakesNetwork, owed_by_sources, told_by};
 ghost use Rattle.th_runs.specs.Inside.Refused.{IsOfNetwork};
-ghost use Rattle.th_runs.specs.Reads.{AreRead, AreReady, IsNamed, Reviewing, refused};
-ghost use Rattle.th_runs.specs.Reviewed.{AreFound, AreReviewed, AreReviewsOf, in_order, outputs, sinks_of};
-ghost use Rattle.th_runs.specs.Outcomes.{SurveyOutcome};
-ghost use Rattle.th_runs.specs.Writes.{AreWritable, AreWritten};
+ghost use Rattle.th_runs.specs.Reads.{AreRead, AreReady, IsNamed, refused};
+ghost use Rattle.th_runs.specs.Reviewed.{AreFound, AreOfReview, ArePrintedOf, in_order, reviewing};
+ghost use Rattle.th_runs.specs.Outcomes.{PrintedOutcome};
+ghost use Rattle.th_runs.specs.Writes.{AreWritable};
 ghost use Rattle.th_tables.specs.Rows.{AreWeights};
 
-use crate::outputs::{ReviewOuts, write_review_outs};
+use crate::outputs::{OutputText, write_outs};
 use crate::readers::ReviewReader;
-use crate::refusals::Refusal;
+use crate::refusals::{Output, Refusal};
 use crate::surveys::{Survey, network_of, read_survey};
 use std::alloc::{AllocError, Global};
 use th_circulation::best_heights;
@@ -29,38 +29,44 @@ use th_entries::laws::entry_of_several_books_has_one_station;
 use th_entries::{BookReview, Entry, Spelling};
 use th_network::Network;
 use th_network::laws::faults_exclude_each_other;
-use th_reliability::{Reliability, SharedMistake, Sights, point_strengths, shared_mistakes};
+use th_progress::Progress;
+use th_reliability::{Effect, Reliability, Sights, point_strengths, shared_mistakes};
 use th_review::{Findings, ReviewTexts, entries_of, review_texts, sights_of};
 use th_tables::Weights;
 
+/// What a review writes, in this order.
+pub const REVIEWED: [Output; 4] = [
+    Output::Points,
+    Output::Observations,
+    Output::Entries,
+    Output::Review,
+];
+
 /// Reviews the height network of up to 16 books, benchmarks and optional weights. It writes the
-/// tables of its points, of its observations and of its entries, and a review for people. These say
-/// what a mistake in each would do. Heights and residuals are those of `run_adjust`.
+/// tables of its points, of its observations and of its entries, and a review for people to `outs`,
+/// in this order. These say what a mistake in each would do. Heights and residuals are those of
+/// `run_adjust`.
 ///
 /// An observation is marked as a blunder if its residual is above `limit` in size, in units of
 /// 10 nm. Inputs are read as `run_adjust` reads them, and refused as it refuses them. All outputs
 /// are made in memory before the first is begun.
-pub fn run_review<B: Source, T: Source, W: Source, P: Sink, O: Sink, E: Sink, R: Sink>(
+pub fn run_review<B: Source, T: Source, W: Source, K: Sink, P: Progress>(
     alloc: Global,
     books: &mut [B],
     benchmarks: &mut T,
     weights: &mut Option<W>,
     limit: i64,
-    outs: &mut ReviewOuts<P, O, E, R>,
+    outs: &mut [K],
+    progress: &mut P,
 ) -> Result<(), Refusal>
     requires ready { AreReady B.state T.state W.state books.old benchmarks.old weights.old }
-    requires outs { AreWritable P.state O.state E.state R.state (sinks_of outs.old) }
+    requires outs { AreWritable K.state reviewing.outputs outs.old }
 
     // What the answer means.
-    ensures outcome { SurveyOutcome (λ survey. survey) (owed_by_sources B.state T.state W.state
+    ensures outcome { PrintedOutcome K.state (owed_by_sources B.state T.state W.state
         books.old books.new benchmarks.old benchmarks.new weights.old weights.new)
-        (λ survey. (reviews : List BookReview) × (spellings : List Spelling)
-        × (texts : ReviewOutTexts) × AreReviewsOf 1 (told_by B.state books.old) reviews spellings
-        × AreReviewed survey reviews spellings limit texts
-        × AreWritten P.state O.state E.state R.state outputs (refused result) (in_order texts)
-        (sinks_of outs.old) (sinks_of outs.new))
-        result outs.old outs.new }
-    ensures named { IfErr result (IsNamed (length books.old) (is_some weights.old) Reviewing) }
+        (AreOfReview (told_by B.state books.old) limit) result outs.old outs.new }
+    ensures named { IfErr result (IsNamed (length books.old) (is_some weights.old) reviewing) }
 
     // How the sources are read.
     ensures sources { AreRead B.state T.state W.state (refused result) books.old books.new
@@ -70,109 +76,153 @@ pub fn run_review<B: Source, T: Source, W: Source, P: Sink, O: Sink, E: Sink, R:
     let mut reader = ReviewReader::new(alloc);
     let survey = read_survey(alloc, &mut reader, books, benchmarks, weights)?;
     let reviews = reader.reviews.as_slice();
-    let texts = texts_of(alloc, survey, reviews, reader.names.found(), limit)?;
-    write_review_outs(outs, &texts)
+    let texts = texts_of(
+        alloc,
+        survey,
+        reviews,
+        reader.names.found(),
+        limit,
+        progress,
+    )?;
+    write_outs(outs, texts.as_slice())
 }
 
 /// The texts of what is reviewed, or the first fault of its network.
-fn texts_of(
+fn texts_of<P: Progress>(
     alloc: Global,
     survey: Survey,
     reviews: &[BookReview],
     spellings: &[Spelling],
     limit: i64,
-) -> Result<ReviewTexts, Refusal>
+    progress: &mut P,
+) -> Result<Vec<OutputText>, Refusal>
     requires few { length reviews.now ≤ max_books }
     requires stations { All (HasOneStation survey.observations) (entries_of reviews.now) }
     ensures { IsOfNetwork survey (λ texts.
-        AreReviewed survey reviews.now spellings.now limit (bytes_of texts)) result }
+        ArePrintedOf reviews.now spellings.now limit survey texts.items) result }
 {
     let Survey {
         observations,
         tables,
     } = survey;
     let network = network_of(alloc, observations, &tables.benchmarks, &tables.weights)?;
-    texts_of_network(alloc, &network, reviews, spellings, limit)
+    texts_of_network(alloc, &network, reviews, spellings, limit, progress)
 }
 
 /// The texts of a network.
-fn texts_of_network(
+fn texts_of_network<P: Progress>(
     alloc: Global,
     network: &Network,
     reviews: &[BookReview],
     spellings: &[Spelling],
     limit: i64,
-) -> Result<ReviewTexts, Refusal>
+    progress: &mut P,
+) -> Result<Vec<OutputText>, Refusal>
     requires network { MakesNetwork network.now }
     requires weights { AreWeights network.now.weights }
     requires few { length reviews.now ≤ max_books }
     requires stations { All (HasOneStation network.now.observations) (entries_of reviews.now) }
-    ensures texts { IfOk result (λ texts. AreReviewed network.now reviews.now spellings.now limit (bytes_of texts)) }
+    ensures texts { IfOk result (λ texts.
+        ArePrintedOf reviews.now spellings.now limit network.now texts.items) }
     ensures refused { IfErr result (λ own. own ≡ Refusal.NoMemory) }
 {
     let best = best_heights(alloc, network)?;
-    let findings = findings_of(alloc, network, reviews)?;
+    let findings = findings_of(alloc, network, reviews, progress)?;
     let low = best.low();
     let high = best.high();
-    Ok(review_texts(
+    let texts = review_texts(
         alloc, network, low, high, &findings, reviews, spellings, limit,
-    )?)
+    )?;
+    Ok(in_order(alloc, texts)?)
+}
+
+/// The texts of a review in the order in which they are written.
+fn in_order(alloc: Global, texts: ReviewTexts) -> Result<Vec<OutputText>, AllocError>
+    ensures { IfOk result (λ own. own.items ≡ in_order (bytes_of texts)) }
+{
+    let ReviewTexts {
+        points,
+        observations,
+        entries,
+        review,
+    } = texts;
+    let texts = [
+        OutputText::new(Output::Points, points),
+        OutputText::new(Output::Observations, observations),
+        OutputText::new(Output::Entries, entries),
+        OutputText::new(Output::Review, review),
+    ];
+    Ok(Vec::from_array(alloc, texts)?)
 }
 
 /// What a review finds of a network and of the entries of its books.
-fn findings_of(
+fn findings_of<P: Progress>(
     alloc: Global,
     network: &Network,
     reviews: &[BookReview],
+    progress: &mut P,
 ) -> Result<Findings, Refusal>
     requires network { MakesNetwork network.now }
     requires stations { All (HasOneStation network.now.observations) (entries_of reviews.now) }
     ensures found { IfOk result (λ findings. AreFound network.now reviews.now (found_in findings)) }
     ensures refused { IfErr result (λ own. own ≡ Refusal.NoMemory) }
 {
-    let unit_strengths = unit_strengths_of(alloc, network)?;
     let Reliability {
         strengths,
         controls,
-    } = Reliability::of(alloc, network)?;
-    let mistakes = mistakes_of(alloc, network, &controls, reviews)?;
+        blames,
+    } = Reliability::of(alloc, network, progress)?;
+    let unit_strengths = unit_strengths_of(alloc, network, &strengths, progress)?;
+    let effects = effects_of(alloc, network, &controls, reviews, progress)?;
     Ok(Findings {
         strengths,
         unit_strengths,
         controls,
-        mistakes,
+        blames,
+        effects,
     })
 }
 
-/// The strengths of a network's points if each observation weighs 1.
-fn unit_strengths_of(alloc: Global, network: &Network) -> Result<Vec<Option<u32>>, Refusal>
-    requires { MakesNetwork network.now }
+/// The strengths of a network's points if each observation weighs 1. Without a row of weights these are
+/// its strengths.
+fn unit_strengths_of<P: Progress>(
+    alloc: Global,
+    network: &Network,
+    strengths: &[Option<u32>],
+    progress: &mut P,
+) -> Result<Vec<Option<u32>>, Refusal>
+    requires network { MakesNetwork network.now }
+    requires strengths { AreStrengths network.now strengths.now }
     ensures strengths { IfOk result (λ strengths.
         AreStrengths (record network.now { weights = [] }) strengths.items) }
     ensures refused { IfErr result (λ own. own ≡ Refusal.NoMemory) }
 {
+    if network.weight_table().len() == 0 {
+        return Ok(Vec::from_slice(alloc, strengths)?);
+    }
     faults_exclude_each_other();
     let observations = Vec::from_slice(alloc, network.observations())?;
     let weights = Weights::empty(alloc);
     let unit = network_of(alloc, observations, network.benchmarks(), &weights)?;
-    Ok(point_strengths(alloc, &unit)?)
+    Ok(point_strengths(alloc, &unit, progress)?)
 }
 
 /// What a mistake in each entry of the books would do.
-fn mistakes_of(
+fn effects_of<P: Progress>(
     alloc: Global,
     network: &Network,
     controls: &[Option<u32>],
     reviews: &[BookReview],
-) -> Result<Vec<SharedMistake>, AllocError>
+    progress: &mut P,
+) -> Result<Vec<Effect>, AllocError>
     requires controls { AreControls network.now controls.now }
     requires stations { All (HasOneStation network.now.observations) (entries_of reviews.now) }
-    ensures { IfOk result (λ mistakes. AllZip (λ entry mistake.
-        IsSharedMistake network.now (in_sights (sights_of entry)) mistake) (entries_of reviews.now) mistakes.items) }
+    ensures { IfOk result (λ effects. AllZip (λ entry effect.
+        IsEffect network.now (in_sights (sights_of entry)) effect) (entries_of reviews.now) effects.items) }
 {
     let entries = entries_of(alloc, reviews)?;
     let sights = sights_of_all(alloc, &entries)?;
-    shared_mistakes(alloc, network, controls, &sights)
+    shared_mistakes(alloc, network, controls, &sights, progress)
 }
 
 /// The sights of each entry.

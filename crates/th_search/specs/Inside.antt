@@ -2,7 +2,6 @@
 pub mod Bounds
 pub mod Entries
 pub mod Labels
-pub mod Levels
 pub mod Marks
 pub mod Passes
 pub mod Searched

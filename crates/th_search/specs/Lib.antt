@@ -2,5 +2,6 @@ pub mod Limits
 pub mod Walks
 pub mod Potentials
 pub mod Answers
+pub mod Asked
 pub mod Sweeps
 pub mod Inside

@@ -1,21 +1,26 @@
-ghost use Rattle.std.specs.Prelude.{◌≡◌, ◌+◌, ◌<◌, ◌≤◌};
+ghost use Rattle.std.specs.Prelude.{◌≡◌, ◌+◌, ◌<◌, ◌≤◌, Some};
 ghost use Rattle.th_search.specs.Answers.{cycles_in, refusals_in};
+ghost use Rattle.th_search.specs.Asked.{asked_last, potentials_in};
 ghost use Rattle.th_search.specs.Limits.{max_calls};
 
+use crate::arcs::Arc;
+use crate::last_calls::LastCall;
 use crate::searches::Found;
 use std::alloc::AllocError;
 
-/// What a search counts.
+/// What a search has to remember for its promise: counts, and its last call.
 #[derive(Debug, Drop)]
-pub(crate) struct SearchCounts {
+pub struct SearchCounts {
     /// Its calls.
     pub calls: u128,
     /// The calls that ran out of memory.
     pub refusals: u128,
     /// The calls that named a cycle.
     pub cycles: u128,
-    ghost refusals_are_calls: { refusals ≤ calls },
-    ghost cycles_are_calls: { cycles ≤ calls },
+    /// The last call, if there was one.
+    pub last: Option<LastCall>,
+    pub ghost refusals_are_calls: { refusals ≤ calls },
+    pub ghost cycles_are_calls: { cycles ≤ calls },
 }
 
 impl SearchCounts {
@@ -29,16 +34,23 @@ impl SearchCounts {
             calls: 0,
             refusals: 0,
             cycles: 0,
+            last: None,
         }
     }
 
-    /// Counts a call with this result.
-    pub fn add(&mut self, found: &Result<Found, AllocError>)
+    /// Counts a call with these arcs among `n` vertices that found this, and remembers it.
+    pub fn add(&mut self, n: u32, arcs: &Vec<Arc>, found: &Result<Found, AllocError>)
         requires { self.old.calls < max_calls }
         ensures calls { self.new.calls ≡ self.old.calls + 1 }
         ensures refusals { self.new.refusals ≡ self.old.refusals + refusals_in found.now }
         ensures cycles { self.new.cycles ≡ self.old.cycles + cycles_in found.now }
+        ensures asked { asked_last self.new.last ≡ Some (record {
+          vertices = n;
+          arcs = arcs.now.items;
+          potentials = potentials_in found.now;
+        }) }
     {
+        self.last = Some(LastCall::of(n, arcs, found));
         self.calls += 1;
         match found {
             Ok(Found::Potentials(_)) => {}

@@ -1,5 +1,6 @@
 ghost use Rattle.std.specs.Prelude.{◌≡◌, IfOk};
 ghost use Rattle.th_search.specs.Answers.{IsAnswer};
+ghost use Rattle.th_search.specs.Asked.{asked_last};
 ghost use Rattle.th_search.specs.Inside.Searched.{IsSearched};
 
 use crate::arcs::Arc;
@@ -37,9 +38,11 @@ impl Search for LabelSearch {
 
     ghost cycles = { λ search. search.counts.cycles };
 
-    fn search(&mut self, alloc: Global, n: u32, arcs: &[Arc]) -> Result<Found, AllocError> {
+    ghost asked = { λ search. asked_last search.counts.last };
+
+    fn search(&mut self, alloc: Global, n: u32, arcs: &Vec<Arc>) -> Result<Found, AllocError> {
         let found = found_in(alloc, n, arcs);
-        self.counts.add(&found);
+        self.counts.add(n, arcs, &found);
         found
     }
 

@@ -1,7 +1,8 @@
-ghost use Rattle.std.specs.Prelude.{◌≡◌, ◌+◌, ◌<◌, ◌≤◌, ℕ, All, IfOk, length};
+ghost use Rattle.std.specs.Prelude.{◌≡◌, ◌+◌, ◌<◌, ◌≤◌, ℕ, Option, Some, All, IfOk, length};
 ghost use Rattle.th_search.specs.Limits.{max_vertices, max_arcs, max_calls};
 ghost use Rattle.th_search.specs.Walks.{IsArc};
 ghost use Rattle.th_search.specs.Answers.{IsAnswer, cycles_in, refusals_in};
+ghost use Rattle.th_search.specs.Asked.{Asked, potentials_in};
 
 use crate::arcs::Arc;
 use std::alloc::{AllocError, Global};
@@ -27,18 +28,27 @@ pub trait Search {
 
     ghost cycles: { Self → ℕ };
 
+    // What it was asked last, if it was asked.
+    ghost asked: { Self → Option Asked };
+
     /// Finds potentials of the vertices 0 to `n - 1`, or a cycle of arcs that costs less than 0.
     ///
     /// `n` is 1 to `MAX_VERTICES`. There are at most `MAX_ARCS` arcs, with ends below `n` and costs
-    /// of at most `MAX_COST` in size (`are_arcs` tests it). If memory runs out, the call counts as
-    /// a refusal, and the search may be called again.
-    fn search(&mut self, alloc: Global, n: u32, arcs: &[Arc]) -> Result<Found, AllocError>
+    /// of at most `MAX_COST` in size (`are_arcs` tests it). They are a `Vec` and no slice because
+    /// contracts remember them, as a `Snapshot`. If memory runs out, the call counts as a refusal,
+    /// and the search may be called again.
+    fn search(&mut self, alloc: Global, n: u32, arcs: &Vec<Arc>) -> Result<Found, AllocError>
         requires some { 1 ≤ n }
         requires vertices { n ≤ max_vertices }
-        requires many { length arcs.now ≤ max_arcs }
-        requires arcs { All (IsArc n) arcs.now }
+        requires many { length arcs.now.items ≤ max_arcs }
+        requires arcs { All (IsArc n) arcs.now.items }
         requires calls { calls self.old < max_calls }
-        ensures answer { IfOk result (IsAnswer n arcs.now) }
+        ensures answer { IfOk result (IsAnswer n arcs.now.items) }
+        ensures asked { asked self.new ≡ Some (record {
+          vertices = n;
+          arcs = arcs.now.items;
+          potentials = potentials_in result;
+        }) }
         ensures calls { calls self.new ≡ calls self.old + 1 }
         ensures refusals { refusals self.new ≡ refusals self.old + refusals_in result }
         ensures cycles { cycles self.new ≡ cycles self.old + cycles_in result };

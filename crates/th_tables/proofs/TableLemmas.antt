@@ -46,10 +46,6 @@ module _ {K V : Type 0} (same : K → K → Bool) (row_in : Fields → Result (K
     counted = refl;
   }
 
-  -- the number of a record is at most one more than there are records
-  pub number_bound : (all left : List Fields) (rows : List (K × V)) (number : ℕ) → ReadUpTo all left rows number → number + length left ≡ length all + 1
-  number_bound all left rows number read = omega (arith, ap length read.joined, length-append read.done left, read.counted)
-
   -- an earlier record has this key just where a row has it
   any_row : (key : K) (done : List Fields) (rows : List (K × V)) → map row_in done ≡ map Ok rows → list_any (λ other. is_row_with same key (row_in other)) done ≡ is_some (lookup (same key) rows)
   any_row key [] [] says = refl
@@ -77,14 +73,6 @@ module _ {K V : Type 0} (same : K → K → Bool) (row_in : Fields → Result (K
   repeats all left this rows number row read says =
       ap (unless_repeated same row_in read.done) says ∙ ap (λ repeated. if repeated then Err Repeated else Ok row) (any_row row.0 read.done rows read.says)
 
-  -- a record with a fault of its own
-  pub read_fault : (all left later : List Fields) (this : Fields) (rows : List (K × V)) (number : ℕ) (kind : TableKind) → ReadUpTo all left rows number → left ≡ this ∷ later
-      → row_in this ≡ Err kind → rows_after same row_in [] all ≡ Err (record { row = number + 1; kind = kind })
-  read_fault all left later this rows number kind read first faulty =
-      next_row all left later this rows number read first
-      ∙ ap (λ it. rows_before rows (row_first (length read.done) (unless_repeated same row_in read.done it) (rows_after same row_in (read.done ++ this ∷ []) later))) faulty
-      ∙ (let numbered : length read.done + 2 ≡ number + 1 = omega (arith, read.counted) in ap (λ n. Err (record { row = n; kind = kind })) numbered)
-
   -- a record with a key that is there
   pub read_repeated : (all left later : List Fields) (this : Fields) (rows : List (K × V)) (number : ℕ) (row : K × V) → ReadUpTo all left rows number → left ≡ this ∷ later
       → row_in this ≡ Ok row → is_some (lookup (same row.0) rows) ≡ true → rows_after same row_in [] all ≡ Err (record { row = number + 1; kind = Repeated })
@@ -110,11 +98,6 @@ module _ {K V : Type 0} (same : K → K → Bool) (row_in : Fields → Result (K
         ∙ rows_before-push (length read.done) rows row (rows_after same row_in (read.done ++ this ∷ []) later);
     counted = omega (arith, length-append read.done (this ∷ []), read.counted);
   }
-
-  -- after the last record
-  pub read_all : (all left : List Fields) (rows : List (K × V)) (number : ℕ) → ReadUpTo all left rows number → left ≡ [] → rows_after same row_in [] all ≡ Ok rows
-  read_all all left rows number read none =
-      read.so_far ∙ ap (λ left. rows_before rows (rows_after same row_in read.done left)) none ∙ ap Ok (append-nil rows)
 
 -- no value
 pub none_from_test : {X : Type 0} (found : Option X) → is_some found ≡ false → found ≡ None

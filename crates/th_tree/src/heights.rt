@@ -1,4 +1,5 @@
 use crate::links::Link;
+use crate::scales::MOST_APART;
 use std::alloc::{AllocError, Global};
 
 /// How far a vertex is known.
@@ -65,13 +66,18 @@ impl Heights {
         self.rows.get_mut(vertex as usize)
     }
 
-    /// The greatest size of a height.
-    pub fn most(&self) -> Option<i64> {
-        let mut most = 0i64;
-        for row in &self.rows {
-            most = most.max(row.height.checked_abs()?);
+    /// Moves all heights so that vertex 0 is at 0 again, where it is too far from there.
+    pub fn settle_down(&mut self) -> Option<()> {
+        let level = self.rows.first()?.height;
+        if level.checked_abs()? <= MOST_APART {
+            return Some(());
         }
-        Some(most)
+        for row in self.rows.iter_mut() {
+            if row.stage == Stage::Planted {
+                row.height = row.height.checked_sub(level)?;
+            }
+        }
+        Some(())
     }
 
     /// A link's difference, less the height of its head above its tail: what a unit of flow along it

@@ -1,12 +1,11 @@
-use crate::heights::Heights;
-use crate::links::Link;
+use crate::sides::Sides;
 
 /// The most that differences are multiplied by.
 const MOST_TIMES: i64 = 1 << 20;
 
-/// What multiplied heights are to stay below, with two binary digits left for sums and some for heights
-/// that grow.
-const MOST_HEIGHT: i64 = 1 << 58;
+/// How far two multiplied heights may be apart. Vertex 0 is kept as near to height 0, so what a pivot sums up
+/// of heights stays below eight times as much.
+pub(crate) const MOST_APART: i64 = 1 << 60;
 
 /// The unit in which most books give their heights, in units of a network (10 nm): a hundredth of a
 /// millimetre.
@@ -27,20 +26,24 @@ impl Scale {
     /// The differences as they are.
     pub const PLAIN: Scale = Scale { times: 1, noise: 0 };
 
-    /// A scale for these links, of a network whose heights are about these.
-    pub fn noisy(links: &[Link], heights: &Heights) -> Option<Scale> {
-        let mut most = heights.most()?.max(1);
+    /// A scale for links with these sides, of so many vertices. Heights of a tree that are measured by it are
+    /// never too far apart: a way through the tree takes at most one link up from each vertex.
+    pub fn noisy(sides: &Sides, vertices: u32) -> Option<Scale> {
+        let mut apart = 1i64;
         let mut unit = COARSE_UNIT;
-        for link in links {
-            most = most.max(link.difference.checked_abs()?);
-            if link.difference % COARSE_UNIT != 0 {
-                unit = 1;
+        for vertex in 0..vertices {
+            let mut most = 0i64;
+            for side in sides.of(vertex)? {
+                most = most.max(side.rise.checked_abs()?);
+                if side.rise % COARSE_UNIT != 0 {
+                    unit = 1;
+                }
             }
+            apart = apart.checked_add(most)?;
         }
-        let times = MOST_HEIGHT.checked_div(most)?.clamp(1, MOST_TIMES);
+        let times = MOST_APART.checked_div(apart)?.clamp(1, MOST_TIMES);
         let room = times.checked_mul(unit)?;
-        let vertices = i64::from(heights.count());
-        let even = room.checked_div(vertices.checked_mul(2)?)?;
+        let even = room.checked_div(i64::from(vertices).checked_mul(2)?)?;
         let least = (room / 4).min(64);
         Some(Scale {
             times,

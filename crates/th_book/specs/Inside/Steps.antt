@@ -1,12 +1,15 @@
 -- The step that a block takes in its book.
-use Rattle.std.specs.Prelude.{◌≡◌, ℕ, ℤ, ◌+◌, ◌++◌, ◌&&◌, Bool, false, true, List, Option, Some, None, if◌then◌else◌, is_some, option_and_then, option_map, option_to_list}
-use Rattle.gsi_word.specs.Words.{Parts}
+use Rattle.std.specs.Prelude.{◌≡◌, ℕ, ℤ, ◌+◌, ◌++◌, ◌&&◌, Bool, false, true, List, Option, Some, None, Ok, if◌then◌else◌, map, is_some, option_and_then, option_map, option_to_list}
+use Rattle.gsi_word.specs.Words.{Parts, parts_of}
+use Rattle.gsi_word.specs.declared.words.Width.{Width}
+use Rattle.gsi_word.specs.declared.words.Word.{Word}
+use Rattle.gsi_block.specs.Blocks.{block_with}
 use Rattle.th_book.specs.Observed.{Observed}
 use Rattle.th_book.specs.Lines.{ParsedLine, words_in}
 use Rattle.th_book.specs.Faults.{Standing, block_faults, fault_in, first_applying, kind_of, sight_faults}
 use Rattle.th_book.specs.Books.{difference, known, known_name}
 use Rattle.th_book.specs.Due.{BookState, observation_in, setup_after, standing_in}
-use Rattle.th_book.specs.Entered.{nothing}
+use Rattle.th_book.specs.Entered.{entered_by, nothing}
 use Rattle.th_book.specs.Inside.Entries.{setup_by}
 use Rattle.th_book.specs.declared.entries.Entered.{Entered}
 use Rattle.th_book.specs.declared.setups.Setup.{Setup}
@@ -80,6 +83,11 @@ no_step = record { entry = nothing; sight = None }
 pub record IsLeft (running : Option Setup) (words : List Parts) (step : Step) : Type 0 where
   pub setup : setup_by step.entry running ≡ setup_after running words
   pub sight : (book line : ℕ) → option_map (stamped book line) step.sight ≡ observation_in book line running words
+
+-- a line is blank and has no step, or it is a block of these words, and its step enters what they do
+abbrev pub IsReadAs : ParsedLine → List Word → Option Step → Type 0
+IsReadAs parsed words None = parsed ≡ Ok None
+IsReadAs parsed words (Some step) = (width : Width) × (parsed ≡ Ok (Some (block_with words width))) × (step.entry ≡ entered_by (map parts_of words))
 
 -- the state of a book after a line without a fault, with a given capacity
 abbrev pub state_with : BookState → Step → ℕ → BookState

@@ -1,14 +1,19 @@
-use Rattle.std.specs.Prelude.{◌≡◌, ℕ, ◌+◌, ◌*◌, ◌≤◌, ℤ, pos, ◌+ℤ◌, ◌≤ℤ◌, Bool, List, Result, Ok, Err, OnOk, if◌then◌else◌, length, sum}
+use Rattle.std.specs.Prelude.{◌≡◌, ℕ, ◌+◌, ◌*◌, ◌≤◌, ℤ, pos, ◌+ℤ◌, ◌≤ℤ◌, Bool, List, Option, Some, All, Result, Ok, Err, OnOk, if◌then◌else◌, length, sum}
 use Rattle.th_network.specs.Links.{largest_link_difference}
 use Rattle.th_network.specs.declared.links.Link.{Link}
 use Rattle.th_search.specs.Answers.{refusals_in}
-use Rattle.th_search.specs.Potentials.{value_at}
+use Rattle.th_search.specs.Asked.{Asked}
+use Rattle.th_search.specs.Limits.{max_arcs}
+use Rattle.th_search.specs.Potentials.{IsFeasible, value_at}
+use Rattle.th_search.specs.Walks.{IsArc}
+use Rattle.th_search.specs.declared.arcs.Arc.{Arc}
 use Rattle.th_circulation.specs.Inside.Bounds.{HaveSmallRises, height_bound, raised_bound}
 use Rattle.th_circulation.specs.Inside.Flows.{IsFlow, ShowsLinks, gain, residuals}
 use Rattle.th_circulation.specs.Inside.Graphs.{AreWithin}
-use Rattle.th_circulation.specs.Inside.Listings.{Fits}
+use Rattle.th_circulation.specs.Inside.Listings.{AreResidual, Fits, HasAllBefore}
 use Rattle.th_circulation.specs.Inside.Phases.{differences_in}
 use Rattle.th_circulation.specs.declared.graphs.LinkGraph.{LinkGraph}
+use Rattle.th_circulation.specs.declared.slots.Slot.{Slot}
 use Rattle.th_circulation.specs.declared.workspaces.Workspace.{Workspace}
 
 -- the state between two phases: a flow, and heights within the bound of raised ones
@@ -37,6 +42,22 @@ pub record AreShownFor (graph : LinkGraph) (diffs : List ℤ) (work : Workspace)
   pub heights : AreWithin graph.vertices raised_bound work.state.heights.items
   pub rises : HaveSmallRises graph.vertices work.state.heights.items
   pub shown : ShowsLinks graph.weights.now work.state.flows.items (residuals graph.links.now diffs (value_at work.state.heights.items))
+
+-- a search was asked of these arcs last, and answered these potentials
+abbrev pub WasAsked : ℕ → List Arc → List ℤ → Option Asked → Type 0
+WasAsked vertices arcs potentials asked = asked ≡ Some (record { vertices = vertices; arcs = arcs; potentials = Some potentials })
+
+-- a search was asked of these arcs last, which are all residual arcs of the flows, and answered potentials
+pub record IsAskedFor (graph : LinkGraph) (diffs flows : List ℤ) (arcs : List Arc) (asked : Option Asked) : Type 0 where
+  pub heights : List ℤ
+  pub slots : List Slot
+  pub potentials : List ℤ
+  pub residual : AreResidual graph.links.now graph.weights.now diffs (value_at heights) flows arcs slots
+  pub all : HasAllBefore graph.weights.now flows slots (length graph.links.now)
+  pub many : length arcs ≤ max_arcs
+  pub arcs_are : All (IsArc graph.vertices) arcs
+  pub feasible : IsFeasible arcs potentials
+  pub last : WasAsked graph.vertices arcs potentials asked
 
 -- the last phase is done: a flow shows the heights for the links' own differences
 pub record IsDone (graph : LinkGraph) (work : Workspace) : Type 0 where

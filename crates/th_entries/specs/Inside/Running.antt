@@ -1,25 +1,45 @@
 -- How the entries of a book are found line by line.
-use Rattle.std.specs.Prelude.{ℕ, ℤ, ◌+◌, ◌-◌, ◌^◌, ◌++◌, min, List, Option, Some, None, if◌then◌else◌, is_some, length, option_to_list, slice_get, slice_set}
+use Rattle.std.specs.Prelude.{ℕ, ℤ, ◌+◌, ◌-◌, ◌^◌, ◌++◌, min, Bool, false, List, Option, Some, None, if◌then◌else◌, is_some, length, option_to_list, slice_get, slice_set}
+use Rattle.std.specs.Ordering.{int_eq}
 use Rattle.th_book.specs.declared.entries.Entered.{Entered}
+use Rattle.th_book.specs.declared.setups.Setup.{Setup}
 use Rattle.th_entries.specs.declared.entries.Entry.{Entry}
 use Rattle.th_entries.specs.declared.entries.HeightKind.{HeightKind}
 use Rattle.th_entries.specs.declared.entries.HeightKind.TheVariants.{Reflector, Instrument}
-use Rattle.th_entries.specs.declared.running.Running.{Running}
+use Rattle.th_entries.specs.declared.running.Latest.{Latest}
 
--- the running setup after what a line enters: a new setup has no heights yet
-abbrev pub begun_by : Entered → Running → Running
-begun_by entered running =
-    if is_some entered.station then record { station = entered.station; reflector = None; instrument = None } else running
+-- where the latest entries are after what a line enters: a new setup has none yet
+abbrev pub begun_by : Entered → Latest → Latest
+begun_by entered latest = if is_some entered.station then record { reflector = None; instrument = None } else latest
 
--- the entry of a length at a station, which no sight uses yet; none without a station or a length
-abbrev pub entry_in : Option (List ℕ) → ℕ → ℕ → HeightKind → Option ℤ → Option Entry
+-- the setup of a line, before its heights: the one that it begins at a station, or else the running one
+abbrev pub setup_on : Option Setup → Option (List ℕ) → Option Setup
+setup_on running None = running
+setup_on running (Some station) = Some (record { station = station; instrument = None; reflector = None })
+
+-- the last height of a kind in a setup
+abbrev pub height_of : HeightKind → Setup → Option ℤ
+height_of Reflector setup = setup.reflector
+height_of Instrument setup = setup.instrument
+
+-- a length is that of the last height, if there is one
+abbrev pub is_same : Option ℤ → ℤ → Bool
+is_same None length = false
+is_same (Some last) length = int_eq last length
+
+abbrev pub is_repeated : HeightKind → ℤ → Setup → Bool
+is_repeated kind length setup = is_same (height_of kind setup) length
+
+-- the entry that a length begins in a setup, which no sight uses yet; none without a setup or a length, or if the length
+-- repeats the last one
+abbrev pub entry_in : Option Setup → ℕ → ℕ → HeightKind → Option ℤ → Option Entry
 entry_in None book line kind length = None
-entry_in (Some station) book line kind None = None
-entry_in (Some station) book line kind (Some length) = Some (record {
+entry_in (Some setup) book line kind None = None
+entry_in (Some setup) book line kind (Some length) = if is_repeated kind length setup then None else Some (record {
   book = book;
   line = line;
   kind = kind;
-  station = station;
+  station = setup.station;
   length = length;
   sights = 0;
   last = 0;
@@ -42,39 +62,40 @@ abbrev pub served : Option ℕ → ℕ → List Entry → List Entry
 served None line entries = entries
 served (Some place) line entries = served_there (slice_get entries place) place line entries
 
--- the running setup and the entries so far
+-- where the latest entries are, and the entries so far
 pub record Entering : Type 0 where
-  pub running : Running
+  pub latest : Latest
   pub entries : List Entry
 
--- the state after the reflector height that a line enters, if it enters one
-abbrev pub with_reflector : ℕ → ℕ → Option ℤ → Entering → Entering
-with_reflector book line length state =
-    let entry = entry_in state.running.station book line Reflector length in
+-- the state after the reflector height that a line enters in a setup, if it enters one
+abbrev pub with_reflector : ℕ → ℕ → Option Setup → Option ℤ → Entering → Entering
+with_reflector book line setup length state =
+    let entry = entry_in setup book line Reflector length in
     record {
-      running = record state.running { reflector = place_of entry state.entries state.running.reflector };
+      latest = record state.latest { reflector = place_of entry state.entries state.latest.reflector };
       entries = state.entries ++ option_to_list entry;
     }
 
--- the state after the instrument height that a line enters, if it enters one
-abbrev pub with_instrument : ℕ → ℕ → Option ℤ → Entering → Entering
-with_instrument book line length state =
-    let entry = entry_in state.running.station book line Instrument length in
+-- the state after the instrument height that a line enters in a setup, if it enters one
+abbrev pub with_instrument : ℕ → ℕ → Option Setup → Option ℤ → Entering → Entering
+with_instrument book line setup length state =
+    let entry = entry_in setup book line Instrument length in
     record {
-      running = record state.running { instrument = place_of entry state.entries state.running.instrument };
+      latest = record state.latest { instrument = place_of entry state.entries state.latest.instrument };
       entries = state.entries ++ option_to_list entry;
     }
 
 -- the state after both heights, in the setup that the line begins or else in the running one
-abbrev pub with_heights : ℕ → ℕ → Entered → Entering → Entering
-with_heights book line entered state =
-    with_instrument book line entered.instrument (with_reflector book line entered.reflector (record state { running = begun_by entered state.running }))
+abbrev pub with_heights : ℕ → ℕ → Option Setup → Entered → Entering → Entering
+with_heights book line running entered state =
+    let setup = setup_on running entered.station in
+    with_instrument book line setup entered.instrument (with_reflector book line setup entered.reflector (record state { latest = begun_by entered state.latest }))
 
 -- the state after a sight, which uses the latest reflector and instrument heights
 abbrev pub sighted : ℕ → Entering → Entering
-sighted line state = record state { entries = served state.running.instrument line (served state.running.reflector line state.entries) }
+sighted line state = record state { entries = served state.latest.instrument line (served state.latest.reflector line state.entries) }
 
 -- the state after everything that a line enters
-abbrev pub entering_after : ℕ → ℕ → Entered → Entering → Entering
-entering_after book line entered state =
-    if is_some entered.target then sighted line (with_heights book line entered state) else with_heights book line entered state
+abbrev pub entering_after : ℕ → ℕ → Option Setup → Entered → Entering → Entering
+entering_after book line running entered state =
+    if is_some entered.target then sighted line (with_heights book line running entered state) else with_heights book line running entered state

@@ -1,19 +1,19 @@
 -- What is known of a book after some of its lines.
-use Rattle.std.specs.Prelude.{◌≡◌, ◌<◌, ◌≤◌, ℕ, suc, ◌+◌, ◌-◌, ◌^◌, ◌++◌, ◌&&◌, not, min, Bool, List, [], ◌∷◌, Option, None, if◌then◌else◌, is_some, length, option_and_then, option_map}
+use Rattle.std.specs.Prelude.{◌≡◌, ℕ, suc, ◌+◌, ◌-◌, ◌^◌, ◌++◌, ◌&&◌, not, min, Bool, List, [], ◌∷◌, Option, None, if◌then◌else◌, is_some, length, option_and_then, option_map}
+use Rattle.std.specs.List.{list_any}
 use Rattle.std.specs.Option.{option_map_or}
 use Rattle.gsi_word.specs.Words.{Parts}
-use Rattle.gsi_block.specs.Blocks.{block_at}
-use Rattle.th_book.specs.Lines.{ParsedLine, holds, is_setup, is_sight, length_in, point_name}
-use Rattle.th_book.specs.Places.{holds_from, last_below, line_at, setup_of, station_at, words_at}
-use Rattle.th_book.specs.Faults.{are_one, begins_with_point, first_fault}
-use Rattle.th_book.specs.Books.{known, known_name}
-use Rattle.th_book.specs.Limits.{max_book}
+use Rattle.th_book.specs.Lines.{ParsedLine, is_setup, is_sight, point_name}
+use Rattle.th_book.specs.Places.{last_below, line_at, setup_of, station_at, words_at}
+use Rattle.th_book.specs.Faults.{are_one, begins_with_point}
+use Rattle.th_book.specs.Books.{known_name}
 use Rattle.th_book.specs.Entered.{entered_by}
 use Rattle.th_book.specs.Indexes.{reflector_height, instrument_height}
 use Rattle.th_book.specs.declared.entries.Entered.{Entered}
+use Rattle.th_book.specs.declared.setups.Setup.{Setup}
 use Rattle.th_entries.specs.Below.{all_below, count_below}
-use Rattle.th_entries.specs.Entries.{index_of, uses}
-use Rattle.th_entries.specs.Reviews.{is_block, is_lookalike}
+use Rattle.th_entries.specs.Entries.{begins, begins_from, index_of, length_at, uses}
+use Rattle.th_entries.specs.Reviews.{is_block, is_lookalike, is_measured}
 use Rattle.th_entries.specs.Spellings.{Mention, mentions_at}
 use Rattle.th_entries.specs.Seen.{AreSeenIn}
 use Rattle.th_entries.specs.Inside.Running.{Entering, entering_after}
@@ -45,40 +45,40 @@ with_block entered counts = record {
 -- a block looks like a setup, and its point is not the station, if there is one
 abbrev pub looks : List Parts → Entered → Option (List ℕ) → Bool
 looks words entered station =
-    (begins_with_point words && (is_some entered.instrument && (not (is_some entered.target) && not (is_some entered.station))))
+    (begins_with_point words && (is_some entered.instrument && (not (is_some entered.target) && (not (is_some entered.station) && not (list_any is_measured words)))))
     && not (are_one station (point_name words))
 
 -- a line's number if the line looks like a setup, else nothing
 abbrev pub line_if : Bool → ℕ → List ℕ
 line_if looks line = if looks then line ∷ [] else []
 
--- the running setup and the entries of a tally
+-- the entries of a tally, and where the latest are
 abbrev pub entering : Tally → Entering
-entering tally = record { running = tally.running; entries = tally.entries.items }
+entering tally = record { latest = tally.latest; entries = tally.entries.items }
 
 -- a new tally: it holds only the names of earlier books
 pub record IsEmpty (names : SeenNames) (number : ℕ) (tally : Tally) : Type 0 where
   pub seen : tally.names ≡ names
   pub book : tally.book ≡ number
   pub counts : tally.counts ≡ record { lines = 0; blocks = 0; setups = 0; sights = 0 }
-  pub entered : entering tally ≡ record { running = record { station = None; reflector = None; instrument = None }; entries = [] }
+  pub entered : entering tally ≡ record { latest = record { reflector = None; instrument = None }; entries = [] }
   pub lookalikes : tally.lookalikes.items ≡ []
 
--- a block without a fault was taken, after its line was counted
-pub record HasBlock (words : List Parts) (old new : Tally) : Type 0 where
+-- a block without a fault was taken in a running setup, after its line was counted
+pub record HasBlock (running : Option Setup) (words : List Parts) (old new : Tally) : Type 0 where
   pub seen : IsSeenNext (mention_by old.book old.counts.lines (entered_by words) words) old.names new.names
   pub book : new.book ≡ old.book
   pub counts : new.counts ≡ with_block (entered_by words) old.counts
-  pub entered : entering new ≡ entering_after old.book old.counts.lines (entered_by words) (entering old)
-  pub lookalikes : new.lookalikes.items ≡ old.lookalikes.items ++ line_if (looks words (entered_by words) old.running.station) old.counts.lines
+  pub entered : entering new ≡ entering_after old.book old.counts.lines running (entered_by words) (entering old)
+  pub lookalikes : new.lookalikes.items ≡ old.lookalikes.items ++ line_if (looks words (entered_by words) (option_map (λ own. own.station) running)) old.counts.lines
 
--- the place of the last height with an index before place `n`, since the setup that runs there
+-- the place of the last entry of an index that begins before place `n`, in the setup that runs there
 abbrev pub open_at : ℕ → List ParsedLine → ℕ → Option ℕ
-open_at index parsed n = option_and_then (λ setup. last_below (holds_from parsed index setup) n) (setup_of parsed n)
+open_at index parsed n = option_and_then (λ setup. last_below (begins_from parsed index setup) n) (setup_of parsed n)
 
--- a line enters a height, and a setup has begun
+-- a line begins an entry, and a setup has begun
 abbrev pub opens : List ParsedLine → HeightKind → ℕ → Bool
-opens parsed kind line = holds (index_of kind) (words_at parsed line) && is_some (setup_of parsed (suc line))
+opens parsed kind line = begins (index_of kind) parsed line && is_some (setup_of parsed (suc line))
 
 -- the entry of a line, counting only sights before a bound; `last` is 0 if none of them uses it
 abbrev pub candidate : ℕ → List ParsedLine → HeightKind → ℕ → ℕ → Entry
@@ -87,7 +87,7 @@ candidate book parsed kind bound line = record {
   line = line + 1;
   kind = kind;
   station = known_name (station_at parsed (suc line));
-  length = known (length_in (index_of kind) (words_at parsed line));
+  length = length_at (index_of kind) parsed line;
   sights = count_below (uses (index_of kind) parsed line) bound;
   last = option_map_or (λ last. last + 1) (last_below (uses (index_of kind) parsed line) bound) 0;
 }
@@ -108,12 +108,10 @@ ahead parsed Instrument line = candidate_at 0 parsed Reflector 0 line
 abbrev pub place_in : List ParsedLine → HeightKind → ℕ → ℕ
 place_in parsed kind line = length (all_below (both_at 0 parsed 0 0) line ++ ahead parsed kind line)
 
--- the running setup and the entries are those after the lines before place `n`
+-- the entries are those after the lines before place `n`, and the latest are those of the setup that runs there
 pub record IsEntering (book : ℕ) (parsed : List ParsedLine) (n : ℕ) (state : Entering) : Type 0 where
-  pub station : state.running.station ≡ station_at parsed n
-  pub begun : is_some (station_at parsed n) ≡ is_some (setup_of parsed n)
-  pub reflector : state.running.reflector ≡ option_map (place_in parsed Reflector) (open_at reflector_height parsed n)
-  pub instrument : state.running.instrument ≡ option_map (place_in parsed Instrument) (open_at instrument_height parsed n)
+  pub reflector : state.latest.reflector ≡ option_map (place_in parsed Reflector) (open_at reflector_height parsed n)
+  pub instrument : state.latest.instrument ≡ option_map (place_in parsed Instrument) (open_at instrument_height parsed n)
   pub entries : state.entries ≡ all_below (both_at book parsed n n) n
 
 -- the counts of the lines before place `n`
@@ -141,9 +139,3 @@ pub record IsTallied (names : SeenNames) (number : ℕ) (parsed : List ParsedLin
   pub counts : tally.counts ≡ counts_below parsed n
   pub entered : IsEntering number parsed n (entering tally)
   pub lookalikes : tally.lookalikes.items ≡ lookalikes_below parsed n
-
--- the next line of a book without a fault was taken
-abbrev pub HasTaken : Tally → Tally → List ℕ → Type 0
-HasTaken old new line =
-    (names : SeenNames) (number : ℕ) (parsed : List ParsedLine) (n : ℕ) → first_fault parsed ≡ None → length parsed ≤ max_book → n < length parsed →
-    line_at parsed n ≡ block_at line → IsTallied names number parsed n old → IsTallied names number parsed (suc n) new

@@ -1,24 +1,25 @@
 -- What the readers of books promise one another.
-use Rattle.std.specs.Prelude.{◌≡◌, ◌+◌, ◌++◌, ℕ, List, [], ◌∷◌, Option, IfSome, Ok}
+use Rattle.std.specs.Prelude.{◌≡◌, ◌+◌, ◌++◌, ℕ, List, [], ◌∷◌, Option, IfSome, Ok, length}
 use Rattle.th_book.specs.Books.{book_answer}
 use Rattle.th_book.specs.Observed.{Observed}
-use Rattle.th_entries.specs.Feeds.{IsReading}
-use Rattle.th_entries.specs.Reviews.{IsFaultless, Reviews, parsed_of}
+use Rattle.th_book.specs.Lines.{ParsedLine}
+use Rattle.th_entries.specs.Reviews.{Reviews, parsed_of}
 use Rattle.th_entries.specs.Seen.{AddsBook}
 use Rattle.th_entries.specs.declared.seen.SeenNames.{SeenNames}
-use Rattle.th_entries.specs.declared.feeds.ReviewFeed.{ReviewFeed}
+use Rattle.th_entries.specs.Tallied.{HasSeen}
+use Rattle.th_entries.specs.declared.tallies.Tally.{Tally}
 use Rattle.th_entries.specs.declared.reviews.BookReview.{BookReview}
 
 -- a feed took these bytes: if it had just them left to take, it has none left now
 abbrev pub AreTaken : {B F : Type 0} → (B → List ℕ → F → Type 0) → List ℕ → F → F → Type 0
 AreTaken {B} has_taken bytes old new = (start : B) → has_taken start bytes old → has_taken start [] new
 
--- the review that a feed has read was put after others, and the names of its book were added to those before
-pub record IsAdded (feed : ReviewFeed) (old new : List BookReview) (more : SeenNames) : Type 0 where
+-- the review of a tally was put after others, and the names of its book were added to those before
+pub record IsAdded (tally : Tally) (old new : List BookReview) (more : SeenNames) : Type 0 where
   pub review : BookReview
   pub joined : new ≡ old ++ review ∷ []
-  pub reviewed : (names : SeenNames) (number : ℕ) (text : List ℕ) → IsReading names number text [] feed → IsFaultless number text → Reviews number (parsed_of text) review
-  pub named : (names : SeenNames) (number : ℕ) (text : List ℕ) → IsReading names number text [] feed → IsFaultless number text → AddsBook number (parsed_of text) names more
+  pub reviewed : (names : SeenNames) (number : ℕ) (parsed : List ParsedLine) → HasSeen names number parsed (length parsed) tally → Reviews number parsed review
+  pub named : (names : SeenNames) (number : ℕ) (parsed : List ParsedLine) → HasSeen names number parsed (length parsed) tally → AddsBook number parsed names more
 
 -- The review of the book with this number was put after others, and the names that it mentions were added to those of
 -- the books before. Its text is the reported one, if one is reported, and gives the observations.

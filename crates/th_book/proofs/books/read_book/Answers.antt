@@ -19,18 +19,18 @@ read-requires c =
 
 pub lines-preserved : goal.lines-preserved
 lines-preserved c =
-    IsReading-more c.args.book (lines_of c.args.bytes.now) c.lines.reader c.read.new.self (lines_of c.lines.cursor) c.in-Some.line.now (lines_of c.next.new.self) c.lines.invariant c.in-Some.ensures.gives c.in_ok-read.ensures.taken
+    IsReading-more c.args.book (lines_of c.args.bytes.now) c.lines.reader c.read.new.self (lines_of c.lines.cursor) c.in-Some.line.now (lines_of c.next.new.self) c.lines.invariant c.in-Some.ensures.gives c.in_ok-read.ensures.answered.taken
 
 pub returns-in_err-read-clause-fault : goal.returns-in_err-read-clause-fault
 returns-in_err-read-clause-fault c =
     let p = err_from_is_err_and c.from_residual.result c.from_residual.ensures.1 in
     let whole = within c.args.book c.args.bytes.now c.if-size-gt-MAX_BOOK.false in
-    rw (p.1, p.2) (λ kept. whole ∙ refused_answer c.args.book (lines_of c.args.bytes.now) c.lines.reader c.read.new.self (lines_of c.lines.cursor) c.in-Some.line.now (lines_of c.next.new.self) c.in_err-read.field-0.0 c.lines.invariant c.in-Some.ensures.gives (c.in_err-read.ensures.refused kept))
+    rw (p.1, p.2) (λ kept. whole ∙ refused_answer c.args.book (lines_of c.args.bytes.now) c.lines.reader c.read.new.self (lines_of c.lines.cursor) c.in-Some.line.now (lines_of c.next.new.self) c.in_err-read.field-0.0 c.lines.invariant c.in-Some.ensures.gives (c.in_err-read.ensures.answered.refused kept))
 
 pub returns-in_err-read-clause-wanting : goal.returns-in_err-read-clause-wanting
 returns-in_err-read-clause-wanting c =
     let p = err_from_is_err_and c.from_residual.result c.from_residual.ensures.1 in
-    rw (p.1, p.2) (λ wanting. wanting_answer c.args.book (lines_of c.args.bytes.now) c.lines.reader c.read.new.self (lines_of c.lines.cursor) c.in-Some.line.now (lines_of c.next.new.self) c.in_err-read.field-0.0 c.lines.invariant c.in-Some.ensures.gives (c.in_err-read.ensures.wanting wanting))
+    rw (p.1, p.2) (λ wanting. wanting_answer c.args.book (lines_of c.args.bytes.now) c.lines.reader c.read.new.self (lines_of c.lines.cursor) c.in-Some.line.now (lines_of c.next.new.self) c.in_err-read.field-0.0 c.lines.invariant c.in-Some.ensures.gives (c.in_err-read.ensures.answered.wanting wanting))
 
 pub returns-clause-ok : goal.returns-clause-ok
 returns-clause-ok c =

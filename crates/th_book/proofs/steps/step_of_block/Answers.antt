@@ -1,14 +1,13 @@
-use Rattle.std.proofs.Common.{◌≡◌, [], cond, map, Some, None, refl, sym, ap, ◌∙◌}
+use Rattle.std.proofs.Common.{[], cond, map, refl, sym, ap, ◌∙◌}
 use Rattle.std.proofs.lemmas.Result.{err_from_is_err_and}
 use Rattle.std.specs.Option.{option_or}
 use Rattle.gsi_word.specs.Words.{parts_of}
 use Rattle.th_book.specs.Lines.{is_sight, point_name}
 use Rattle.th_book.specs.Faults.{first_applying, sight_faults}
-use Rattle.th_book.specs.Books.{known, known_name}
 use Rattle.th_book.specs.Due.{standing_in}
-use Rattle.th_book.specs.Entered.{entered_by, nothing}
+use Rattle.th_book.specs.Entered.{entered_by}
 use Rattle.th_book.specs.Inside.Entries.{setup_by}
-use Rattle.th_book.specs.Inside.Steps.{AreSeen, entry_fault, is_seen, observed_from}
+use Rattle.th_book.specs.Inside.Steps.{entry_fault}
 use Rattle.th_book.specs.declared.entries.Entered.{Entered}
 use Rattle.th_book.proofs.StepLemmas.{later_fault, own_fault_first, own_words, seen_is, setup_by_same}
 use Rattle.th_book.proofs.steps.step_of_block.Goals as goal
@@ -20,31 +19,6 @@ returns-in_err-entry-clause-fault c =
     rw (p.1, p.2)
     (c.in_err-entry.ensures.fault
     ∙ sym (own_fault_first c.args.running.now words ∙ ap (λ own. option_or own (first_applying (cond (is_sight words) (sight_faults (standing_in c.args.running.now words) (point_name words)) []))) (sym c.in_err-entry.ensures.fault) ∙ c.in_err-entry.ensures.fault))
-
--- what the words enter, where that is nothing
-enters_nothing : (c : goal.Then-is_nothing) → nothing ≡ entered_by (map parts_of c.args.words.now)
-enters_nothing c = sym (c.is_nothing.ensures.0 c.if-is_nothing.true) ∙ c.in_ok-entry.ensures.entry
-
-pub returns-then-is_nothing-clause-fault : goal.returns-then-is_nothing-clause-fault
-returns-then-is_nothing-clause-fault c =
-    let words = map parts_of c.args.words.now in
-    let setup = setup_by nothing c.args.running.now in
-    ap (entry_fault setup) (enters_nothing c)
-    ∙ sym (later_fault words c.args.running.now setup (sym c.in_ok-entry.ensures.fault) (ap (λ (own : Entered). setup_by own c.args.running.now) (enters_nothing c)))
-
-pub returns-then-is_nothing-clause-left : goal.returns-then-is_nothing-clause-left
-returns-then-is_nothing-clause-left c =
-    let words = map parts_of c.args.words.now in
-    let running = c.args.running.now in
-    let setup = setup_by (entered_by words) running in
-    let none = sym c.in_ok-entry.ensures.fault in
-    let are : AreSeen setup (entered_by words) None = record {
-      seen = λ book line. ap (λ (own : Entered). cond (is_seen own) (Some (observed_from setup (known_name own.target) (known own.sighted) book line)) None) (enters_nothing c);
-    } in
-    record {
-      setup = ap (λ (own : Entered). setup_by own running) (enters_nothing c) ∙ setup_by_same words running (own_words words none);
-      sight = seen_is words running setup None none refl are;
-    }
 
 pub returns-in_err-sight-clause-fault : goal.returns-in_err-sight-clause-fault
 returns-in_err-sight-clause-fault c =

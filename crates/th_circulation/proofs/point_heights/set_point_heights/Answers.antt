@@ -1,23 +1,18 @@
-use Rattle.std.proofs.Common.{ℕ, ◌≡◌, ◌<◌, ◌+◌, ◌-◌, ◌-ℤ◌, ℤ, List, Some, None, length, slice_get, unsigned_abs, ap, ◌∙◌, refl, arith}
+use Rattle.std.proofs.Common.{ℕ, ◌≡◌, ◌<◌, ◌-◌, ℤ, List, Some, None, length, slice_get, unsigned_abs, ap, ◌∙◌, refl, arith}
+use Rattle.std.proofs.lemmas.List.{length-map}
 use Rattle.std.proofs.lemmas.Option.{slice_get_within}
+use Rattle.std.specs.Prelude.{slice_index_or}
+use Rattle.th_network.specs.Vertices.{vertex_of}
 use Rattle.std.proofs.lemmas.Int.{ints}
 use Rattle.th_network.specs.Limits.{height_limit}
 use Rattle.th_network.specs.Networks.{points_of}
 use Rattle.th_search.specs.Potentials.{value_at}
 use Rattle.th_circulation.specs.Inside.PointHeights.{point_height}
 use Rattle.th_circulation.proofs.HeightLemmas.{all_within}
-use Rattle.th_network.proofs.FreePoints.{found_at, free_fixed, free_more, free_most}
+use Rattle.th_network.proofs.FreePoints.{found_at}
 use Rattle.th_circulation.proofs.PointHeightLemmas.{point_height_fixed, point_height_free, set_more}
 use Rattle.th_circulation.proofs.point_heights.set_point_heights.Goals as goal
 use Rattle.th_circulation.proofs.point_heights.set_point_heights.Goals.{in-Some, in-None}
-
-pub bounds-heights-vertex : goal.bounds-heights-vertex
-bounds-heights-vertex c =
-    let network = c.args.network.now in
-    let more = free_more network.benchmarks (points_of network) c.loop-place.place (c.fixed.ensures.height ∙ ap Some c.in-None.is) in
-    let most = free_most network.observations network.benchmarks (c.loop-place.place + 1) in
-    let each = c.requires.heights.each in
-    omega arith
 
 pub loop-place-preserved : goal.loop-place-preserved
 loop-place-preserved c =
@@ -34,26 +29,22 @@ loop-place-preserved c =
           let found = c.fixed.ensures.height ∙ ap Some w.in-Some.is in
           let near = w.in-Some.ensures.in_range in
           let is = w.listed-is in
-          let vertex = w.vertex-is in
-          let kept = free_fixed network.benchmarks (points_of network) i w.in-Some.height found in
-          (omega arith, set_more Small c.loop-place.listed i _ place inv.1 (omega (arith, ints)), set_more Right c.loop-place.listed i _ place inv.2 (λ name at. let right = point_height_fixed network.observations network.benchmarks (value_at c.args.heights.now) name w.in-Some.height (found_at network.benchmarks (points_of network) i name (Some w.in-Some.height) found at) in omega (arith, ints)))
+          (set_more Small c.loop-place.listed i _ place inv.0 (omega (arith, ints)), set_more Right c.loop-place.listed i _ place inv.1 (λ name at. let right = point_height_fixed network.observations network.benchmarks (value_at c.args.heights.now) name w.in-Some.height (found_at network.benchmarks (points_of network) i name (Some w.in-Some.height) found at) in omega (arith, ints)))
       | in-None w ↦
           let found = c.fixed.ensures.height ∙ ap Some w.in-None.is in
           let is = w.listed-is in
-          let vertex = w.vertex-is in
-          let more = free_more network.benchmarks (points_of network) i found in
-          let most = free_most network.observations network.benchmarks (i + 1) in
-          let each = c.requires.heights.each in
-          let rise = c.requires.rises (c.loop-place.vertex + 1) (omega arith) in
-          let rank = ap (λ (v : ℕ). value_at c.args.heights.now (v + 1) -ℤ value_at c.args.heights.now 0) inv.0 in
-          (omega arith, set_more Small c.loop-place.listed i _ place inv.1 (omega (arith, ints)), set_more Right c.loop-place.listed i _ place inv.2 (λ name at. let right = point_height_free network.observations network.benchmarks (value_at c.args.heights.now) i name at (found_at network.benchmarks (points_of network) i name None found at) in omega (arith, ints)))
+          let vertices = c.point_vertices-vertices.ensures.vertices in
+          let count = ap (λ (vs : List ℕ). length vs) vertices ∙ length-map (points_of network) (vertex_of network.observations network.benchmarks) in
+          let each = c.requires.each in
+          let rise = c.requires.rises (slice_index_or c.point_vertices-vertices.result.now i 0) (c.point_vertices-vertices.ensures.within i 0 (omega arith)) in
+          (set_more Small c.loop-place.listed i _ place inv.0 (omega (arith, ints)), set_more Right c.loop-place.listed i _ place inv.1 (λ name at. let right = point_height_free network.observations network.benchmarks (value_at c.args.heights.now) c.point_vertices-vertices.result.now i name vertices at (found_at network.benchmarks (points_of network) i name None found at) in omega (arith, ints)))
     ]
 
 pub returns-clause-point_heights : goal.returns-clause-point_heights
-returns-clause-point_heights c = λ k name at. let test = c.loop-place-test.false in let within = slice_get_within (points_of c.args.network.now) k name at in let each = c.requires.each in let same = c.loop-place.auto.listed in c.loop-place.invariant.2 k (omega arith) name at
+returns-clause-point_heights c = λ k name at. let test = c.loop-place-test.false in let within = slice_get_within (points_of c.args.network.now) k name at in let each = c.requires.each in let same = c.loop-place.auto.listed in c.loop-place.invariant.1 k (omega arith) name at
 
 pub returns-clause-in_range : goal.returns-clause-in_range
 returns-clause-in_range c =
     let test = c.loop-place-test.false in
-    let all = all_within (length c.loop-place.listed) (height_limit - 1) c.loop-place.listed refl (λ v h. let small = c.loop-place.invariant.1 v (omega arith) in omega arith) in
+    let all = all_within (length c.loop-place.listed) (height_limit - 1) c.loop-place.listed refl (λ v h. let small = c.loop-place.invariant.0 v (omega arith) in omega arith) in
     λ k d within. let one = all.small k d within in omega arith

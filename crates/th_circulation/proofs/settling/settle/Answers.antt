@@ -3,6 +3,7 @@ use Rattle.th_search.specs.Potentials.{value_at}
 use Rattle.th_tables.specs.Limits.{max_weight}
 use Rattle.th_circulation.specs.Inside.PointHeights.{ArePointHeights}
 use Rattle.th_circulation.specs.Settled.{IsSettled}
+use Rattle.th_circulation.proofs.AskedLemmas.{is_asked_last}
 use Rattle.th_circulation.proofs.HeightLemmas.{written}
 use Rattle.th_circulation.proofs.SettledLemmas.{is_settled}
 use Rattle.th_circulation.proofs.settling.settle.Goals as goal
@@ -23,3 +24,9 @@ returns-clause-settled g c =
     let light = subst (All (λ (weight : ℕ). weight ≤ max_weight)) graph.ensures.weights graph.result.graph.light in
     let settled = is_settled survey graph.result.links.now graph.result.weights.now c.set_point_heights.new.listed work.state.flows.items (value_at work.state.heights.items) graph.ensures.links graph.ensures.weights light done.flow done.shown.shown point_heights (record { each = omega arith; in_range = c.set_point_heights.ensures.in_range }) in
     subst (λ (hs : List ℤ). IsSettled survey hs work.state.flows.items) (sym is) settled
+
+pub returns-clause-asked : goal.returns-clause-asked
+returns-clause-asked g c =
+    let graph = c.of-graph in
+    let work = c.settle.new.self in
+    is_asked_last c.args.network.now graph.result work.state.flows.items work.listing.arcs.items (g.S.Search.asked c.settle.new.search) graph.ensures.vertices graph.ensures.links graph.ensures.weights c.in_ok-settle.ensures.asked

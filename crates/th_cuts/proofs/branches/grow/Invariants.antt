@@ -1,10 +1,11 @@
-use Rattle.std.proofs.Common.{◌≡◌, ◌+◌, length}
+use Rattle.std.proofs.Common.{◌≡◌, ◌+◌, ◌-◌, ◌≤◌, length}
 use Rattle.th_cuts.specs.Inside.CutTrees.{AreBranches}
 use Rattle.th_cuts.proofs.branches.grow.Given as goal
 
 abbrev pub invariant-loop-vertex : goal.invariant-loop-vertex
-invariant-loop-vertex l = record {
-  parents : length l.parents.items ≡ l.vertices;
+invariant-loop-vertex g l = record {
+  parents : length l.parents.items ≡ l.graph.vertices;
   each : length l.branches.items + 1 ≡ l.vertex;
-  branches : AreBranches l.vertices l.edges l.branches.items;
+  few : length l.branches.items ≤ l.graph.vertices - 1;
+  branches : AreBranches l.graph.vertices l.graph.edges.items l.branches.items;
 }

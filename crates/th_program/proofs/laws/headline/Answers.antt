@@ -1,13 +1,17 @@
-use Rattle.th_program.proofs.HeadlineLemmas.{adjusted, believed, confirmed}
+use Rattle.th_program.proofs.HeadlineLemmas.{believed, sure}
+use Rattle.th_program.specs.Failing.{failing_of}
 use Rattle.th_program.proofs.laws.headline.Goals as goal
 
 pub returns-clause-adjusted : goal.returns-clause-adjusted
-returns-clause-adjusted g c = adjusted g.F.Folder.tells g.F.Folder.held g.F.Folder.has_failed g.met.F.Folder.tells_or_not c.accepted_inputs_are_refused_for_memory_alone.ensures.adjusted
+returns-clause-adjusted g c =
+    λ old new words status from limit prefix survey done asks accepted spares none.
+    sure _ _ status (c.headline_if_devices_may_fail.ensures.adjusted old new words status from limit prefix survey done asks accepted spares) none
 
 pub returns-clause-confirmed : goal.returns-clause-confirmed
 returns-clause-confirmed g c =
-    confirmed g.F.Folder.tells g.F.Folder.held g.F.Folder.has_failed c.accepted_inputs_are_refused_for_memory_alone.ensures.checked
-    c.printed_certificate_is_accepted.ensures.owed c.printed_certificate_is_accepted.ensures.answered
+    λ old new words status from certificate survey limit texts done asks accepted outputs there none.
+    sure _ _ status (c.headline_if_devices_may_fail.ensures.confirmed old new words status from certificate survey limit texts done asks accepted outputs there) none
 
 pub returns-clause-believed : goal.returns-clause-believed
-returns-clause-believed g c = believed g.F.Folder.tells g.F.Folder.held g.F.Folder.has_failed
+returns-clause-believed g c =
+    believed g.F.Folder.tells g.F.Folder.held g.F.Folder.has_failed (failing_of g.F.Folder.reading_may_fail g.F.Folder.writing_may_fail)

@@ -5,4 +5,4 @@ use Rattle.th_review.proofs.entry_list.entry_rows.Given as goal
 
 abbrev pub invariant-loop-k : goal.invariant-loop-k
 invariant-loop-k l =
-    l.rows.items ++ map (entry_row l.network) (zip (drop l.k l.entries) (drop l.k l.mistakes)) ≡ entry_rows l.network l.entries l.mistakes
+    l.rows.items ++ map (entry_row l.network) (zip (drop l.k l.entries) (drop l.k l.effects)) ≡ entry_rows l.network l.entries l.effects

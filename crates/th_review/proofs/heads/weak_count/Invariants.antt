@@ -5,6 +5,6 @@ use Rattle.th_review.proofs.heads.weak_count.Given as goal
 
 abbrev pub invariant-loop-row : goal.invariant-loop-row
 invariant-loop-row l = record {
-  count : l.count ≡ count_by (λ row. is_weak row.mistake) (take l.row-index l.entries);
+  count : l.count ≡ count_by (λ row. is_weak row.effect.mistake) (take l.row-index l.entries);
   few : l.count ≤ l.row-index;
 }

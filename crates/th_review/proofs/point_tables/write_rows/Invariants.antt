@@ -4,4 +4,4 @@ use Rattle.th_review.specs.Reviews.{point_line}
 use Rattle.th_review.proofs.point_tables.write_rows.Given as goal
 
 abbrev pub invariant-loop-row : goal.invariant-loop-row
-invariant-loop-row l = l.page ++ flat_map point_line (drop l.row-index l.points) ≡ l.fn.page ++ flat_map point_line l.points
+invariant-loop-row l = l.page ++ flat_map (point_line l.largest) (drop l.row-index l.points) ≡ l.fn.page ++ flat_map (point_line l.largest) l.points

@@ -1,8 +1,11 @@
-use Rattle.std.proofs.Common.{◌≡◌, ◌+◌, Err, rules, arith}
+use Rattle.std.proofs.Common.{◌≡◌, ◌+◌, ◌∙◌, ◌∷◌, [], ℕ, Err, List, ap, rules, subst, arith}
+use Rattle.th_report.specs.Lists.{list_text}
 use Rattle.th_runs.specs.declared.refusals.Input.TheVariants as input
+use Rattle.th_runs.specs.declared.refusals.Output.{Output}
 use Rattle.th_runs.specs.declared.refusals.Output.TheVariants as output
 use Rattle.th_runs.specs.Reads.{outputs_place, refused}
-use Rattle.th_runs.proofs.RunLemmas.{begun_by, list_refused, outcome_begun, written_within}
+use Rattle.th_runs.specs.Writes.{AreWritten, Texts}
+use Rattle.th_runs.proofs.RunLemmas.{begun_of, list_refused, outcome_begun, written_within}
 use Rattle.th_runs.proofs.SourceLemmas.{read_before}
 use Rattle.th_runs.proofs.listing.run_list.Goals as goal
 
@@ -13,10 +16,11 @@ returns-in_err-observations-clause-outcome g c =
 
 pub returns-clause-outcome : goal.returns-clause-outcome
 returns-clause-outcome g c =
-    outcome_begun _ _ _ c.in_ok-observations.observations.items c.write_out.result _ _ (begun_by c.write_out.result output.List c.write_out.ensures.refused)
-    c.in_ok-observations.ensures.ok (search rules)
+    outcome_begun _ _ _ c.in_ok-observations.observations.items c.write_outs.result _ _ (begun_of (c.new.result.0 ∷ []) c.write_outs.result c.write_outs.ensures.named)
+    c.in_ok-observations.ensures.ok (subst (λ (own : Texts). AreWritten g.K.Sink.state (refused c.write_outs.result) own c.args.outs.now c.write_outs.new.outs)
+    (ap (λ (own : Output × List ℕ). own ∷ []) (c.new.ensures ∙ ap (λ (text : List ℕ). (output.List, text)) (c.in_ok-list.ensures ∙ ap list_text c.as_slice.ensures.value))) c.write_outs.ensures.written)
 
 pub returns-clause-book : goal.returns-clause-book
 returns-clause-book g c =
-    read_before _ (input.Book 1) (refused c.write_out.result) outputs_place (outputs_place + 1) _ _
-    (written_within c.write_out.result (begun_by c.write_out.result output.List c.write_out.ensures.refused)) (omega arith) c.in_ok-observations.ensures.book
+    read_before _ (input.Book 1) (refused c.write_outs.result) outputs_place (outputs_place + 1) _ _
+    (written_within c.write_outs.result (begun_of (c.new.result.0 ∷ []) c.write_outs.result c.write_outs.ensures.named)) (omega arith) c.in_ok-observations.ensures.book

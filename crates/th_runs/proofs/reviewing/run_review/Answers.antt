@@ -1,4 +1,4 @@
-use Rattle.std.proofs.Common.{◌≡◌, ◌+◌, ◌∙◌, ℤ, [], Err, List, w64, ap, length, rules, subst, sym, arith}
+use Rattle.std.proofs.Common.{◌≡◌, ◌+◌, ◌∙◌, ℤ, [], Err, IfErr, List, w64, ap, length, rules, subst, sym, arith}
 use Rattle.std.proofs.lemmas.Int.{to_z-of_z}
 use Rattle.std.proofs.lemmas.List.{length-map}
 use Rattle.std.specs.List.{All}
@@ -6,14 +6,15 @@ use Rattle.th_entries.specs.Stations.{HasOneStation}
 use Rattle.th_entries.specs.declared.reviews.BookReview.{BookReview}
 use Rattle.th_network.specs.Networks.{Survey}
 use Rattle.th_review.specs.Entries.{entries_of}
-use Rattle.th_review.specs.Texts.{bytes_of}
 use Rattle.th_runs.specs.Inputs.{told_by}
-use Rattle.th_runs.specs.Reads.{Reviewing, network_place, outputs_place, place, refused}
-use Rattle.th_runs.specs.Reviewed.{AreReviewed, AreReviewsOf}
+use Rattle.th_runs.specs.Reads.{network_place, outputs_place, place, refused}
+use Rattle.th_runs.specs.Reviewed.{ArePrintedOf, AreReviewsOf, reviewing}
+use Rattle.th_runs.specs.Writes.{AreWritable, AreWritten, IsFailedWrite, Texts}
 use Rattle.th_runs.specs.declared.readers.ReviewReader.{ReviewReader}
 use Rattle.th_runs.specs.declared.refusals.Input.TheVariants as input
 use Rattle.th_runs.proofs.ReaderLemmas.{AreAllRead, all_read, all_stationed, as_many, reviews_of_all}
-use Rattle.th_runs.proofs.RunLemmas.{begun_of, network_refused, network_within, survey_begun, survey_refused, written_within}
+use Rattle.th_runs.proofs.OutputLemmas.{outputs_of}
+use Rattle.th_runs.proofs.RunLemmas.{begun_of, named_of, network_refused, network_within, survey_begun, survey_refused, written_within}
 use Rattle.th_runs.proofs.SourceLemmas.{all_before}
 use Rattle.th_runs.proofs.reviewing.run_review.Goals as goal
 
@@ -37,9 +38,19 @@ returns-in_err-texts-clause-sources g c =
     rw is (all_before _ _ _ _ network_place (network_place + 1) _ _ _ _ _ _ (network_within c.in_ok-survey.survey c.in_err-texts.field-0.0 c.in_err-texts.ensures) (omega arith)
     c.requires.ready.few_books c.in_ok-survey.ensures.sources)
 
+pub write_outs-requires : goal.write_outs-requires
+write_outs-requires g c =
+    let texts = c.as_slice.ensures.value ∙ c.in_ok-texts.ensures.1.2 in
+    subst (λ (own : Texts). AreWritable g.K.Sink.state (outputs_of own) c.args.outs.now) (sym texts) c.requires.outs
+
+pub returns-clause-named : goal.returns-clause-named
+returns-clause-named g c =
+    let texts = c.as_slice.ensures.value ∙ c.in_ok-texts.ensures.1.2 in
+    named_of _ _ reviewing c.write_outs.result (subst (λ (own : Texts). IfErr c.write_outs.result (IsFailedWrite (outputs_of own))) texts c.write_outs.ensures.named)
+
 pub returns-clause-sources : goal.returns-clause-sources
 returns-clause-sources g c =
-    all_before _ _ _ (refused c.write_review_outs.result) outputs_place (outputs_place + 1) _ _ _ _ _ _ (written_within c.write_review_outs.result (begun_of Reviewing c.write_review_outs.result c.write_review_outs.ensures.named)) (omega arith)
+    all_before _ _ _ (refused c.write_outs.result) outputs_place (outputs_place + 1) _ _ _ _ _ _ (written_within c.write_outs.result (begun_of _ c.write_outs.result c.write_outs.ensures.named)) (omega arith)
     c.requires.ready.few_books c.in_ok-survey.ensures.sources
 
 pub texts_of-requires-clause-few : goal.texts_of-requires-clause-few
@@ -60,16 +71,18 @@ texts_of-requires-clause-stations g c =
 
 pub returns-clause-outcome : goal.returns-clause-outcome
 returns-clause-outcome g c =
-    survey_begun (λ (survey : Survey). survey) _ _ c.in_ok-survey.survey c.write_review_outs.result _ _ (begun_of Reviewing c.write_review_outs.result c.write_review_outs.ensures.named) c.in_ok-survey.ensures.answer c.in_ok-texts.ensures.0 (
-      c.as_slice-reviews.result.now,
-      c.found.result.now,
-      bytes_of c.in_ok-texts.texts,
-      subst (λ (own : List BookReview). AreReviewsOf 1 (told_by g.B.Source.state c.args.books.now) own c.found.result.now) (sym c.as_slice-reviews.ensures.value)
-          (reviews_of_all 1 (told_by g.B.Source.state c.args.books.now) c.in_ok-survey.survey.observations c.read_survey.new.reader.reviews.items c.new-reader.result.names c.read_survey.new.reader.names c.found.result.now
-          (subst (λ (old : List BookReview). AreAllRead 1 (told_by g.B.Source.state c.args.books.now) [] c.in_ok-survey.survey.observations old c.read_survey.new.reader.reviews.items c.new-reader.result.names c.read_survey.new.reader.names)
-          c.new-reader.ensures.reviews (all_read (λ (own : ReviewReader). own.reviews.items) (λ (own : ReviewReader). own.names) 1 _ _ _ c.new-reader.result c.read_survey.new.reader c.in_ok-survey.ensures.read))
-          c.new-reader.ensures.names c.found.ensures),
-      subst (λ (limit : ℤ). AreReviewed c.in_ok-survey.survey c.as_slice-reviews.result.now c.found.result.now limit (bytes_of c.in_ok-texts.texts)) (to_z-of_z w64 c.args.limit c.ranges.limit)
-          c.in_ok-texts.ensures.1,
-      c.write_review_outs.ensures.written,
+    survey_begun (λ (survey : Survey). survey) _ _ c.in_ok-survey.survey c.write_outs.result _ _ (begun_of _ c.write_outs.result c.write_outs.ensures.named) c.in_ok-survey.ensures.answer c.in_ok-texts.ensures.0 (
+      c.in_ok-texts.texts.items,
+      (
+        c.as_slice-reviews.result.now,
+        c.found.result.now,
+        subst (λ (own : List BookReview). AreReviewsOf 1 (told_by g.B.Source.state c.args.books.now) own c.found.result.now) (sym c.as_slice-reviews.ensures.value)
+            (reviews_of_all 1 (told_by g.B.Source.state c.args.books.now) c.in_ok-survey.survey.observations c.read_survey.new.reader.reviews.items c.new-reader.result.names c.read_survey.new.reader.names c.found.result.now
+            (subst (λ (old : List BookReview). AreAllRead 1 (told_by g.B.Source.state c.args.books.now) [] c.in_ok-survey.survey.observations old c.read_survey.new.reader.reviews.items c.new-reader.result.names c.read_survey.new.reader.names)
+            c.new-reader.ensures.reviews (all_read (λ (own : ReviewReader). own.reviews.items) (λ (own : ReviewReader). own.names) 1 _ _ _ c.new-reader.result c.read_survey.new.reader c.in_ok-survey.ensures.read))
+            c.new-reader.ensures.names c.found.ensures),
+        subst (λ (limit : ℤ). ArePrintedOf c.as_slice-reviews.result.now c.found.result.now limit c.in_ok-survey.survey c.in_ok-texts.texts.items) (to_z-of_z w64 c.args.limit c.ranges.limit)
+            c.in_ok-texts.ensures.1,
+      ),
+      subst (λ (own : Texts). AreWritten g.K.Sink.state (refused c.write_outs.result) own c.args.outs.now c.write_outs.new.outs) c.as_slice.ensures.value c.write_outs.ensures.written,
     )

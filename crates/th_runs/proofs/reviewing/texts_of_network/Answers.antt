@@ -1,5 +1,5 @@
 use Rattle.std.proofs.lemmas.Slice.Zip.{AllZip-long}
 use Rattle.th_runs.proofs.reviewing.texts_of_network.Goals as goal
 
-pub review_texts-requires-clause-mistakes : goal.review_texts-requires-clause-mistakes
-review_texts-requires-clause-mistakes c = AllZip-long _ _ _ c.in_ok-findings.ensures.found.mistakes
+pub review_texts-requires-clause-effects : goal.review_texts-requires-clause-effects
+review_texts-requires-clause-effects g c = AllZip-long _ _ _ c.in_ok-findings.ensures.found.effects

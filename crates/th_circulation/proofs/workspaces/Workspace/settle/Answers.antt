@@ -12,8 +12,8 @@ others_few (Ok true) = omega arith
 others_few (Ok false) = omega arith
 others_few (Err refused) = omega arith
 
-pub skip_phases-requires-clause-calls : goal.skip_phases-requires-clause-calls
-skip_phases-requires-clause-calls g c =
+pub ask_again-requires-clause-calls : goal.ask_again-requires-clause-calls
+ask_again-requires-clause-calls g c =
     let graph = c.args.graph.now in
     let small = weights_small graph.vertices graph.links.now graph.weights.now graph.graph in
     let few = c.settle_at_once.ensures.few in
@@ -56,3 +56,8 @@ settle_by_halves-requires-clause-steps g c =
     let small = weights_small graph.vertices graph.links.now graph.weights.now graph.graph in
     let few = c.settle_at_once.ensures.few in
     omega arith
+
+pub ask_again-requires-clause-potentials : goal.ask_again-requires-clause-potentials
+ask_again-requires-clause-potentials g c =
+    let is = c.in_ok-settle_at_once.ensures.asked c.if-branch.false in
+    (is.potentials, is.feasible)

@@ -7,12 +7,13 @@ use Rattle.th_entries.proofs.MentionLemmas.{mentions_of-push}
 use Rattle.th_entries.proofs.tallies.Tally.review.Goals as goal
 
 pub returns-clause-review : goal.returns-clause-review
-returns-clause-review c = λ names number parsed is. record {
+returns-clause-review c = λ names number parsed seen. let is = seen c.in_default.is in record {
   counts = is.counts;
   entries = filter_same _ is_used _ (λ x b f' k. search rules) _ _ c.retain.ensures.filtered ∙ ap (filter is_used) is.entered.entries ∙ kept number parsed;
   lookalikes = is.lookalikes;
 }
 
 pub returns-clause-names : goal.returns-clause-names
-returns-clause-names c = λ names number parsed is before own.
+returns-clause-names c = λ names number parsed seen before own.
+    let is = seen c.in_default.is in
     subst (λ (mentions : List Mention). AreSeenIn mentions c.args.self.names) (sym (mentions_of-push before number parsed)) (is.seen (mentions_of before) own)

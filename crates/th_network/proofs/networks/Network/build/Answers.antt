@@ -6,6 +6,7 @@ use Rattle.th_network.specs.Inside.Linked.{AreLinks}
 use Rattle.th_network.specs.Inside.Numbered.{AreVertices}
 use Rattle.th_network.specs.Inside.Sites.{AreSites, Looked}
 use Rattle.th_network.specs.Limits.{max_points}
+use Rattle.th_network.proofs.NetworkLemmas.{point_vertices_are}
 use Rattle.th_network.proofs.SiteLemmas.{anchored_if_none, heights_of_points, untied_if_some}
 use Rattle.th_network.proofs.networks.Network.build.Goals as goal
 
@@ -41,6 +42,7 @@ invariant_of-result c =
       placed = sited.are.placed;
       weighed = c.in_ok-listed.ensures.value ∙ ap (map (λ (o : Observed). weight_of c.args.weights.now o.station o.target)) c.deref-2.ensures.value;
       light = c.in_ok-listed.ensures.in_range;
+      numbered = point_vertices_are own.observations own.benchmarks c.in_ok-vertices.vertices.of_places.items c.in_ok-vertices.vertices.count numbered;
       vertices = numbered.all;
       links = linked.all;
       in_range = linked.in_range;

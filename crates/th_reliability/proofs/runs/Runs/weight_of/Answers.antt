@@ -6,8 +6,8 @@ use Rattle.th_book.specs.Observed.{Observed}
 use Rattle.th_tables.specs.Rows.{weight_of}
 use Rattle.th_network.specs.Networks.{weights_of}
 use Rattle.th_reliability.specs.Sights.{in_sights}
-use Rattle.th_reliability.specs.Inside.Runs.{HoldsSights}
-use Rattle.th_reliability.proofs.RunLemmas.{none_before, none_behind, weight_to}
+use Rattle.th_reliability.specs.Runs.{HoldsSights}
+use Rattle.th_reliability.proofs.RunLemmas.{none_before, none_behind, sum_to}
 use Rattle.th_reliability.proofs.runs.Runs.weight_of.Goals as goal
 use Rattle.th_reliability.proofs.runs.Runs.weight_of.Goals.{then-hold, else-hold}
 
@@ -16,7 +16,7 @@ loop-i-init c =
     let run : HoldsSights c.args.network.now.observations c.args.sights.now c.run_of-start.result =
     subst (λ (observations : List Observed). HoldsSights observations c.args.sights.now c.run_of-start.result) c.requires c.run_of-start.ensures in
     record {
-      sum = none_before c.args.network.now.observations c.args.network.now.weights c.args.sights.now c.run_of-start.result.0 c.run_of-start.result.1 run;
+      sum = none_before c.args.network.now.observations c.args.sights.now (λ (o : Observed). weight_of c.args.network.now.weights o.station o.target) c.run_of-start.result.0 c.run_of-start.result.1 run;
       small = omega arith;
     }
 
@@ -53,8 +53,9 @@ pub returns : goal.returns
 returns c =
     let observations : List Observed = c.args.network.now.observations in
     let end : ℕ = c.run_of-start.result.1 in
+    let weight_at = λ (o : Observed). weight_of c.args.network.now.weights o.station o.target in
     let run : HoldsSights observations c.args.sights.now c.run_of-start.result =
     subst (λ (observations : List Observed). HoldsSights observations c.args.sights.now c.run_of-start.result) c.requires c.run_of-start.ensures in
     let at_end : c.loop-i.i ≡ end = omega (arith, run.ordered, c.loop-i-test.false, c.loop-i.auto.i-end) in
-    c.loop-i.invariant.sum ∙ ap (weight_to observations c.args.network.now.weights c.args.sights.now) at_end
-    ∙ sym (none_behind observations c.args.network.now.weights c.args.sights.now c.run_of-start.result.0 end run)
+    c.loop-i.invariant.sum ∙ ap (sum_to observations c.args.sights.now weight_at) at_end
+    ∙ sym (none_behind observations c.args.sights.now weight_at c.run_of-start.result.0 end run)

@@ -14,31 +14,31 @@ use Rattle.th_runs.proofs.readers.ReviewReaderBookReader.read.Goals as goal
 pub returns-in_ok-add-in-Ok-clause-ok : goal.returns-in_ok-add-in-Ok-clause-ok
 returns-in_ok-add-in-Ok-clause-ok g c =
     let fed = c.in_ok-feed_from.ensures.fed in
-    let took = fed.1 (c.replace-names.result, c.args.number, fed.0) (c.new-2.ensures.owes fed.0, c.new-3.ensures fed.0) in
+    let took = fed.1 (c.replace-names.result, c.args.number, fed.0) (record { due = c.new-2.ensures.owes fed.0; seen = λ faultless. record { place = 0; read = c.new-2.ensures.begins fed.0; seen = c.new-3.ensures (parsed_of fed.0) } }) in
     meets_front (input.Book c.args.number) (refusal.Book c.args.number) (book_answer c.args.number) (max_book + 1) _ _ _ fed.0 (Ok c.in-Ok.observations.items)
-    (omega (arith, c.in_ok-feed_from.ensures.book.read.failed)) (book_answer-take c.args.number) fed.2 (sym took.0 ∙ c.in-Ok.ensures.ok)
+    (omega (arith, c.in_ok-feed_from.ensures.book.read.failed)) (book_answer-take c.args.number) fed.2 (sym took.due ∙ c.in-Ok.ensures.ok)
 
 pub returns-in_ok-add-in-Ok-clause-read : goal.returns-in_ok-add-in-Ok-clause-read
 returns-in_ok-add-in-Ok-clause-read g c =
     let fed = c.in_ok-feed_from.ensures.fed in
-    let took = fed.1 (c.replace-names.result, c.args.number, fed.0) (c.new-2.ensures.owes fed.0, c.new-3.ensures fed.0) in
-    let answered : book_answer c.args.number fed.0 ≡ Ok c.in-Ok.observations.items = sym took.0 ∙ c.in-Ok.ensures.ok in
+    let took = fed.1 (c.replace-names.result, c.args.number, fed.0) (record { due = c.new-2.ensures.owes fed.0; seen = λ faultless. record { place = 0; read = c.new-2.ensures.begins fed.0; seen = c.new-3.ensures (parsed_of fed.0) } }) in
+    let answered : book_answer c.args.number fed.0 ≡ Ok c.in-Ok.observations.items = sym took.due ∙ c.in-Ok.ensures.ok in
     let added = c.in_ok-add-in-Ok.ensures in
     record {
       text = fed.0;
       review = added.review;
       is_told = front_told c.args.number ((g.S.Source.state c.args.book.now).left) fed.0 c.in-Ok.observations.items answered fed.2;
       answered = answered;
-      reviewed = added.reviewed c.replace-names.result c.args.number fed.0 took.1 (c.in-Ok.observations.items, answered);
+      reviewed = added.reviewed c.replace-names.result c.args.number (parsed_of fed.0) (c.in-Ok.ensures.seen c.replace-names.result c.args.number fed.0 took);
       joined = added.joined;
       named = subst (λ (own : SeenNames). AddsBook c.args.number (parsed_of fed.0) own c.add.new.self.names) c.replace-names.ensures.value
-          (added.named c.replace-names.result c.args.number fed.0 took.1 (c.in-Ok.observations.items, answered));
+          (added.named c.replace-names.result c.args.number (parsed_of fed.0) (c.in-Ok.ensures.seen c.replace-names.result c.args.number fed.0 took));
     }
 
 pub returns-in-Err-clause-refused : goal.returns-in-Err-clause-refused
 returns-in-Err-clause-refused g c =
     let fed = c.in_ok-feed_from.ensures.fed in
-    let took = fed.1 (c.replace-names.result, c.args.number, fed.0) (c.new-2.ensures.owes fed.0, c.new-3.ensures fed.0) in
+    let took = fed.1 (c.replace-names.result, c.args.number, fed.0) (record { due = c.new-2.ensures.owes fed.0; seen = λ faultless. record { place = 0; read = c.new-2.ensures.begins fed.0; seen = c.new-3.ensures (parsed_of fed.0) } }) in
     meets_fault (input.Book c.args.number) (refusal.Book c.args.number) (book_answer c.args.number) (max_book + 1) _ _ _ fed.0 c.in-Err.fault c.refusal_of.result
     (omega (arith, c.in_ok-feed_from.ensures.book.read.failed)) (book_answer-take c.args.number) fed.2
-    (book_fault (refusal.Book c.args.number) _ _ _ c.refusal_of.ensures.memory c.refusal_of.ensures.book (λ other. sym took.0 ∙ c.in-Err.ensures.fault other))
+    (book_fault (refusal.Book c.args.number) _ _ _ c.refusal_of.ensures.memory c.refusal_of.ensures.book (λ other. sym took.due ∙ c.in-Err.ensures.fault other))

@@ -1,0 +1,157 @@
+//! The table and the text of a worked survey, byte by byte: a building site where the instrument height
+//! of KO1 was keyed in wrong.
+use gsi_word::{Name, name_of};
+use std::alloc::Global;
+use std::process::Abort;
+use th_explanations::{Kind, Row, Summary, Values, explanations_csv, explanations_text, ranked};
+
+/// The name of a point.
+fn name(rt: &impl Abort, bytes: &[u8]) -> Name {
+    name_of(bytes).expect(rt, "a name")
+}
+
+/// The row of a number of KO1 in line 2, which has four sights.
+fn entered(rt: &impl Abort, kind: Kind, given: i64, proposed: i64) -> Row {
+    Row {
+        number: 0,
+        kind,
+        book: Some(1),
+        line: Some(2),
+        from: Some(name(rt, b"KO1")),
+        to: None,
+        sights: 4,
+        values: Some(Values {
+            given,
+            low: proposed,
+            high: proposed,
+        }),
+        explains: 19_800_000,
+        left: 200_000,
+        blunders: 0,
+    }
+}
+
+/// The row of a sight of KO1.
+fn sighted(rt: &impl Abort, line: u32, from: &[u8], given: i64, proposed: i64) -> Row {
+    Row {
+        number: 0,
+        kind: Kind::Sight,
+        book: Some(1),
+        line: Some(line),
+        from: Some(name(rt, from)),
+        to: Some(name(rt, b"KO1")),
+        sights: 1,
+        values: Some(Values {
+            given,
+            low: proposed,
+            high: proposed,
+        }),
+        explains: 9_900_000,
+        left: 10_100_000,
+        blunders: 1,
+    }
+}
+
+/// What was looked at.
+const SUMMARY: Summary = Summary {
+    cost: 20_000_000,
+    limit: 2_000_000,
+    marked: 2,
+    sights: 11,
+    entries: 6,
+    changes: 9,
+    benchmarks: 0,
+    books: 1,
+};
+
+/// The rows of the building site: the sights first, to be put in order.
+fn rows_of(rt: &impl Abort, alloc: Global) -> Vec<Row> {
+    let found = [
+        sighted(rt, 8, b"KO2", -279_600_000, -289_500_000),
+        sighted(rt, 15, b"KO3", -154_400_000, -164_300_000),
+        entered(rt, Kind::Instrument, 164_500_000, 154_600_000),
+        entered(rt, Kind::Reflector, 150_000_000, 159_900_000),
+    ];
+    ranked(alloc, &found).expect(rt, "memory")
+}
+
+/// Its table.
+const TABLE: &[u8] =
+    b"number,kind,book,line,word,from,to,sights,given,low,high,explains,left,blunders
+1,instrument,1,2,88,KO1,,4,1.64500000,1.54600000,1.54600000,0.19800000,0.00200000,0
+1,reflector,1,2,87,KO1,,4,1.50000000,1.59900000,1.59900000,0.19800000,0.00200000,0
+2,sight,1,8,,KO2,KO1,1,-2.79600000,-2.89500000,-2.89500000,0.09900000,0.10100000,1
+2,sight,1,15,,KO3,KO1,1,-1.54400000,-1.64300000,-1.64300000,0.09900000,0.10100000,1
+";
+
+/// Its text for people.
+const TEXT: &[u8] = b"cost                          0.20000000
+blunder limit                 0.02000000
+marked                                 2
+sights                                11
+entries                                6
+changes                                9
+benchmarks                             0
+books                                  1
+explanations                           4
+  NO  BK    LINE  WORD  FROM              TO                     PROPOSED     COST LEFT BLUNDERS
+   1   1       2    88  KO1                                    1.54600000    0.00200000        0
+   1   1       2    87  KO1                                    1.59900000    0.00200000        0
+   2   1       8        KO2               KO1                 -2.89500000    0.10100000        1
+   2   1      15        KO3               KO1                 -1.64300000    0.10100000        1
+
+One wrong number explains this: word 88 of line 2 or word 87 of line 2.
+The books do not say which of them.
+The next best leaves 0.10100000.
+";
+
+#[test]
+fn building_site(rt: HostRuntime) {
+    let alloc = rt.alloc();
+    let rows = rows_of(&rt, alloc);
+    let table = explanations_csv(alloc, &rows).expect(&rt, "memory");
+    assert!(rt; table.as_slice() == TABLE);
+    let text = explanations_text(alloc, &SUMMARY, &rows).expect(&rt, "memory");
+    assert!(rt; text.as_slice() == TEXT);
+}
+
+/// What is written where there is no row.
+fn ends_with(rt: &impl Abort, alloc: Global, marked: usize, wanted: &[u8]) {
+    let summary = Summary { marked, ..SUMMARY };
+    let text = explanations_text(alloc, &summary, &[]).expect(rt, "memory");
+    assert!(rt; text.as_slice().ends_with(wanted));
+}
+
+#[test]
+fn no_rows(rt: HostRuntime) {
+    let alloc = rt.alloc();
+    ends_with(
+        &rt,
+        alloc,
+        1,
+        b"\nNo single number explains what is marked.\n",
+    );
+    ends_with(
+        &rt,
+        alloc,
+        0,
+        b"\nNothing to explain: no number has to be wrong by more than 0.02000000 m.\n",
+    );
+}
+
+#[test]
+fn many_rows(rt: HostRuntime) {
+    let alloc = rt.alloc();
+    let found = [sighted(&rt, 8, b"KO2", -279_600_000, -289_500_000); 21];
+    let rows = ranked(alloc, &found).expect(&rt, "memory");
+    assert_eq!(rt; rows.len(), 20);
+    let text = explanations_text(alloc, &SUMMARY, &rows).expect(&rt, "memory");
+    assert!(rt;
+        text.as_slice().ends_with(
+            b"
+At least 20 numbers explain this equally well: any one of them may be wrong. The books do not say which. Measure one of them again.
+It does not explain all: 1 sight stays marked. Mend it and run again.
+"
+        )
+    );
+}

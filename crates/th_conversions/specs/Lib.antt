@@ -1,0 +1,6 @@
+pub mod Limits
+pub mod Rows
+pub mod Tables
+pub mod Texts
+pub mod Books
+pub mod Lists

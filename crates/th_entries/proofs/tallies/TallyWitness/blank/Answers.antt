@@ -1,0 +1,6 @@
+use Rattle.th_entries.proofs.Tallying.{blank-next}
+use Rattle.th_entries.proofs.tallies.TallyWitness.blank.Goals as goal
+
+pub returns : goal.returns
+returns c = λ names number parsed place is seen kept.
+    blank-next names number parsed place c.args.self.now c.line.new.self is c.line.ensures (seen kept)

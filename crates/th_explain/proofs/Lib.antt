@@ -1,0 +1,17 @@
+pub mod Tilts
+pub mod Changes
+pub mod Bounds
+pub mod Sums
+pub mod TiltLemmas
+pub mod SlopeLemmas
+pub mod ReroutedLemmas
+pub mod NetLemmas
+pub mod ExplainLemmas
+pub mod ReachLemmas
+pub mod MendedLemmas
+pub mod TieLemmas
+pub mod MistakeLemmas
+pub mod LeftOutLemmas
+pub mod EntryLemmas
+pub mod BenchmarkLemmas
+pub mod Examples

@@ -1,0 +1,35 @@
+//! Which one number of a survey, if it were wrong, would explain what does not fit.
+//!
+//! A number is one that somebody read or typed. Freed, it may have any value: the least cost that
+//! is then left is what all other numbers err by at least, if it alone is wrong. `explanation` finds
+//! that cost and the values that reach it. `specs/` has the definitions, and `laws` proves what they
+//! are for.
+#![tactic(auto)]
+
+// The numbers.
+mod numbers;
+
+// Networks with a changed number, and what they cost.
+mod slopes;
+mod tilting;
+
+// What shows without solving a network that a number explains nothing: flows that are sent other ways.
+mod nets;
+mod rerouting;
+mod sieve;
+
+// What is left if a number is freed, and whether it explains what does not fit.
+mod explaining;
+mod freed;
+// What is left while it changes within reach, and the blunders after it was changed.
+mod mended;
+mod reaching;
+
+// Laws of the definitions.
+pub mod laws;
+
+pub use explaining::{explanation, explanations};
+pub use freed::Freed;
+pub use mended::{blunder_count, blunders_left};
+pub use numbers::Number;
+pub use reaching::least_in_reach;

@@ -1,0 +1,222 @@
+//! Flows of a network that are sent other ways, and what they then show.
+//!
+//! Best flows show what the network costs. If some of what flows through a number is sent round closed
+//! walks instead, less flows through the number, and the flows show less by what the walks cost. Once
+//! none is left, or some flows the other way, they bound what the network costs if the number changes.
+ghost use Rattle.std.specs.Prelude.{◌≡◌, ◌<◌, ◌≤◌, ◌*◌, ◌+ℤ◌, ◌-ℤ◌, ◌*ℤ◌, ◌≤ℤ◌, ◌<ℤ◌, IfOk, IfSome, length, pos, slice_index, slice_index_or, true, unsigned_abs};
+ghost use Rattle.th_book.specs.Observed.{Observed};
+ghost use Rattle.th_circulation.specs.Best.{IsBest};
+ghost use Rattle.th_explain.specs.Freed.{cost_of};
+ghost use Rattle.th_explain.specs.Inside.Rerouted.{HoldsNumber, IsCostlyBeyond, IsNext, IsRerouted, IsSteep};
+ghost use Rattle.th_network.specs.Links.{link_of};
+ghost use Rattle.th_network.specs.Networks.{at_points_of, weights_of};
+ghost use Rattle.th_tables.specs.Limits.{max_weight};
+
+use crate::nets::net_in;
+use crate::numbers::Number;
+use std::alloc::{AllocError, Global};
+use th_circulation::BestHeights;
+use th_network::{Link, Network};
+use th_paths::ResidualArc;
+
+/// Flows of a network, and a walk round which an amount is being sent.
+#[derive(Drop)]
+pub(crate) struct Rerouted<'a> {
+    pub network: &'a Network<'a>,
+    /// What the network costs.
+    pub cost: u128,
+    flows: Vec<i64>,
+    /// By how much the value of the flows is less than the cost.
+    lost: i64,
+    /// The vertex where the walk began, the one where it is, and how much goes along it.
+    start: u32,
+    at: u32,
+    amount: u32,
+    ghost rerouted: { IsRerouted network.now cost flows.items lost start at amount },
+}
+
+/// What a step changes.
+#[derive(Clone, Copy)]
+struct Next {
+    /// The flow of the observation, what is then lost, and the vertex where the walk then is.
+    flow: i64,
+    lost: i64,
+    at: u32,
+}
+
+impl<'a> Rerouted<'a> {
+    /// The best flows of a network that costs so much.
+    pub fn of(
+        alloc: Global,
+        network: &'a Network<'a>,
+        best: &BestHeights,
+        cost: u128,
+    ) -> Result<Rerouted<'a>, AllocError>
+        requires best { IsBest network.now best.now }
+        requires cost { cost ≡ cost_of network.now (at_points_of network.now best.now.low) }
+        ensures network { IfOk result (λ own. own.network.now ≡ network.now) }
+        ensures cost { IfOk result (λ own. own.cost ≡ cost) }
+    {
+        let flows = Vec::from_slice(alloc, best.flows())?;
+        Ok(Rerouted {
+            network,
+            cost,
+            flows,
+            lost: 0,
+            start: 0,
+            at: 0,
+            amount: 0,
+        })
+    }
+
+    /// Begins a walk at a vertex with an amount, if the walk before is closed.
+    pub fn begin(&mut self, start: u32, amount: u32)
+        ensures network { self.new.network.now ≡ self.old.network.now }
+        ensures cost { self.new.cost ≡ self.old.cost }
+    {
+        if self.start == self.at {
+            self.start = start;
+            self.at = start;
+            self.amount = amount;
+        }
+    }
+
+    /// Goes on along an arc, if it leaves the vertex where the walk is and has room.
+    pub fn step(&mut self, arc: ResidualArc)
+        ensures network { self.new.network.now ≡ self.old.network.now }
+        ensures cost { self.new.cost ≡ self.old.cost }
+    {
+        let place = arc.row();
+        if let Some(Next { flow, lost, at }) = self.next(arc, place) {
+            self.flows[place] = flow;
+            self.lost = lost;
+            self.at = at;
+        }
+    }
+
+    /// The step along an arc of the observation at a place.
+    fn next(&self, arc: ResidualArc, place: usize) -> Option<Next>
+        ensures { IfSome result (λ next. IsNext self.now.network.now self.now.flows.items self.now.lost
+            self.now.at self.now.amount place next.flow next.lost next.at) }
+    {
+        if place >= self.flows.len() {
+            return None;
+        }
+        if arc.is_forward() {
+            self.along(place)
+        } else {
+            self.against(place)
+        }
+    }
+
+    /// The step along an observation.
+    fn along(&self, place: usize) -> Option<Next>
+        requires { place < length self.now.flows.items }
+        ensures { IfSome result (λ next. IsNext self.now.network.now self.now.flows.items self.now.lost
+            self.now.at self.now.amount place next.flow next.lost next.at) }
+    {
+        let link = self.link(place);
+        if link.tail != self.at {
+            return None;
+        }
+        let (flow, lost) = self.moved(place, i64::from(self.amount), link.diff)?;
+        let at = link.head;
+        Some(Next { flow, lost, at })
+    }
+
+    /// The step against an observation.
+    fn against(&self, place: usize) -> Option<Next>
+        requires { place < length self.now.flows.items }
+        ensures { IfSome result (λ next. IsNext self.now.network.now self.now.flows.items self.now.lost
+            self.now.at self.now.amount place next.flow next.lost next.at) }
+    {
+        let link = self.link(place);
+        if link.head != self.at {
+            return None;
+        }
+        let (flow, lost) = self.moved(place, -i64::from(self.amount), link.diff)?;
+        let at = link.tail;
+        Some(Next { flow, lost, at })
+    }
+
+    /// The observation at a place as a link.
+    fn link(&self, place: usize) -> Link
+        requires { place < length self.now.flows.items }
+        ensures { (o : Observed) → slice_index_or self.now.network.now.observations place o ≡ o
+            → result ≡ link_of self.now.network.now.observations self.now.network.now.benchmarks o }
+    {
+        self.network.arcs()[place]
+    }
+
+    /// The flow of an observation after a change by which a unit gains so much, and what is then lost; if
+    /// its weight allows that.
+    fn moved(&self, place: usize, change: i64, gain: i64) -> Option<(i64, i64)>
+        requires { place < length self.now.flows.items }
+        ensures flow { IfSome result (λ own. own.0
+            ≡ slice_index_or self.now.flows.items place (pos 0) +ℤ change) }
+        ensures bounded { IfSome result (λ own.
+            unsigned_abs own.0 ≤ slice_index (weights_of self.now.network.now) place) }
+        ensures light { IfSome result (λ own. unsigned_abs own.0 ≤ max_weight) }
+        ensures lost { IfSome result (λ own. own.1 ≡ self.now.lost -ℤ change *ℤ gain) }
+    {
+        let flow = self.flows[place].checked_add(change)?;
+        if flow.unsigned_abs() > u64::from(self.network.weight(place)) {
+            return None;
+        }
+        let lost = self.lost.checked_sub(change.checked_mul(gain)?)?;
+        Some((flow, lost))
+    }
+
+    /// By how much the cost rises at least for each unit that a number grows, whose observations are in
+    /// a run: what flows through them, if the flows show the whole cost.
+    pub fn slope(&self, number: &Number, run: (usize, usize)) -> Option<i64>
+        requires { HoldsNumber self.now.network.now.observations number.now run }
+        ensures { IfSome result (IsSteep self.now.network.now number.now self.now.cost) }
+    {
+        if self.start != self.at || self.lost != 0 {
+            return None;
+        }
+        Some(net_in(self.network, number, &self.flows, run))
+    }
+
+    /// Whether the flows show that no change of a number beyond a limit makes the network cost less.
+    pub fn is_costly_beyond(
+        &self,
+        number: &Number,
+        run: (usize, usize),
+        slope: i64,
+        limit: u64,
+    ) -> bool
+        requires run { HoldsNumber self.now.network.now.observations number.now run }
+        requires slope { IsSteep self.now.network.now number.now self.now.cost slope }
+        ensures { result ≡ true
+            → IsCostlyBeyond self.now.network.now number.now self.now.cost limit }
+    {
+        if self.start != self.at {
+            return false;
+        }
+        let net = net_in(self.network, number, &self.flows, run);
+        if !is_turned(slope, net) {
+            return false;
+        }
+        is_paid(self.lost, limit, net)
+    }
+}
+
+/// Whether nothing is left of a flow, or what is left flows the other way.
+fn is_turned(flow: i64, left: i64) -> bool
+    ensures up { result ≡ true → ¬ ((pos 0 <ℤ flow) × (pos 0 <ℤ left)) }
+    ensures down { result ≡ true → ¬ ((flow <ℤ pos 0) × (left <ℤ pos 0)) }
+{
+    if flow > 0 { left <= 0 } else { left >= 0 }
+}
+
+/// Whether what is lost is at most a limit for each unit that flows.
+fn is_paid(lost: i64, limit: u64, flow: i64) -> bool
+    ensures { result ≡ true → lost ≤ℤ pos (limit * unsigned_abs flow) }
+{
+    match limit.checked_mul(flow.unsigned_abs()) {
+        Some(most) => lost.unsigned_abs() <= most,
+        None => false,
+    }
+}

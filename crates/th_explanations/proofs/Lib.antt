@@ -1,0 +1,4 @@
+pub mod CostLemmas
+pub mod TextLemmas
+pub mod RankLemmas
+pub mod NumberLemmas

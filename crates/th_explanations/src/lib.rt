@@ -1,0 +1,27 @@
+//! The texts of `explain`: which one number, if it were wrong, would explain what does not fit.
+//!
+//! `rows` has what they consist of: a row for each number that explains, and what was looked at in
+//! numbers. `ranked` puts rows in order. `explanations_csv` makes the table as comma-separated values, and `explanations_text` the
+//! text for people. Out of memory is the only failure.
+#![tactic(auto)]
+
+// The rows, their order and their numbers.
+mod ranks;
+mod rows;
+
+// Costs, and the words for kinds of numbers.
+mod costs;
+mod words;
+
+// The table.
+mod tables;
+
+// The text for people: its head and its columns, and the sentences.
+mod columns;
+mod sentences;
+mod texts;
+
+pub use ranks::ranked;
+pub use rows::{Kind, Row, Summary, Values};
+pub use tables::explanations_csv;
+pub use texts::explanations_text;

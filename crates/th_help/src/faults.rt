@@ -1,0 +1,196 @@
+//! The texts of faults, put on a line part by part.
+ghost use Rattle.std.specs.Prelude.{◌≡◌};
+ghost use Rattle.gsi_block.specs.Faults.{fault_text as block_text};
+ghost use Rattle.gsi_word.specs.Words.{fault_text as word_text};
+ghost use Rattle.th_book.specs.Texts.{fault_text as book_text, kind_text as book_kind_text};
+ghost use Rattle.th_certificate.specs.Faults.{fault_text as certificate_text, kind_text as certificate_kind_text};
+ghost use Rattle.th_conversions.specs.Texts.{fault_text as difference_text, kind_text as difference_kind_text};
+ghost use Rattle.th_lines.specs.Lines.{HasRoom, IsPut};
+ghost use Rattle.th_network.specs.Texts.{fault_text as network_text};
+ghost use Rattle.th_tables.specs.Texts.{fault_text as table_text, kind_text as table_kind_text};
+
+use gsi_block::BlockFault;
+use gsi_word::WordFault;
+use th_book::{BookFault, BookKind};
+use th_certificate::{CertFault, CertKind};
+use th_conversions::{DifferenceFault, DifferenceKind};
+use th_devices::{Failed, Sink};
+use th_lines::Line;
+use th_network::NetFault;
+use th_tables::{TableFault, TableKind};
+
+/// Puts the text of a fault of a book.
+#[tactic(auto, using(th_lines::proofs::LineLemmas::appended))]
+pub fn put_book_fault<K: Sink>(line: &mut Line<K>, fault: &BookFault) -> Result<(), Failed>
+    requires { HasRoom 8 line.old }
+    ensures { IsPut 8 (book_text fault.now) line.old line.new result }
+{
+    line.put("line ")?;
+    line.put_number(fault.line)?;
+    line.put(": ")?;
+    put_book_kind(line, fault.kind)
+}
+
+/// Puts the text of a kind of fault of a book.
+#[tactic(auto, using(th_lines::proofs::LineLemmas::appended))]
+fn put_book_kind<K: Sink>(line: &mut Line<K>, kind: BookKind) -> Result<(), Failed>
+    requires { HasRoom 5 line.old }
+    ensures { IsPut 5 (book_kind_text kind) line.old line.new result }
+{
+    match kind {
+        BookKind::Block(fault) => {
+            line.put("B1 ")?;
+            put_block_fault(line, fault)
+        }
+        BookKind::RepeatedWord => line.put("B2 repeated word"),
+        BookKind::NoPointNumber => line.put("B3 no point number"),
+        BookKind::BadName => line.put("B4 bad name"),
+        BookKind::BadNumber => line.put("B5 bad number"),
+        BookKind::BadUnit => line.put("B6 bad unit"),
+        BookKind::TooLarge => line.put("B7 too large"),
+        BookKind::SightBeforeSetup => line.put("B8 sight before setup"),
+        BookKind::NoInstrumentHeight => line.put("B9 no instrument height"),
+        BookKind::NoReflectorHeight => line.put("B10 no reflector height"),
+        BookKind::SightToItself => line.put("B11 sight to itself"),
+        BookKind::BookTooLong => line.put("B12 book too long"),
+        BookKind::NoMemory => line.put("out of memory"),
+    }
+}
+
+/// Puts the text of a line that is no block.
+#[tactic(auto, using(th_lines::proofs::LineLemmas::appended))]
+fn put_block_fault<K: Sink>(line: &mut Line<K>, fault: BlockFault) -> Result<(), Failed>
+    requires { HasRoom 4 line.old }
+    ensures { IsPut 4 (block_text fault) line.old line.new result }
+{
+    match fault {
+        BlockFault::BadWord(number, fault) => {
+            line.put("word ")?;
+            line.put_number(number)?;
+            line.put(": ")?;
+            line.put(text_of_word(fault))
+        }
+        BlockFault::TooManyWords => line.put("too many words"),
+        BlockFault::LineTooLong => line.put("line too long"),
+        BlockFault::BadSeparator(number) => {
+            line.put("no space after word ")?;
+            line.put_number(number)
+        }
+    }
+}
+
+/// The text of a bad word.
+fn text_of_word(fault: WordFault) -> &'static str
+    ensures { result.now ≡ word_text fault }
+{
+    match fault {
+        WordFault::Short => "short",
+        WordFault::BadIndex => "bad index",
+        WordFault::BadInfo => "bad information",
+        WordFault::BadSign => "bad sign",
+        WordFault::BadData => "bad data",
+    }
+}
+
+/// Puts the text of a fault of a table.
+#[tactic(auto, using(th_lines::proofs::LineLemmas::appended))]
+pub fn put_table_fault<K: Sink>(line: &mut Line<K>, fault: &TableFault) -> Result<(), Failed>
+    requires { HasRoom 4 line.old }
+    ensures { IsPut 4 (table_text fault.now) line.old line.new result }
+{
+    line.put("record ")?;
+    line.put_number(fault.row)?;
+    line.put(": ")?;
+    line.put(text_of_table(fault.kind))
+}
+
+/// The text of a kind of fault of a table.
+fn text_of_table(kind: TableKind) -> &'static str
+    ensures { result.now ≡ table_kind_text kind }
+{
+    match kind {
+        TableKind::BadHeader => "E1 bad header",
+        TableKind::FieldCount => "E2 field count",
+        TableKind::BadName => "E3 bad name",
+        TableKind::BadHeight => "E4 bad height",
+        TableKind::BadWeight => "E5 bad weight",
+        TableKind::Repeated => "E6 repeated",
+        TableKind::TableTooLong => "E7 table too long",
+        TableKind::NoMemory => "out of memory",
+    }
+}
+
+/// Puts the text of a fault of a certificate.
+#[tactic(auto, using(th_lines::proofs::LineLemmas::appended))]
+pub fn put_certificate_fault<K: Sink>(line: &mut Line<K>, fault: &CertFault) -> Result<(), Failed>
+    requires { HasRoom 4 line.old }
+    ensures { IsPut 4 (certificate_text fault.now) line.old line.new result }
+{
+    line.put("record ")?;
+    line.put_number(fault.row)?;
+    line.put(": ")?;
+    line.put(text_of_certificate(fault.kind))
+}
+
+/// The text of a kind of fault of a certificate.
+fn text_of_certificate(kind: CertKind) -> &'static str
+    ensures { result.now ≡ certificate_kind_text kind }
+{
+    match kind {
+        CertKind::BadHeader => "C1 bad header",
+        CertKind::FieldCount => "C2 field count",
+        CertKind::BadKind => "C3 bad kind",
+        CertKind::BadName => "C4 bad name",
+        CertKind::BadNumber => "C5 bad number",
+        CertKind::TooLarge => "C6 too large",
+        CertKind::Truncated => "C7 truncated",
+        CertKind::NoMemory => "out of memory",
+    }
+}
+
+/// Puts the text of a fault of a table of differences.
+#[tactic(auto, using(th_lines::proofs::LineLemmas::appended))]
+pub fn put_difference_fault<K: Sink>(
+    line: &mut Line<K>,
+    fault: &DifferenceFault,
+) -> Result<(), Failed>
+    requires { HasRoom 4 line.old }
+    ensures { IsPut 4 (difference_text fault.now) line.old line.new result }
+{
+    line.put("record ")?;
+    line.put_number(fault.row)?;
+    line.put(": ")?;
+    line.put(text_of_difference(fault.kind))
+}
+
+/// The text of a kind of fault of a table of differences.
+fn text_of_difference(kind: DifferenceKind) -> &'static str
+    ensures { result.now ≡ difference_kind_text kind }
+{
+    match kind {
+        DifferenceKind::BadHeader => "E1 bad header",
+        DifferenceKind::FieldCount => "E2 field count",
+        DifferenceKind::BadName => "E3 bad name",
+        DifferenceKind::BadDifference => "E4 bad difference",
+        DifferenceKind::ToItself => "E6 to itself",
+        DifferenceKind::TableTooLong => "E7 table too long",
+        DifferenceKind::NoMemory => "out of memory",
+    }
+}
+
+/// Puts the text of a fault of a network.
+#[tactic(auto, using(th_lines::proofs::LineLemmas::appended))]
+pub fn put_network_fault<K: Sink>(line: &mut Line<K>, fault: &NetFault) -> Result<(), Failed>
+    requires { HasRoom 2 line.old }
+    ensures { IsPut 2 (network_text fault.now) line.old line.new result }
+{
+    match fault {
+        NetFault::TooManyObservations => line.put("N1 too many observations"),
+        NetFault::TooManyPoints => line.put("N2 too many points"),
+        NetFault::NoBenchmark(name) => {
+            line.put("N3 no benchmark for ")?;
+            line.put_name(name)
+        }
+        NetFault::NoMemory => line.put("out of memory"),
+    }
+}

@@ -1,0 +1,7 @@
+use Rattle.std.proofs.Common.{◌≡◌, ◌++◌, drop}
+use Rattle.std.specs.List.{flat_map}
+use Rattle.th_html.specs.Tables.{sight_row}
+use Rattle.th_html.proofs.sight_tables.write_rows.Given as goal
+
+abbrev pub invariant-loop-row : goal.invariant-loop-row
+invariant-loop-row l = l.page ++ flat_map sight_row (drop l.row-index l.rows) ≡ l.fn.page ++ flat_map sight_row l.rows

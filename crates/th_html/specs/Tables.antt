@@ -1,0 +1,164 @@
+-- The tables of a page: their heads and their rows.
+use Rattle.std.specs.Prelude.{ℕ, ℤ, ◌-◌, ◌%◌, ◌==◌, ◌&&◌, false, List, [], Option, None, Some, ◌++◌, codes, decimal, if◌then◌else◌, int_lt, length, nat_lt, option_map, take}
+use Rattle.std.specs.List.{enumerate_from, flat_map}
+use Rattle.th_explanations.specs.declared.rows.Row.{Row}
+use Rattle.th_explanations.specs.declared.rows.Values.{Values}
+use Rattle.th_html.specs.declared.rows.EntryRow.{EntryRow}
+use Rattle.th_html.specs.declared.rows.SightRow.{SightRow}
+use Rattle.th_html.specs.declared.rows.PointRow.{PointRow}
+use Rattle.th_html.specs.Cells.{height_cell, name_cell, number_cell, optional_cell, optional_height_cell, place_cell, signed_cell, words_cell}
+use Rattle.th_html.specs.Lengths.{sized_text}
+use Rattle.th_html.specs.Places.{place_text}
+use Rattle.th_html.specs.Texts.{escaped}
+use Rattle.th_html.specs.Words.{entry_words, mistake_words, number_words}
+use Rattle.th_html.specs.declared.rows.BenchmarkRow.{BenchmarkRow}
+use Rattle.th_html.specs.declared.rows.Mistake.{Mistake}
+
+-- the most rows of a table
+abbrev pub most_rows : ℕ
+most_rows = 100
+
+-- how many points a table of heights has
+abbrev pub block : ℕ
+block = 20
+
+-- the beginning of a table, with its head
+unfoldable pub table_start : List ℕ
+table_start = codes "<div class=\"w\"><table>\n<thead><tr>"
+
+unfoldable pub head_end : List ℕ
+head_end = codes "</thead>\n<tbody>\n"
+
+unfoldable pub table_open : List ℕ → List ℕ
+table_open head = table_start ++ head ++ head_end
+
+-- its end
+unfoldable pub table_close : List ℕ
+table_close = codes "</tbody></table></div>\n"
+
+-- how many rows were left out
+unfoldable pub more_text : ℕ → List ℕ
+more_text count = codes "<p>" ++ decimal count ++ codes " more rows are in the tables of height_office review.</p>\n"
+
+abbrev pub left_out : ℕ → List ℕ
+left_out count = if nat_lt most_rows count then more_text (count - most_rows) else []
+
+-- sights
+unfoldable pub sight_head : List ℕ
+sight_head = codes "<td>Place<th>From<th>To<td>Observed<td>Residual<td>Weight<td>Control<th>A mistake"
+
+unfoldable pub sight_cells : SightRow → List ℕ
+sight_cells row =
+    place_cell row.observation.book row.observation.line ++ name_cell row.observation.station ++ name_cell row.observation.target
+
+unfoldable pub found_cells : SightRow → List ℕ
+found_cells row =
+    height_cell row.observation.difference ++ signed_cell row.residual ++ number_cell row.weight ++ optional_cell row.control ++ words_cell (mistake_words row.mistake)
+
+unfoldable pub sight_row : SightRow → List ℕ
+sight_row row = codes "<tr>" ++ sight_cells row ++ found_cells row ++ codes "\n"
+
+unfoldable pub sight_table : List SightRow → List ℕ
+sight_table rows = table_open sight_head ++ flat_map sight_row (take most_rows rows) ++ table_close ++ left_out (length rows)
+
+-- entries
+unfoldable pub entry_head : List ℕ
+entry_head = codes "<td>Place<th>Height of<th>At<td>Given<td>Sights<td>Weight<th>A mistake"
+
+unfoldable pub entry_cells : EntryRow → List ℕ
+entry_cells row = place_cell row.entry.book row.entry.line ++ words_cell (entry_words row.entry.kind) ++ name_cell row.entry.station
+
+unfoldable pub entry_row : EntryRow → List ℕ
+entry_row row =
+    codes "<tr>" ++ entry_cells row ++ height_cell row.entry.length ++ number_cell row.entry.sights ++ number_cell row.weight
+    ++ words_cell (mistake_words row.mistake) ++ codes "\n"
+
+unfoldable pub entry_table : List EntryRow → List ℕ
+entry_table rows = table_open entry_head ++ flat_map entry_row (take most_rows rows) ++ table_close ++ left_out (length rows)
+
+-- benchmarks; one that was never observed has no mistake
+unfoldable pub benchmark_head : List ℕ
+benchmark_head = codes "<th>Benchmark<td>Height<td>Sights<td>Weight<th>A mistake"
+
+abbrev pub benchmark_words : Option Mistake → List ℕ
+benchmark_words None = []
+benchmark_words (Some mistake) = mistake_words mistake
+
+unfoldable pub benchmark_row : BenchmarkRow → List ℕ
+benchmark_row row =
+    codes "<tr>" ++ name_cell row.name ++ height_cell row.height ++ number_cell row.sights ++ number_cell row.weight
+    ++ words_cell (benchmark_words row.mistake) ++ codes "\n"
+
+unfoldable pub benchmark_table : List BenchmarkRow → List ℕ
+benchmark_table rows = table_open benchmark_head ++ flat_map benchmark_row (take most_rows rows) ++ table_close ++ left_out (length rows)
+
+-- heights, in tables of `block` points that stand side by side where there is room
+unfoldable pub heights_open : List ℕ
+heights_open = codes "<div class=\"col\"><table>\n<thead><tr><th>Point<td>Height<td>up to<td>Strength</thead>\n<tbody>\n"
+
+-- the highest best height, if it is above the lowest
+abbrev pub above : PointRow → Option ℤ
+above row = if int_lt row.low row.high then Some row.high else None
+
+-- the strength; a benchmark has none
+abbrev pub strength_cell : Option ℕ → List ℕ
+strength_cell None = codes "<td>benchmark"
+strength_cell (Some strength) = number_cell strength
+
+unfoldable pub height_row : PointRow → List ℕ
+height_row row = codes "<tr>" ++ name_cell row.name ++ height_cell row.low ++ optional_height_cell (above row) ++ strength_cell row.strength ++ codes "\n"
+
+-- what is between two tables: nothing, but behind each `block` rows
+abbrev pub break_at : ℕ → List ℕ
+break_at k = if nat_lt 0 k && k % block == 0 then table_close ++ heights_open else []
+
+unfoldable pub numbered_height : ℕ × PointRow → List ℕ
+numbered_height (k, row) = break_at k ++ height_row row
+
+unfoldable pub height_tables : List PointRow → List ℕ
+height_tables rows = heights_open ++ flat_map numbered_height (enumerate_from 0 rows) ++ table_close
+
+-- explanations
+unfoldable pub explanation_head : List ℕ
+explanation_head = codes "<td>No<td>Place<th>What<th>At<td>Given<td>Proposed<td>up to<td>Cost left<td>Marks left"
+
+-- where a number is: the line and its book, a book, or in no book
+abbrev pub place_found : Option ℕ → Option ℕ → List ℕ
+place_found None line = codes "-"
+place_found (Some book) None = decimal book
+place_found (Some book) (Some line) = place_text book line
+
+-- the ends that a number has
+abbrev pub ends_found : Option (List ℕ) → Option (List ℕ) → List ℕ
+ends_found None target = []
+ends_found (Some station) None = escaped station
+ends_found (Some station) (Some target) = escaped station ++ codes " to " ++ escaped target
+
+abbrev pub given_of : Row → Option ℤ
+given_of row = option_map (λ values. values.given) row.values
+
+abbrev pub low_of : Row → Option ℤ
+low_of row = option_map (λ values. values.low) row.values
+
+-- the highest proposed value, if it is above the lowest
+abbrev pub above_low : Values → Option ℤ
+above_low values = if int_lt values.low values.high then Some values.high else None
+
+abbrev pub high_of : Option Values → Option ℤ
+high_of None = None
+high_of (Some values) = above_low values
+
+unfoldable pub number_cells : Row → List ℕ
+number_cells row =
+    number_cell row.number ++ codes "<td>" ++ place_found row.book row.line ++ words_cell (number_words row.kind) ++ codes "<th>" ++ ends_found row.from row.to
+
+unfoldable pub value_cells : Row → List ℕ
+value_cells row =
+    optional_height_cell (given_of row) ++ optional_height_cell (low_of row) ++ optional_height_cell (high_of row.values)
+    ++ codes "<td>" ++ sized_text false row.left ++ number_cell row.blunders
+
+unfoldable pub explanation_row : Row → List ℕ
+explanation_row row = codes "<tr>" ++ number_cells row ++ value_cells row ++ codes "\n"
+
+unfoldable pub explanation_table : List Row → List ℕ
+explanation_table rows = table_open explanation_head ++ flat_map explanation_row (take most_rows rows) ++ table_close ++ left_out (length rows)

@@ -1,0 +1,36 @@
+-- Lists that grow by what is made of one item after another.
+use Rattle.std.proofs.Common.{◌≡◌, ◌<◌, ◌≤◌, ◌+◌, ◌&&◌, ℕ, Bool, true, false, List, ◌∷◌, ◌++◌, drop, get_or, length, nat_le, nat_lt, refl, sym, ap, ◌∙◌, append_assoc, arith}
+use Rattle.std.proofs.lemmas.Bool.{false≢true, le-leb, leb-true}
+use Rattle.std.specs.List.{flat_map}
+use Rattle.th_numbers.specs.Lists.{Listed}
+use Rattle.th_numbers.specs.declared.candidates.Candidate.{Candidate}
+use Rattle.th_report.proofs.RowLemmas.{drop-first}
+
+pub flat_next : {X Y : Type 0} → (f : X → List Y) (xs : List X) (i : ℕ) (x : X) (old new all : List Y) → i < length xs → x ≡ get_or xs i x → new ≡ old ++ f x → old ++ flat_map f (drop i xs) ≡ all → new ++ flat_map f (drop (i + 1) xs) ≡ all
+flat_next f xs i x old new all within is more so_far =
+    ap (λ front. front ++ flat_map f (drop (i + 1) xs)) more
+    ∙ append_assoc old (f x) (flat_map f (drop (i + 1) xs))
+    ∙ ap (λ (rest : List _). old ++ flat_map f rest) (sym (drop-first xs i x within is))
+    ∙ so_far
+
+abbrev pub listed : List Candidate → List Candidate → List Candidate → List Candidate → Listed
+listed a b c d = record { entered = a; changes = b; sights = c; benchmarks = d }
+
+pub listed_same : (a b c d a' b' c' d' : List Candidate) → a ≡ a' → b ≡ b' → c ≡ c' → d ≡ d' → listed a b c d ≡ listed a' b' c' d'
+listed_same a b c d a' b' c' d' e f g h =
+    ap (λ x. listed x b c d) e ∙ ap (λ x. listed a' x c d) f ∙ ap (λ x. listed a' b' x d) g ∙ ap (λ x. listed a' b' c' x) h
+
+-- two or more, and not all
+pub part_then : (b n c m : ℕ) → 2 ≤ b → b ≡ c → n ≡ m → nat_lt b n ≡ (nat_le 2 c && nat_lt c m)
+part_then b n c m two e f = by (nat_le 2 c) refl
+  where
+    by : (x : Bool) → nat_le 2 c ≡ x → nat_lt b n ≡ (x && nat_lt c m)
+    by true h = ap (λ v. nat_lt v n) e ∙ ap (nat_lt c) f
+    by false h = absurd (false≢true (sym h ∙ le-leb 2 c (omega (arith, two, e))))
+
+pub part_else : (b c : ℕ) (y : Bool) → ¬ (2 ≤ b) → b ≡ c → nat_le 2 b ≡ (nat_le 2 c && y)
+part_else b c y less e = ap (nat_le 2) e ∙ by (nat_le 2 c) refl
+  where
+    by : (x : Bool) → nat_le 2 c ≡ x → x ≡ (x && y)
+    by true h = absurd (less (omega (arith, e, leb-true 2 c h)))
+    by false h = refl

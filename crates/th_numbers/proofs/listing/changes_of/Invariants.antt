@@ -1,0 +1,7 @@
+use Rattle.std.proofs.Common.{◌≡◌, ◌++◌, drop}
+use Rattle.std.specs.List.{flat_map}
+use Rattle.th_numbers.specs.Lists.{changes, changes_at}
+use Rattle.th_numbers.proofs.listing.changes_of.Given as goal
+
+abbrev pub invariant-loop-o : goal.invariant-loop-o
+invariant-loop-o l = l.found.items ++ flat_map (changes_at l.observations l.entries) (drop l.o-index l.observations) ≡ changes l.observations l.entries

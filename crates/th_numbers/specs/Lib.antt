@@ -1,0 +1,7 @@
+pub mod Candidates
+pub mod Lists
+pub mod Ties
+pub mod Rows
+pub mod Readings
+pub mod Explanations
+pub mod Inside

@@ -1,0 +1,212 @@
+use crate::groups::Ends;
+use crate::heaps::{Heap, Open};
+use crate::links::Link;
+use crate::sides::{Side, Sides};
+use std::alloc::{AllocError, Global};
+use th_tree::{ResidualArc, push_if_room};
+
+/// Which way flow goes in a ball.
+#[derive(Clone, Copy, PartialEq, Eq)]
+pub(crate) enum Way {
+    /// From its centre.
+    Out,
+    /// To its centre.
+    In,
+}
+
+/// What a search goes by.
+#[derive(Clone, Copy)]
+pub(crate) struct Ground<'a> {
+    pub links: &'a [Link],
+    pub sides: &'a Sides,
+    /// The ends that are parted from their vertex.
+    pub ends: &'a Ends,
+    /// The vertex from which they are parted, and the one that has them instead.
+    pub base: u32,
+    pub spare: u32,
+    /// What each link counts more than its length.
+    pub toll: u64,
+}
+
+impl Ground<'_> {
+    /// The sides from among which those of a vertex are.
+    #[inline]
+    fn sides(&self, vertex: u32) -> Option<&[Side]> {
+        let own = if vertex == self.spare {
+            self.base
+        } else {
+            vertex
+        };
+        self.sides.of(own)
+    }
+
+    /// The vertex that an arc leaves.
+    pub fn start(&self, arc: ResidualArc) -> Option<u32> {
+        if self.ends.has(arc) {
+            return Some(self.spare);
+        }
+        let link = self.links.get(arc.row())?;
+        Some(if arc.is_forward() {
+            link.tail
+        } else {
+            link.head
+        })
+    }
+
+    /// Where a side of a vertex leads, if it is the vertex's own and has room.
+    #[inline]
+    fn other(&self, way: Way, vertex: u32, side: &Side) -> Option<u32> {
+        let is_spare = vertex == self.spare;
+        if self.ends.has(side.arc) != is_spare {
+            return None;
+        }
+        let link = self.links.get(side.arc.row())?;
+        if link.room(along(way, side.arc))? == 0 {
+            return None;
+        }
+        if self.ends.has(side.arc.reversed()) {
+            Some(self.spare)
+        } else {
+            Some(side.other)
+        }
+    }
+}
+
+/// The arc along which flow goes, where a search goes along another.
+#[inline]
+fn along(way: Way, arc: ResidualArc) -> ResidualArc {
+    match way {
+        Way::Out => arc,
+        Way::In => arc.reversed(),
+    }
+}
+
+/// What is known of a vertex.
+#[derive(Clone, Copy)]
+struct Reached {
+    /// How far it is; the greatest number if it was not reached.
+    distance: u64,
+    /// The arc of the flow by which it was reached.
+    arc: ResidualArc,
+    /// The next of its sides to look at.
+    next: usize,
+}
+
+const NOT_REACHED: Reached = Reached {
+    distance: u64::MAX,
+    arc: ResidualArc::NONE,
+    next: 0,
+};
+
+/// The vertices that are reached from one of the ends of a search, the nearest first.
+#[derive(Drop)]
+pub(crate) struct Ball {
+    way: Way,
+    rows: Vec<Reached>,
+    seen: Vec<u32>,
+    heap: Heap,
+}
+
+impl Ball {
+    /// A ball among so many vertices.
+    pub fn new(alloc: Global, way: Way, vertices: usize) -> Result<Ball, AllocError> {
+        Ok(Ball {
+            way,
+            rows: vec![in alloc; NOT_REACHED; vertices]?,
+            seen: Vec::with_capacity(alloc, vertices)?,
+            heap: Heap::new(alloc, vertices)?,
+        })
+    }
+
+    /// Forgets all that was reached.
+    pub fn clear(&mut self) {
+        for vertex in &self.seen {
+            if let Some(row) = self.rows.get_mut(*vertex as usize) {
+                *row = NOT_REACHED;
+            }
+        }
+        self.seen.clear();
+        self.heap.clear();
+    }
+
+    /// How many vertices were reached.
+    #[inline]
+    pub fn count(&self) -> usize {
+        self.seen.len()
+    }
+
+    /// How far a vertex is, if it was reached.
+    #[inline]
+    pub fn distance(&self, vertex: u32) -> Option<u64> {
+        let row = self.rows.get(vertex as usize)?;
+        if row.distance == u64::MAX {
+            return None;
+        }
+        Some(row.distance)
+    }
+
+    /// The arc by which a vertex was reached.
+    pub fn arc(&self, vertex: u32) -> Option<ResidualArc> {
+        Some(self.rows.get(vertex as usize)?.arc)
+    }
+
+    /// How far away the next vertex is.
+    #[inline]
+    pub fn radius(&self) -> Option<u64> {
+        Some(self.heap.top()?.distance)
+    }
+
+    /// Begins at a vertex.
+    pub fn begin(&mut self, ground: Ground, centre: u32) -> Option<()> {
+        self.reach(ground, centre, 0, ResidualArc::NONE)
+    }
+
+    /// Reaches the next vertex, if it is a new one.
+    pub fn grow(&mut self, ground: Ground) -> Option<Option<u32>> {
+        let open = self.heap.top()?;
+        self.heap.pop()?;
+        let row = *self.rows.get(open.vertex as usize)?;
+        let side = *ground.sides(open.vertex)?.get(row.next)?;
+        let mut reached = None;
+        if let Some(other) = ground.other(self.way, open.vertex, &side)
+            && self.distance(other).is_none()
+        {
+            self.reach(ground, other, open.distance, along(self.way, side.arc))?;
+            reached = Some(other);
+        }
+        self.go_on(ground, open.vertex, row.next.checked_add(1)?)?;
+        Some(reached)
+    }
+
+    fn reach(
+        &mut self,
+        ground: Ground,
+        vertex: u32,
+        distance: u64,
+        arc: ResidualArc,
+    ) -> Option<()> {
+        let row = self.rows.get_mut(vertex as usize)?;
+        row.distance = distance;
+        row.arc = arc;
+        push_if_room(&mut self.seen, vertex)?;
+        self.go_on(ground, vertex, 0)
+    }
+
+    /// Looks for the next side of a vertex that leads to a new one.
+    fn go_on(&mut self, ground: Ground, vertex: u32, from: usize) -> Option<()> {
+        let sides = ground.sides(vertex)?;
+        for place in from..sides.len() {
+            let side = sides.get(place)?;
+            if let Some(other) = ground.other(self.way, vertex, side)
+                && self.distance(other).is_none()
+            {
+                let row = self.rows.get_mut(vertex as usize)?;
+                row.next = place;
+                let step = side.length.checked_add(ground.toll)?;
+                let distance = row.distance.checked_add(step)?;
+                return self.heap.push(Open { distance, vertex });
+            }
+        }
+        Some(())
+    }
+}

@@ -1,0 +1,108 @@
+use crate::balls::{Ball, Ground, Way};
+use std::alloc::{AllocError, Global};
+use th_tree::{ResidualArc, push_if_room};
+
+/// A search for a short path, from both of its ends.
+#[derive(Drop)]
+pub(crate) struct Search {
+    out: Ball,
+    into: Ball,
+    /// The path that was found.
+    pub path: Vec<ResidualArc>,
+}
+
+/// Where two balls meet.
+#[derive(Clone, Copy)]
+struct Meeting {
+    vertex: u32,
+    distance: u64,
+}
+
+impl Search {
+    /// A search among so many vertices.
+    pub fn new(alloc: Global, vertices: usize) -> Result<Search, AllocError> {
+        Ok(Search {
+            out: Ball::new(alloc, Way::Out, vertices)?,
+            into: Ball::new(alloc, Way::In, vertices)?,
+            path: Vec::with_capacity(alloc, vertices.saturating_mul(2))?,
+        })
+    }
+
+    /// Finds a path from one vertex to another. The first that is found is taken if it is no longer
+    /// than `good`; none is longer than `far`.
+    pub fn run(&mut self, ground: Ground, from: u32, to: u32, good: u64, far: u64) -> Option<()> {
+        self.out.clear();
+        self.into.clear();
+        self.out.begin(ground, from)?;
+        self.into.begin(ground, to)?;
+        let vertex = self.meet(ground, good, far)?;
+        self.trace(ground, vertex, from, to)
+    }
+
+    /// The vertex where the two balls meet.
+    fn meet(&mut self, ground: Ground, good: u64, far: u64) -> Option<u32> {
+        let mut best: Option<Meeting> = None;
+        for _ in 0..u32::MAX {
+            let most = match best {
+                Some(meeting) if meeting.distance <= good => break,
+                Some(meeting) => far.min(meeting.distance),
+                None => far,
+            };
+            let (Some(out), Some(into)) = (self.out.radius(), self.into.radius()) else {
+                break;
+            };
+            if out.checked_add(into)? > most {
+                break;
+            }
+            if let Some(meeting) = self.grow(ground)? {
+                best = match best {
+                    Some(other) if other.distance <= meeting.distance => Some(other),
+                    _ => Some(meeting),
+                };
+            }
+        }
+        Some(best?.vertex)
+    }
+
+    /// Lets the ball with fewer vertices grow; returns where it meets the other.
+    fn grow(&mut self, ground: Ground) -> Option<Option<Meeting>> {
+        let grown = if self.out.count() <= self.into.count() {
+            self.out.grow(ground)?
+        } else {
+            self.into.grow(ground)?
+        };
+        let Some(vertex) = grown else {
+            return Some(None);
+        };
+        let (Some(one), Some(two)) = (self.out.distance(vertex), self.into.distance(vertex)) else {
+            return Some(None);
+        };
+        let distance = one.checked_add(two)?;
+        Some(Some(Meeting { vertex, distance }))
+    }
+
+    /// Lists the arcs of the path through a vertex.
+    fn trace(&mut self, ground: Ground, middle: u32, from: u32, to: u32) -> Option<()> {
+        self.path.clear();
+        let mut vertex = middle;
+        for _ in 0..self.path.capacity() {
+            if vertex == from {
+                break;
+            }
+            let arc = self.out.arc(vertex)?;
+            push_if_room(&mut self.path, arc)?;
+            vertex = ground.start(arc)?;
+        }
+        self.path.reverse();
+        let mut vertex = middle;
+        for _ in 0..self.path.capacity() {
+            if vertex == to {
+                break;
+            }
+            let arc = self.into.arc(vertex)?;
+            push_if_room(&mut self.path, arc)?;
+            vertex = ground.start(arc.reversed())?;
+        }
+        Some(())
+    }
+}

@@ -1,0 +1,42 @@
+-- What an explanation over a folder comes to.
+use Rattle.std.proofs.Common.{◌≡◌, ◌∷◌, [], ℕ, ℤ, Bool, List, Ok, Err, map, subst, refl}
+use Rattle.std.specs.List.{AllByRecursion}
+use Rattle.std.specs.Prelude.{OnOk, Result}
+use Rattle.th_devices.specs.Devices.{SinkState}
+use Rattle.th_devices.specs.Spots.{Spot, file, output}
+use Rattle.th_network.specs.Networks.{Survey}
+use Rattle.th_plans.specs.Asked.{Files}
+use Rattle.th_program.specs.Done.{IsExplained}
+use Rattle.th_program.specs.Owed.{Told, survey_owed}
+use Rattle.th_program.specs.Inside.Opened.{AreMade, IsTaken}
+use Rattle.th_program.proofs.OutputLemmas.{all_whole}
+use Rattle.th_runs.specs.Explained.{AreOfExplanation, text_in}
+use Rattle.th_runs.specs.Inputs.{Meets, Owed}
+use Rattle.th_runs.specs.Outcomes.{Accepted}
+use Rattle.th_runs.specs.Reads.{refused}
+use Rattle.th_runs.specs.Writes.{AreWritten, IsWritten, Texts}
+use Rattle.th_runs.specs.declared.explaining.Form.{Form}
+use Rattle.th_runs.specs.declared.refusals.Output.TheVariants as out
+use Rattle.th_runs.specs.declared.refusals.Refusal.{Refusal}
+
+-- an explanation that was written
+pub explained : {X K : Type 0} (tells : Bool) (writing : Spot → Bool) (before after : Told) (from : Files) (limit : ℤ) (wanted : Form) (state_of : K → SinkState) (olds news : List K)
+    (given_owed : Owed Survey) (result : Result X Refusal) → given_owed ≡ survey_owed before (refused result) from
+    → AreMade state_of tells writing (output ∷ []) olds → AllByRecursion (λ own. IsTaken before after (state_of own)) news
+    → (IsWritten result → ((survey : Survey) × Accepted (λ (own : Survey). own) given_owed survey
+    × ((texts : Texts) × AreOfExplanation (map (λ (name : List ℕ). before (file name)) from.books) limit wanted survey texts × AreWritten state_of (refused result) texts olds news)))
+    → OnOk result (IsExplained tells before after from limit wanted)
+explained tells writing before after from limit wanted state_of olds news given_owed (Err own) owed made taken written = tt
+explained {X = X} tells writing before after from limit wanted state_of olds news given_owed (Ok x) owed made taken written =
+    let (survey, accepted, (texts, (reviews, are, (own, of_own, is)), of_texts)) = written tt in
+    let text = text_in wanted own in
+    let whole = all_whole state_of tells writing before after ((out.Explanations, text) ∷ []) (output ∷ []) olds news (refl, tt) made taken
+    (subst (λ (known : Texts). AreWritten state_of (refused {X = X} (Ok x)) known olds news) is of_texts) in
+    record {
+      survey = survey;
+      text = text;
+      given = subst (λ (known : Owed Survey). Meets known (Ok survey)) owed accepted.given;
+      network = accepted.network;
+      explained = (reviews, are, (own, of_own, refl));
+      printed = whole.0;
+    }

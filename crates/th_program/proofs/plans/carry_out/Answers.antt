@@ -1,0 +1,20 @@
+use Rattle.std.proofs.Common.{◌∙◌, ap, subst, sym}
+use Rattle.th_program.specs.Done.{IsOutputOf}
+use Rattle.th_program.proofs.plans.carry_out.Goals as goal
+use Rattle.th_program.proofs.plans.carry_out.Goals.{in-Standard+in_ok-list-in-Standard, in-List+in_ok-list-in-List, in-Adjust+in_ok-adjust-in-Adjust, in-Review+in_ok-review-in-Review, in-Explain+in_ok-explain-in-Explain, in-Book+in_ok-make_book-in-Book}
+
+pub returns-clause-others : goal.returns-clause-others
+returns-clause-others g c = λ spot none. elim c.match-plan.branch [
+  | in-Standard+in_ok-list-in-Standard w ↦
+      ap (λ own. g.F.Folder.held own spot) w.folder-is ∙ w.list.ensures.others spot (λ is. none (subst (λ own. IsOutputOf own spot) (sym w.in-Standard.is) is))
+  | in-List+in_ok-list-in-List w ↦
+      ap (λ own. g.F.Folder.held own spot) w.folder-is ∙ w.list-in-List.ensures.others spot (λ is. none (subst (λ own. IsOutputOf own spot) (sym w.in-List.is) is))
+  | in-Adjust+in_ok-adjust-in-Adjust w ↦
+      ap (λ own. g.F.Folder.held own spot) w.folder-is ∙ w.adjust.ensures.others spot (λ is. none (subst (λ own. IsOutputOf own spot) (sym w.in-Adjust.is) is))
+  | in-Review+in_ok-review-in-Review w ↦
+      ap (λ own. g.F.Folder.held own spot) w.folder-is ∙ w.review.ensures.others spot (λ is. none (subst (λ own. IsOutputOf own spot) (sym w.in-Review.is) is))
+  | in-Explain+in_ok-explain-in-Explain w ↦
+      ap (λ own. g.F.Folder.held own spot) w.folder-is ∙ w.explain.ensures.others spot (λ is. none (subst (λ own. IsOutputOf own spot) (sym w.in-Explain.is) is))
+  | in-Book+in_ok-make_book-in-Book w ↦
+      ap (λ own. g.F.Folder.held own spot) w.folder-is ∙ w.make_book.ensures.others spot (λ is. none (subst (λ own. IsOutputOf own spot) (sym w.in-Book.is) is))
+]

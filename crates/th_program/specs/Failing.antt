@@ -1,0 +1,39 @@
+-- Where the devices of a folder may fail, and what a failed device shows of the folder.
+use Rattle.std.specs.Prelude.{◌≡◌, ℕ, Bool, true, List}
+use Rattle.th_devices.specs.Spots.{Spot, file}
+use Rattle.th_plans.specs.Asked.{Files}
+use Rattle.th_program.specs.Outputs.{ending_of, spot_at}
+use Rattle.th_program.specs.Owed.{HasName}
+use Rattle.th_runs.specs.declared.refusals.Input.{Input}
+use Rattle.th_runs.specs.declared.refusals.Input.TheVariants as input
+use Rattle.th_runs.specs.declared.refusals.Refusal.{Refusal}
+use Rattle.th_runs.specs.declared.refusals.Refusal.TheVariants as refusal
+
+-- whether reading what is at a spot may fail, as it does where nothing is, and whether writing to it may
+pub record Failing : Type 0 where
+  pub reading : Spot → Bool
+  pub writing : Spot → Bool
+
+-- both of a folder
+abbrev pub failing_of : {F : Type 0} → (F → Spot → Bool) → (F → Spot → Bool) → F → Failing
+failing_of reading writing folder = record { reading = reading folder; writing = writing folder }
+
+-- where a run reads its inputs
+abbrev pub Origins : Type 1
+Origins = Input → Spot → Type 0
+
+-- an input of a run over these files is at this spot
+abbrev pub IsInFiles : Files → Origins
+IsInFiles from which (file name) = HasName from which name
+IsInFiles from which other = ⊥
+
+-- an input of a check of this certificate is at this spot
+abbrev pub IsInClaim : Files → List ℕ → Origins
+IsInClaim from certificate input.Certificate spot = spot ≡ file certificate
+IsInClaim from certificate which spot = IsInFiles from which spot
+
+-- A refusal that blames a device has a cause in the folder: reading may fail at the spot of the input, or writing at the spot of the output.
+abbrev pub HasCause : Failing → Origins → List ℕ → Refusal → Type 0
+HasCause failing origins prefix (refusal.Read which) = (spot : Spot) × origins which spot × (failing.reading spot ≡ true)
+HasCause failing origins prefix (refusal.Write which) = failing.writing (spot_at prefix (ending_of which)) ≡ true
+HasCause failing origins prefix other = Unit {0}

@@ -1,0 +1,53 @@
+//! Explaining what does not fit in the network of files of a folder.
+ghost use Rattle.std.specs.Prelude.{◌≡◌, ◌≢◌, IfErr, OnOk};
+ghost use Rattle.th_devices.specs.Spots.{output};
+ghost use Rattle.th_plans.specs.Plans.{files};
+ghost use Rattle.th_program.specs.Done.{IsExplained, IsRefusedExplain, form_of};
+ghost use Rattle.th_program.specs.Failing.{failing_of};
+ghost use Rattle.th_runs.specs.Writes.{UnlessWrite};
+
+use crate::opening::sources_of;
+use crate::outputs::{close_sinks, sinks_of};
+use std::alloc::Global;
+use th_folders::Folder;
+use th_plans::{Inputs, Limit};
+use th_runs::{EXPLAINED, Form, Refusal, run_explain};
+
+/// Prints on standard output which one number of the named files, if it were wrong, would explain what
+/// does not fit.
+pub(crate) fn explain<F: Folder>(
+    alloc: Global,
+    folder: &mut F,
+    inputs: &Inputs<'_>,
+    limit: Limit,
+    form: Form,
+) -> Result<(), Refusal>
+    ensures explained { OnOk result (IsExplained F.tells (F.held folder.old) (F.held folder.new)
+        (files inputs.now) limit form) }
+    ensures refused { IfErr result (IsRefusedExplain
+        (failing_of F.reading_may_fail F.writing_may_fail folder.old)
+        (F.held folder.old) (files inputs.now)) }
+    ensures untouched { IfErr result (λ own. UnlessWrite own (folder.new ≡ folder.old)) }
+    ensures others { (spot : _) → spot ≢ output → F.held folder.new spot ≡ F.held folder.old spot }
+{
+    let mut sources = sources_of(alloc, folder, inputs)?;
+    let mut outs = sinks_of(alloc, folder, "", &EXPLAINED)?;
+    let answer = run_explain(
+        alloc,
+        sources.books.as_mut_slice(),
+        &mut sources.benchmarks,
+        &mut sources.weights,
+        limit.get(),
+        form,
+        outs.as_mut_slice(),
+    );
+    close_sinks(folder, outs);
+    answer
+}
+
+/// The form that a plan requests.
+pub(crate) fn form_of(table: bool) -> Form
+    ensures { result ≡ form_of table }
+{
+    if table { Form::Table } else { Form::Text }
+}

@@ -1,0 +1,31 @@
+-- Which of the observations are some sights, one after another.
+use Rattle.std.proofs.Common.{◌≡◌, ℕ, suc, ◌+◌, ◌<◌, ◌≤◌, inl, inr, Bool, false, List, [], ◌∷◌, get_or, length, map, replicate, refl, sym, ap, ◌∙◌, arith, get_or-set_other, get_or-set_same}
+use Rattle.std.specs.Prelude.{slice_set}
+use borrow.Author.Count.{below_more}
+use Rattle.std.proofs.lemmas.Bool.{cases_lt}
+use Rattle.std.proofs.lemmas.List.{get_or_default, get_or_past, get_or-replicate, length-replicate, length-set}
+use Rattle.th_book.specs.Observed.{Observed}
+use Rattle.th_reliability.specs.Runs.{HoldsSights}
+use Rattle.th_reliability.specs.Sights.{in_sights}
+use Rattle.th_reliability.specs.declared.sights.Sights.{Sights}
+
+-- what is marked before a place, where nothing is marked from there on
+pub record AreMarked (observations : List Observed) (sights : Sights) (i : ℕ) (marks : List Bool) : Type 0 where
+  pub each : length marks ≡ length observations
+  pub before : (k : ℕ) (d : Observed) → k < i → k < length observations → get_or marks k false ≡ in_sights sights (get_or observations k d)
+  pub behind : (k : ℕ) → i ≤ k → get_or marks k false ≡ false
+
+module _ (observations : List Observed) (sights : Sights) where
+  same_list : (f : Observed → Bool) (os : List Observed) (ms : List Bool) → length ms ≡ length os → ((k : ℕ) (d : Observed) → k < length os → get_or ms k false ≡ f (get_or os k d)) → ms ≡ map f os
+  same_list f [] [] long at = refl
+  same_list f [] (m ∷ ms) long at = absurd (omega arith)
+  same_list f (o ∷ os) [] long at = absurd (omega arith)
+  same_list f (o ∷ os) (m ∷ ms) long at =
+      ap (λ (b : Bool). b ∷ ms) (at 0 o (omega arith))
+      ∙ ap (λ (bs : List Bool). f o ∷ bs) (same_list f os ms (omega arith) (λ k d h. at (suc k) d (omega arith)))
+
+  pub marks_all : (run : ℕ × ℕ) (i : ℕ) (marks : List Bool) → HoldsSights observations sights run → run.1 ≤ i → AreMarked observations sights i marks → marks ≡ map (in_sights sights) observations
+  marks_all run i marks holds past are = same_list (in_sights sights) observations marks are.each (λ k d within. elim (cases_lt k i) [
+    | inl less ↦ are.before k d less within
+    | inr more ↦ are.behind k more ∙ sym (holds.above k d (omega arith) within)
+  ])

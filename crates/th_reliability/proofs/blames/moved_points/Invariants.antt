@@ -1,0 +1,10 @@
+use Rattle.std.proofs.Common.{◌≡◌, ◌≤◌, take}
+use Rattle.std.specs.List.{count_by}
+use Rattle.th_cuts.specs.Cuts.{on_side, separates}
+use Rattle.th_reliability.proofs.blames.moved_points.Given as goal
+
+abbrev pub invariant-loop-vertex : goal.invariant-loop-vertex
+invariant-loop-vertex l = record {
+  count : l.count ≡ count_by (λ vertex. separates (on_side l.side) vertex 0) (take l.vertex-index l.vertices);
+  few : l.count ≤ l.vertex-index;
+}

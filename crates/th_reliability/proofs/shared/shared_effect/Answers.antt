@@ -1,0 +1,8 @@
+use Rattle.std.proofs.Common.{refl, subst, sym}
+use Rattle.th_reliability.specs.Effects.{IsEffect}
+use Rattle.th_reliability.specs.Sights.{in_sights}
+use Rattle.th_reliability.proofs.shared.shared_effect.Goals as goal
+
+pub returns-then-shows_by_controls : goal.returns-then-shows_by_controls
+returns-then-shows_by_controls c =
+    subst (IsEffect c.args.ground.now.network.now (in_sights c.args.sights.now)) (sym c.shown.ensures) (record { word = c.shows_by_controls.ensures c.if-shows_by_controls.true; blame = refl })

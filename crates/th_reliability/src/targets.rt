@@ -1,0 +1,79 @@
+//! Observations that share a mistake at a point as flow sees them: from the vertex of the point to those
+//! of their other ends.
+ghost use Rattle.std.specs.Prelude.{◌≡◌, ◌<◌, ◌≤◌, All, Bool, IfOk, length, map};
+ghost use Rattle.th_book.specs.Observed.{Observed};
+ghost use Rattle.th_limits.specs.Limits.{max_total_weight};
+ghost use Rattle.th_network.specs.Networks.{vertices_of};
+ghost use Rattle.th_network.specs.Walks.{Anchored};
+ghost use Rattle.th_tables.specs.Rows.{weight_of};
+ghost use Rattle.th_reliability.specs.Blunders.{weight_in};
+ghost use Rattle.th_reliability.specs.Inside.Targets.{AreTargets, far_end};
+
+use crate::ground::Ground;
+use std::alloc::{AllocError, Global};
+use th_cuts::Edge;
+
+/// Some observations with an end at one vertex.
+#[derive(Drop)]
+pub(crate) struct Targets {
+    /// For each vertex twice what those weigh whose other end it is.
+    pub rooms: Vec<u32>,
+    /// For each of them the vertex of its other end.
+    pub targets: Vec<u32>,
+    /// What they weigh together.
+    pub weight: u32,
+}
+
+/// Finds the other ends of some observations with an end at a vertex. Which observations these are is
+/// listed in the order of all.
+pub(crate) fn targets_of(
+    alloc: Global,
+    ground: &Ground<'_, '_>,
+    mistaken: &[bool],
+    start: u32,
+) -> Result<Targets, AllocError>
+    requires each { length mistaken.now ≡ length ground.now.network.now.observations }
+    ensures each { IfOk result (λ found. length found.rooms.items ≡ vertices_of ground.now.network.now) }
+    ensures light { IfOk result (λ found. found.weight ≤ max_total_weight) }
+    ensures weight { IfOk result (λ found. (group : Observed → Bool)
+        → mistaken.now ≡ map group ground.now.network.now.observations
+        → found.weight ≡ weight_in ground.now.network.now.observations ground.now.network.now.weights group) }
+    ensures weigh { IfOk result (λ _. All (λ o. 1 ≤ weight_of ground.now.network.now.weights o.station o.target)
+        ground.now.network.now.observations) }
+    ensures anchored { IfOk result (λ _. Anchored ground.now.network.now.observations ground.now.network.now.benchmarks) }
+    ensures targets { IfOk result (λ found. (group : Observed → Bool)
+        → mistaken.now ≡ map group ground.now.network.now.observations
+        → AreTargets ground.now.network.now group start found.rooms.items found.targets.items) }
+{
+    let observations = ground.network.observations();
+    let weights = ground.network.weights();
+    let edges = ground.edges.as_slice();
+    let mut rooms = vec![in alloc; 0u32; ground.network.vertices() as usize]?;
+    let mut targets = Vec::new(alloc);
+    let mut weight = 0;
+    for i in 0..observations.len() {
+        if mistaken[i] {
+            let far = far_end(start, edges[i]);
+            let heavy = weights[i];
+            rooms[far as usize] += heavy + heavy;
+            weight += heavy;
+            targets.push(far)?;
+        }
+    }
+    Ok(Targets {
+        rooms,
+        targets,
+        weight,
+    })
+}
+
+/// The other end of an edge from a vertex, or to it.
+fn far_end(start: u32, edge: Edge) -> u32
+    ensures { result ≡ far_end start edge }
+{
+    if edge.tail == start {
+        edge.head
+    } else {
+        edge.tail
+    }
+}

@@ -1,0 +1,41 @@
+-- What an explanation prints.
+use Rattle.std.specs.Prelude.{◌≡◌, ℕ, ℤ, false, List, [], ◌∷◌, Option}
+use Rattle.std.specs.List.{AllZip}
+use Rattle.th_entries.specs.Several.{numbered}
+use Rattle.th_entries.specs.declared.reviews.BookReview.{BookReview}
+use Rattle.th_explanations.specs.Tables.{table_text}
+use Rattle.th_explanations.specs.Texts.{explanation_text}
+use Rattle.th_network.specs.Networks.{Survey}
+use Rattle.th_numbers.specs.Explanations.{AreExplained}
+use Rattle.th_numbers.specs.declared.findings.Explanations.{Explanations}
+use Rattle.th_runs.specs.Reads.{Run}
+use Rattle.th_runs.specs.Reviewed.{AreTold, IsReviewOf}
+use Rattle.th_runs.specs.Writes.{Texts}
+use Rattle.th_runs.specs.declared.explaining.Form.{Form}
+use Rattle.th_runs.specs.declared.explaining.Form.TheVariants as form
+use Rattle.th_runs.specs.declared.refusals.Output.TheVariants as output
+
+-- an explanation, and what it writes
+abbrev pub explaining : Run
+explaining = record { has_certificate = false; outputs = output.Explanations ∷ [] }
+
+-- the text of explanations in a form
+abbrev pub text_in : Form → Explanations → List ℕ
+text_in form.Text own = explanation_text own.summary own.rows.items
+text_in form.Table own = table_text own.rows.items
+
+-- the text that is printed of a survey whose books have these reviews
+abbrev pub ArePrintedOf : List BookReview → ℤ → Form → Survey → Texts → Type 0
+ArePrintedOf reviews limit wanted survey texts =
+    (own : Explanations) × AreExplained survey reviews limit own × (texts ≡ (output.Explanations, text_in wanted own) ∷ [])
+
+-- the reviews are those of books with the texts that sources gave, numbered from 1 on
+pub record AreReviewsOfBooks (tolds : List (Option (List ℕ))) (reviews : List BookReview) : Type 0 where
+  pub texts : List (List ℕ)
+  pub told : AreTold tolds texts
+  pub reviewed : AllZip IsReviewOf (numbered 1 texts) reviews
+
+-- a run that ends in an explanation of this survey, and of the books that sources told, writes this text
+abbrev pub AreOfExplanation : List (Option (List ℕ)) → ℤ → Form → Survey → Texts → Type 0
+AreOfExplanation tolds limit wanted survey texts =
+    (reviews : List BookReview) × AreReviewsOfBooks tolds reviews × ArePrintedOf reviews limit wanted survey texts

@@ -1,0 +1,176 @@
+#!/usr/bin/env python3
+"""Refuses each call on files in turn, and looks at what the built program leaves.
+
+    run.py [--program PATH] [--pairs N]
+
+The program adjusts and reviews a project over outputs of another one. Of each run call 1 fails, then call 2, and so on
+until a run makes fewer calls: on inputs, outputs and the folder. Where a rename fails, the outputs before it are new and
+its own and later ones are as they were. Where another call fails and the run ends with status 5, no output changed, nor
+with status 3, where files cannot be compared. With status 0, after a failed close and for the folder, all are new. The line on standard error names the device, and no unfinished file is left, unless its removal was
+refused. A run whose calls all succeed makes each output durable before it renames the first one, and synchronises the
+folder after the last rename.
+
+Then two runs with one prefix and other inputs start together, again and again: each output is whole and of one of them,
+both end with status 0, and no unfinished file is left.
+
+Calls are counted and refused by `refusing_calls.c`, which is compiled with `cc` and stands before the C library's calls.
+Prints a table. Status 0 only where all is right.
+"""
+import argparse
+import collections
+import os
+import subprocess
+import sys
+import tempfile
+from pathlib import Path
+
+HERE = Path(__file__).resolve().parent
+ROOT = HERE.parents[1]
+OUTPUTS = {
+    "adjust": {"heights.csv": "heights", "certificate.csv": "certificate", "report.txt": "report", "heights.gsi": "gsi"},
+    "review": {"points.csv": "points", "observations.csv": "observations", "entries.csv": "entries",
+               "review.txt": "review"},
+}
+INPUTS = {"new.gsi": "book 1", "new.csv": "benchmarks"}
+
+
+class Wrong(Exception):
+    """Something that is not allowed, in words."""
+
+
+def make_inputs(folder: Path) -> None:
+    """Two versions of the cellar, which name a point differently."""
+    for name, made in (("marks.csv", "csv"), ("cellar.gsi", "gsi")):
+        text = (ROOT / "examples/cellar" / name).read_bytes()
+        (folder / f"old.{made}").write_bytes(text)
+        (folder / f"new.{made}").write_bytes(text.replace(b"G1", b"H1"))
+
+
+def words_of(program: str, command: str, version: str) -> list:
+    return [program, command, "--benchmarks", f"{version}.csv", "--out", "own", f"{version}.gsi"]
+
+
+def outputs_of(folder: Path, command: str) -> list:
+    return [(folder / f"own.{ending}").read_bytes() for ending in OUTPUTS[command]]
+
+
+def refuse(program: str, library: Path, folder: Path, command: str, number: int):
+    """Runs with this call refused: its status, its line, and its calls."""
+    reader, writer = os.pipe()
+    environment = dict(os.environ, LD_PRELOAD=str(library), REFUSE=str(number))
+
+    def trace_to_3() -> None:
+        os.dup2(writer, 3)
+
+    run = subprocess.Popen(words_of(program, command, "new"), cwd=folder, env=environment, stdin=subprocess.DEVNULL,
+                           stdout=subprocess.PIPE, stderr=subprocess.PIPE, pass_fds=(3, writer), preexec_fn=trace_to_3)
+    os.close(writer)
+    with os.fdopen(reader, "rb") as trace:
+        calls = trace.read().decode().splitlines()
+    printed, line = run.communicate()
+    if printed:
+        raise Wrong(f"standard output has {printed!r}")
+    return run.returncode, line.decode(), calls
+
+
+def look(folder: Path, command: str, texts: dict, number: int, status: int, line: str, calls: list) -> str:
+    """Looks at what the run left of which this call was refused, and says which call that was."""
+    name, _, path = calls[number - 1].partition(" ")
+    found = outputs_of(folder, command)
+    old, new = texts["old", command], texts["new", command]
+    count = next((k for k in range(5) if found == new[:k] + old[k:]), None)
+    renames = sum(call.startswith("rename ") for call in calls[:number - 1])
+    endings = list(OUTPUTS[command])
+    if name == "rename":
+        wanted = (5, f"write failed: {OUTPUTS[command][endings[renames]]}\n", renames)
+    elif status == 0:
+        wanted = (0, "", 4)
+    elif path in INPUTS:
+        wanted = (5, f"read failed: {INPUTS[path]}\n", 0)
+    else:
+        ending = next((ending for ending in endings if path.startswith(f"own.{ending}")), None)
+        wanted = (5, f"write failed: {OUTPUTS[command].get(ending)}\n", 0)
+    if name == "statx" and status == 3 and line.startswith("error: output own.") and " would overwrite " in line:
+        wanted = (3, line, 0)
+    if (status, line, count) != wanted:
+        raise Wrong(f"{command} with {name} of '{path}' refused: {(status, line, count)} and not {wanted}")
+    if name not in ("close", "unlink") and path != "." and status == 0:
+        raise Wrong(f"{command} with {name} of '{path}' refused ends with status 0")
+    left = list(folder.glob("*unfinished*"))
+    if left and name != "unlink":
+        raise Wrong(f"{command} with {name} of '{path}' refused leaves {left}")
+    for file in left:
+        file.unlink()
+    return f"{name} of the folder" if path == "." else name
+
+
+def refuse_each(program: str, library: Path, folder: Path, command: str, texts: dict) -> None:
+    seen = collections.Counter()
+    number = 0
+    while True:
+        number += 1
+        for ending, text in zip(OUTPUTS[command], texts["old", command]):
+            (folder / f"own.{ending}").write_bytes(text)
+        status, line, calls = refuse(program, library, folder, command, number)
+        if len(calls) < number:
+            break
+        seen[look(folder, command, texts, number, status, line, calls), status] += 1
+    if status != 0 or outputs_of(folder, command) != texts["new", command]:
+        raise Wrong(f"{command} with no call refused ends with {status}")
+    look_at_order(command, calls)
+    for (name, status), count in sorted(seen.items()):
+        print(f"{command:7} {name:20} status {status}: {count:4}")
+
+
+def look_at_order(command: str, calls: list) -> None:
+    """All outputs are synchronised before the first rename, and the folder after the last one."""
+    renames = [place for place, call in enumerate(calls) if call.startswith("rename ")]
+    files = [place for place, call in enumerate(calls) if call.startswith("fsync own.")]
+    folders = [place for place, call in enumerate(calls) if call == "fsync ."]
+    if (len(renames), len(files), len(folders)) != (4, 4, 1) or not max(files) < min(renames) <= max(renames) < folders[0]:
+        raise Wrong(f"{command} has its renames at {renames}, and synchronises files at {files}, folders at {folders}")
+
+
+def start_together(program: str, folder: Path, texts: dict, pairs: int) -> None:
+    mixed = 0
+    for number in range(pairs):
+        command = ("adjust", "review")[number % 2]
+        runs = [subprocess.Popen(words_of(program, command, version), cwd=folder) for version in ("old", "new")]
+        statuses = [run.wait() for run in runs]
+        found = outputs_of(folder, command)
+        both = list(zip(found, texts["old", command], texts["new", command]))
+        left = list(folder.glob("*unfinished*"))
+        if statuses != [0, 0] or left or any(text not in (old, new) for text, old, new in both):
+            raise Wrong(f"two runs of {command} at once end with {statuses}, and leave {left} or a file of neither")
+        mixed += found not in (texts["old", command], texts["new", command])
+    print(f"{pairs} pairs of runs at once: each output whole, outputs of both in {mixed}")
+
+
+def main() -> None:
+    parser = argparse.ArgumentParser(description=__doc__, formatter_class=argparse.RawDescriptionHelpFormatter)
+    parser.add_argument("--program", default=str(ROOT / "crates/height_office/out/height_office"))
+    parser.add_argument("--pairs", type=int, default=100)
+    given = parser.parse_args()
+    program = str(Path(given.program).resolve())
+    with tempfile.TemporaryDirectory() as name:
+        folder = Path(name) / "project"
+        folder.mkdir()
+        library = Path(name) / "refusing_calls.so"
+        subprocess.run(["cc", "-O2", "-Wall", "-Wextra", "-shared", "-fPIC", "-o", library, HERE / "refusing_calls.c",
+                        "-ldl"], check=True)
+        make_inputs(folder)
+        texts = {}
+        for version in ("old", "new"):
+            for command in OUTPUTS:
+                subprocess.run(words_of(program, command, version), cwd=folder, check=True)
+                texts[version, command] = outputs_of(folder, command)
+        try:
+            for command in OUTPUTS:
+                refuse_each(program, library, folder, command, texts)
+            start_together(program, folder, texts, given.pairs)
+        except Wrong as wrong:
+            sys.exit(str(wrong))
+
+
+if __name__ == "__main__":
+    main()
