@@ -35,7 +35,7 @@ help:
 	@echo 'make each-byte the same on each beginning and each changed byte of a book, a table and two certificates (some minutes)'
 	@echo 'make planted   plant wrong numbers in surveys, and compare what comes of them with explain and review (every one in EVERY=$(EVERY))'
 	@echo 'make memory    run the built program, and the calls that `make calls` builds, with each allocation refused in turn'
-	@echo 'make attacks   try the edits of attacks/, more mistakes that the prover must refuse (hours); make test tries those of today'
+	@echo 'make attacks   try the edits of attacks/, more mistakes that the prover must refuse (hours)'
 	@echo 'make attacks-of-today  try some of them, other ones each day (ATTACKS=$(ATTACKS))'
 	@echo 'make hostile   time and memory of books, tables, certificates and networks that are made to cost time'
 	@echo 'make bench     throughput and peak memory: listing, networks, certificates, settling beside other solvers, adjusting, reviewing'
