@@ -38,7 +38,7 @@ help:
 	@echo 'make attacks   try the edits of attacks/, more mistakes that the prover must refuse (hours)'
 	@echo 'make attacks-of-today  try some of them, other ones each day (ATTACKS=$(ATTACKS))'
 	@echo 'make hostile   time and memory of books, tables, certificates and networks that are made to cost time'
-	@echo 'make bench     throughput and peak memory: listing, networks, certificates, settling beside other solvers, adjusting, reviewing'
+	@echo 'make bench     throughput and peak memory: listing, networks, certificates, settling beside other solvers, adjusting, reviewing, explaining'
 	@echo 'make install   copy the built program, its manual page and completions below $(PREFIX); proves nothing'
 	@echo 'make uninstall remove them'
 	@echo 'make clean     remove what was built'
@@ -163,6 +163,7 @@ bench: build
 	@bench/settle/run
 	@bench/adjust/run --program $(PROGRAM)
 	@bench/review/run --program $(PROGRAM)
+	@bench/explain/run --program $(PROGRAM)
 	@$(MAKE) --no-print-directory hostile
 
 SHARE = $(DESTDIR)$(PREFIX)/share
