@@ -1,7 +1,8 @@
 /* Stands before the C library's calls on files and refuses one of a program, counted from its `main` on.
 
    REFUSE=N refuses call number N: it does nothing and fails with EIO. The calls are open, read, write, fsync, fchmod,
-   rename, unlink, statx and close. Each is written to descriptor 3 as a line: its name and, where it has one, the path
+   rename, unlink, statx and close. An open that creates a file is `create` where nothing may have its name and its owner
+   alone may use it, else `share`. Each is written to descriptor 3 as a line: its name and, where it has one, the path
    that was handed in or opened. A closed descriptor is closed also where the call is refused, as Linux does. */
 #define _GNU_SOURCE
 #include <dlfcn.h>
@@ -56,7 +57,7 @@ int open(const char *path, int flags, ...)
         mode = va_arg(rest, mode_t);
         va_end(rest);
     }
-    if (is_refused(flags & O_CREAT ? "create" : "open", path))
+    if (is_refused(!(flags & O_CREAT) ? "open" : (flags & O_EXCL) && mode == 0600 ? "create" : "share", path))
         return -1;
     descriptor = (int)syscall(SYS_openat, AT_FDCWD, path, flags, mode);
     if (descriptor >= 0 && descriptor < 64)

@@ -123,7 +123,11 @@ def refuse_each(program: str, library: Path, folder: Path, command: str, texts: 
 
 
 def look_at_order(command: str, calls: list) -> None:
-    """All outputs are synchronised before the first rename, and the folder after the last one."""
+    """Each file is created for its owner alone, where nothing has its name. All outputs are synchronised before the first rename, and
+    the folder after the last one."""
+    created = [call for call in calls if call.startswith(("create ", "share "))]
+    if len(created) != 4 or any(call.startswith("share ") for call in created):
+        raise Wrong(f"{command} creates its files as {created}")
     renames = [place for place, call in enumerate(calls) if call.startswith("rename ")]
     files = [place for place, call in enumerate(calls) if call.startswith("fsync own.")]
     folders = [place for place, call in enumerate(calls) if call == "fsync ."]
