@@ -6,7 +6,7 @@
 The program adjusts and reviews a project over outputs of another one. Of each run call 1 fails, then call 2, and so on
 until a run makes fewer calls: on inputs, outputs and the folder. Where a rename fails, the outputs before it are new and
 its own and later ones are as they were. Where another call fails and the run ends with status 5, no output changed, nor
-with status 3, where files cannot be compared. With status 0, after a failed close and for the folder, all are new. The line on standard error names the device, and no unfinished file is left, unless its removal was
+with status 3, where files cannot be compared. With status 0, after a failed close and for the folder, all are new. The lines on standard error name the device and the file, and no unfinished file is left, unless its removal was
 refused. A run whose calls all succeed makes each output durable before it renames the first one, and synchronises the
 folder after the last rename.
 
@@ -73,6 +73,11 @@ def refuse(program: str, library: Path, folder: Path, command: str, number: int)
     return run.returncode, line.decode(), calls
 
 
+def lines_of(what: str, device: str, name: str) -> str:
+    """The lines on standard error. The system gives no reason that the program has words for."""
+    return f"{what} failed: {device}\n  '{name}'\n"
+
+
 def look(folder: Path, command: str, texts: dict, number: int, status: int, line: str, calls: list) -> str:
     """Looks at what the run left of which this call was refused, and says which call that was."""
     name, _, path = calls[number - 1].partition(" ")
@@ -82,14 +87,14 @@ def look(folder: Path, command: str, texts: dict, number: int, status: int, line
     renames = sum(call.startswith("rename ") for call in calls[:number - 1])
     endings = list(OUTPUTS[command])
     if name == "rename":
-        wanted = (5, f"write failed: {OUTPUTS[command][endings[renames]]}\n", renames)
+        wanted = (5, lines_of("write", OUTPUTS[command][endings[renames]], f"own.{endings[renames]}"), renames)
     elif status == 0:
         wanted = (0, "", 4)
     elif path in INPUTS:
-        wanted = (5, f"read failed: {INPUTS[path]}\n", 0)
+        wanted = (5, lines_of("read", INPUTS[path], path), 0)
     else:
         ending = next((ending for ending in endings if path.startswith(f"own.{ending}")), None)
-        wanted = (5, f"write failed: {OUTPUTS[command].get(ending)}\n", 0)
+        wanted = (5, lines_of("write", OUTPUTS[command].get(ending), f"own.{ending}"), 0)
     if name == "statx" and status == 3 and line.startswith("error: output own.") and " would overwrite " in line:
         wanted = (3, line, 0)
     if (status, line, count) != wanted:
