@@ -1,14 +1,13 @@
 -- What moves and what is blamed, counted one after another.
-use Rattle.std.proofs.Common.{◌≡◌, ℕ, ◌+◌, ◌<◌, ◌≤◌, pos, Bool, false, List, [], ◌∷◌, ◌++◌, Option, Some, None, append_assoc, drop, get_or, if◌then◌else◌, length, map, inl, inr, refl, ap, sym, ◌∙◌, arith}
+use Rattle.std.proofs.Common.{◌≡◌, ℕ, ◌+◌, ◌<◌, pos, Bool, false, List, [], ◌∷◌, ◌++◌, Option, Some, None, append_assoc, drop, get_or, if◌then◌else◌, length, map, ap, sym, ◌∙◌, arith}
 use Rattle.std.specs.List.{zip}
-use Rattle.std.proofs.lemmas.Bool.{cases_lt}
-use Rattle.std.proofs.lemmas.List.{drop_more, get_or_default, get_or_past}
+use Rattle.std.proofs.lemmas.List.{drop_more, get_or_default}
 use Rattle.th_book.specs.Observed.{Observed}
 use Rattle.th_network.specs.Networks.{Survey}
 use Rattle.th_cuts.specs.Cuts.{crosses as edge_crosses}
 use Rattle.th_cuts.specs.Inside.Flows.{edge_at}
 use Rattle.th_cuts.specs.declared.edges.Edge.{Edge}
-use Rattle.th_reliability.specs.Blames.{IsHeaviest, blamed_weight}
+use Rattle.th_reliability.specs.Blames.{blamed_weight}
 use Rattle.th_reliability.specs.Cuts.{crosses}
 use Rattle.th_reliability.specs.Edges.{edge_of}
 use Rattle.th_reliability.specs.Inside.Sides.{blamed_edge, names_beyond}

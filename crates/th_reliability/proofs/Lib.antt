@@ -32,3 +32,5 @@ pub mod MoveLemmas
 pub mod BenchmarkLemmas
 pub mod OneLemmas
 pub mod UnmarkedLemmas
+pub mod EndLemmas
+pub mod BenchmarkEffectLemmas

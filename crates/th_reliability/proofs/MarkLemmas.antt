@@ -1,9 +1,6 @@
 -- Which of the observations are some sights, one after another.
-use Rattle.std.proofs.Common.{◌≡◌, ℕ, suc, ◌+◌, ◌<◌, ◌≤◌, inl, inr, Bool, false, List, [], ◌∷◌, get_or, length, map, replicate, refl, sym, ap, ◌∙◌, arith, get_or-set_other, get_or-set_same}
-use Rattle.std.specs.Prelude.{slice_set}
-use borrow.Author.Count.{below_more}
+use Rattle.std.proofs.Common.{◌≡◌, ℕ, suc, ◌<◌, ◌≤◌, inl, inr, Bool, false, List, [], ◌∷◌, get_or, length, map, refl, sym, ap, ◌∙◌, arith}
 use Rattle.std.proofs.lemmas.Bool.{cases_lt}
-use Rattle.std.proofs.lemmas.List.{get_or_default, get_or_past, get_or-replicate, length-replicate, length-set}
 use Rattle.th_book.specs.Observed.{Observed}
 use Rattle.th_reliability.specs.Runs.{HoldsSights}
 use Rattle.th_reliability.specs.Sights.{in_sights}

@@ -5,3 +5,4 @@ pub mod Targets
 pub mod Runs
 pub mod Bounds
 pub mod Effects
+pub mod Ends

@@ -11,4 +11,5 @@ pub mod Moves
 pub mod Benchmarks
 pub mod Blames
 pub mod Effects
+pub mod BenchmarkEffects
 pub mod Inside

@@ -3,9 +3,9 @@
 //! The strength of a point bounds the weight of blunders that it withstands: anything below half of
 //! it. The control of an observation is the weight of the others that check it. `Reliability` finds
 //! both by least cuts over the network's vertices; `Mistake` says what a mistake does.
-//! `shared_mistakes` finds what a mistake does that all sights of one entry share. Where a mistake does
-//! not show, both say what it would move. `specs/` has the definitions, and `laws` proves what they are
-//! for.
+//! `shared_mistakes` finds what a mistake does that all sights of one entry share, and
+//! `benchmark_mistakes` what a wrong height of a benchmark does. Where a mistake does not show, all say
+//! what it would move. `specs/` has the definitions, and `laws` proves what they are for.
 #![tactic(auto)]
 
 // The network as a graph.
@@ -36,9 +36,13 @@ mod runs;
 mod shared;
 mod sights;
 
+// Benchmarks: the observations with an end there.
+mod benchmarks;
+
 // Laws of the definitions.
 pub mod laws;
 
+pub use benchmarks::{BenchmarkEffect, benchmark_mistakes};
 pub use blames::Blame;
 pub use effects::Effect;
 pub use mistakes::{Mistake, SharedMistake};
