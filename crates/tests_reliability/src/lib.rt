@@ -6,6 +6,8 @@
 #![tactic(auto)]
 
 #[cfg(test)]
+mod benchmarks;
+#[cfg(test)]
 mod entries;
 #[cfg(test)]
 mod networks;

@@ -138,7 +138,7 @@ pub(crate) const DAM: Worked = (
 );
 
 /// A line there and back between two bolts.
-const RAILWAY_LINE: Worked = (
+pub(crate) const RAILWAY_LINE: Worked = (
     &[
         b"*410001+0000000000000112 42....+0000000000TRACK1 \n",
         b"*110002+00000000FP 112/1 84..10+0000000000000000 88..16+0000000000015820 \n",
@@ -208,13 +208,13 @@ pub(crate) const THERE_AND_BACK: Worked = (
 );
 
 /// No observation, and one benchmark.
-const ALONE: Worked = (&[], b"point,height\nA,100\n", b"", &[(b"A", None)], &[]);
+pub(crate) const ALONE: Worked = (&[], b"point,height\nA,100\n", b"", &[(b"A", None)], &[]);
 
 /// No observation, and no benchmark either.
-const NOTHING: Worked = (&[], b"point,height\n", b"", &[], &[]);
+pub(crate) const NOTHING: Worked = (&[], b"point,height\n", b"", &[], &[]);
 
 /// Sights between benchmarks, and no point that is none.
-const BENCHMARKS_ALONE: Worked = (
+pub(crate) const BENCHMARKS_ALONE: Worked = (
     &[
         b"110001+0000000A 84..10+00000000 87..10+00001200 88..10+00001500 \n",
         b"110002+0000000B 33..10-00002345 \n",
@@ -246,7 +246,7 @@ fn networks_have_the_worked_strengths_and_controls(rt: HostRuntime) {
 }
 
 /// The lines of a book, joined.
-fn joined(rt: &impl Abort, alloc: Global, lines: &[&[u8]]) -> Vec<u8> {
+pub(crate) fn joined(rt: &impl Abort, alloc: Global, lines: &[&[u8]]) -> Vec<u8> {
     let mut book = Vec::new(alloc);
     for line in lines {
         book.extend_from_slice(line).expect(rt, "memory");

@@ -1,4 +1,5 @@
-//! As many sights as a network takes, all of one pair, with the greatest weight.
+//! As many sights as a network takes: all of one pair, with the greatest weight, or of as many points as it
+//! takes.
 ghost use Rattle.th_reliability.specs.Numbers.{AreControls};
 
 use std::alloc::Global;
@@ -6,7 +7,9 @@ use std::process::Abort;
 use th_book::{Observation, read_book};
 use th_network::Network;
 use th_progress::Silent;
-use th_reliability::{Reliability, SharedMistake, Sights, shared_mistakes};
+use th_reliability::{
+    Blame, Effect, Reliability, SharedMistake, Sights, benchmark_mistakes, shared_mistakes,
+};
 use th_tables::{read_benchmarks, read_weights};
 
 /// How many sights a network takes.
@@ -80,4 +83,63 @@ fn one_pair_is_held_by_all_its_sights(rt: HostRuntime) {
     for row in &SHARED {
         try_shared(&rt, alloc, &network, &found, row);
     }
+}
+
+/// How many points are sighted from both benchmarks. With these they are as many as a network takes.
+const POINTS: u32 = 3_998;
+
+/// The sights of one setup, so many of each of the points.
+fn add_setup(rt: &impl Abort, alloc: Global, book: &mut Vec<u8>, setup: &[u8], times: u32) {
+    book.extend_from_slice(setup).expect(rt, "memory");
+    for point in 1..=POINTS {
+        let sight = format!(in alloc; "110002+{point:08} 33..00+00002345 \n").expect(rt, "memory");
+        for _sight in 0..times {
+            book.extend_from_slice(sight.as_bytes())
+                .expect(rt, "memory");
+        }
+    }
+}
+
+/// A sights B, and each of the points six times; B sights each of them four times. So A has 3,999
+/// neighbours, and with its wrong height go all that are no benchmarks.
+#[test]
+fn benchmark_moves_all_its_neighbours(rt: HostRuntime) {
+    let alloc = rt.alloc();
+    let mut book = Vec::new(alloc);
+    let first =
+        b"110001+0000000A 84..10+00000000 88..10+00001500 87..10+00001300 \n110002+0000000B 33..00+00002345 \n";
+    add_setup(&rt, alloc, &mut book, first, 6);
+    let second = b"110001+0000000B 84..10+00000000 88..10+00001500 87..10+00001300 \n";
+    add_setup(&rt, alloc, &mut book, second, 4);
+    let observations = read_book(alloc, 1, &book).expect(&rt, "observations");
+    let benchmarks = read_benchmarks(alloc, b"point,height\nA,100\nB,100\n").expect(
+        &rt,
+        "benchmarks",
+    );
+    let weights = read_weights(alloc, b"").expect(&rt, "weights");
+    let network = Network::build(alloc, observations, &benchmarks, &weights).expect(
+        &rt,
+        "a network",
+    );
+    let found = benchmark_mistakes(alloc, &network).expect(&rt, "memory");
+    assert_eq!(rt; found.len(), 2);
+    let moved = Blame {
+        moves: 3_998,
+        blames: 15_992,
+        blamed: Some(23_990),
+    };
+    assert_eq!(rt; found[0].sights, 23_989);
+    assert_eq!(rt; found[0].strength, Some(15_993));
+    let drags = Effect {
+        mistake: SharedMistake::Drags,
+        blame: Some(moved),
+    };
+    assert!(rt; found[0].effect == Some(drags));
+    assert_eq!(rt; found[1].sights, 15_993);
+    assert_eq!(rt; found[1].strength, Some(15_993));
+    let shows = Effect {
+        mistake: SharedMistake::Shows,
+        blame: None,
+    };
+    assert!(rt; found[1].effect == Some(shows));
 }
