@@ -29,7 +29,7 @@ ROOT = HERE.parents[1]
 OUTPUTS = {
     "adjust": {"heights.csv": "heights", "certificate.csv": "certificate", "report.txt": "report", "heights.gsi": "gsi"},
     "review": {"points.csv": "points", "observations.csv": "observations", "entries.csv": "entries",
-               "review.txt": "review"},
+               "benchmarks.csv": "reviewed benchmarks", "review.txt": "review"},
 }
 INPUTS = {"new.gsi": "book 1", "new.csv": "benchmarks"}
 

@@ -3,7 +3,7 @@
 
     compare.py [--program PATH] [--projects N] [--seed S] [--workers W]
 
-Each project is adjusted and reviewed by both. Standard output, standard error and status have to be the same, and so have the four
+Each project is adjusted and reviewed by both. Standard output, standard error and status have to be the same, and so have the five
 files of the review, the heights file, the report, the GSI file, and all records of the certificate but the flows, byte by byte. Which
 of several best flows is written is open: the program's have to keep their weights, balance and be slack with the heights, and have
 the cost. Then the program checks its own certificate, and changed ones, with the second office's verdict, line and status. Where the

@@ -1,11 +1,11 @@
-"""What a mistake would do in a network: strengths, controls and entries, as the review of docs/FORMATS.md defines them.
+"""What a mistake would do in a network: strengths, controls, entries and benchmarks, as the review of docs/FORMATS.md defines them.
 
 Each number is the least cut between two vertices, found by augmenting paths. The ground stands for all benchmarks.
 Nothing here is fast: a network of some dozens of points is large for it.
 """
 
 from collections import defaultdict, deque
-from typing import Callable, Dict, Iterable, List, NamedTuple, Optional, Tuple
+from typing import Callable, Dict, Iterable, List, NamedTuple, Optional, Set, Tuple
 
 from network import Network, Observation, vertex_of
 from tables import reader
@@ -25,6 +25,17 @@ class Entry(NamedTuple):
     station: bytes
     length: int
     sights: List[int]
+
+
+class Benchmark(NamedTuple):
+    """A row of the table of benchmarks: the places of the observations with an end there, and what a wrong height would do."""
+
+    name: bytes
+    height: int
+    places: Set[int]
+    weight: int
+    strength: Optional[int]  # none where there is no other benchmark
+    mistake: Optional[str]  # none where no observation has an end there
 
 
 # Least cuts
@@ -179,3 +190,60 @@ def shared_mistake_of(network: Network, entry: Entry) -> str:
             if value == weight:
                 worst = "ties"
     return worst
+
+
+# Benchmarks
+
+
+def benchmarks_of(network: Network) -> List[Benchmark]:
+    """The benchmarks in the order of their table."""
+    found = []
+    for name, height in network.benchmarks.items():
+        places = {place for place, own in enumerate(network.observations) if name in (own.station, own.target)}
+        weight = sum(network.observations[place].weight for place in places)
+        strength = benchmark_strength(network, name) if len(network.benchmarks) > 1 else None
+        found.append(Benchmark(name, height, places, weight, strength, wrong_height(network, name, places) if places else None))
+    return found
+
+
+def benchmark_strength(network: Network, name: bytes) -> int:
+    """The least cut between a benchmark and all others, which the ground stands for."""
+    def place(point: bytes) -> Vertex:
+        return None if point != name and point in network.benchmarks else point
+    return least_cut([(place(own.station), place(own.target), own.weight) for own in network.observations], name, None)
+
+
+def wrong_height(network: Network, name: bytes, places: Set[int]) -> str:
+    """What a wrong height of a benchmark would do: for each free point, the best that the sets holding it can save.
+
+    An observation of the benchmark costs its weight where its other end stays behind, so it is an edge from the source to there."""
+    own = [network.observations[place] for place in places]
+    rest = edges_of(network, lambda observation: name not in (observation.station, observation.target))
+    ends = [(vertex_of(network, observation.target if observation.station == name else observation.station), observation.weight)
+            for observation in own]
+    weight = sum(observation.weight for observation in own)
+    most = sum(observation.weight for observation in network.observations) + 1
+    worst = "shows"
+    for point in network.points:
+        if point in network.benchmarks:
+            continue
+        value = least_cut(rest + [(SOURCE, end, own_weight) for end, own_weight in ends] + [(SOURCE, point, most)], SOURCE, None)
+        if value < weight:
+            return "unchecked" if reaches_no_benchmark(rest, {end for end, _ in ends}) else "drags"
+        if value == weight:
+            worst = "ties"
+    return worst
+
+
+def reaches_no_benchmark(edges: List[Edge], ends: Set[Vertex]) -> bool:
+    """Whether no way along the edges leads from one of the ends to the ground."""
+    seen = set(ends)
+    todo = list(ends)
+    while todo:
+        vertex = todo.pop()
+        for one, other, _ in edges:
+            for here, there in ((one, other), (other, one)):
+                if here == vertex and there not in seen:
+                    seen.add(there)
+                    todo.append(there)
+    return None not in seen

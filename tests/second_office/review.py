@@ -1,17 +1,17 @@
-"""The four texts of a review, and its notes: the section of docs/FORMATS.md on what `review` writes."""
+"""The five texts of a review, and its notes: the section of docs/FORMATS.md on what `review` writes."""
 
-from typing import Dict, Iterator, List, NamedTuple, Optional, Set, Tuple
+from typing import Dict, Iterator, List, NamedTuple, Optional, Sequence, Set, Tuple
 
 from certificates import csv_row, number_text
 from moves import Blame, blames_of, free_sets
 from network import Heights, Network, Observation, anchored_points
-from reliability import Entry, controls_of, entries_of, mistake_of, shared_mistake_of, strengths_of
+from reliability import Benchmark, Entry, benchmarks_of, controls_of, entries_of, mistake_of, shared_mistake_of, strengths_of
 from tables import Pair, reader
 from texts import label_line, metres, residual_line
 
 MOST_LARGEST = 20
 OBSERVATION_MARKS = {"shows": "", "ties": "  =", "hides": "  <", "unchecked": "  0"}
-ENTRY_MARKS = {"shows": "", "ties": "  =", "drags": "  <", "unchecked": "  0"}
+SHARED_MARKS = {None: "", "shows": "", "ties": "  =", "drags": "  <", "unchecked": "  0"}
 ANY_BLAME = Blame(0, 0, None)  # where the network is too large for all of its sets to be tried
 FIRST_RECORD = 2  # the header is record 1
 MEASURED_INDEXES = (b"21", b"22", b"31", b"32")  # angles and distances
@@ -40,6 +40,8 @@ class Review(NamedTuple):
     notes: List[str]
     own_blames: List[Set[Blame]]  # of each observation, what the least sets would move; none where it shows
     shared_blames: List[Set[Blame]]  # of each entry
+    benchmarks: List[Benchmark]
+    benchmark_blames: List[Set[Blame]]  # of each benchmark
 
     def mistakes(self) -> List[str]:
         return [mistake_of(control, own.weight) for control, own in zip(self.controls, self.network.observations)]
@@ -58,10 +60,10 @@ def places_of(network: Network, entry: Entry) -> Set[int]:
     return {place for place, own in enumerate(network.observations) if own.book == entry.book and own.line in entry.sights}
 
 
-def blames_of_all(network: Network, mistakes: List[str], mistaken: List[Set[int]]) -> List[Set[Blame]]:
+def blames_of_all(network: Network, mistakes: Sequence[Optional[str]], mistaken: List[Set[int]]) -> List[Set[Blame]]:
     """What each mistake would move: all that the definition allows, or `ANY_BLAME` where there are too many sets."""
     sets = free_sets(network)
-    return [set() if word == "shows" else {ANY_BLAME} if sets is None else blames_of(network, sets, own)
+    return [set() if word in (None, "shows") else {ANY_BLAME} if sets is None else blames_of(network, sets, own)
             for word, own in zip(mistakes, mistaken)]
 
 
@@ -156,10 +158,12 @@ def review_of(network: Network, low: Heights, high: Heights, limit: int, books: 
     entries = [entry for number, book in enumerate(books, start=1) for entry in entries_of(number, book)]
     notes = (without_sight(counts) + repeated_books(network, len(books)) + lookalikes(books) + unused_weights(network, weights)
              + unseen_benchmarks(network) + other_spellings(books))
-    review = Review(network, low, high, limit, strengths_of(network), controls_of(network), entries, counts, notes, [], [])
+    benchmarks = benchmarks_of(network)
+    review = Review(network, low, high, limit, strengths_of(network), controls_of(network), entries, counts, notes, [], [], benchmarks, [])
     places = [{place} for place in range(len(network.observations))]
     return review._replace(own_blames=blames_of_all(network, review.mistakes(), places),
-                           shared_blames=blames_of_all(network, review.shared_mistakes(), [places_of(network, own) for own in entries]))
+                           shared_blames=blames_of_all(network, review.shared_mistakes(), [places_of(network, own) for own in entries]),
+                           benchmark_blames=blames_of_all(network, [own.mistake for own in benchmarks], [own.places for own in benchmarks]))
 
 
 # Tables
@@ -208,6 +212,14 @@ def entries_text(review: Review) -> bytes:
     return b"".join(rows)
 
 
+def benchmarks_text(review: Review) -> bytes:
+    rows = [b"point,height,sights,weight,strength,mistake,moves,blames,blamed\n"]
+    for own, blame in zip(review.benchmarks, map(first_of, review.benchmark_blames)):
+        rows.append(csv_row(own.name, reader.metres(own.height), number_text(len(own.places)), number_text(own.weight),
+                            optional(own.strength).encode("ascii"), (own.mistake or "").encode("ascii"), *blame_fields(blame)))
+    return b"".join(rows)
+
+
 # The review
 
 
@@ -216,10 +228,12 @@ def summary(review: Review) -> List[str]:
     free = [strength for strength in review.strengths.values() if strength is not None]
     mistakes = review.mistakes()
     weak = sum(mistake != "shows" for mistake in review.shared_mistakes())
+    weak_benchmarks = sum(own.mistake not in (None, "shows") for own in review.benchmarks)
     values = (("points", str(len(network.points))), ("benchmarks", str(len(network.benchmarks))),
               ("observations", str(len(network.observations))), ("loops", str(len(network.observations) - len(free))),
               ("unchecked", str(mistakes.count("unchecked"))), ("hidden", str(mistakes.count("hides"))),
               ("ties", str(mistakes.count("ties"))), ("entries", str(len(review.entries))), ("weak entries", str(weak)),
+              ("weak benchmark", str(weak_benchmarks)),
               ("weakest point", optional(min(free, default=None), "-")))
     return ["HEIGHT NETWORK REVIEW"] + [label_line(label, value) for label, value in values]
 
@@ -289,12 +303,25 @@ def entry_lines(review: Review) -> List[str]:
     for entry, mistake, blame in zip(review.entries, review.shared_mistakes(), map(first_of, review.shared_blames)):
         line = entry_line(str(entry.book), str(entry.line), entry.word.decode("ascii"), entry.station.decode("ascii"), metres(entry.length),
                           str(len(entry.sights)), str(review.weight_of(entry)))
-        lines.append(line + blame_columns(blame) + ENTRY_MARKS[mistake])
+        lines.append(line + blame_columns(blame) + SHARED_MARKS[mistake])
+    return lines
+
+
+def benchmark_line(name: str, height: str, sights: str, weight: str, strength: str) -> str:
+    return f"{name:<16}  {height:>20}  {sights:>6}  {weight:>8}  {strength:>8}"
+
+
+def benchmark_lines(review: Review) -> List[str]:
+    lines = [benchmark_line("POINT", "HEIGHT", "SIGHTS", "WEIGHT", "STRENGTH") + MOVED_HEADER]
+    for own, blame in zip(review.benchmarks, map(first_of, review.benchmark_blames)):
+        line = benchmark_line(own.name.decode("ascii"), metres(own.height), str(len(own.places)), str(own.weight), optional(own.strength, "-"))
+        lines.append(line + blame_columns(blame) + SHARED_MARKS[own.mistake])
     return lines
 
 
 def review_text(review: Review) -> bytes:
     parts = (summary(review), book_lines(review), largest_lines(review), point_lines(review), observation_lines(review), entry_lines(review),
+             benchmark_lines(review),
              [label_line("notes", str(len(review.notes)))] + review.notes)
     return "\n\n".join("\n".join(part) for part in parts).encode("ascii") + b"\n"
 
@@ -304,6 +331,7 @@ def files_of(review: Review) -> Dict[str, bytes]:
         ".points.csv": points_text(review),
         ".observations.csv": observations_text(review),
         ".entries.csv": entries_text(review),
+        ".benchmarks.csv": benchmarks_text(review),
         ".review.txt": review_text(review),
     }
 
@@ -327,6 +355,7 @@ def chosen(allowed: List[Set[Blame]], text: bytes) -> List[Set[Blame]]:
 
 
 def as_chosen(review: Review, files: Dict[str, bytes]) -> Dict[str, bytes]:
-    """The four texts with the sets that the texts of another office have chosen among those of the least value."""
+    """The five texts with the sets that the texts of another office have chosen among those of the least value."""
     return files_of(review._replace(own_blames=chosen(review.own_blames, files.get(".observations.csv", b"")),
-                                    shared_blames=chosen(review.shared_blames, files.get(".entries.csv", b""))))
+                                    shared_blames=chosen(review.shared_blames, files.get(".entries.csv", b"")),
+                                    benchmark_blames=chosen(review.benchmark_blames, files.get(".benchmarks.csv", b""))))

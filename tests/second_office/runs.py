@@ -15,7 +15,7 @@ ROOT = Path(__file__).resolve().parents[2]
 DEFAULT_PROGRAM = ROOT / "crates" / "height_office" / "out" / "height_office"
 LONGEST_PRINTED_TEXT = 300
 ENDS = (".heights.csv", ".certificate.csv", ".report.txt", ".heights.gsi")
-REVIEW_ENDS = (".points.csv", ".observations.csv", ".entries.csv", ".review.txt")
+REVIEW_ENDS = (".points.csv", ".observations.csv", ".entries.csv", ".benchmarks.csv", ".review.txt")
 LINE_FEED = b"\n"
 # The forms of what `explain` prints: the option, and the second office's text.
 EXPLAIN_FORMS = {"text": ([], people_text), "table": (["--csv"], csv_text)}

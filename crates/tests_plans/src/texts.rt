@@ -111,6 +111,7 @@ const HELPS: [(&str, &str); 11] = [
     ("height_office review --help", "PREFIX.points.csv "),
     ("height_office review --help", "PREFIX.observations.csv "),
     ("height_office review --help", "PREFIX.entries.csv "),
+    ("height_office review --help", "PREFIX.benchmarks.csv "),
     ("height_office review --help", "PREFIX.review.txt "),
     (
         "height_office check --help",

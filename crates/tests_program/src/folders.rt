@@ -29,10 +29,11 @@ pub const ADJUSTED: [&str; 4] = [
 ];
 
 /// The files that a review with the prefix `out` writes, in order.
-pub const REVIEWED: [&str; 4] = [
+pub const REVIEWED: [&str; 5] = [
     "out.points.csv",
     "out.observations.csv",
     "out.entries.csv",
+    "out.benchmarks.csv",
     "out.review.txt",
 ];
 

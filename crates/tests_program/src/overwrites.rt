@@ -2,8 +2,8 @@
 use crate::folders::{ADJUSTED, BOOK, REVIEWED, ROOM, file, project, put, run, same, shown};
 use std::process::Abort;
 
-/// The commands, each with the four outputs that it writes.
-const COMMANDS: [(&str, [&str; 4]); 2] = [("adjust", ADJUSTED), ("review", REVIEWED)];
+/// The commands, each with the outputs that it writes.
+const COMMANDS: [(&str, &[&str]); 2] = [("adjust", &ADJUSTED), ("review", &REVIEWED)];
 
 /// The arguments behind a command and its prefix, up to an input and behind it, and how that input is
 /// reported. Other inputs are missing, so they are not read.

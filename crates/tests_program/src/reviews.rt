@@ -1,4 +1,4 @@
-//! Reviews: what they leave in the four files, and what remains where they are refused.
+//! Reviews: what they leave in the five files, and what remains where they are refused.
 use crate::folders::{ADJUST_BACK, ADJUSTED, REVIEWED, ROOM, file, project, put, run, same, shown};
 use std::process::Abort;
 use th_folders::MemoryFolder;
@@ -29,6 +29,11 @@ const ENTRIES: &[u8] = b"book,line,word,station,length,sights,weight,mistake,mov
 1,5,87,B,1.45000000,1,1,unchecked,1,0,
 ";
 
+const BENCHMARKS: &[u8] = b"point,height,sights,weight,strength,mistake,moves,blames,blamed
+A,100.00000000,2,2,0,unchecked,2,0,
+X,50.00000000,0,0,0,,,,
+";
+
 const REVIEW: &[u8] = b"HEIGHT NETWORK REVIEW
 points                                 4
 benchmarks                             2
@@ -39,6 +44,7 @@ hidden                                 0
 ties                                   2
 entries                                4
 weak entries                           4
+weak benchmark                         1
 weakest point                          1
 
 BK     LINES    BLOCKS    SETUPS    SIGHTS
@@ -67,6 +73,10 @@ BK      LINE  WORD  STATION                         LENGTH  SIGHTS    WEIGHT   M
  1         2    87  A                           1.30000000       2         2       2       0  0
  1         4    88  B                           1.45000000       1         1       1       0  0
  1         5    87  B                           1.45000000       1         1       1       0  0
+
+POINT                           HEIGHT  SIGHTS    WEIGHT  STRENGTH   MOVES  BLAMES
+A                         100.00000000       2         2         0       2       0  0
+X                          50.00000000       0         0         0       -       -
 
 notes                                  2
 weights record 2: C to B was never observed, but B to C was
@@ -100,6 +110,7 @@ fn a_network_is_reviewed(rt: HostRuntime) {
     assert!(rt; same(file(&folder, "out.points.csv"), POINTS));
     assert!(rt; same(file(&folder, "out.observations.csv"), OBSERVATIONS));
     assert!(rt; same(file(&folder, "out.entries.csv"), ENTRIES));
+    assert!(rt; same(file(&folder, "out.benchmarks.csv"), BENCHMARKS));
     assert!(rt; same(file(&folder, "out.review.txt"), REVIEW));
     assert!(rt; folder.output().is_none());
     assert!(rt; folder.errors().is_none());
@@ -193,8 +204,8 @@ fn a_refused_input_leaves_no_review(rt: HostRuntime) {
     }
 }
 
-/// The room of each sink, and the lines where one of them has too little: the files have 116, 183, 210
-/// and 1,982 bytes.
+/// The room of each sink, and the lines where one of them has too little: the files have 116, 183, 210,
+/// 99 and 2,193 bytes. So the table of benchmarks fits where that of points does.
 const TOO_LITTLE: [(usize, &[u8]); 4] = [
     (115, b"write failed: points\n  'out.points.csv'\n"),
     (
@@ -202,12 +213,12 @@ const TOO_LITTLE: [(usize, &[u8]); 4] = [
         b"write failed: observations\n  'out.observations.csv'\n",
     ),
     (209, b"write failed: entries\n  'out.entries.csv'\n"),
-    (1_981, b"write failed: review\n  'out.review.txt'\n"),
+    (2_192, b"write failed: review\n  'out.review.txt'\n"),
 ];
 
 #[test]
 fn a_write_that_fails_changes_no_file(rt: HostRuntime) {
-    let mut whole = project(&rt, 1_982);
+    let mut whole = project(&rt, 2_193);
     assert_eq!(rt; run(&rt, &mut whole, BACK), 0);
     for (room, lines) in TOO_LITTLE {
         let mut folder = project(&rt, room);

@@ -95,7 +95,7 @@ pub fn refuse_in_adjustment<R: AllocGlobal + Abort>(
         ),
         (Device::Gsi, outs[AT_GSI].bytes(), whole[AT_GSI].bytes()),
     ];
-    are_left(rt, outputs, failing, call);
+    are_left(rt, &outputs, failing, call);
     outs
 }
 

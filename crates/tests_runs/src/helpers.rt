@@ -11,7 +11,7 @@ use th_checker::Verdict;
 use th_devices::{TextSink, TextSource, write_all};
 use th_runs::{Input, Output, Refusal, run_adjust, run_check};
 
-/// Sinks in memory, for what an adjustment or a review writes, in its order.
+/// Sinks in memory, for what an adjustment writes, in its order.
 pub type Sinks = [TextSink; 4];
 
 /// The places of an adjustment's sinks.
@@ -181,8 +181,8 @@ pub fn add<R: Abort>(rt: &R, text: &mut Vec<u8>, bytes: &[u8], times: u32) {
     }
 }
 
-/// The devices of the runs; `Stated` is the certificate that a check reads, and the last four are what a
-/// review writes.
+/// The devices of the runs; `Stated` is the certificate that a check reads. What a review writes is from
+/// `Points` to `Review`.
 #[derive(Clone, Copy, Debug, PartialEq, Eq)]
 pub enum Device {
     FirstBook,
@@ -198,6 +198,7 @@ pub enum Device {
     Points,
     Observations,
     Entries,
+    ReviewedBenchmarks,
     Review,
     Explanations,
 }
@@ -218,6 +219,7 @@ pub fn refusal_of(device: Device) -> Refusal {
         Device::Points => Refusal::Write(Output::Points),
         Device::Observations => Refusal::Write(Output::Observations),
         Device::Entries => Refusal::Write(Output::Entries),
+        Device::ReviewedBenchmarks => Refusal::Write(Output::Benchmarks),
         Device::Review => Refusal::Write(Output::Review),
         Device::Explanations => Refusal::Write(Output::Explanations),
     }
@@ -290,15 +292,15 @@ pub fn held_before(text: &[u8], call: u8) -> &[u8] {
 /// Looks at what a run leaves where a call fails: each output, what it holds, and its text. Outputs
 /// before the one that failed are whole, that one has a beginning, and those behind it, or all where
 /// a read failed, are untouched.
-pub fn are_left<R: Abort>(rt: &R, outputs: [(Device, &[u8], &[u8]); 4], failing: Device, call: u8) {
+pub fn are_left<R: Abort>(rt: &R, outputs: &[(Device, &[u8], &[u8])], failing: Device, call: u8) {
     let mut is_whole = matches!(refusal_of(failing), Refusal::Write(_));
     for (output, held, text) in outputs {
-        if failing == output {
-            assert!(rt; held == held_before(text, call), "{failing:?} call {call}");
+        if failing == *output {
+            assert!(rt; *held == held_before(text, call), "{failing:?} call {call}");
             is_whole = false;
         } else {
-            let wanted = if is_whole { text } else { HELD_BEFORE };
-            assert!(rt; held == wanted, "{failing:?} call {call}: {output:?}");
+            let wanted = if is_whole { *text } else { HELD_BEFORE };
+            assert!(rt; *held == wanted, "{failing:?} call {call}: {output:?}");
         }
     }
 }

@@ -6,7 +6,7 @@ ghost use Rattle.th_runs.specs.Reviewed.{reviewing};
 ghost use Rattle.th_runs.specs.Writes.{AreWritable};
 
 use crate::helpers::{
-    Device, Sinks, Texts, add, are_left, failing_sink, failing_sources, refusal_of, source,
+    Device, Texts, add, are_left, failing_sink, failing_sources, refusal_of, source,
 };
 use crate::projects::{A_AT_100, LIMIT, TWO_SIGHTS};
 use std::process::Abort;
@@ -14,10 +14,12 @@ use th_devices::{TextSink, TextSource};
 use th_progress::Silent;
 use th_runs::{Refusal, run_review};
 
-/// The four sinks of a review, in memory.
+/// The sinks of a review, in memory, in its order.
+type ReviewSinks = [TextSink; 5];
 
-/// The texts of a review: its points, its observations, its entries, and the review for people.
-type Written = [&'static [u8]; 4];
+/// The texts of a review: its points, its observations, its entries, its benchmarks, and the review for
+/// people.
+type Written = [&'static [u8]; 5];
 
 /// A network and its review. The texts are those of a program that shares no code with this one.
 #[derive(Clone, Copy)]
@@ -34,6 +36,9 @@ const NO_ENTRIES: &[u8] =
 const NO_OBSERVATIONS: &[u8] =
     b"number,book,line,from,to,difference,weight,residual,control,mistake,moves,blames,blamed\n";
 
+/// The header of the table of benchmarks.
+const NO_BENCHMARKS: &[u8] = b"point,height,sights,weight,strength,mistake,moves,blames,blamed\n";
+
 /// Neither an observation nor a benchmark.
 const NOTHING: Row = Row {
     texts: (b"", b"point,height\n", b""),
@@ -41,6 +46,7 @@ const NOTHING: Row = Row {
         b"point,height,low,high,strength\n",
         NO_OBSERVATIONS,
         NO_ENTRIES,
+        NO_BENCHMARKS,
         b"HEIGHT NETWORK REVIEW
 points                                 0
 benchmarks                             0
@@ -51,6 +57,7 @@ hidden                                 0
 ties                                   0
 entries                                0
 weak entries                           0
+weak benchmark                         0
 weakest point                          -
 
 BK     LINES    BLOCKS    SETUPS    SIGHTS
@@ -66,6 +73,8 @@ POINT                           HEIGHT              HIGH-LOW  STRENGTH  WITHSTAN
 
 BK      LINE  WORD  STATION                         LENGTH  SIGHTS    WEIGHT   MOVES  BLAMES
 
+POINT                           HEIGHT  SIGHTS    WEIGHT  STRENGTH   MOVES  BLAMES
+
 notes                                  1
 book 1: no sight in 0 blocks
 ",
@@ -79,6 +88,9 @@ const ALONE: Row = Row {
         b"point,height,low,high,strength\nA,100.00000000,100.00000000,100.00000000,\n",
         NO_OBSERVATIONS,
         NO_ENTRIES,
+        b"point,height,sights,weight,strength,mistake,moves,blames,blamed
+A,100.00000000,0,0,,,,,
+",
         b"HEIGHT NETWORK REVIEW
 points                                 1
 benchmarks                             1
@@ -89,6 +101,7 @@ hidden                                 0
 ties                                   0
 entries                                0
 weak entries                           0
+weak benchmark                         0
 weakest point                          -
 
 BK     LINES    BLOCKS    SETUPS    SIGHTS
@@ -104,6 +117,9 @@ A                         100.00000000            0.00000000         -          
    NO  BK      LINE  FROM              TO                  WT              RESIDUAL   CONTROL   MOVES  BLAMES
 
 BK      LINE  WORD  STATION                         LENGTH  SIGHTS    WEIGHT   MOVES  BLAMES
+
+POINT                           HEIGHT  SIGHTS    WEIGHT  STRENGTH   MOVES  BLAMES
+A                         100.00000000       0         0         -       -       -
 
 notes                                  2
 book 1: no sight in 0 blocks
@@ -129,6 +145,11 @@ X,5.00000000,5.00000000,5.00000000,
 1,1,88,A,1.50000000,2,2,shows,,,
 1,2,87,A,1.30000000,2,2,shows,,,
 ",
+        b"point,height,sights,weight,strength,mistake,moves,blames,blamed
+A,100.00000000,2,2,2,shows,,,
+B,102.00000000,2,2,2,shows,,,
+X,5.00000000,0,0,0,,,,
+",
         b"HEIGHT NETWORK REVIEW
 points                                 3
 benchmarks                             3
@@ -139,6 +160,7 @@ hidden                                 0
 ties                                   0
 entries                                2
 weak entries                           0
+weak benchmark                         0
 weakest point                          -
 
 BK     LINES    BLOCKS    SETUPS    SIGHTS
@@ -163,6 +185,11 @@ BK      LINE  WORD  STATION                         LENGTH  SIGHTS    WEIGHT   M
  1         1    88  A                           1.50000000       2         2       -       -
  1         2    87  A                           1.30000000       2         2       -       -
 
+POINT                           HEIGHT  SIGHTS    WEIGHT  STRENGTH   MOVES  BLAMES
+A                         100.00000000       2         2         2       -       -
+B                         102.00000000       2         2         2       -       -
+X                           5.00000000       0         0         0       -       -
+
 notes                                  1
 benchmarks record 4: X was never observed
 ",
@@ -182,6 +209,9 @@ B,102.54500000,102.54500000,102.54500000,1
 1,1,88,A,1.50000000,1,1,unchecked,1,0,
 1,2,87,A,1.30000000,1,1,unchecked,1,0,
 ",
+    b"point,height,sights,weight,strength,mistake,moves,blames,blamed
+A,100.00000000,1,1,,unchecked,1,0,
+",
     b"HEIGHT NETWORK REVIEW
 points                                 2
 benchmarks                             1
@@ -192,6 +222,7 @@ hidden                                 0
 ties                                   0
 entries                                2
 weak entries                           2
+weak benchmark                         1
 weakest point                          1
 
 BK     LINES    BLOCKS    SETUPS    SIGHTS
@@ -214,6 +245,9 @@ BK      LINE  WORD  STATION                         LENGTH  SIGHTS    WEIGHT   M
  1         1    88  A                           1.50000000       1         1       1       0  0
  1         2    87  A                           1.30000000       1         1       1       0  0
 
+POINT                           HEIGHT  SIGHTS    WEIGHT  STRENGTH   MOVES  BLAMES
+A                         100.00000000       1         1         -       1       0  0
+
 notes                                  2
 book 2: no sight in 0 blocks
 weights record 2: B to A was never observed, but A to B was
@@ -222,7 +256,7 @@ weights record 2: B to A was never observed, but A to B was
 
 /// The devices of that review, and how often each is called: a source gives 50 bytes a read, and the
 /// last read finds its end; a sink takes 20 bytes a write, beside `begin` and `finish`.
-const CALLS: [(Device, u8); 8] = [
+const CALLS: [(Device, u8); 9] = [
     (Device::FirstBook, 4),
     (Device::SecondBook, 1),
     (Device::Benchmarks, 2),
@@ -230,14 +264,16 @@ const CALLS: [(Device, u8); 8] = [
     (Device::Points, 8),
     (Device::Observations, 9),
     (Device::Entries, 10),
-    (Device::Review, 89),
+    (Device::ReviewedBenchmarks, 7),
+    (Device::Review, 99),
 ];
 
 /// The outputs, in the order in which they are written.
-const OUTPUTS: [Device; 4] = [
+const OUTPUTS: [Device; 5] = [
     Device::Points,
     Device::Observations,
     Device::Entries,
+    Device::ReviewedBenchmarks,
     Device::Review,
 ];
 
@@ -248,32 +284,36 @@ const AT_OBSERVATIONS: usize = 1;
 
 const AT_ENTRIES: usize = 2;
 
-const AT_REVIEW: usize = 3;
+const AT_BENCHMARKS: usize = 3;
 
-/// Four sinks, one of whose calls may fail.
-fn failing_sinks<R: AllocGlobal + Abort>(rt: &R, failing: Device, call: u8) -> Sinks
+const AT_REVIEW: usize = 4;
+
+/// The sinks of a review, one of whose calls may fail.
+fn failing_sinks<R: AllocGlobal + Abort>(rt: &R, failing: Device, call: u8) -> ReviewSinks
     ensures { AreWritable text_sink reviewing.outputs result }
 {
     [
         failing_sink(rt, Device::Points, failing, call),
         failing_sink(rt, Device::Observations, failing, call),
         failing_sink(rt, Device::Entries, failing, call),
+        failing_sink(rt, Device::ReviewedBenchmarks, failing, call),
         failing_sink(rt, Device::Review, failing, call),
     ]
 }
 
 /// What an output holds.
-fn held_by(outs: &Sinks, output: Device) -> &[u8] {
+fn held_by(outs: &ReviewSinks, output: Device) -> &[u8] {
     match output {
         Device::Points => outs[AT_POINTS].bytes(),
         Device::Observations => outs[AT_OBSERVATIONS].bytes(),
         Device::Entries => outs[AT_ENTRIES].bytes(),
+        Device::ReviewedBenchmarks => outs[AT_BENCHMARKS].bytes(),
         _ => outs[AT_REVIEW].bytes(),
     }
 }
 
 /// Looks at what a review leaves, which has to be these texts.
-fn are_written<R: Abort>(rt: &R, outs: &Sinks, written: &Written) {
+fn are_written<R: Abort>(rt: &R, outs: &ReviewSinks, written: &Written) {
     for (output, text) in OUTPUTS.into_iter().zip(written.iter()) {
         assert!(rt; held_by(outs, output) == *text, "{output:?}");
     }
@@ -311,7 +351,7 @@ fn review_where<R: AllocGlobal + Abort>(
     rt: &R,
     failing: Device,
     call: u8,
-) -> (Result<(), Refusal>, Sinks) {
+) -> (Result<(), Refusal>, ReviewSinks) {
     let (mut books, mut table, mut weights) = failing_sources(failing, call);
     let mut outs = failing_sinks(rt, failing, call);
     let answer = run_review(
@@ -330,7 +370,7 @@ fn review_where<R: AllocGlobal + Abort>(
 fn refuse<R: AllocGlobal + Abort>(rt: &R, failing: Device, call: u8) {
     let (answer, outs) = review_where(rt, failing, call);
     assert_eq!(rt; answer, Err(refusal_of(failing)), "call {call}");
-    let [points, observations, entries, review] = ONE_SIGHT_WRITTEN;
+    let [points, observations, entries, benchmarks, review] = ONE_SIGHT_WRITTEN;
     let outputs = [
         (Device::Points, outs[AT_POINTS].bytes(), points),
         (
@@ -339,9 +379,14 @@ fn refuse<R: AllocGlobal + Abort>(rt: &R, failing: Device, call: u8) {
             observations,
         ),
         (Device::Entries, outs[AT_ENTRIES].bytes(), entries),
+        (
+            Device::ReviewedBenchmarks,
+            outs[AT_BENCHMARKS].bytes(),
+            benchmarks,
+        ),
         (Device::Review, outs[AT_REVIEW].bytes(), review),
     ];
-    are_left(rt, outputs, failing, call);
+    are_left(rt, &outputs, failing, call);
 }
 
 #[test]
@@ -387,7 +432,7 @@ fn observations_of_one_pair<R: AllocGlobal + Abort>(rt: &R) -> Vec<u8> {
     table
 }
 
-/// The table of points of so many sights of the greatest weight, and that of entries.
+/// The table of points of so many sights of the greatest weight, that of entries, and that of benchmarks.
 const HEAVY_POINTS: &[u8] = b"point,height,low,high,strength
 A,100.00000000,100.00000000,100.00000000,
 B,102.54500000,102.54500000,102.54500000,40000000
@@ -399,6 +444,10 @@ const HEAVY_ENTRIES: &[u8] =
 1,1,88,A,1.50000000,40000,40000000,unchecked,1,0,
 ";
 
+const HEAVY_BENCHMARKS: &[u8] = b"point,height,sights,weight,strength,mistake,moves,blames,blamed
+A,100.00000000,40000,40000000,,unchecked,1,0,
+";
+
 #[test]
 fn one_pair_is_reviewed(rt: HostRuntime) {
     let book = one_pair(&rt);
@@ -406,6 +455,7 @@ fn one_pair_is_reviewed(rt: HostRuntime) {
     let mut benchmarks = source(A_AT_100);
     let mut weights = Some(source(b"from,to,weight\nA,B,1000\n"));
     let mut outs = [
+        wide_sink(&rt),
         wide_sink(&rt),
         wide_sink(&rt),
         wide_sink(&rt),
@@ -425,6 +475,7 @@ fn one_pair_is_reviewed(rt: HostRuntime) {
     let observations = observations_of_one_pair(&rt);
     assert!(rt; outs[AT_OBSERVATIONS].bytes() == observations.as_slice());
     assert!(rt; outs[AT_ENTRIES].bytes() == HEAVY_ENTRIES);
+    assert!(rt; outs[AT_BENCHMARKS].bytes() == HEAVY_BENCHMARKS);
     assert!(rt;
         outs[AT_REVIEW]
             .bytes()

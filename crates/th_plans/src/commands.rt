@@ -69,13 +69,14 @@ Exit status: 0 the four files were written, 2 an input was refused, 3 a bad comm
 /// What the help of `review` ends with.
 const AFTER_REVIEW: &str =
     "It adjusts the network as 'adjust' does, and answers what a mistake would do in it. It prints
-nothing and writes four files:
+nothing and writes five files:
   PREFIX.points.csv        each point's height, and how much weight holds the point
   PREFIX.observations.csv  each observation's residual, and whether a mistake in it would show
   PREFIX.entries.csv       the same for each instrument and reflector height that was keyed in
+  PREFIX.benchmarks.csv    the same for each benchmark's height
   PREFIX.review.txt        all of this in columns, the largest residuals, and notes on the data
 
-It makes all four before it opens the first file.
+It makes all five before it opens the first file.
 
 A mistake shows as a large residual where the other observations that check it weigh more together
 than the observation, and hides where they weigh less: others are marked then, and heights move.
@@ -83,7 +84,7 @@ than the observation, and hides where they weigh less: others are marked then, a
 Example:
   height_office review --benchmarks marks.csv --weights weights.csv --out dam monday.gsi tuesday.gsi
 
-Exit status: 0 the four files were written, 2 an input was refused, 3 a bad command line or help,
+Exit status: 0 the five files were written, 2 an input was refused, 3 a bad command line or help,
 4 out of memory, 5 a file could not be read or written";
 
 /// What the help of `explain` ends with.

@@ -18,6 +18,7 @@ ending_of out.Verdict = None
 ending_of out.Points = Some (codes ".points.csv")
 ending_of out.Observations = Some (codes ".observations.csv")
 ending_of out.Entries = Some (codes ".entries.csv")
+ending_of out.Benchmarks = Some (codes ".benchmarks.csv")
 ending_of out.Review = Some (codes ".review.txt")
 ending_of out.Explanations = None
 ending_of out.Book = None

@@ -27,6 +27,7 @@ pub(crate) fn ending_of(output: Output) -> Option<&'static str>
         Output::Points => Some(".points.csv"),
         Output::Observations => Some(".observations.csv"),
         Output::Entries => Some(".entries.csv"),
+        Output::Benchmarks => Some(".benchmarks.csv"),
         Output::Review => Some(".review.txt"),
     }
 }

@@ -281,6 +281,7 @@ fn text_of_output(output: Output) -> &'static str
         Output::Points => "points",
         Output::Observations => "observations",
         Output::Entries => "entries",
+        Output::Benchmarks => "reviewed benchmarks",
         Output::Review => "review",
         Output::Explanations => "explanations",
         Output::Book => "book",

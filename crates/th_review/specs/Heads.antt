@@ -4,6 +4,7 @@ use Rattle.th_network.specs.Networks.{Survey, points_of}
 use Rattle.th_report.specs.Columns.{line_end}
 use Rattle.th_report.specs.Reports.{benchmark_count, label_line}
 use Rattle.th_review.specs.Words.{number_or_dash}
+use Rattle.th_reliability.specs.declared.effects.Effect.{Effect}
 use Rattle.th_reliability.specs.declared.mistakes.Mistake.{Mistake}
 use Rattle.th_reliability.specs.declared.mistakes.Mistake.TheVariants as mistake
 use Rattle.th_reliability.specs.declared.mistakes.SharedMistake.{SharedMistake}
@@ -11,6 +12,7 @@ use Rattle.th_reliability.specs.declared.mistakes.SharedMistake.TheVariants as s
 use Rattle.th_review.specs.declared.rows.PointRow.{PointRow}
 use Rattle.th_review.specs.declared.rows.ObservationRow.{ObservationRow}
 use Rattle.th_review.specs.declared.rows.EntryRow.{EntryRow}
+use Rattle.th_review.specs.declared.rows.BenchmarkRow.{BenchmarkRow}
 
 -- the title
 unfoldable pub title_line : List ℕ
@@ -57,6 +59,11 @@ is_weak shared.Ties = true
 is_weak shared.Drags = true
 is_weak shared.Unchecked = true
 
+-- whether a wrong height of a benchmark may not show; one without observations has no mistake
+abbrev pub is_weak_effect : Option Effect → Bool
+is_weak_effect None = false
+is_weak_effect (Some effect) = is_weak effect.mistake
+
 -- the counts of observations whose mistake is unchecked, hides or ties
 unfoldable pub mistake_lines : List ObservationRow → List ℕ
 mistake_lines observations =
@@ -70,6 +77,10 @@ entry_count_lines entries =
     label_line (codes "entries") (decimal (length entries))
     ++ label_line (codes "weak entries") (decimal (count_by (λ row. is_weak row.effect.mistake) entries))
 
+-- the count of benchmarks whose wrong height may not show
+unfoldable pub weak_benchmark_line : List BenchmarkRow → List ℕ
+weak_benchmark_line benchmarks = label_line (codes "weak benchmark") (decimal (count_by (λ row. is_weak_effect row.found.effect) benchmarks))
+
 -- the lesser of two strengths, of which one may be missing
 abbrev pub lesser : Option ℕ → Option ℕ → Option ℕ
 lesser None other = other
@@ -81,7 +92,8 @@ abbrev pub weakest : List PointRow → Option ℕ
 weakest points = fold (λ least row. lesser least row.strength) None points
 
 -- the title, and the numbers of the review
-unfoldable pub head_lines : Survey → List PointRow → List ObservationRow → List EntryRow → List ℕ
-head_lines survey points observations entries =
+unfoldable pub head_lines : Survey → List PointRow → List ObservationRow → List EntryRow → List BenchmarkRow → List ℕ
+head_lines survey points observations entries benchmarks =
     title_line ++ survey_lines survey ++ mistake_lines observations ++ entry_count_lines entries
+    ++ weak_benchmark_line benchmarks
     ++ label_line (codes "weakest point") (number_or_dash (weakest points))

@@ -10,12 +10,13 @@ use Rattle.th_report.specs.Reports.{blunder_mark, end_columns, ends_of, label_li
 use Rattle.th_review.specs.Heads.{head_lines}
 use Rattle.th_review.specs.Largest.{largest}
 use Rattle.th_notes.specs.Notes.{note_lines}
-use Rattle.th_review.specs.Words.{blames_of, kind_word, mistake_mark, moves_of, number_or_dash, point_mark, shared_mistake_mark}
+use Rattle.th_review.specs.Words.{blame_in, blames_of, effect_mark, kind_word, mistake_mark, moves_of, number_or_dash, point_mark, shared_mistake_mark}
 use Rattle.th_entries.specs.declared.reviews.BookCount.{BookCount}
 use Rattle.th_notes.specs.declared.notes.Note.{Note}
 use Rattle.th_review.specs.declared.rows.PointRow.{PointRow}
 use Rattle.th_review.specs.declared.rows.ObservationRow.{ObservationRow}
 use Rattle.th_review.specs.declared.rows.EntryRow.{EntryRow}
+use Rattle.th_review.specs.declared.rows.BenchmarkRow.{BenchmarkRow}
 
 -- the columns of books: a number, and counts of lines, blocks, setups and sights
 unfoldable pub book_columns : List ℕ → List ℕ → List ℕ → List ℕ → List ℕ → List ℕ
@@ -118,21 +119,40 @@ entry_lines entries =
     ++ moved_columns (codes "MOVES") (codes "BLAMES") []
     ++ flat_map entry_line entries
 
+-- the columns of benchmarks: name, height, number of sights, weight, and strength
+unfoldable pub benchmark_columns : List ℕ → List ℕ → List ℕ → List ℕ → List ℕ → List ℕ
+benchmark_columns name height sights weight strength =
+    left_in 16 name ++ gap ++ right_in 20 height ++ gap ++ right_in 6 sights ++ gap ++ right_in 8 weight ++ gap ++ right_in 8 strength
+
+-- the line of a benchmark
+unfoldable pub benchmark_line : BenchmarkRow → List ℕ
+benchmark_line row =
+    benchmark_columns row.name (metres row.height) (decimal row.found.sights) (decimal row.found.weight) (number_or_dash row.found.strength)
+    ++ moved_columns (number_or_dash (moves_of (blame_in row.found.effect))) (number_or_dash (blames_of (blame_in row.found.effect))) (effect_mark row.found.effect)
+
+-- the table of benchmarks
+unfoldable pub benchmark_lines : List BenchmarkRow → List ℕ
+benchmark_lines benchmarks =
+    benchmark_columns (codes "POINT") (codes "HEIGHT") (codes "SIGHTS") (codes "WEIGHT") (codes "STRENGTH")
+    ++ moved_columns (codes "MOVES") (codes "BLAMES") []
+    ++ flat_map benchmark_line benchmarks
+
 -- the part before the table of points: the head, the books and the largest residuals, with an empty line after each
-unfoldable pub front_part : Survey → List PointRow → List ObservationRow → List EntryRow → List BookCount → ℤ → List ℕ
-front_part survey points observations entries books limit =
-    head_lines survey points observations entries ++ line_end
+unfoldable pub front_part : Survey → List PointRow → List ObservationRow → List EntryRow → List BenchmarkRow → List BookCount → ℤ → List ℕ
+front_part survey points observations entries benchmarks books limit =
+    head_lines survey points observations entries benchmarks ++ line_end
     ++ book_lines books ++ line_end
     ++ largest_lines limit observations ++ line_end
 
--- the tables of all points, observations and entries, with an empty line after each
-unfoldable pub table_part : Survey → List PointRow → List ObservationRow → List EntryRow → List ℕ
-table_part survey points observations entries =
+-- the tables of all points, observations, entries and benchmarks, with an empty line after each
+unfoldable pub table_part : Survey → List PointRow → List ObservationRow → List EntryRow → List BenchmarkRow → List ℕ
+table_part survey points observations entries benchmarks =
     point_lines (largest_weight survey) points ++ line_end
     ++ observation_lines observations ++ line_end
     ++ entry_lines entries ++ line_end
+    ++ benchmark_lines benchmarks ++ line_end
 
 -- the text of the review
-unfoldable pub review_text : Survey → List PointRow → List ObservationRow → List EntryRow → List BookCount → List Note → ℤ → List ℕ
-review_text survey points observations entries books notes limit =
-    front_part survey points observations entries books limit ++ table_part survey points observations entries ++ note_lines notes
+unfoldable pub review_text : Survey → List PointRow → List ObservationRow → List EntryRow → List BenchmarkRow → List BookCount → List Note → ℤ → List ℕ
+review_text survey points observations entries benchmarks books notes limit =
+    front_part survey points observations entries benchmarks books limit ++ table_part survey points observations entries benchmarks ++ note_lines notes

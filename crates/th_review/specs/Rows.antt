@@ -1,4 +1,4 @@
--- What the texts of a review state for each point, observation and entry.
+-- What the texts of a review state for each point, observation, entry and benchmark.
 use Rattle.std.specs.Prelude.{ℕ, ℤ, ◌-ℤ◌, ◌==◌, Bool, false, List, Option, None, Some, map}
 use Rattle.std.specs.List.{enumerate_from, zip}
 use Rattle.th_book.specs.Observed.{Observed}
@@ -9,12 +9,14 @@ use Rattle.th_entries.specs.declared.entries.Entry.{Entry}
 use Rattle.th_reliability.specs.Blunders.{weight_in}
 use Rattle.th_reliability.specs.Mistakes.{mistake_of}
 use Rattle.th_reliability.specs.Sights.{in_sights}
+use Rattle.th_reliability.specs.declared.benchmarks.BenchmarkEffect.{BenchmarkEffect}
 use Rattle.th_reliability.specs.declared.blames.Blame.{Blame}
 use Rattle.th_reliability.specs.declared.effects.Effect.{Effect}
 use Rattle.th_review.specs.Entries.{sights_of}
 use Rattle.th_review.specs.declared.rows.PointRow.{PointRow}
 use Rattle.th_review.specs.declared.rows.ObservationRow.{ObservationRow}
 use Rattle.th_review.specs.declared.rows.EntryRow.{EntryRow}
+use Rattle.th_review.specs.declared.rows.BenchmarkRow.{BenchmarkRow}
 
 -- whether one observation alone holds a point: the point's strength is 1 if all weights are 1
 abbrev pub is_held_by_one : Option ℕ → Bool
@@ -63,3 +65,11 @@ entry_row survey (entry, effect) = record { entry = entry; weight = entry_weight
 -- the rows of entries, in their order, as are the effects
 abbrev pub entry_rows : Survey → List Entry → List Effect → List EntryRow
 entry_rows survey entries effects = map (entry_row survey) (zip entries effects)
+
+-- the row of a benchmark, given its name and height in the table, and what a wrong height would do
+abbrev pub benchmark_row : (List ℕ × ℤ) × BenchmarkEffect → BenchmarkRow
+benchmark_row (row, found) = record { name = row.0; height = row.1; found = found }
+
+-- the rows of the benchmarks, in the order of their table, as are the effects
+abbrev pub benchmark_rows : Survey → List BenchmarkEffect → List BenchmarkRow
+benchmark_rows survey effects = map benchmark_row (zip survey.benchmarks effects)

@@ -3,10 +3,11 @@ use Rattle.std.specs.Prelude.{ℕ, List, [], ◌∷◌, Option, None, Some, code
 use Rattle.th_units.specs.Metres.{metres}
 use Rattle.th_csv.specs.Records.{Fields}
 use Rattle.th_csv.specs.Texts.{csv_text}
-use Rattle.th_review.specs.Words.{blamed_of, blames_of, kind_word, mistake_word, moves_of, shared_mistake_word}
+use Rattle.th_review.specs.Words.{blame_in, blamed_of, blames_of, effect_word, kind_word, mistake_word, moves_of, shared_mistake_word}
 use Rattle.th_review.specs.declared.rows.PointRow.{PointRow}
 use Rattle.th_review.specs.declared.rows.ObservationRow.{ObservationRow}
 use Rattle.th_review.specs.declared.rows.EntryRow.{EntryRow}
+use Rattle.th_review.specs.declared.rows.BenchmarkRow.{BenchmarkRow}
 
 -- a number that may be missing: its digits, or an empty field
 abbrev pub number_field : Option ℕ → List ℕ
@@ -51,3 +52,16 @@ entry_record row =
 -- the text of the table of entries
 abbrev pub entries_text : List EntryRow → List ℕ
 entries_text rows = csv_text (entries_header ∷ map entry_record rows)
+
+unfoldable pub benchmarks_header : Fields
+benchmarks_header = codes "point" ∷ codes "height" ∷ codes "sights" ∷ codes "weight" ∷ codes "strength" ∷ codes "mistake" ∷ codes "moves" ∷ codes "blames" ∷ codes "blamed" ∷ []
+
+-- the fields of a benchmark
+unfoldable pub benchmark_record : BenchmarkRow → Fields
+benchmark_record row =
+    row.name ∷ metres row.height ∷ decimal row.found.sights ∷ decimal row.found.weight ∷ number_field row.found.strength ∷ effect_word row.found.effect
+    ∷ number_field (moves_of (blame_in row.found.effect)) ∷ number_field (blames_of (blame_in row.found.effect)) ∷ number_field (blamed_of (blame_in row.found.effect)) ∷ []
+
+-- the text of the table of benchmarks
+abbrev pub benchmarks_text : List BenchmarkRow → List ℕ
+benchmarks_text rows = csv_text (benchmarks_header ∷ map benchmark_record rows)

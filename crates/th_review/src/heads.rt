@@ -1,15 +1,15 @@
 //! The first lines of a review.
 ghost use Rattle.std.specs.Prelude.{◌≡◌, ◌++◌, OnOk, codes, count_by};
 ghost use Rattle.th_report.specs.Reports.{label_line};
-ghost use Rattle.th_review.specs.Heads.{entry_count_lines, head_lines, is_hidden, is_tie, is_unchecked, is_weak, lesser, loop_count, mistake_lines, survey_lines, title_line, weakest};
+ghost use Rattle.th_review.specs.Heads.{entry_count_lines, head_lines, is_hidden, is_tie, is_unchecked, is_weak, is_weak_effect, lesser, loop_count, mistake_lines, survey_lines, title_line, weak_benchmark_line, weakest};
 ghost use Rattle.th_review.specs.Words.{number_or_dash};
 
-use crate::rows::{EntryRow, ObservationRow, PointRow};
+use crate::rows::{BenchmarkRow, EntryRow, ObservationRow, PointRow};
 use crate::words::number_or_dash;
 use itoa::Buffer;
 use std::alloc::AllocError;
 use th_network::Network;
-use th_reliability::{Mistake, SharedMistake};
+use th_reliability::{Effect, Mistake, SharedMistake};
 use th_report::{Page, benchmark_count, write_count, write_label};
 
 /// Writes the title and the counts.
@@ -20,14 +20,16 @@ pub(crate) fn write_head(
     points: &[PointRow],
     observations: &[ObservationRow],
     entries: &[EntryRow],
+    benchmarks: &[BenchmarkRow],
 ) -> Result<(), AllocError>
-    ensures { OnOk result (page.new
-        ≡ page.old ++ head_lines network.now points.now observations.now entries.now) }
+    ensures { OnOk result (page.new ≡ page.old ++ head_lines network.now points.now
+        observations.now entries.now benchmarks.now) }
 {
     write_title(page)?;
     write_survey(page, network)?;
     write_mistakes(page, observations)?;
     write_entry_counts(page, entries)?;
+    write_weak_benchmarks(page, benchmarks)?;
     write_weakest(page, points)
 }
 
@@ -130,6 +132,37 @@ fn weak_count(entries: &[EntryRow]) -> usize
         }
     }
     count
+}
+
+/// Writes how many benchmarks are weak.
+#[tactic(auto, unfolding(crate::specs::Heads::weak_benchmark_line))]
+fn write_weak_benchmarks(page: &mut Page, benchmarks: &[BenchmarkRow]) -> Result<(), AllocError>
+    ensures { OnOk result (page.new ≡ page.old ++ weak_benchmark_line benchmarks.now) }
+{
+    write_count(page, b"weak benchmark", weak_benchmark_count(benchmarks))
+}
+
+/// How many benchmarks have a mistake that may not show.
+fn weak_benchmark_count(benchmarks: &[BenchmarkRow]) -> usize
+    ensures { result ≡ count_by (λ row. is_weak_effect row.found.effect) benchmarks.now }
+{
+    let mut count = 0;
+    for row in benchmarks {
+        if is_weak_effect(row.found.effect) {
+            count += 1;
+        }
+    }
+    count
+}
+
+/// Whether a wrong height of a benchmark may not show.
+fn is_weak_effect(effect: Option<Effect>) -> bool
+    ensures { result ≡ is_weak_effect effect }
+{
+    match effect {
+        Some(effect) => !matches!(effect.mistake, SharedMistake::Shows),
+        None => false,
+    }
 }
 
 /// Writes the least strength.

@@ -1,7 +1,7 @@
 use gsi_word::Name;
 use th_book::Observation;
 use th_entries::Entry;
-use th_reliability::{Blame, Effect, Mistake};
+use th_reliability::{BenchmarkEffect, Blame, Effect, Mistake};
 
 /// A point of a network, and what was found of it. Heights are in units of 10 nm.
 #[derive(Clone, Copy, Debug)]
@@ -44,4 +44,14 @@ pub struct EntryRow {
     pub weight: u32,
     /// What a mistake in it would do.
     pub effect: Effect,
+}
+
+/// A benchmark, and what was found of it.
+#[derive(Clone, Copy, Debug)]
+pub struct BenchmarkRow {
+    pub name: Name,
+    /// Its height in the table, in units of 10 nm.
+    pub height: i64,
+    /// What a wrong height would do.
+    pub found: BenchmarkEffect,
 }

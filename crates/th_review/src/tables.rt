@@ -1,10 +1,13 @@
-//! The three tables.
+//! The four tables.
 ghost use Rattle.std.specs.Prelude.{◌≡◌, ◌++◌, IfOk, OnOk};
 ghost use Rattle.th_csv.specs.Texts.{row_text};
-ghost use Rattle.th_review.specs.Tables.{entries_header, entries_text, entry_record, number_field, observation_record, observations_header, observations_text, point_record, points_text};
+ghost use Rattle.th_review.specs.Tables.{benchmark_record, benchmarks_header, benchmarks_text, entries_header, entries_text, entry_record, number_field, observation_record, observations_header, observations_text, point_record, points_text};
 
-use crate::rows::{EntryRow, ObservationRow, PointRow};
-use crate::words::{blamed_of, blames_of, kind_word, mistake_word, moves_of, shared_mistake_word};
+use crate::rows::{BenchmarkRow, EntryRow, ObservationRow, PointRow};
+use crate::words::{
+    blame_in, blamed_of, blames_of, effect_word, kind_word, mistake_word, moves_of,
+    shared_mistake_word,
+};
 use itoa::Buffer;
 use std::alloc::{AllocError, Global};
 use th_csv::RowWriter;
@@ -155,6 +158,65 @@ fn write_entry(rows: &mut RowWriter, row: &EntryRow) -> Result<(), AllocError>
         count_field(&mut moves, moves_of(row.effect.blame)),
         count_field(&mut blames, blames_of(row.effect.blame)),
         count_field(&mut blamed, blamed_of(row.effect.blame)),
+    ])
+}
+
+/// The table of benchmarks: the names of its fields, and then a record for each row.
+pub(crate) fn benchmarks_csv(
+    alloc: Global,
+    benchmarks: &[BenchmarkRow],
+) -> Result<Vec<u8>, AllocError>
+    ensures { IfOk result (λ text. text.items ≡ benchmarks_text benchmarks.now) }
+{
+    let mut rows = RowWriter::new(alloc);
+    write_benchmarks_header(&mut rows)?;
+    for row in benchmarks {
+        write_benchmark(&mut rows, row)?;
+    }
+    rows.into_text()
+}
+
+/// Writes the names of a benchmark's fields.
+#[tactic(auto, unfolding(crate::specs::Tables::benchmarks_header))]
+fn write_benchmarks_header(rows: &mut RowWriter) -> Result<(), AllocError>
+    ensures { OnOk result (rows.new.text ≡ rows.old.text ++ row_text benchmarks_header) }
+{
+    rows.write(&[
+        b"point",
+        b"height",
+        b"sights",
+        b"weight",
+        b"strength",
+        b"mistake",
+        b"moves",
+        b"blames",
+        b"blamed",
+    ])
+}
+
+/// Writes the record of a benchmark.
+#[tactic(auto, unfolding(crate::specs::Tables::benchmark_record))]
+fn write_benchmark(rows: &mut RowWriter, row: &BenchmarkRow) -> Result<(), AllocError>
+    ensures { OnOk result (rows.new.text ≡ rows.old.text ++ row_text (benchmark_record row.now)) }
+{
+    let mut sights = Buffer::new();
+    let mut weight = Buffer::new();
+    let mut strength = Buffer::new();
+    let mut moves = Buffer::new();
+    let mut blames = Buffer::new();
+    let mut blamed = Buffer::new();
+    let height = metre_text(row.height);
+    let blame = blame_in(row.found.effect);
+    rows.write(&[
+        row.name.as_bytes(),
+        height.as_bytes(),
+        sights.format(row.found.sights).as_bytes(),
+        weight.format(row.found.weight).as_bytes(),
+        number_field(&mut strength, row.found.strength),
+        effect_word(&row.found.effect),
+        count_field(&mut moves, moves_of(blame)),
+        count_field(&mut blames, blames_of(blame)),
+        count_field(&mut blamed, blamed_of(blame)),
     ])
 }
 

@@ -6,17 +6,18 @@ ghost use Rattle.th_notes.specs.Limits.{max_reviewed};
 ghost use Rattle.th_review.specs.Entries.{entries_of};
 ghost use Rattle.th_review.specs.Texts.{AreReviewTexts, bytes_of, found_in};
 
+use crate::benchmark_list::benchmark_rows;
 use crate::entries::entries_of;
 use crate::entry_list::entry_rows;
 use crate::observation_list::observation_rows;
 use crate::point_list::point_rows;
 use crate::reviews::review_text;
-use crate::tables::{entries_csv, observations_csv, points_csv};
+use crate::tables::{benchmarks_csv, entries_csv, observations_csv, points_csv};
 use std::alloc::{AllocError, Global};
 use th_entries::{BookReview, Spelling};
 use th_network::Network;
 use th_notes::notes_of;
-use th_reliability::{Blame, Effect};
+use th_reliability::{BenchmarkEffect, Blame, Effect};
 
 /// What was found of a network.
 #[derive(Drop)]
@@ -31,6 +32,8 @@ pub struct Findings {
     pub blames: Vec<Option<Blame>>,
     /// What a mistake in each entry would do, in the order of books and entries.
     pub effects: Vec<Effect>,
+    /// What a wrong height of each benchmark would do, in the order of their table.
+    pub benchmarks: Vec<BenchmarkEffect>,
 }
 
 /// The texts of a review.
@@ -42,6 +45,8 @@ pub struct ReviewTexts {
     pub observations: Vec<u8>,
     /// The table of entries.
     pub entries: Vec<u8>,
+    /// The table of benchmarks.
+    pub benchmarks: Vec<u8>,
     /// The review for people.
     pub review: Vec<u8>,
 }
@@ -68,6 +73,7 @@ pub fn review_texts(
     requires controls { length findings.now.controls.items ≡ length network.now.observations }
     requires blames { length findings.now.blames.items ≡ length network.now.observations }
     requires effects { length findings.now.effects.items ≡ length (entries_of reviews.now) }
+    requires benchmarks { length findings.now.benchmarks.items ≡ length network.now.benchmarks }
     requires books { length reviews.now ≤ max_reviewed }
     ensures { IfOk result (λ texts. AreReviewTexts network.now
         (heights_at (points_of network.now) low.now) (heights_at (points_of network.now) high.now)
@@ -84,6 +90,7 @@ pub fn review_texts(
     )?;
     let observations = observation_rows(alloc, network, low, &findings.controls, &findings.blames)?;
     let entries = entry_rows(alloc, network, &entries, &findings.effects)?;
+    let benchmarks = benchmark_rows(alloc, network, &findings.benchmarks)?;
     let notes = notes_of(alloc, network, reviews, spellings)?;
     let review = review_text(
         alloc,
@@ -91,6 +98,7 @@ pub fn review_texts(
         &points,
         &observations,
         &entries,
+        &benchmarks,
         reviews,
         &notes,
         limit,
@@ -99,6 +107,7 @@ pub fn review_texts(
         points: points_csv(alloc, &points)?,
         observations: observations_csv(alloc, &observations)?,
         entries: entries_csv(alloc, &entries)?,
+        benchmarks: benchmarks_csv(alloc, &benchmarks)?,
         review,
     })
 }

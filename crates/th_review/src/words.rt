@@ -1,10 +1,10 @@
 //! The words and marks of a review.
 ghost use Rattle.std.specs.Prelude.{◌≡◌};
-ghost use Rattle.th_review.specs.Words.{blamed_of, blames_of, kind_word, mistake_mark, mistake_word, moves_of, number_or_dash, point_mark, shared_mistake_mark, shared_mistake_word};
+ghost use Rattle.th_review.specs.Words.{blame_in, blamed_of, blames_of, effect_mark, effect_word, kind_word, mistake_mark, mistake_word, moves_of, number_or_dash, point_mark, shared_mistake_mark, shared_mistake_word};
 
 use itoa::Buffer;
 use th_entries::HeightKind;
-use th_reliability::{Blame, Mistake, SharedMistake};
+use th_reliability::{Blame, Effect, Mistake, SharedMistake};
 
 /// The word for what a mistake in an observation would do.
 pub(crate) fn mistake_word(mistake: &Mistake) -> &[u8]
@@ -61,6 +61,36 @@ pub(crate) fn shared_mistake_mark(mistake: &SharedMistake) -> &[u8]
         SharedMistake::Ties => b"  =",
         SharedMistake::Drags => b"  <",
         SharedMistake::Unchecked => b"  0",
+    }
+}
+
+/// The word for what a wrong height of a benchmark would do; nothing if no observation has an end there.
+pub(crate) fn effect_word(effect: &Option<Effect>) -> &[u8]
+    ensures { result.now ≡ effect_word effect.now }
+{
+    match effect {
+        Some(effect) => shared_mistake_word(&effect.mistake),
+        None => b"",
+    }
+}
+
+/// The mark of a benchmark.
+pub(crate) fn effect_mark(effect: &Option<Effect>) -> &[u8]
+    ensures { result.now ≡ effect_mark effect.now }
+{
+    match effect {
+        Some(effect) => shared_mistake_mark(&effect.mistake),
+        None => b"",
+    }
+}
+
+/// What a wrong height of a benchmark would move and what would be blamed for it.
+pub(crate) fn blame_in(effect: Option<Effect>) -> Option<Blame>
+    ensures { result ≡ blame_in effect }
+{
+    match effect {
+        Some(effect) => effect.blame,
+        None => None,
     }
 }
 

@@ -9,6 +9,7 @@ use Rattle.th_entries.specs.Spellings.{spellings_of}
 use Rattle.th_entries.specs.declared.reviews.BookReview.{BookReview}
 use Rattle.th_network.specs.Networks.{Survey, at_points_of}
 use Rattle.th_reliability.specs.Numbers.{AreControls, AreStrengths}
+use Rattle.th_reliability.specs.BenchmarkEffects.{IsBenchmarkEffect}
 use Rattle.th_reliability.specs.Effects.{AreBlames, IsEffect}
 use Rattle.th_reliability.specs.Sights.{in_sights}
 use Rattle.th_entries.specs.declared.spellings.Spelling.{Spelling}
@@ -20,12 +21,13 @@ use Rattle.th_runs.specs.declared.refusals.Output.TheVariants as output
 
 -- a review, and what it writes
 abbrev pub reviewing : Run
-reviewing = record { has_certificate = false; outputs = output.Points ∷ output.Observations ∷ output.Entries ∷ output.Review ∷ [] }
+reviewing = record { has_certificate = false; outputs = output.Points ∷ output.Observations ∷ output.Entries ∷ output.Benchmarks ∷ output.Review ∷ [] }
 
 -- the texts of its outputs, in the order in which they are written
 abbrev pub in_order : ReviewOutTexts → Texts
 in_order texts =
-    (output.Points, texts.points) ∷ (output.Observations, texts.observations) ∷ (output.Entries, texts.entries) ∷ (output.Review, texts.review) ∷ []
+    (output.Points, texts.points) ∷ (output.Observations, texts.observations) ∷ (output.Entries, texts.entries)
+    ∷ (output.Benchmarks, texts.benchmarks) ∷ (output.Review, texts.review) ∷ []
 
 -- for each source the text that it gave: the one that it reported, if it reported one
 abbrev pub AreTold : List (Option (List ℕ)) → List (List ℕ) → Type 0
@@ -43,13 +45,15 @@ pub record AreReviewsOf (number : ℕ) (tolds : List (Option (List ℕ))) (revie
   pub spelled : spellings ≡ spellings_of (numbered number texts)
 
 -- What was found about a survey and the entries of its books: the strengths of its points, with its weights and with
--- all weights 1; the controls of its observations, and what a mistake in each would move; and for each entry what a mistake in it would do.
+-- all weights 1; the controls of its observations, and what a mistake in each would move; for each entry what a mistake in it would do; and for each
+-- benchmark, in the order of their table, what a wrong height would do.
 pub record AreFound (survey : Survey) (books : List BookReview) (found : Found) : Type 0 where
   pub strengths : AreStrengths survey found.strengths
   pub unit_strengths : AreStrengths (record survey { weights = [] }) found.unit_strengths
   pub controls : AreControls survey found.controls
   pub blames : AreBlames survey found.controls found.blames
   pub effects : AllZip (λ entry effect. IsEffect survey (in_sights (sights_of entry)) effect) (entries_of books) found.effects
+  pub benchmarks : AllZip (λ row effect. IsBenchmarkEffect survey row.0 effect) survey.benchmarks found.benchmarks
 
 -- The texts are the review of a survey and of its books, for this limit of blunders in units
 -- of 10 nm. The heights in them are best, and the rest is what was found.

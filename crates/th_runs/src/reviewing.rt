@@ -30,21 +30,24 @@ use th_entries::{BookReview, Entry, Spelling};
 use th_network::Network;
 use th_network::laws::faults_exclude_each_other;
 use th_progress::Progress;
-use th_reliability::{Effect, Reliability, Sights, point_strengths, shared_mistakes};
+use th_reliability::{
+    Effect, Reliability, Sights, benchmark_mistakes, point_strengths, shared_mistakes,
+};
 use th_review::{Findings, ReviewTexts, entries_of, review_texts, sights_of};
 use th_tables::Weights;
 
 /// What a review writes, in this order.
-pub const REVIEWED: [Output; 4] = [
+pub const REVIEWED: [Output; 5] = [
     Output::Points,
     Output::Observations,
     Output::Entries,
+    Output::Benchmarks,
     Output::Review,
 ];
 
 /// Reviews the height network of up to 16 books, benchmarks and optional weights. It writes the
-/// tables of its points, of its observations and of its entries, and a review for people to `outs`,
-/// in this order. These say what a mistake in each would do. Heights and residuals are those of
+/// tables of its points, of its observations, of its entries and of its benchmarks, and a review for
+/// people to `outs`, in this order. These say what a mistake in each would do. Heights and residuals are those of
 /// `run_adjust`.
 ///
 /// An observation is marked as a blunder if its residual is above `limit` in size, in units of
@@ -144,12 +147,14 @@ fn in_order(alloc: Global, texts: ReviewTexts) -> Result<Vec<OutputText>, AllocE
         points,
         observations,
         entries,
+        benchmarks,
         review,
     } = texts;
     let texts = [
         OutputText::new(Output::Points, points),
         OutputText::new(Output::Observations, observations),
         OutputText::new(Output::Entries, entries),
+        OutputText::new(Output::Benchmarks, benchmarks),
         OutputText::new(Output::Review, review),
     ];
     Ok(Vec::from_array(alloc, texts)?)
@@ -174,12 +179,14 @@ fn findings_of<P: Progress>(
     } = Reliability::of(alloc, network, progress)?;
     let unit_strengths = unit_strengths_of(alloc, network, &strengths, progress)?;
     let effects = effects_of(alloc, network, &controls, reviews, progress)?;
+    let benchmarks = benchmark_mistakes(alloc, network)?;
     Ok(Findings {
         strengths,
         unit_strengths,
         controls,
         blames,
         effects,
+        benchmarks,
     })
 }
 
