@@ -2,6 +2,9 @@ mod WalkLemmas
 mod PartLemmas
 mod RowLemmas
 mod ListLemmas
+mod KindLemmas
+mod OrderLemmas
+mod PrintedLemmas
 mod RereadLemmas
 mod BookLemmas
 mod FindLemmas

@@ -1,5 +1,6 @@
 -- The rows of numbers.
-use Rattle.std.proofs.Common.{◌≡◌, ℕ, Bool, true, false, ◌<◌, ◌≤◌, ◌↔◌, ℤ, pos, if◌then◌else◌, int_lt, unsigned_abs, subst, arith}
+use Rattle.std.proofs.Common.{◌≡◌, ℕ, zero, suc, Bool, true, false, ◌<◌, ◌≤◌, ◌↔◌, ℤ, pos, List, [], ◌∷◌, get_or, if◌then◌else◌, int_lt, length, map, unsigned_abs, subst, sym, arith}
+use Rattle.std.specs.List.{AllZip}
 use Rattle.std.proofs.lemmas.Int.{ints}
 use Rattle.th_explain.specs.Explained.{Explains, IsLeastInReach}
 use Rattle.th_explain.specs.declared.freed.Freed.{Freed}
@@ -38,3 +39,10 @@ pub no_row : (survey : Survey) (limit : ℤ) (candidate : Candidate) (freed : Fr
     → Explains survey (limit_size limit) (number_of candidate) freed → ¬ LeavesNoMore survey (whole_of candidate) freed.left → (other : Freed) → ¬ Passes survey limit candidate other
 no_row survey limit candidate freed one explains fails other passes =
     fails (subst (LeavesNoMore survey (whole_of candidate)) (one survey (number_of candidate) other.left freed.left passes.explains.exact.left explains.exact.left) passes.leads)
+
+-- what is known of items that others are made of, place by place
+pub made_at : {A B C : Type 0} (R : B → C → Type 0) (f : A → B) (xs : List A) (ys : List C) (i : ℕ) (x : A) (d : C) → AllZip R (map f xs) ys → i < length xs → x ≡ get_or xs i x → R (f x) (get_or ys i d)
+made_at R f [] ys i x d all within here = absurd (omega (arith, within))
+made_at R f (z ∷ xs) [] i x d all within here = absurd all
+made_at R f (z ∷ xs) (v ∷ ys) zero x d all within here = subst (λ own. R (f own) v) (sym here) all.0
+made_at R f (z ∷ xs) (v ∷ ys) (suc i) x d all within here = made_at R f xs ys i x d all.1 (omega arith) here

@@ -4,4 +4,5 @@ pub mod Ties
 pub mod Rows
 pub mod Readings
 pub mod Explanations
+pub mod Printed
 pub mod Inside

@@ -1,4 +1,5 @@
 //! A number that somebody read or typed, and where it is.
+ghost use Rattle.th_reliability.specs.Sights.{in_sights};
 ghost use Rattle.std.specs.Prelude.{◌≡◌, ◌≤◌, count_by, length, unsigned_abs};
 ghost use Rattle.th_book.specs.Observed.{largest_difference};
 ghost use Rattle.th_network.specs.Limits.{max_observations};
@@ -11,7 +12,7 @@ use th_entries::{Entry, HeightKind};
 use th_explain::Number;
 use th_explanations::Kind;
 use th_network::Network;
-use th_reliability::Sights;
+use th_reliability::{Runs, Sights};
 use th_review::sights_of;
 use th_tables::Benchmarks;
 
@@ -190,15 +191,26 @@ pub(crate) fn sight_count(network: &Network, number: &Number) -> u32
     count
 }
 
-/// How many observations are among some sights.
-pub(crate) fn count_in(observations: &[Observation], sights: &Sights) -> usize
-    ensures { result ≡ count_in observations.now sights.now }
+/// How many of the observations in runs are among some sights.
+pub(crate) fn count_in(runs: &Runs<'_>, sights: &Sights) -> usize
+    ensures { result ≡ count_in runs.now.observations.now sights.now }
 {
+    let own = run_of(runs, sights);
     let mut count = 0;
-    for o in observations {
+    for o in own {
         if sights.hold(o) {
             count += 1;
         }
     }
     count
+}
+
+/// Observations in runs, among them all of some sights.
+fn run_of<'a>(runs: &Runs<'a>, sights: &Sights) -> &'a [Observation]
+    ensures { count_by (in_sights sights.now) result.now
+        ≡ count_by (in_sights sights.now) runs.now.observations.now }
+{
+    let (start, end) = runs.run_of(sights);
+    let observations = runs.observations;
+    &observations[start..end]
 }

@@ -1,25 +1,27 @@
 //! The numbers of entries: entered heights with several sights, and changes that were forgotten.
 ghost use Rattle.std.specs.Prelude.{◌≡◌, ◌++◌, OnOk};
-ghost use Rattle.th_numbers.specs.Lists.{entered, entered_at, forgotten, forgotten_at, is_forgotten, is_kind, is_part, is_shared};
+ghost use Rattle.th_numbers.specs.Lists.{entered, entered_at, forgotten, forgotten_at, is_forgotten, is_part, is_shared};
 
 use crate::candidates::{Candidate, count_in, sights_since};
+use crate::kinds::{Kinds, is_kind};
 use std::alloc::AllocError;
 use th_book::Observation;
 use th_entries::{Entry, HeightKind};
+use th_reliability::Runs;
 use th_review::sights_of;
 
 /// Adds the entries of a kind that have two or more sights.
 pub(crate) fn add_entered(
     candidates: &mut Vec<Candidate>,
-    observations: &[Observation],
+    runs: &Runs<'_>,
     entries: &[Entry],
     kind: HeightKind,
 ) -> Result<(), AllocError>
     ensures { OnOk result (candidates.new.items
-        ≡ candidates.old.items ++ entered observations.now kind entries.now) }
+        ≡ candidates.old.items ++ entered runs.now.observations.now kind entries.now) }
 {
     for entry in entries {
-        add_if_shared(candidates, observations, entry, kind)?;
+        add_if_shared(candidates, runs, entry, kind)?;
     }
     Ok(())
 }
@@ -27,50 +29,56 @@ pub(crate) fn add_entered(
 /// Adds an entry if it is of a kind and has two or more sights.
 fn add_if_shared(
     candidates: &mut Vec<Candidate>,
-    observations: &[Observation],
+    runs: &Runs<'_>,
     entry: &Entry,
     kind: HeightKind,
 ) -> Result<(), AllocError>
     ensures { OnOk result (candidates.new.items
-        ≡ candidates.old.items ++ entered_at observations.now kind entry.now) }
+        ≡ candidates.old.items ++ entered_at runs.now.observations.now kind entry.now) }
 {
-    if is_kind(entry.kind, kind) && is_shared(observations, entry) {
+    if is_kind(entry.kind, kind) && is_shared(runs, entry) {
         candidates.push(Candidate::Entered(*entry))?;
     }
     Ok(())
 }
 
-/// Whether a height is of a kind.
-pub(crate) fn is_kind(own: HeightKind, kind: HeightKind) -> bool
-    ensures { result ≡ is_kind own kind }
-{
-    match (own, kind) {
-        (HeightKind::Instrument, HeightKind::Instrument) => true,
-        (HeightKind::Reflector, HeightKind::Reflector) => true,
-        _ => false,
-    }
-}
-
 /// Whether an entry has two or more sights.
-fn is_shared(observations: &[Observation], entry: &Entry) -> bool
-    ensures { result ≡ is_shared observations.now entry.now }
+fn is_shared(runs: &Runs<'_>, entry: &Entry) -> bool
+    ensures { result ≡ is_shared runs.now.observations.now entry.now }
 {
-    2 <= count_in(observations, &sights_of(entry))
+    2 <= count_in(runs, &sights_of(entry))
 }
 
 /// Adds the changes of a kind that may have been forgotten before an observation.
 pub(crate) fn add_forgotten(
     candidates: &mut Vec<Candidate>,
-    observations: &[Observation],
+    runs: &Runs<'_>,
+    kinds: &Kinds<'_>,
+    kind: HeightKind,
+    o: &Observation,
+) -> Result<(), AllocError>
+    ensures { OnOk result (candidates.new.items ≡ candidates.old.items
+        ++ forgotten runs.now.observations.now kinds.now.entries.now kind o.now) }
+{
+    let own = kinds.around(kind, o);
+    add_among(candidates, runs, own, kind, o)?;
+    Ok(())
+}
+
+/// Adds the changes of a kind that may have been forgotten before an observation, given the entries that it
+/// may be among.
+fn add_among(
+    candidates: &mut Vec<Candidate>,
+    runs: &Runs<'_>,
     entries: &[Entry],
     kind: HeightKind,
     o: &Observation,
 ) -> Result<(), AllocError>
     ensures { OnOk result (candidates.new.items
-        ≡ candidates.old.items ++ forgotten observations.now entries.now kind o.now) }
+        ≡ candidates.old.items ++ forgotten runs.now.observations.now entries.now kind o.now) }
 {
     for entry in entries {
-        add_if_forgotten(candidates, observations, entry, kind, o)?;
+        add_if_forgotten(candidates, runs, entry, kind, o)?;
     }
     Ok(())
 }
@@ -78,32 +86,32 @@ pub(crate) fn add_forgotten(
 /// Adds the change of an entry that may have been forgotten before an observation, if it is of a kind.
 fn add_if_forgotten(
     candidates: &mut Vec<Candidate>,
-    observations: &[Observation],
+    runs: &Runs<'_>,
     entry: &Entry,
     kind: HeightKind,
     o: &Observation,
 ) -> Result<(), AllocError>
     ensures { OnOk result (candidates.new.items
-        ≡ candidates.old.items ++ forgotten_at observations.now kind o.now entry.now) }
+        ≡ candidates.old.items ++ forgotten_at runs.now.observations.now kind o.now entry.now) }
 {
-    if is_kind(entry.kind, kind) && is_forgotten(observations, o, entry) {
+    if is_kind(entry.kind, kind) && is_forgotten(runs, o, entry) {
         candidates.push(Candidate::Since(*entry, o.line))?;
     }
     Ok(())
 }
 
 /// Whether a change of an entry may have been forgotten before an observation.
-fn is_forgotten(observations: &[Observation], o: &Observation, entry: &Entry) -> bool
-    ensures { result ≡ is_forgotten observations.now o.now entry.now }
+fn is_forgotten(runs: &Runs<'_>, o: &Observation, entry: &Entry) -> bool
+    ensures { result ≡ is_forgotten runs.now.observations.now o.now entry.now }
 {
-    sights_of(entry).hold(o) && is_part(observations, o, entry)
+    sights_of(entry).hold(o) && is_part(runs, o, entry)
 }
 
 /// Whether the sights of an entry from the line of an observation on are two or more, and not all.
-fn is_part(observations: &[Observation], o: &Observation, entry: &Entry) -> bool
-    ensures { result ≡ is_part observations.now o.now entry.now }
+fn is_part(runs: &Runs<'_>, o: &Observation, entry: &Entry) -> bool
+    ensures { result ≡ is_part runs.now.observations.now o.now entry.now }
 {
-    let behind = count_in(observations, &sights_since(entry, o.line));
-    let all = count_in(observations, &sights_of(entry));
+    let behind = count_in(runs, &sights_since(entry, o.line));
+    let all = count_in(runs, &sights_of(entry));
     2 <= behind && behind < all
 }

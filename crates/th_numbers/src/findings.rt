@@ -8,6 +8,7 @@ ghost use Rattle.th_numbers.specs.Lists.{in_order, listed_in};
 
 use crate::books::books_of;
 use crate::candidates::Candidate;
+use crate::kinds::Kinds;
 use crate::listing::{Listing, listing_of};
 use crate::readings::book_rows;
 use crate::rows::rows_or_none;
@@ -48,13 +49,14 @@ pub fn explanations_of(
     let entries = all_entries.as_slice();
     let all_books = books_of(alloc, reviews)?;
     let books = all_books.as_slice();
-    let listing = listing_of(alloc, network, entries)?;
+    let kinds = Kinds::of(alloc, entries)?;
+    let listing = listing_of(alloc, network, &kinds)?;
     let marked = blunder_count(network.observations(), &fit.residuals, limit);
     let summary = summary_with(fit.cost, marked, &listing, books.len(), limit);
     let all = in_order(alloc, listing)?;
     let candidates = all.as_slice();
     let own = rows_or_none(alloc, network, &best, fit.cost, candidates, limit)?;
-    let read = book_rows(alloc, network, entries, fit.cost, books, limit)?;
+    let read = book_rows(alloc, network, &kinds, fit.cost, books, limit)?;
     let found = all_rows(alloc, own.as_slice(), read.as_slice())?;
     let rows = ranked(alloc, found.as_slice())?;
     Ok(Explanations { summary, rows })

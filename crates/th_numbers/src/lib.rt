@@ -9,6 +9,9 @@
 // A number, and where it is.
 mod candidates;
 
+// The entries by kind.
+mod kinds;
+
 // The numbers of a survey: those of entries, benchmarks and all, and the books.
 mod books;
 mod entered;
@@ -21,6 +24,9 @@ mod rows;
 
 // All rows.
 mod findings;
+
+// Laws of the definitions.
+pub mod laws;
 
 pub use candidates::Candidate;
 pub use findings::{Explanations, explanations_of};

@@ -8,11 +8,13 @@ ghost use Rattle.th_numbers.specs.Ties.{AreTiedRows};
 
 use crate::candidates::Candidate;
 use crate::entered::{add_entered, add_forgotten};
+use crate::kinds::Kinds;
 use crate::ties::{TiedRow, tied_rows};
 use std::alloc::{AllocError, Global};
 use th_book::Observation;
 use th_entries::{Entry, HeightKind};
 use th_network::Network;
+use th_reliability::Runs;
 
 /// The record of a table's first row: the header is record 1.
 const FIRST_RECORD: u32 = 2;
@@ -30,14 +32,15 @@ pub(crate) struct Listing {
 pub(crate) fn listing_of(
     alloc: Global,
     network: &Network,
-    entries: &[Entry],
+    kinds: &Kinds<'_>,
 ) -> Result<Listing, AllocError>
     ensures { IfOk result (λ listing. (tied : List TiedRow) × AreTiedRows network.now tied
-        × (listed_in listing ≡ listed_of network.now entries.now tied)) }
+        × (listed_in listing ≡ listed_of network.now kinds.now.entries.now tied)) }
 {
     let observations = network.observations();
-    let entered = entered_of(alloc, observations, entries)?;
-    let changes = changes_of(alloc, observations, entries)?;
+    let runs = Runs::of(observations);
+    let entered = entered_of(alloc, &runs, kinds.entries)?;
+    let changes = changes_of(alloc, &runs, kinds)?;
     let sights = sights_of_all(alloc, observations)?;
     let benchmarks = benchmarks_of(alloc, network)?;
     Ok(Listing {
@@ -51,29 +54,29 @@ pub(crate) fn listing_of(
 /// The entered heights that have two or more sights, those of instruments first.
 fn entered_of(
     alloc: Global,
-    observations: &[Observation],
+    runs: &Runs<'_>,
     entries: &[Entry],
 ) -> Result<Vec<Candidate>, AllocError>
-    ensures { IfOk result (λ found. found.items ≡ entered observations.now height.Instrument entries.now
-        ++ entered observations.now height.Reflector entries.now) }
+    ensures { IfOk result (λ found. found.items ≡ entered runs.now.observations.now height.Instrument entries.now
+        ++ entered runs.now.observations.now height.Reflector entries.now) }
 {
     let mut found = Vec::new(alloc);
-    add_entered(&mut found, observations, entries, HeightKind::Instrument)?;
-    add_entered(&mut found, observations, entries, HeightKind::Reflector)?;
+    add_entered(&mut found, runs, entries, HeightKind::Instrument)?;
+    add_entered(&mut found, runs, entries, HeightKind::Reflector)?;
     Ok(found)
 }
 
 /// The changes that may have been forgotten.
 fn changes_of(
     alloc: Global,
-    observations: &[Observation],
-    entries: &[Entry],
+    runs: &Runs<'_>,
+    kinds: &Kinds<'_>,
 ) -> Result<Vec<Candidate>, AllocError>
-    ensures { IfOk result (λ found. found.items ≡ changes observations.now entries.now) }
+    ensures { IfOk result (λ found. found.items ≡ changes runs.now.observations.now kinds.now.entries.now) }
 {
     let mut found = Vec::new(alloc);
-    for o in observations {
-        add_changes(&mut found, observations, entries, o)?;
+    for o in runs.observations {
+        add_changes(&mut found, runs, kinds, o)?;
     }
     Ok(found)
 }
@@ -81,14 +84,15 @@ fn changes_of(
 /// Adds the changes that may have been forgotten before an observation, the instrument's first.
 fn add_changes(
     found: &mut Vec<Candidate>,
-    observations: &[Observation],
-    entries: &[Entry],
+    runs: &Runs<'_>,
+    kinds: &Kinds<'_>,
     o: &Observation,
 ) -> Result<(), AllocError>
-    ensures { OnOk result (found.new.items ≡ found.old.items ++ changes_at observations.now entries.now o.now) }
+    ensures { OnOk result (found.new.items ≡ found.old.items
+        ++ changes_at runs.now.observations.now kinds.now.entries.now o.now) }
 {
-    add_forgotten(found, observations, entries, HeightKind::Instrument, o)?;
-    add_forgotten(found, observations, entries, HeightKind::Reflector, o)
+    add_forgotten(found, runs, kinds, HeightKind::Instrument, o)?;
+    add_forgotten(found, runs, kinds, HeightKind::Reflector, o)
 }
 
 /// All sights.

@@ -8,7 +8,7 @@ ghost use Rattle.th_network.specs.declared.faults.NetFault.TheVariants.{NoMemory
 ghost use Rattle.th_numbers.specs.Readings.{IsBookRowOrNone, IsReadOrNone, height_in, is_cheaper, read_difference, read_observation, row_of_book, with_difference, word_33};
 
 use crate::books::SightedBook;
-use crate::entered::is_kind;
+use crate::kinds::{Kinds, is_kind};
 use crate::rows::add_found;
 use std::alloc::{AllocError, Global};
 use th_blunders::Fit;
@@ -32,18 +32,18 @@ const LARGEST_DIFFERENCE: u64 = 3 * MAX_LEN;
 pub(crate) fn book_rows(
     alloc: Global,
     network: &Network,
-    entries: &[Entry],
+    kinds: &Kinds<'_>,
     cost: u128,
     books: &[SightedBook],
     limit: i64,
 ) -> Result<Vec<Option<Row>>, NetFault>
     ensures rows { IfOk result (λ rows.
-        AllZip (IsBookRowOrNone network.now entries.now cost limit) books.now rows.items) }
+        AllZip (IsBookRowOrNone network.now kinds.now.entries.now cost limit) books.now rows.items) }
     ensures refused { IfErr result (λ fault. fault ≡ NoMemory) }
 {
     let mut rows = Vec::with_capacity(alloc, books.len())?;
     for book in books {
-        let found = book_row(alloc, network, entries, cost, book, limit)?;
+        let found = book_row(alloc, network, kinds, cost, book, limit)?;
         add_found(&mut rows, found)?;
     }
     Ok(rows)
@@ -53,17 +53,17 @@ pub(crate) fn book_rows(
 fn book_row(
     alloc: Global,
     network: &Network,
-    entries: &[Entry],
+    kinds: &Kinds<'_>,
     cost: u128,
     book: &SightedBook,
     limit: i64,
 ) -> Result<Option<Row>, NetFault>
-    ensures row { IfOk result (IsBookRowOrNone network.now entries.now cost limit book.now) }
+    ensures row { IfOk result (IsBookRowOrNone network.now kinds.now.entries.now cost limit book.now) }
     ensures refused { IfErr result (λ fault. fault ≡ NoMemory) }
 {
-    let read = reread(alloc, network.observations(), entries, book.number)?;
+    let read = reread(alloc, network.observations(), kinds, book.number)?;
     match read {
-        Some(read) => row_if_cheaper(alloc, network, entries, read, cost, book, limit),
+        Some(read) => row_if_cheaper(alloc, network, kinds, read, cost, book, limit),
         None => Ok(None),
     }
 }
@@ -73,7 +73,7 @@ fn book_row(
 fn row_if_cheaper(
     alloc: Global,
     network: &Network,
-    entries: &[Entry],
+    kinds: &Kinds<'_>,
     read: Vec<Observation>,
     cost: u128,
     book: &SightedBook,
@@ -81,8 +81,8 @@ fn row_if_cheaper(
 ) -> Result<Option<Row>, NetFault>
     requires network { IsNetwork network.now.observations network.now.benchmarks }
     requires read { read.items
-        ≡ map (read_observation entries.now book.now.number) network.now.observations }
-    ensures row { IfOk result (IsBookRowOrNone network.now entries.now cost limit book.now) }
+        ≡ map (read_observation kinds.now.entries.now book.now.number) network.now.observations }
+    ensures row { IfOk result (IsBookRowOrNone network.now kinds.now.entries.now cost limit book.now) }
     ensures refused { IfErr result (λ fault. fault ≡ NoMemory) }
 {
     faults_exclude_each_other();
@@ -132,14 +132,14 @@ fn is_cheaper(cost: u128, left: u128) -> bool
 fn reread(
     alloc: Global,
     observations: &[Observation],
-    entries: &[Entry],
+    kinds: &Kinds<'_>,
     book: u32,
 ) -> Result<Option<Vec<Observation>>, AllocError>
-    ensures { IfOk result (λ read. IsReadOrNone entries.now book observations.now (option_map (λ own. own.items) read)) }
+    ensures { IfOk result (λ read. IsReadOrNone kinds.now.entries.now book observations.now (option_map (λ own. own.items) read)) }
 {
     let mut read = Vec::with_capacity(alloc, observations.len())?;
     for o in observations {
-        let difference = read_difference(entries, book, o);
+        let difference = read_difference(kinds, book, o);
         if difference.unsigned_abs() > LARGEST_DIFFERENCE {
             return Ok(None);
         }
@@ -164,11 +164,11 @@ fn with_difference(o: &Observation, difference: i64) -> Observation
 }
 
 /// The difference of an observation, which is word 33 alone in a book that is read from mark to mark.
-fn read_difference(entries: &[Entry], book: u32, o: &Observation) -> i64
-    ensures { result ≡ read_difference entries.now book o.now }
+fn read_difference(kinds: &Kinds<'_>, book: u32, o: &Observation) -> i64
+    ensures { result ≡ read_difference kinds.now.entries.now book o.now }
 {
     if o.book == book {
-        word_33(entries, o)
+        word_33(kinds, o)
     } else {
         o.difference()
     }
@@ -176,16 +176,24 @@ fn read_difference(entries: &[Entry], book: u32, o: &Observation) -> i64
 
 /// What was read at an observation: its difference without the instrument height and with the reflector
 /// height.
-fn word_33(entries: &[Entry], o: &Observation) -> i64
-    ensures { result ≡ word_33 entries.now o.now }
+fn word_33(kinds: &Kinds<'_>, o: &Observation) -> i64
+    ensures { result ≡ word_33 kinds.now.entries.now o.now }
 {
-    let instrument = height_in(entries, HeightKind::Instrument, o);
-    let reflector = height_in(entries, HeightKind::Reflector, o);
+    let instrument = height_in(kinds, HeightKind::Instrument, o);
+    let reflector = height_in(kinds, HeightKind::Reflector, o);
     o.difference() - instrument + reflector
 }
 
 /// The height of a kind that an observation was made with: that of the first entry that it is among.
-fn height_in(entries: &[Entry], kind: HeightKind, o: &Observation) -> i64
+fn height_in(kinds: &Kinds<'_>, kind: HeightKind, o: &Observation) -> i64
+    ensures value { result ≡ height_in kinds.now.entries.now kind o.now }
+    ensures small { unsigned_abs result ≤ largest_difference }
+{
+    height_among(kinds.around(kind, o), kind, o)
+}
+
+/// The height of a kind that an observation was made with, given the entries that it may be among.
+fn height_among(entries: &[Entry], kind: HeightKind, o: &Observation) -> i64
     ensures value { result ≡ height_in entries.now kind o.now }
     ensures small { unsigned_abs result ≤ largest_difference }
 {

@@ -1,9 +1,9 @@
 //! The row of a number, where it explains what does not fit.
-ghost use Rattle.std.specs.Prelude.{◌≡◌, ◌≤◌, ◌↔◌, ◌++◌, ◌∷◌, [], IfErr, IfOk, OnOk, true, unsigned_abs};
+ghost use Rattle.std.specs.Prelude.{◌≡◌, ◌≤◌, ◌↔◌, ◌++◌, ◌∷◌, [], IfErr, IfOk, OnOk, map, true, unsigned_abs};
 ghost use Rattle.std.specs.List.{AllZip};
 ghost use Rattle.th_book.specs.Observed.{largest_difference};
 ghost use Rattle.th_circulation.specs.Best.{IsBest};
-ghost use Rattle.th_explain.specs.Explained.{Explains};
+ghost use Rattle.th_explain.specs.Explained.{Explains, IsExplainedOrNone};
 ghost use Rattle.th_explain.specs.Freed.{cost_of};
 ghost use Rattle.th_network.specs.Networks.{at_points_of};
 ghost use Rattle.th_network.specs.declared.faults.NetFault.TheVariants.{NoMemory};
@@ -14,7 +14,7 @@ use crate::candidates::{Candidate, Label, sight_count};
 use std::alloc::{AllocError, Global};
 use th_circulation::BestHeights;
 use th_explain::laws::{freed_is_one, mistake_explains};
-use th_explain::{Freed, Number, blunders_left, explanation, least_in_reach};
+use th_explain::{Freed, Number, blunders_left, explanations, least_in_reach};
 use th_explanations::{Row, Values};
 use th_network::{NetFault, Network};
 
@@ -36,12 +36,26 @@ pub(crate) fn rows_or_none(
         AllZip (IsRowOrNone network.now cost limit) candidates.now rows.items) }
     ensures refused { IfErr result (λ fault. fault ≡ NoMemory) }
 {
+    let numbers = numbers_of(alloc, candidates)?;
+    let all = explanations(alloc, network, numbers.as_slice(), limit_size(limit))?;
+    let found = all.as_slice();
     let mut rows = Vec::with_capacity(alloc, candidates.len())?;
-    for candidate in candidates {
-        let found = row_or_none(alloc, network, best, cost, candidate, limit)?;
-        add_found(&mut rows, found)?;
+    for k in 0..candidates.len() {
+        let row = row_or_none(alloc, network, best, cost, &candidates[k], &found[k], limit)?;
+        add_found(&mut rows, row)?;
     }
     Ok(rows)
+}
+
+/// What each of some numbers changes.
+fn numbers_of(alloc: Global, candidates: &[Candidate]) -> Result<Vec<Number>, AllocError>
+    ensures { IfOk result (λ numbers. numbers.items ≡ map number_of candidates.now) }
+{
+    let mut numbers = Vec::with_capacity(alloc, candidates.len())?;
+    for candidate in candidates {
+        numbers.push(candidate.number())?;
+    }
+    Ok(numbers)
 }
 
 /// Adds what was found of one more number.
@@ -51,24 +65,24 @@ pub(crate) fn add_found(rows: &mut Vec<Option<Row>>, found: Option<Row>) -> Resu
     rows.extend_from_slice(&[found])
 }
 
-/// The row of a number, where it explains what does not fit.
+/// The row of a number, given what is left if it is freed, where it explains what does not fit.
 fn row_or_none(
     alloc: Global,
     network: &Network,
     best: &BestHeights,
     cost: u128,
     candidate: &Candidate,
+    found: &Option<Freed>,
     limit: i64,
 ) -> Result<Option<Row>, NetFault>
     requires best { IsBest network.now best.now }
     requires cost { cost ≡ cost_of network.now (at_points_of network.now best.now.low) }
+    requires found { IsExplainedOrNone network.now (limit_size limit) (number_of candidate.now) found.now }
     ensures row { IfOk result (IsRowOrNone network.now cost limit candidate.now) }
     ensures refused { IfErr result (λ fault. fault ≡ NoMemory) }
 {
-    let number = candidate.number();
-    let found = explanation(alloc, network, best, cost, &number, limit_size(limit))?;
     match found {
-        Some(freed) => row_if_leading(alloc, network, best, cost, candidate, &freed, limit),
+        Some(freed) => row_if_leading(alloc, network, best, cost, candidate, freed, limit),
         None => Ok(None),
     }
 }

@@ -83,7 +83,7 @@ fn parts_of(alloc: Global, network: &Network) -> Result<Vec<usize>, AllocError>
 {
     let mut parts = each_apart(alloc, network.points().len())?;
     for (station, target) in network.ends() {
-        parts = join(alloc, parts.as_slice(), *station, *target)?;
+        parts = join(alloc, parts, *station, *target)?;
     }
     Ok(parts)
 }
@@ -102,16 +102,21 @@ fn each_apart(alloc: Global, count: usize) -> Result<Vec<usize>, AllocError>
 /// The labels, with that of the station in place of the target's.
 fn join(
     alloc: Global,
-    parts: &[usize],
+    parts: Vec<usize>,
     station: usize,
     target: usize,
 ) -> Result<Vec<usize>, AllocError>
-    requires station { station < length parts.now }
-    requires target { target < length parts.now }
+    requires station { station < length parts.items }
+    requires target { target < length parts.items }
     ensures { IfOk result (λ own. own.items
-        ≡ map (relabelled (get_or parts.now target 0) (get_or parts.now station 0)) parts.now) }
+        ≡ map (relabelled (get_or parts.items target 0) (get_or parts.items station 0)) parts.items) }
 {
-    joined(alloc, parts, parts[target], parts[station])
+    let from = parts[target];
+    let to = parts[station];
+    if from == to {
+        return Ok(parts);
+    }
+    joined(alloc, parts.as_slice(), from, to)
 }
 
 /// The labels, with one in place of another.

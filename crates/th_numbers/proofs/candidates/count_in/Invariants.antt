@@ -5,6 +5,6 @@ use Rattle.th_numbers.proofs.candidates.count_in.Given as goal
 
 abbrev pub invariant-loop-o : goal.invariant-loop-o
 invariant-loop-o l = record {
-  count : l.count ≡ count_by (in_sights l.sights) (take l.o-index l.observations);
+  count : l.count ≡ count_by (in_sights l.sights) (take l.o-index l.own);
   few : l.count ≤ l.o-index;
 }

@@ -6,5 +6,5 @@ use Rattle.th_numbers.proofs.entered.add_entered.Goals as goal
 
 pub loop-entry-preserved : goal.loop-entry-preserved
 loop-entry-preserved c =
-    flat_next (entered_at c.args.observations.now c.args.kind) c.args.entries.now c.loop-entry.entry-index c.entry-item.result c.loop-entry.candidates.items c.add_if_shared.new.candidates.items
-    (c.args.candidates.now.items ++ flat_map (entered_at c.args.observations.now c.args.kind) c.args.entries.now) c.loop-entry-test.true c.entry-item.is c.in_ok-add_if_shared.ensures c.loop-entry.invariant
+    flat_next (entered_at c.args.runs.now.observations.now c.args.kind) c.args.entries.now c.loop-entry.entry-index c.entry-item.result c.loop-entry.candidates.items c.add_if_shared.new.candidates.items
+    (c.args.candidates.now.items ++ flat_map (entered_at c.args.runs.now.observations.now c.args.kind) c.args.entries.now) c.loop-entry-test.true c.entry-item.is c.in_ok-add_if_shared.ensures c.loop-entry.invariant

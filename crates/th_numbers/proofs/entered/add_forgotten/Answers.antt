@@ -1,10 +1,14 @@
-use Rattle.std.proofs.Common.{◌++◌}
-use Rattle.std.specs.List.{flat_map}
+use Rattle.std.proofs.Common.{◌++◌, List, ap, ◌∙◌}
 use Rattle.th_numbers.specs.Lists.{forgotten_at}
-use Rattle.th_numbers.proofs.ListLemmas.{flat_next}
+use Rattle.th_numbers.specs.Readings.{is_used}
+use Rattle.th_numbers.specs.declared.candidates.Candidate.{Candidate}
+use Rattle.th_numbers.proofs.KindLemmas.{not_forgotten, same_made}
 use Rattle.th_numbers.proofs.entered.add_forgotten.Goals as goal
 
-pub loop-entry-preserved : goal.loop-entry-preserved
-loop-entry-preserved c =
-    flat_next (forgotten_at c.args.observations.now c.args.kind c.args.o.now) c.args.entries.now c.loop-entry.entry-index c.entry-item.result c.loop-entry.candidates.items c.add_if_forgotten.new.candidates.items
-    (c.args.candidates.now.items ++ flat_map (forgotten_at c.args.observations.now c.args.kind c.args.o.now) c.args.entries.now) c.loop-entry-test.true c.entry-item.is c.in_ok-add_if_forgotten.ensures c.loop-entry.invariant
+pub returns : goal.returns
+returns c =
+    let observations = c.args.runs.now.observations.now in
+    let kind = c.args.kind in
+    let o = c.args.o.now in
+    c.in_ok-add_among.ensures
+    ∙ ap (λ (rest : List Candidate). c.args.candidates.now.items ++ rest) (same_made (is_used kind o) (forgotten_at observations kind o) (not_forgotten observations kind o) c.around-own.result.now c.args.kinds.now.entries.now c.around-own.ensures)

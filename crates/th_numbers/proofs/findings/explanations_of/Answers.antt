@@ -4,6 +4,7 @@ use Rattle.std.proofs.lemmas.List.{length-map}
 use Rattle.std.specs.List.{AllZip, count_by}
 use Rattle.th_blunders.specs.Blunders.{is_blunder}
 use Rattle.th_blunders.specs.Residuals.{residuals}
+use Rattle.th_entries.specs.declared.entries.Entry.{Entry}
 use Rattle.th_explain.specs.Freed.{cost_of}
 use Rattle.th_explain.specs.Mended.{blunders_at}
 use Rattle.th_explanations.specs.Ranks.{ranked}
@@ -11,7 +12,7 @@ use Rattle.th_explanations.specs.declared.rows.Row.{Row}
 use Rattle.th_network.specs.Heights.{residual}
 use Rattle.th_network.specs.Networks.{at_points_of}
 use Rattle.th_numbers.specs.Explanations.{all_rows, summary_with}
-use Rattle.th_numbers.specs.Lists.{listed_in}
+use Rattle.th_numbers.specs.Lists.{listed_in, listed_of}
 use Rattle.th_numbers.specs.Readings.{IsBookRowOrNone}
 use Rattle.th_numbers.specs.Rows.{IsRowOrNone}
 use Rattle.th_numbers.proofs.FindLemmas.{explained_of}
@@ -37,9 +38,10 @@ returns-clause-explained c =
     ∙ ap (count_by (is_blunder c.args.limit)) (c.deref.ensures.value ∙ c.in_ok-fit.ensures.residuals ∙ ap (λ (low : List ℤ). residuals survey.observations (at_points_of survey low)) c.low.ensures) in
     explained_of survey c.args.reviews.now c.args.limit (record { summary = c.summary_with-summary.result; rows = c.in_ok-rows.rows }) heights tied entries all c.in_ok-fit.fit.cost
     c.as_slice-candidates.result.now books c.in_ok-own.own.items c.in_ok-read.read.items c.in_ok-best.ensures.low are
-    (c.as_slice-entries.ensures.value ∙ c.in_ok-all_entries.ensures) listed cost (c.as_slice-candidates.ensures.value ∙ c.in_ok-all.ensures) (c.as_slice-books.ensures.value ∙ c.in_ok-all_books.ensures)
+    (c.as_slice-entries.ensures.value ∙ c.in_ok-all_entries.ensures) (listed ∙ ap (λ (own : List Entry). listed_of survey own tied) c.in_ok-kinds.ensures) cost (c.as_slice-candidates.ensures.value ∙ c.in_ok-all.ensures) (c.as_slice-books.ensures.value ∙ c.in_ok-all_books.ensures)
     (subst (λ (own : ℤ). AllZip (IsRowOrNone survey c.in_ok-fit.fit.cost own) c.as_slice-candidates.result.now c.in_ok-own.own.items) limit c.in_ok-own.ensures.rows)
-    (subst (λ (own : ℤ). AllZip (IsBookRowOrNone survey entries c.in_ok-fit.fit.cost own) books c.in_ok-read.read.items) limit c.in_ok-read.ensures.rows)
+    (subst (λ (own : ℤ). AllZip (IsBookRowOrNone survey entries c.in_ok-fit.fit.cost own) books c.in_ok-read.read.items) limit
+    (subst (λ (own : List Entry). AllZip (IsBookRowOrNone survey own c.in_ok-fit.fit.cost (to_z w64 (of_z w64 c.args.limit))) books c.in_ok-read.read.items) c.in_ok-kinds.ensures c.in_ok-read.ensures.rows))
     (c.summary_with-summary.ensures ∙ ap (λ (own : ℤ). summary_with c.in_ok-fit.fit.cost c.blunder_count-marked.result all (length books) own) limit
     ∙ ap (λ (own : ℕ). summary_with own c.blunder_count-marked.result all (length books) c.args.limit) cost
     ∙ ap (λ (own : ℕ). summary_with (cost_of survey heights) own all (length books) c.args.limit) marked)

@@ -4,4 +4,4 @@ use Rattle.th_numbers.specs.Lists.{changes, changes_at}
 use Rattle.th_numbers.proofs.listing.changes_of.Given as goal
 
 abbrev pub invariant-loop-o : goal.invariant-loop-o
-invariant-loop-o l = l.found.items ++ flat_map (changes_at l.observations l.entries) (drop l.o-index l.observations) ≡ changes l.observations l.entries
+invariant-loop-o l = l.found.items ++ flat_map (changes_at l.runs.observations.now l.kinds.entries.now) (drop l.o-index l.runs.observations.now) ≡ changes l.runs.observations.now l.kinds.entries.now

@@ -9,12 +9,13 @@ use Rattle.th_numbers.proofs.listing.listing_of.Goals as goal
 pub returns : goal.returns
 returns c =
     let all = c.observations-observations.ensures.observations in
-    let entries = c.args.entries.now in
+    let run = c.of-runs.ensures ∙ all in
+    let entries = c.args.kinds.now.entries.now in
     let (tied, are, is) = c.in_ok-benchmarks.ensures in (
       tied,
       are,
       listed_same _ _ _ _ _ _ _ _
-          (c.in_ok-entered.ensures ∙ ap (λ (os : List Observed). entered os height.Instrument entries ++ entered os height.Reflector entries) all)
-          (c.in_ok-changes.ensures ∙ ap (λ (os : List Observed). changes os entries) all)
+          (c.in_ok-entered.ensures ∙ ap (λ (os : List Observed). entered os height.Instrument entries ++ entered os height.Reflector entries) run)
+          (c.in_ok-changes.ensures ∙ ap (λ (os : List Observed). changes os entries) run)
           (c.in_ok-sights.ensures ∙ ap (map Sight) all) is,
     )

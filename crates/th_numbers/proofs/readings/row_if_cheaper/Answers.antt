@@ -21,7 +21,7 @@ returns-in_err-own-clause-refused c =
     let is : c.from_residual.result ≡ Err c.in_err-own.field-0.0 = search rules in
     let network = subst (IsNetwork c.args.read.items) (sym c.benchmarks.ensures)
     (subst (λ (own : List Observed). IsNetwork own c.args.network.now.benchmarks) (sym c.requires.read)
-    (network_read c.args.entries.now c.args.book.now.number c.args.network.now.observations c.args.network.now.benchmarks c.requires.network)) in
+    (network_read c.args.kinds.now.entries.now c.args.book.now.number c.args.network.now.observations c.args.network.now.benchmarks c.requires.network)) in
     rw is (only_memory {A = Unit {0}} c.args.read.items c.benchmarks.result.now (c.faults_exclude_each_other.ensures.none _ _ network) (Err c.in_err-own.field-0.0) c.in_err-own.ensures.fault)
 
 pub blunder_count-blunders-requires-clause-each : goal.blunder_count-blunders-requires-clause-each
@@ -32,7 +32,7 @@ blunder_count-blunders-requires-clause-each c =
 pub returns-then-not-is_cheaper-clause-row : goal.returns-then-not-is_cheaper-clause-row
 returns-then-not-is_cheaper-clause-row c =
     let survey = c.args.network.now in
-    let entries = c.args.entries.now in
+    let entries = c.args.kinds.now.entries.now in
     let number = c.args.book.now.number in
     let own : Survey = c.in_ok-own.own in
     let same : own ≡ reread entries number survey =
@@ -45,7 +45,7 @@ returns-then-not-is_cheaper-clause-row c =
 pub returns-clause-row : goal.returns-clause-row
 returns-clause-row c =
     let survey = c.args.network.now in
-    let entries = c.args.entries.now in
+    let entries = c.args.kinds.now.entries.now in
     let own : Survey = c.in_ok-own.own in
     let same : own ≡ reread entries c.args.book.now.number survey =
     c.in_ok-own.ensures.survey ∙ ap (λ benchmarks. surveyed c.args.read.items benchmarks c.weight_table.result.now) c.benchmarks.ensures

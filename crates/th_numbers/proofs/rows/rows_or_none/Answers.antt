@@ -1,18 +1,38 @@
-use Rattle.std.proofs.Common.{ℤ, List, of_z, subst, to_z, w64, ◌∙◌}
+use Rattle.std.proofs.Common.{◌≡◌, ◌∙◌, ℕ, ℤ, List, Option, ap, map, get_or, length, of_z, subst, sym, to_z, w64, arith}
 use Rattle.std.proofs.lemmas.Int.{to_z-of_z}
-use Rattle.std.proofs.lemmas.List.{take_all}
+use Rattle.std.proofs.lemmas.List.{length-map, take_all}
+use Rattle.std.proofs.lemmas.Slice.Zip.{AllZip-long}
 use Rattle.std.specs.List.{AllZip}
+use Rattle.th_explain.specs.Explained.{IsExplainedOrNone}
+use Rattle.th_explain.specs.declared.freed.Freed.{Freed}
+use Rattle.th_explain.specs.declared.numbers.Number.{Number}
 use Rattle.th_explain.proofs.ExplainLemmas.{all_zip_next}
-use Rattle.th_numbers.specs.Rows.{IsRowOrNone}
+use Rattle.th_numbers.specs.Candidates.{number_of}
+use Rattle.th_numbers.specs.Rows.{IsRowOrNone, limit_size}
 use Rattle.th_numbers.specs.declared.candidates.Candidate.{Candidate}
+use Rattle.th_numbers.proofs.RowLemmas.{made_at}
 use Rattle.th_numbers.proofs.rows.rows_or_none.Goals as goal
 
-pub loop-candidate-preserved : goal.loop-candidate-preserved
-loop-candidate-preserved c =
-    all_zip_next (IsRowOrNone c.args.network.now c.args.cost (to_z w64 (of_z w64 c.args.limit))) c.args.candidates.now c.loop-candidate.rows.items c.add_found.new.rows.items c.loop-candidate.candidate-index c.candidate-item.result c.in_ok-found.found
-    c.loop-candidate-test.true c.candidate-item.is c.in_ok-add_found.ensures c.loop-candidate.invariant c.in_ok-found.ensures.row
+pub bounds-found-k : goal.bounds-found-k
+bounds-found-k c =
+    omega (arith, ap length c.as_slice-found.ensures.value, AllZip-long _ _ _ c.in_ok-all.ensures.each, ap length c.as_slice.ensures.value, ap length c.in_ok-numbers.ensures, length-map c.args.candidates.now number_of, c.loop-k-test.true)
+
+pub row_or_none-requires-clause-found : goal.row_or_none-requires-clause-found
+row_or_none-requires-clause-found c =
+    let survey = c.args.network.now in
+    let size : ℕ = limit_size (to_z w64 (of_z w64 c.args.limit)) in
+    let all : AllZip (IsExplainedOrNone survey size) (map number_of c.args.candidates.now) c.as_slice-found.result.now =
+    subst (λ (own : List (Option Freed)). AllZip (IsExplainedOrNone survey size) (map number_of c.args.candidates.now) own) (sym c.as_slice-found.ensures.value)
+    (subst (λ (own : List Number). AllZip (IsExplainedOrNone survey size) own c.in_ok-all.all.items) (c.as_slice.ensures.value ∙ c.in_ok-numbers.ensures)
+    (subst (λ (n : ℕ). AllZip (IsExplainedOrNone survey n) c.as_slice.result.now c.in_ok-all.all.items) c.limit_size.ensures c.in_ok-all.ensures.each)) in
+    made_at (IsExplainedOrNone survey size) number_of c.args.candidates.now c.as_slice-found.result.now c.loop-k.k c.index-candidates-k.result _ all c.loop-k-test.true c.index-candidates-k.is
+
+pub loop-k-preserved : goal.loop-k-preserved
+loop-k-preserved c =
+    all_zip_next (IsRowOrNone c.args.network.now c.args.cost (to_z w64 (of_z w64 c.args.limit))) c.args.candidates.now c.loop-k.rows.items c.add_found.new.rows.items c.loop-k.k c.index-candidates-k.result c.in_ok-row.row
+    c.loop-k-test.true c.index-candidates-k.is c.in_ok-add_found.ensures c.loop-k.invariant c.in_ok-row.ensures.row
 
 pub returns-clause-rows : goal.returns-clause-rows
 returns-clause-rows c =
-    subst (λ (limit : ℤ). AllZip (IsRowOrNone c.args.network.now c.args.cost limit) c.args.candidates.now c.loop-candidate.rows.items) (to_z-of_z w64 c.args.limit c.ranges.limit)
-    (subst (λ (own : List Candidate). AllZip (IsRowOrNone c.args.network.now c.args.cost (to_z w64 (of_z w64 c.args.limit))) own c.loop-candidate.rows.items) (take_all c.loop-candidate.candidate-index c.args.candidates.now c.loop-candidate-test.false) c.loop-candidate.invariant)
+    subst (λ (limit : ℤ). AllZip (IsRowOrNone c.args.network.now c.args.cost limit) c.args.candidates.now c.loop-k.rows.items) (to_z-of_z w64 c.args.limit c.ranges.limit)
+    (subst (λ (own : List Candidate). AllZip (IsRowOrNone c.args.network.now c.args.cost (to_z w64 (of_z w64 c.args.limit))) own c.loop-k.rows.items) (take_all c.loop-k.k c.args.candidates.now (omega (arith, c.loop-k-test.false))) c.loop-k.invariant)

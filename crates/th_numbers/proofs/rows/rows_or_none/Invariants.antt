@@ -3,5 +3,5 @@ use Rattle.std.specs.List.{AllZip}
 use Rattle.th_numbers.specs.Rows.{IsRowOrNone}
 use Rattle.th_numbers.proofs.rows.rows_or_none.Given as goal
 
-abbrev pub invariant-loop-candidate : goal.invariant-loop-candidate
-invariant-loop-candidate l = AllZip (IsRowOrNone l.network l.cost l.limit) (take l.candidate-index l.candidates) l.rows.items
+abbrev pub invariant-loop-k : goal.invariant-loop-k
+invariant-loop-k l = AllZip (IsRowOrNone l.network l.cost l.limit) (take l.k l.candidates) l.rows.items

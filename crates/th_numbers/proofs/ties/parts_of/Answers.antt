@@ -17,4 +17,4 @@ loop-station-preserved c =
     let ends : List (ℕ × ℕ) = c.ends-station-items.result.now in
     let at : slice_get (ends_of survey.observations survey.benchmarks) i ≡ Some (get_or ends i (0, 0)) =
     ap (λ (own : List (ℕ × ℕ)). slice_get own i) (sym c.ends-station-items.ensures.ends) ∙ slice_get-get_or ends i (0, 0) c.loop-station-test.true in
-    joined_map survey i (get_or ends i (0, 0)) c.as_slice.result.now c.in_ok-parts-2.parts.items at (subst (AreParts survey i) (sym c.as_slice.ensures.value) c.loop-station.invariant) c.in_ok-parts-2.ensures
+    joined_map survey i (get_or ends i (0, 0)) c.loop-station.parts.items c.in_ok-parts-2.parts.items at c.loop-station.invariant c.in_ok-parts-2.ensures
