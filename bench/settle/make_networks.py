@@ -1,12 +1,12 @@
 #!/usr/bin/env python3
 """Makes the networks of the benchmark.
 
-    make_networks.py FOLDER [--points N] [--observations N] [--towers]
+    make_networks.py FOLDER [--points N] [--observations N] [--blunders N] [--one-wrong] [--towers]
 
 Writes a folder for each network into FOLDER: `book.gsi`, `benchmarks.csv` and `weights.csv`, which `settle` is given, and `network.txt`,
 the same network by vertices, for other solvers: the numbers of vertices and links, and then a line 'tail head difference weight' for each
 link (vertex 0 stands for all benchmarks; lengths in units of 10 nm). Each kind is made with weights of 1 and with weights of 1 to 1,000.
-One observation in twenty is a blunder. With --towers it makes two networks that are hard for the guide.
+One observation in twenty is a blunder; --blunders says in how many, and 0 that none is. With --one-wrong the middle one is wrong by a metre. With --towers it makes two networks that are hard for the guide.
 """
 
 import argparse
@@ -25,6 +25,7 @@ MOST_IN_WORD = 10_000 * STEPS_PER_METRE
 SPREAD_IN_STEPS = 60
 BLUNDERS_IN = 20
 MAX_WEIGHT = 1_000
+blunders_in = BLUNDERS_IN
 # The sights of a tower.
 TOWER = 100
 
@@ -44,7 +45,7 @@ def sighted(pairs: List[Pair], heights: List[int], rng: Random) -> List[int]:
     rises = []
     for tail, head in pairs:
         rise = heights[head] - heights[tail] + round(rng.gauss(0, SPREAD_IN_STEPS))
-        if rng.randrange(BLUNDERS_IN) == 0:
+        if blunders_in and rng.randrange(blunders_in) == 0:
             rise += rng.choice((-1, 1)) * rng.choice((100, 1_000, 10_000, rng.randrange(100, 100_000), rng.randrange(1_000_000)))
         rises.append(rise)
     return rises
@@ -225,12 +226,14 @@ def write(folder: Path, network: Network, weights: Dict[Pair, int]) -> None:
     (folder / "network.txt").write_text(f"{count} {len(lines)}\n" + "".join(lines))
 
 
-def make(folder: Path, points: int, observations: int) -> List[Path]:
+def make(folder: Path, points: int, observations: int, one_wrong: bool = False) -> List[Path]:
     """The folders of the networks, one for each kind and greatest weight."""
     folders = []
     for number, (kind, build) in enumerate(KINDS.items()):
         rng = Random(SEED + number)
         network = connected(build(points, observations, rng))
+        if one_wrong:
+            network.rises[len(network.rises) // 2] += STEPS_PER_METRE
         for most in (1, MAX_WEIGHT):
             folders.append(folder / f"{kind}, weights to {most}")
             write(folders[-1], network, {pair: rng.randint(1, most) for pair in sorted(set(network.pairs))})
@@ -262,16 +265,20 @@ def make_towers(folder: Path, points: int, observations: int) -> None:
 
 
 def main() -> int:
+    global blunders_in
     parser = argparse.ArgumentParser(description="Makes the networks of the benchmark.")
     parser.add_argument("folder", type=Path)
     parser.add_argument("--points", type=int, default=400)
     parser.add_argument("--observations", type=int, default=4_000)
+    parser.add_argument("--blunders", type=int, default=BLUNDERS_IN, help="one observation in so many is a blunder; 0: none")
+    parser.add_argument("--one-wrong", action="store_true", help="one observation is wrong by a metre")
     parser.add_argument("--towers", action="store_true", help="towers in place of the networks of all kinds")
     chosen = parser.parse_args()
+    blunders_in = chosen.blunders
     if chosen.towers:
         make_towers(chosen.folder, chosen.points, chosen.observations)
     else:
-        make(chosen.folder, chosen.points, chosen.observations)
+        make(chosen.folder, chosen.points, chosen.observations, chosen.one_wrong)
     return 0
 
 
