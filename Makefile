@@ -164,6 +164,7 @@ bench: build
 	@bench/adjust/run --program $(PROGRAM)
 	@bench/review/run --program $(PROGRAM)
 	@bench/explain/run --program $(PROGRAM)
+	@bench/explain/run --program $(PROGRAM)
 	@$(MAKE) --no-print-directory hostile
 
 SHARE = $(DESTDIR)$(PREFIX)/share
