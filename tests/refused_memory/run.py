@@ -53,12 +53,12 @@ MISREAD_CERTIFICATE = (b"kind,key,value\nV,2,3\nH,A,100.00000000\nH,B,102.546000
                        b"L,A,100.00000000\nL,B,102.54600000\nU,A,100.00000000\nU,B,102.54600000\n"
                        b"F,1,-1\nF,2,0\nF,3,1\nZ,cost,100000000\n")
 # What a mistake would do in them: each of three sights of B is outvoted by the others, and two alone tie B in the triangle.
-MISREAD_MISTAKES = (b"number,book,line,from,to,difference,weight,residual,control,mistake\n"
-                    b"1,1,2,A,B,2.54500000,1,-0.00100000,2,shows\n2,1,3,A,B,2.54600000,1,0.00000000,2,shows\n"
-                    b"3,1,4,A,B,3.54500000,1,0.99900000,2,shows\n")
-TRIANGLE_MISTAKES = (b"number,book,line,from,to,difference,weight,residual,control,mistake\n"
-                     b"1,1,2,A,B,1.00000000,1,0.00000000,1,ties\n2,1,4,B,C,1.00000000,1,0.00000000,1,ties\n"
-                     b"3,1,6,C,A,-2.00000000,1,0.00000000,2,shows\n4,1,8,A,C,2.50000000,1,0.50000000,2,shows\n")
+MISREAD_MISTAKES = (b"number,book,line,from,to,difference,weight,residual,control,mistake,moves,blames,blamed\n"
+                    b"1,1,2,A,B,2.54500000,1,-0.00100000,2,shows,,,\n2,1,3,A,B,2.54600000,1,0.00000000,2,shows,,,\n"
+                    b"3,1,4,A,B,3.54500000,1,0.99900000,2,shows,,,\n")
+TRIANGLE_MISTAKES = (b"number,book,line,from,to,difference,weight,residual,control,mistake,moves,blames,blamed\n"
+                     b"1,1,2,A,B,1.00000000,1,0.00000000,1,ties,1,1,2\n2,1,4,B,C,1.00000000,1,0.00000000,1,ties,1,1,1\n"
+                     b"3,1,6,C,A,-2.00000000,1,0.00000000,2,shows,,,\n4,1,8,A,C,2.50000000,1,0.50000000,2,shows,,,\n")
 DIFFERENCES_BOOK = (b"*110001+000000000000000A 84..40+0000000000000000 87..48+0000000000000000 88..48+0000000000000000 \r\n"
                     b"*110002+000000000000000B 33..48+0000000000150000 \r\n"
                     b"*110003+000000000000000C 33..48-0000000000000001 \r\n")
