@@ -15,6 +15,8 @@ SHARED_MARKS = {None: "", "shows": "", "ties": "  =", "drags": "  <", "unchecked
 ANY_BLAME = Blame(0, 0, None)  # where the network is too large for all of its sets to be tried
 FIRST_RECORD = 2  # the header is record 1
 MEASURED_INDEXES = (b"21", b"22", b"31", b"32")  # angles and distances
+MOST_LISTED = 1_000  # notes of a kind
+MOST_COMPARED = 200_000  # setups and sights whose names are compared
 
 
 class BookCount(NamedTuple):
@@ -84,6 +86,12 @@ def count_of(book: bytes) -> BookCount:
 # Notes
 
 
+def limited(notes: List[str], kind: str) -> List[str]:
+    """The notes of a kind, as many as are listed, and one that counts the rest."""
+    rest = len(notes) - MOST_LISTED
+    return notes[:MOST_LISTED] + ([f"and {rest} more: {kind}"] if rest > 0 else [])
+
+
 def without_sight(counts: List[BookCount]) -> List[str]:
     return [f"book {number}: no sight in {count.blocks} blocks" for number, count in enumerate(counts, start=1) if count.sights == 0]
 
@@ -116,7 +124,7 @@ def lookalikes(books: List[bytes]) -> List[str]:
                 notes.append(f"book {number} line {line}: looks like a setup, but has no word 84, 85 or 86")
             if reader.is_setup(words):
                 station = reader.name_of(words[0].data)
-    return notes
+    return limited(notes, "lines that look like setups")
 
 
 def unused_weights(network: Network, weights: Dict[Pair, int]) -> List[str]:
@@ -128,29 +136,32 @@ def unused_weights(network: Network, weights: Dict[Pair, int]) -> List[str]:
         one, other = station.decode("ascii"), target.decode("ascii")
         also = f", but {other} to {one} was" if (target, station) in observed else ""
         notes.append(f"weights record {record}: {one} to {other} was never observed{also}")
-    return notes
+    return limited(notes, "weights records never observed")
 
 
 def unseen_benchmarks(network: Network) -> List[str]:
     seen = {name for own in network.observations for name in (own.station, own.target)}
-    return [f"benchmarks record {record}: {name.decode('ascii')} was never observed"
-            for record, name in enumerate(network.benchmarks, start=FIRST_RECORD) if name not in seen]
+    notes = [f"benchmarks record {record}: {name.decode('ascii')} was never observed"
+             for record, name in enumerate(network.benchmarks, start=FIRST_RECORD) if name not in seen]
+    return limited(notes, "benchmarks records never observed")
 
 
 def other_spellings(books: List[bytes]) -> List[str]:
     first: Dict[bytes, bytes] = {}
     noted = set()
     notes = []
+    compared = 0
     for number, book in enumerate(books, start=1):
         for line, words in blocks_of(book):
-            if not (reader.is_sight(words) or reader.is_setup(words)):
+            if compared == MOST_COMPARED or not (reader.is_sight(words) or reader.is_setup(words)):
                 continue
+            compared += 1
             spelling = words[0].data
             name = reader.name_of(spelling)
             if first.setdefault(name, spelling) != spelling and name not in noted:
                 noted.add(name)
                 notes.append(f"book {number} line {line}: {name.decode('ascii')} is spelled in another way than before")
-    return notes
+    return limited(notes, "names spelled in another way than before")
 
 
 def review_of(network: Network, low: Heights, high: Heights, limit: int, books: List[bytes], weights: Dict[Pair, int]) -> Review:

@@ -3,7 +3,7 @@ use std::alloc::Global;
 use std::process::Abort;
 use th_book::BookFeed;
 use th_entries::HeightKind::{Instrument, Reflector};
-use th_entries::{BookCount, BookReview, Entry, HeightKind, SeenNames, Tally};
+use th_entries::{BookCount, BookReview, Entry, HeightKind, MAX_LISTED, SeenNames, Tally};
 
 /// An entry's line, kind, station, length in units of 10 nm, how many sights use it, and the last of
 /// their lines.
@@ -421,7 +421,8 @@ fn is_review(rt: &impl Abort, review: &BookReview, row: &Row) {
     for (entry, wanted) in review.entries.iter().zip(row.2) {
         is_entry(rt, entry, wanted);
     }
-    assert!(rt; review.lookalikes.as_slice() == row.3);
+    assert!(rt; review.lookalikes.first.as_slice() == row.3);
+    assert_eq!(rt; review.lookalikes.count as usize, row.3.len());
 }
 
 #[test]
@@ -461,4 +462,18 @@ fn last_line_without_end(rt: HostRuntime) {
     text.pop();
     is_review(&rt, &reviewed(&rt, rt.alloc(), &text, 4_096), row);
     is_review(&rt, &reviewed(&rt, rt.alloc(), &text, 16), row);
+}
+
+// Three more lines that look like setups than are listed.
+#[test]
+fn most_lookalikes(rt: HostRuntime) {
+    let mut text = Vec::new(rt.alloc());
+    for _ in 0..MAX_LISTED + 3 {
+        text.extend_from_slice(b"110001+0000000C 88..10+00001500 \n")
+            .expect(&rt, "memory");
+    }
+    let lookalikes = reviewed(&rt, rt.alloc(), &text, 4_096).lookalikes;
+    assert_eq!(&rt; lookalikes.count as usize, MAX_LISTED + 3);
+    assert_eq!(&rt; lookalikes.first.len(), MAX_LISTED);
+    assert_eq!(&rt; lookalikes.first[MAX_LISTED - 1] as usize, MAX_LISTED);
 }

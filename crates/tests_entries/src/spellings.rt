@@ -2,7 +2,7 @@
 use std::alloc::Global;
 use std::process::Abort;
 use th_book::BookFeed;
-use th_entries::{SeenNames, Spelling, Tally};
+use th_entries::{Listed, MAX_LISTED, MAX_MENTIONS, SeenNames, Spelling, Tally};
 
 /// The lines of books, and the book, the line and the name of each spelling that is found.
 type Row = (
@@ -152,9 +152,10 @@ fn seen(
 }
 
 /// The spellings that were found are those that are wanted.
-fn are_found(rt: &impl Abort, found: &[Spelling], wanted: &[(u32, u32, &'static [u8])]) {
-    assert_eq!(rt; found.len(), wanted.len());
-    for (spelling, (book, line, name)) in found.iter().zip(wanted) {
+fn are_found(rt: &impl Abort, found: &Listed<Spelling>, wanted: &[(u32, u32, &'static [u8])]) {
+    assert_eq!(rt; found.count as usize, wanted.len());
+    assert_eq!(rt; found.first.len(), wanted.len());
+    for (spelling, (book, line, name)) in found.first.iter().zip(wanted) {
         assert_eq!(rt; spelling.book, *book);
         assert_eq!(rt; spelling.line, *line);
         assert!(rt; spelling.name.as_bytes() == *name, "at {book} {line}");
@@ -198,4 +199,50 @@ fn most_names(rt: HostRuntime) {
         names.found(),
         &[(1, MOST_SIGHTS + 2, b"40000" as &[u8])],
     );
+}
+
+// Names in two spellings each, three more than are listed.
+#[test]
+fn most_spellings(rt: HostRuntime) {
+    let many = MAX_LISTED as u32 + 3;
+    let mut feed = BookFeed::new(rt.alloc(), 1);
+    let mut tally = Tally::new(rt.alloc(), 1, SeenNames::new(rt.alloc()));
+    let mut digits = *b"00000000";
+    for _ in 0..many {
+        count_up(&mut digits);
+        let wide: &[u8] = b" 84..10+0000000000000000 \n";
+        for part in [b"110001+", &digits as &[u8], b" 84..10+00000000 \n*110001+00000000", &digits, wide] {
+            feed.feed_to(part, &mut tally).expect(&rt, "memory");
+        }
+    }
+    feed.finish_to(&mut tally).expect(&rt, "no fault");
+    let (_, names) = tally.review().expect(&rt, "memory");
+    let found = names.found();
+    assert_eq!(&rt; found.count, many);
+    assert_eq!(&rt; found.first.len(), MAX_LISTED);
+    assert_eq!(&rt; found.first[0].line, 2);
+    assert_eq!(&rt; found.first[MAX_LISTED - 1].line, 2 * MAX_LISTED as u32);
+}
+
+/// How many spellings are found where the last of so many mentions spells a name in another way.
+fn found_at(rt: &impl Abort, alloc: Global, mentions: u32) -> u32 {
+    assert!(rt; mentions >= 2);
+    let mut feed = BookFeed::new(alloc, 1);
+    let mut tally = Tally::new(alloc, 1, SeenNames::new(alloc));
+    for _ in 1..mentions {
+        feed.feed_to(b"110001+0000000A 84..10+00000000 \n", &mut tally)
+            .expect(rt, "memory");
+    }
+    feed.feed_to(b"110001+       A 84..10+00000000 \n", &mut tally)
+        .expect(rt, "memory");
+    feed.finish_to(&mut tally).expect(rt, "no fault");
+    let (_, names) = tally.review().expect(rt, "memory");
+    names.found().count
+}
+
+// The last mention that is compared, and the first one that is not.
+#[test]
+fn most_mentions(rt: HostRuntime) {
+    assert_eq!(&rt; found_at(&rt, rt.alloc(), MAX_MENTIONS), 1);
+    assert_eq!(&rt; found_at(&rt, rt.alloc(), MAX_MENTIONS + 1), 0);
 }

@@ -1,3 +1,4 @@
+mod ListedLemmas
 mod BelowLemmas
 mod Uses
 mod Continued

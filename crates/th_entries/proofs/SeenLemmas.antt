@@ -1,21 +1,24 @@
 -- What is known of names after one more mention.
-use Rattle.std.proofs.Common.{◌≡◌, Bool, true, false, cond, not, ◌||◌, List, ℕ, [], ◌∷◌, ◌++◌, Option, Some, None, map, refl, sym, ap, ◌∙◌, subst}
+use Rattle.std.proofs.Common.{◌≡◌, Bool, true, false, cond, not, ◌||◌, ◌⊎◌, inl, inr, ◌<◌, ◌≤◌, ◌+◌, List, ℕ, [], ◌∷◌, ◌++◌, Option, Some, None, length, length-append, map, refl, sym, ap, ◌∙◌, subst, arith}
 use Rattle.std.specs.Prelude.{bytes_eq, find, slice_get}
 use Rattle.std.specs.List.{list_any}
 use Rattle.std.specs.Option.{option_map, option_map_or, option_or}
 use Rattle.std.specs.Cmp.Lexicographic.{bytes_decides}
-use Rattle.std.proofs.lemmas.List.{append-nil}
+use Rattle.std.proofs.lemmas.List.{append-nil, take-append-le, take_all}
 use Rattle.std.proofs.lemmas.List.Elements.{All-filter}
 use Rattle.std.proofs.lemmas.List.Folds.{find-append, list_any_none}
-use Rattle.gsi_word.specs.Words.{parts_of}
+use Rattle.gsi_word.specs.Words.{Parts, parts_of}
 use Rattle.gsi_word.specs.Names.{same_name}
 use Rattle.gsi_word.specs.declared.words.Word.{Word}
 use Rattle.th_book.specs.declared.entries.Entered.{Entered}
-use Rattle.th_entries.specs.Spellings.{Mention, differing, differs, is_of}
-use Rattle.th_entries.specs.Seen.{AreSeenIn, spelled_at, spelled_in}
+use Rattle.th_entries.specs.Limits.{max_mentions}
+use Rattle.th_entries.specs.Listed.{IsListed}
+use Rattle.th_entries.specs.Spellings.{Mention, differing, differs, is_of, spellings_in}
+use Rattle.th_entries.specs.Seen.{AreKnownIn, AreSeenIn, spelled_at, spelled_in}
 use Rattle.th_entries.specs.Inside.Seen.{mention_by}
 use Rattle.th_entries.specs.declared.seen.SeenNames.{SeenNames}
 use Rattle.th_entries.specs.declared.seen.Spelled.{Spelled}
+use Rattle.th_entries.specs.declared.spellings.Spelling.{Spelling}
 use Rattle.th_entries.specs.declared.seen.Spelled.TheVariants.{Alike, Otherwise}
 use Rattle.th_entries.proofs.MentionLemmas.{any-push, flip, found-push, found_with, is_other, itself, none-passes, was_other}
 
@@ -30,6 +33,12 @@ mention_by-is book line entered (own ∷ words) word name first named =
 
     same : own ≡ word
     same = cc
+
+-- there is none without a first word, or without a station and a target
+pub no_mention : (book line : ℕ) (entered : Entered) (words : List Parts) → (slice_get words 0 ≡ None) ⊎ (option_or entered.target entered.station ≡ None) → mention_by book line entered words ≡ None
+no_mention book line entered [] none = refl
+no_mention book line entered (word ∷ words) (inl none) = absurd (cc)
+no_mention book line entered (word ∷ words) (inr none) = ap (option_map (λ (name : List ℕ). record { here = record { book = book; line = line; name = name }; bytes = word.body })) none
 
 or_false : (b : Bool) → (b || false) ≡ b
 or_false true = refl
@@ -92,9 +101,9 @@ other-first : (mentions : List Mention) (mention : Mention) → is_other mention
 other-first mentions mention = ap (λ found. option_map_or (differs_from mention) found false) (find-push mentions mention)
 
 -- what a map says of all names, and what was found, are those of one more mention
-seen-next : (mentions : List Mention) (mention : Mention) (old new : SeenNames) → AreSeenIn mentions old → new.found.items ≡ old.found.items ++ found_with mentions mention → ((name : List ℕ) → same_name mention.here.name name ≡ false → spelled_at new name ≡ spelled_at old name) → spelled_at new mention.here.name ≡ option_map (spelled_by (was_other mentions mention || is_other mentions mention)) (first_of mentions mention) → AreSeenIn (mentions ++ mention ∷ []) new
+seen-next : (mentions : List Mention) (mention : Mention) (old new : SeenNames) → AreKnownIn mentions old → IsListed (spellings_in mentions ++ found_with mentions mention) new.found → ((name : List ℕ) → same_name mention.here.name name ≡ false → spelled_at new name ≡ spelled_at old name) → spelled_at new mention.here.name ≡ option_map (spelled_by (was_other mentions mention || is_other mentions mention)) (first_of mentions mention) → AreKnownIn (mentions ++ mention ∷ []) new
 seen-next mentions mention old new was found others own = record {
-  found = found ∙ ap (λ front. front ++ found_with mentions mention) was.found ∙ sym (found-push mentions mention);
+  found = subst (λ (all : List Spelling). IsListed all new.found) (sym (found-push mentions mention)) found;
   spelled = λ name. go name (same_name mention.here.name name) refl;
 }
   where
@@ -102,16 +111,22 @@ seen-next mentions mention old new was found others own = record {
     go name true e = subst (λ own. spelled_at new own ≡ spelled_in (mentions ++ mention ∷ []) own) ((bytes_decides mention.here.name name).0 e) (own ∙ sym (spelled-own mentions mention))
     go name false e = others name e ∙ was.spelled name ∙ sym (spelled-other mentions mention name (flip name mention.here.name ∙ e))
 
+-- nothing more was found
+found_none : (mentions : List Mention) (mention : Mention) (old new : SeenNames) → AreKnownIn mentions old → found_with mentions mention ≡ [] → new.found ≡ old.found → IsListed (spellings_in mentions ++ found_with mentions mention) new.found
+found_none mentions mention old new was none same =
+    subst (λ (all : List Spelling). IsListed all new.found) (sym (append-nil (spellings_in mentions)) ∙ ap (λ last. spellings_in mentions ++ last) (sym none))
+    (subst (IsListed (spellings_in mentions)) (sym same) was.found)
+
 -- a map that did not change says the same of each name
-unchanged : (mentions : List Mention) (mention : Mention) (names : SeenNames) → AreSeenIn mentions names → found_with mentions mention ≡ [] → spelled_at names mention.here.name ≡ option_map (spelled_by (was_other mentions mention || is_other mentions mention)) (first_of mentions mention) → AreSeenIn (mentions ++ mention ∷ []) names
+unchanged : (mentions : List Mention) (mention : Mention) (names : SeenNames) → AreKnownIn mentions names → found_with mentions mention ≡ [] → spelled_at names mention.here.name ≡ option_map (spelled_by (was_other mentions mention || is_other mentions mention)) (first_of mentions mention) → AreKnownIn (mentions ++ mention ∷ []) names
 unchanged mentions mention names was none own =
-    seen-next mentions mention names names was (sym (append-nil names.found.items) ∙ ap (λ last. names.found.items ++ last) (sym none)) (λ name other. refl) own
+    seen-next mentions mention names names was (found_none mentions mention names names was none refl) (λ name other. refl) own
 
 -- a name that no mention is of
-pub first-seen : (mentions : List Mention) (mention : Mention) (old new : SeenNames) → AreSeenIn mentions old → spelled_at old mention.here.name ≡ None → new.found.items ≡ old.found.items → ((name : List ℕ) → same_name mention.here.name name ≡ false → spelled_at new name ≡ spelled_at old name) → spelled_at new mention.here.name ≡ Some (Alike (record { items = mention.bytes })) → AreSeenIn (mentions ++ mention ∷ []) new
+pub first-seen : (mentions : List Mention) (mention : Mention) (old new : SeenNames) → AreKnownIn mentions old → spelled_at old mention.here.name ≡ None → new.found ≡ old.found → ((name : List ℕ) → same_name mention.here.name name ≡ false → spelled_at new name ≡ spelled_at old name) → spelled_at new mention.here.name ≡ Some (Alike (record { items = mention.bytes })) → AreKnownIn (mentions ++ mention ∷ []) new
 first-seen mentions mention old new was none found others own =
     seen-next mentions mention old new was
-    (found ∙ sym (append-nil old.found.items) ∙ ap (λ last. old.found.items ++ last) (sym (ap (λ other. cond other (cond (was_other mentions mention) [] (mention.here ∷ [])) []) alike)))
+    (found_none mentions mention old new was (ap (λ (other : Bool). cond other (cond (was_other mentions mention) [] (mention.here ∷ [])) []) alike) found)
     others
     (own ∙ ap (λ differing. Some (spelled_by differing mention)) (sym (ap (λ before. before || is_other mentions mention) before ∙ alike)) ∙ ap (option_map (spelled_by (was_other mentions mention || is_other mentions mention))) (sym first))
   where
@@ -132,7 +147,7 @@ first-seen mentions mention old new was none found others own =
     alike = other-first mentions mention ∙ ap (λ found. option_map_or (differs_from mention) found false) first ∙ ap not (itself mention.bytes)
 
 -- a name of which some mention differs
-pub seen-otherwise : (mentions : List Mention) (mention : Mention) (names : SeenNames) → AreSeenIn mentions names → spelled_at names mention.here.name ≡ Some Otherwise → AreSeenIn (mentions ++ mention ∷ []) names
+pub seen-otherwise : (mentions : List Mention) (mention : Mention) (names : SeenNames) → AreKnownIn mentions names → spelled_at names mention.here.name ≡ Some Otherwise → AreKnownIn (mentions ++ mention ∷ []) names
 seen-otherwise mentions mention names was known =
     go (find (is_of mention.here.name) mentions) (was_other mentions mention) refl refl (sym (was.spelled mention.here.name) ∙ known)
   where
@@ -140,7 +155,7 @@ seen-otherwise mentions mention names was known =
     nothing true = refl
     nothing false = refl
 
-    go : (found : Option Mention) (before : Bool) → find (is_of mention.here.name) mentions ≡ found → was_other mentions mention ≡ before → option_map (spelled_by before) found ≡ Some Otherwise → AreSeenIn (mentions ++ mention ∷ []) names
+    go : (found : Option Mention) (before : Bool) → find (is_of mention.here.name) mentions ≡ found → was_other mentions mention ≡ before → option_map (spelled_by before) found ≡ Some Otherwise → AreKnownIn (mentions ++ mention ∷ []) names
     go None before f b e = absurd (cc)
     go (Some first) false f b e = absurd (cc)
     go (Some first) true f b e =
@@ -160,7 +175,7 @@ bytes_in None = []
 bytes_in (Some (Alike own)) = own.items
 bytes_in (Some Otherwise) = []
 
-is-first : (mentions : List Mention) (mention : Mention) (names : SeenNames) (bytes : List ℕ) → AreSeenIn mentions names → spelled_at names mention.here.name ≡ Some (Alike (record { items = bytes })) → IsFirst mentions mention bytes
+is-first : (mentions : List Mention) (mention : Mention) (names : SeenNames) (bytes : List ℕ) → AreKnownIn mentions names → spelled_at names mention.here.name ≡ Some (Alike (record { items = bytes })) → IsFirst mentions mention bytes
 is-first mentions mention names bytes was known =
     go (find (is_of mention.here.name) mentions) (was_other mentions mention) refl refl (sym (was.spelled mention.here.name) ∙ known)
   where
@@ -178,7 +193,7 @@ differs-first mentions mention bytes same is e =
     ∙ ap not e
 
 -- data that are the same once more
-pub seen-alike : (mentions : List Mention) (mention : Mention) (names : SeenNames) (bytes : List ℕ) → AreSeenIn mentions names → spelled_at names mention.here.name ≡ Some (Alike (record { items = bytes })) → bytes_eq bytes mention.bytes ≡ true → AreSeenIn (mentions ++ mention ∷ []) names
+pub seen-alike : (mentions : List Mention) (mention : Mention) (names : SeenNames) (bytes : List ℕ) → AreKnownIn mentions names → spelled_at names mention.here.name ≡ Some (Alike (record { items = bytes })) → bytes_eq bytes mention.bytes ≡ true → AreKnownIn (mentions ++ mention ∷ []) names
 seen-alike mentions mention names bytes was known same =
     unchanged mentions mention names was
     (ap (λ (other : Bool). cond other (cond (was_other mentions mention) [] (mention.here ∷ [])) []) alike)
@@ -191,10 +206,12 @@ seen-alike mentions mention names bytes was known same =
     alike = differs-first mentions mention bytes true is same
 
 -- other data for the first time
-pub seen-differing : (mentions : List Mention) (mention : Mention) (old new : SeenNames) (bytes : List ℕ) → AreSeenIn mentions old → spelled_at old mention.here.name ≡ Some (Alike (record { items = bytes })) → bytes_eq bytes mention.bytes ≡ false → new.found.items ≡ old.found.items ++ mention.here ∷ [] → ((name : List ℕ) → same_name mention.here.name name ≡ false → spelled_at new name ≡ spelled_at old name) → spelled_at new mention.here.name ≡ Some Otherwise → AreSeenIn (mentions ++ mention ∷ []) new
+pub seen-differing : (mentions : List Mention) (mention : Mention) (old new : SeenNames) (bytes : List ℕ) → AreKnownIn mentions old → spelled_at old mention.here.name ≡ Some (Alike (record { items = bytes })) → bytes_eq bytes mention.bytes ≡ false → ((all : List Spelling) → IsListed all old.found → IsListed (all ++ mention.here ∷ []) new.found) → ((name : List ℕ) → same_name mention.here.name name ≡ false → spelled_at new name ≡ spelled_at old name) → spelled_at new mention.here.name ≡ Some Otherwise → AreKnownIn (mentions ++ mention ∷ []) new
 seen-differing mentions mention old new bytes was known differ found others own =
     seen-next mentions mention old new was
-    (found ∙ ap (λ last. old.found.items ++ last) (sym (ap (λ (other : Bool). cond other (cond (was_other mentions mention) [] (mention.here ∷ [])) []) other ∙ ap (λ (before : Bool). cond before [] (mention.here ∷ [])) is.before)))
+    (subst (λ (all : List Spelling). IsListed all new.found)
+    (ap (λ last. spellings_in mentions ++ last) (sym (ap (λ (other : Bool). cond other (cond (was_other mentions mention) [] (mention.here ∷ [])) []) other ∙ ap (λ (before : Bool). cond before [] (mention.here ∷ [])) is.before)))
+    (found (spellings_in mentions) was.found))
     others
     (own ∙ sym (ap (λ found. option_map (spelled_by (was_other mentions mention || is_other mentions mention)) found) is.found ∙ ap (λ differing. Some (spelled_by differing is.first)) (ap (λ before. before || is_other mentions mention) is.before ∙ other)))
   where
@@ -203,3 +220,24 @@ seen-differing mentions mention old new bytes was known differ found others own 
 
     other : is_other mentions mention ≡ true
     other = differs-first mentions mention bytes false is differ
+
+-- one more mention, while they are compared
+pub seen-compared : (mentions : List Mention) (mention : Mention) (old new : SeenNames) → AreSeenIn mentions old → old.taken < 200000 → new.taken ≡ old.taken + 1 → (AreKnownIn mentions old → AreKnownIn (mentions ++ mention ∷ []) new) → AreSeenIn (mentions ++ mention ∷ []) new
+seen-compared mentions mention old new was room taken known =
+    let long : length (mentions ++ mention ∷ []) ≡ length mentions + 1 = length-append mentions (mention ∷ []) in
+    let few : length mentions < max_mentions = omega (arith, was.taken, room) in
+    record {
+      known = subst (λ (all : List Mention). AreKnownIn all new) (sym (take_all max_mentions (mentions ++ mention ∷ []) (omega (arith, long, few))))
+          (known (subst (λ (all : List Mention). AreKnownIn all old) (take_all max_mentions mentions (omega (arith, few))) was.known));
+      taken = omega (arith, was.taken, room, taken, long);
+    }
+
+-- one more when no more are
+pub seen-past : (mentions : List Mention) (mention : Mention) (names : SeenNames) → AreSeenIn mentions names → 200000 ≤ names.taken → AreSeenIn (mentions ++ mention ∷ []) names
+seen-past mentions mention names was full =
+    let long : length (mentions ++ mention ∷ []) ≡ length mentions + 1 = length-append mentions (mention ∷ []) in
+    let many : max_mentions ≤ length mentions = omega (arith, was.taken, full) in
+    record {
+      known = subst (λ (all : List Mention). AreKnownIn all names) (sym (take-append-le max_mentions mentions (mention ∷ []) many)) was.known;
+      taken = omega (arith, was.taken, full, long);
+    }

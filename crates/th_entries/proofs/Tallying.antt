@@ -17,6 +17,7 @@ use Rattle.th_book.specs.declared.entries.Entered.{Entered}
 use Rattle.th_book.specs.declared.setups.Setup.{Setup}
 use Rattle.th_book.specs.Indexes.{instrument_height}
 use Rattle.th_entries.specs.Below.{all_below, count_below}
+use Rattle.th_entries.specs.Listed.{IsListed}
 use Rattle.th_entries.specs.Reviews.{is_block, is_lookalike, is_measured, resembles_setup}
 use Rattle.th_entries.specs.Spellings.{Mention, mention_in, mentions_at}
 use Rattle.th_entries.specs.Seen.{AreSeenIn}
@@ -78,10 +79,11 @@ block-taken names number parsed n running old mid new small block sound between 
   book = has.book ∙ ap (λ (tally : Tally). tally.book) between ∙ was.book;
   counts = has.counts ∙ ap (λ (tally : Tally). with_block entered tally.counts) between ∙ ap (λ own. with_block entered (with_line own)) was.counts ∙ counts;
   entered = subst (IsEntering number parsed (suc n)) (sym after) (entering-more number parsed n running (entering old) small sound.whole runs was.entered);
-  lookalikes = has.lookalikes ∙ ap (λ (tally : Tally). tally.lookalikes.items ++ line_if (looks words entered station) tally.counts.lines) between
-      ∙ ap (λ own. own ++ line_if (looks words entered station) (one_more old.counts.lines)) was.lookalikes
+  lookalikes = subst (λ (lines : List ℕ). IsListed lines new.lookalikes)
+      (ap (λ (tally : Tally). lookalikes_below parsed n ++ line_if (looks words entered station) tally.counts.lines) between
       ∙ ap (λ own. lookalikes_below parsed n ++ line_if own (one_more old.counts.lines)) (looks_same parsed n station (station_same parsed n (setup_of parsed n) running runs) sound.whole)
-      ∙ ap (λ own. lookalikes_below parsed n ++ line_if (is_lookalike parsed n) own) line;
+      ∙ ap (λ own. lookalikes_below parsed n ++ line_if (is_lookalike parsed n) own) line)
+      (has.lookalikes (lookalikes_below parsed n) (subst (λ (tally : Tally). IsListed (lookalikes_below parsed n) tally.lookalikes) (sym between) was.lookalikes));
 }
   where
     words : List Parts
@@ -127,7 +129,7 @@ blank-taken names number parsed n old counts small block blank more was = record
   book = was.book;
   counts = more ∙ ap with_line was.counts ∙ same;
   entered = entering-blank number parsed n (entering old) blank was.entered;
-  lookalikes = was.lookalikes ∙ sym (append-nil (lookalikes_below parsed n)) ∙ ap (λ own. lookalikes_below parsed n ++ line_if own (n + 1)) (sym none);
+  lookalikes = subst (λ (lines : List ℕ). IsListed lines old.lookalikes) (sym (append-nil (lookalikes_below parsed n)) ∙ ap (λ own. lookalikes_below parsed n ++ line_if own (n + 1)) (sym none)) was.lookalikes;
 }
   where
     mentioned : List Mention

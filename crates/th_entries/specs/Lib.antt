@@ -1,3 +1,5 @@
+pub mod Limits
+pub mod Listed
 pub mod Below
 pub mod Entries
 pub mod Stations

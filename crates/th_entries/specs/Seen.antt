@@ -1,11 +1,13 @@
 -- What is known of the names that books mention.
-use Rattle.std.specs.Prelude.{◌≡◌, ℕ, ◌++◌, List, [], ◌∷◌, Option, if◌then◌else◌, find, option_map}
+use Rattle.std.specs.Prelude.{◌≡◌, ℕ, ◌++◌, min, List, [], ◌∷◌, Option, if◌then◌else◌, find, length, option_map}
 use Rattle.std.specs.BTreeMap.{get}
 use Rattle.std.specs.Cmp.Lexicographic.{slice_cmp}
 use Rattle.std.specs.List.{list_any}
 use Rattle.std.specs.Ordering.{nat_cmp}
 use Rattle.th_book.specs.Lines.{ParsedLine}
-use Rattle.th_entries.specs.Spellings.{Mention, differing, is_of, mentions_of, spellings_in}
+use Rattle.th_entries.specs.Limits.{max_mentions}
+use Rattle.th_entries.specs.Listed.{IsListed}
+use Rattle.th_entries.specs.Spellings.{Mention, compared, differing, is_of, mentions_of, spellings_in}
 use Rattle.th_entries.specs.declared.seen.SeenNames.{SeenNames}
 use Rattle.th_entries.specs.declared.seen.Spelled.{Spelled}
 use Rattle.th_entries.specs.declared.seen.Spelled.TheVariants.{Alike, Otherwise}
@@ -20,9 +22,14 @@ abbrev pub spelled_at : SeenNames → List ℕ → Option Spelled
 spelled_at names name = get (slice_cmp nat_cmp) names.spelled name
 
 -- the names hold exactly what these mentions say
-pub record AreSeenIn (mentions : List Mention) (names : SeenNames) : Type 0 where
-  pub found : names.found.items ≡ spellings_in mentions
+pub record AreKnownIn (mentions : List Mention) (names : SeenNames) : Type 0 where
+  pub found : IsListed (spellings_in mentions) names.found
   pub spelled : (name : List ℕ) → spelled_at names name ≡ spelled_in mentions name
+
+-- the names hold exactly what those of these mentions say that are compared
+pub record AreSeenIn (mentions : List Mention) (names : SeenNames) : Type 0 where
+  pub known : AreKnownIn (compared mentions) names
+  pub taken : names.taken ≡ min (length mentions) max_mentions
 
 -- the names hold exactly what these books mention
 abbrev pub AreSeenInBooks : List (ℕ × List ParsedLine) → SeenNames → Type 0

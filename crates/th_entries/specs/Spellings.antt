@@ -1,11 +1,12 @@
 -- Names that are spelled in more than one way.
-use Rattle.std.specs.Prelude.{ℕ, ◌+◌, ◌||◌, not, Bool, false, List, [], ◌∷◌, Option, None, if◌then◌else◌, bytes_eq, filter, find, flat_map, length, map, option_map, option_to_list}
+use Rattle.std.specs.Prelude.{ℕ, ◌+◌, ◌||◌, not, Bool, false, List, [], ◌∷◌, Option, None, if◌then◌else◌, bytes_eq, filter, find, flat_map, length, map, option_map, option_to_list, take}
 use Rattle.std.specs.Option.{option_map_or}
 use Rattle.gsi_word.specs.Words.{Parts}
 use Rattle.gsi_word.specs.Names.{name_of, same_name}
 use Rattle.th_book.specs.Lines.{ParsedLine, is_setup, is_sight}
 use Rattle.th_book.specs.Places.{words_at}
 use Rattle.th_entries.specs.Below.{all_below}
+use Rattle.th_entries.specs.Limits.{max_mentions}
 use Rattle.th_entries.specs.declared.spellings.Spelling.{Spelling}
 
 -- a name that a line mentions, and the data that spell it there
@@ -51,6 +52,10 @@ firsts (mention ∷ mentions) = mention ∷ filter (λ later. not (is_of mention
 abbrev pub spellings_in : List Mention → List Spelling
 spellings_in mentions = map (λ mention. mention.here) (firsts (differing mentions))
 
--- the same for books with their numbers
+-- the mentions whose names are compared: the first ones
+abbrev pub compared : List Mention → List Mention
+compared mentions = take max_mentions mentions
+
+-- the same for books with their numbers, and the mentions of theirs that are compared
 abbrev pub spellings_of : List (ℕ × List ParsedLine) → List Spelling
-spellings_of books = spellings_in (mentions_of books)
+spellings_of books = spellings_in (compared (mentions_of books))

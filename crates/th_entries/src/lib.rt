@@ -6,6 +6,10 @@
 //! gives the `BookReview` of a book that has no fault. The `SeenNames` pass from one book to the next.
 #![tactic(auto)]
 
+// Limits, and lists that keep the first of many things.
+mod limits;
+mod listed;
+
 // An entered height, and the sights that use it.
 mod entries;
 
@@ -28,6 +32,8 @@ mod seen;
 pub mod laws;
 
 pub use entries::{Entry, HeightKind};
+pub use limits::{MAX_LISTED, MAX_MENTIONS};
+pub use listed::Listed;
 pub use reviews::{BookCount, BookReview};
 pub use seen::SeenNames;
 pub use spellings::Spelling;

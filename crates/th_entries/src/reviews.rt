@@ -1,4 +1,5 @@
 use crate::entries::Entry;
+use crate::listed::Listed;
 
 /// How many lines a book has, and how many of these are blocks, setups and sights.
 #[derive(Clone, Copy, Debug, PartialEq, Eq)]
@@ -18,5 +19,5 @@ pub struct BookReview {
     /// The lines, from 1, that only look like a setup: blocks with a point number and an instrument
     /// height, but with no height difference, no coordinate of the station, no angle and no distance,
     /// whose point is not the current station.
-    pub lookalikes: Vec<u32>,
+    pub lookalikes: Listed<u32>,
 }

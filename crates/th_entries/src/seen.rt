@@ -1,8 +1,10 @@
 ghost use Rattle.std.specs.Prelude.{◌≡◌, [], ℕ, List, OnOk, Some, map};
 ghost use Rattle.gsi_word.specs.Words.{parts_of};
 ghost use Rattle.th_book.specs.Lines.{ParsedLine};
-ghost use Rattle.th_entries.specs.Inside.Seen.{IsSeenNext, mention_by};
+ghost use Rattle.th_entries.specs.Inside.Seen.{IsKnownNext, IsSeenNext, mention_by};
 
+use crate::limits::MAX_MENTIONS;
+use crate::listed::Listed;
 use crate::spellings::Spelling;
 use arrayvec::ArrayVec;
 use gsi_word::{Name, Word};
@@ -23,17 +25,21 @@ enum Spelled {
 }
 
 /// The names of stations and targets, and how they are spelled. It passes from one book to the
-/// next.
+/// next. The names of the first `MAX_MENTIONS` setups and sights are kept, so that what is kept has a
+/// bound.
 ///
 /// The names are kept in order, so that each costs the logarithm of their number, whatever they are. A
 /// hash could have no seed that covers the names still to come.
 #[derive(Drop)]
 pub struct SeenNames {
     spelled: BTreeMap<Name, Spelled>,
-    found: Vec<Spelling>,
+    found: Listed<Spelling>,
+    /// How many setups and sights mentioned these names, at most `MAX_MENTIONS`.
+    taken: u32,
 }
 
 impl SeenNames {
+    ghost use Rattle.th_entries.specs.Listed.{IsListed};
     ghost use Rattle.th_entries.specs.Seen.{AreSeenInBooks};
     ghost use Rattle.th_entries.specs.Spellings.{spellings_of};
 
@@ -43,24 +49,41 @@ impl SeenNames {
     {
         SeenNames {
             spelled: BTreeMap::new(alloc),
-            found: Vec::new(alloc),
+            found: Listed::new(alloc),
+            taken: 0,
         }
     }
 
     /// Where each name is first spelled in another way than before, in the order of books and lines.
-    pub fn found(&self) -> &[Spelling]
+    pub fn found(&self) -> &Listed<Spelling>
         ensures { (books : List (ℕ × List ParsedLine)) →
-            AreSeenInBooks books self.now → result.now ≡ spellings_of books }
+            AreSeenInBooks books self.now → IsListed (spellings_of books) result.now }
     {
-        self.found.as_slice()
+        &self.found
     }
 
-    /// Takes the next mention of a name, which the data of a word spell.
+    /// Takes the next mention of a name, which the data of a word spell. After `MAX_MENTIONS` it does
+    /// nothing.
     pub(crate) fn take(&mut self, here: Spelling, word: &Word<'_>) -> Result<(), AllocError>
         ensures { OnOk result (IsSeenNext (Some (record {
           here = here;
           bytes = (parts_of word.now).body;
         })) self.old self.new) }
+    {
+        if self.taken < MAX_MENTIONS {
+            self.taken += 1;
+            self.learn(here, word)?;
+        }
+        Ok(())
+    }
+
+    /// Learns how a mention of a name spells it.
+    fn learn(&mut self, here: Spelling, word: &Word<'_>) -> Result<(), AllocError>
+        ensures taken { self.new.taken ≡ self.old.taken }
+        ensures known { OnOk result (IsKnownNext (record {
+          here = here;
+          bytes = (parts_of word.now).body;
+        }) self.old self.new) }
     {
         match self.spelled.get(&here.name) {
             None => {
@@ -89,10 +112,13 @@ pub(crate) fn mention(
 ) -> Result<(), AllocError>
     ensures { OnOk result (IsSeenNext (mention_by book line entered.now (map parts_of words.now)) names.old names.new) }
 {
-    if let (Some(word), Some(name)) = (words.first(), entered.target.or(entered.station)) {
-        names.take(Spelling { book, line, name }, word)?;
-    }
-    Ok(())
+    let Some(word) = words.first() else {
+        return Ok(());
+    };
+    let Some(name) = entered.target.or(entered.station) else {
+        return Ok(());
+    };
+    names.take(Spelling { book, line, name }, word)
 }
 
 /// A copy of a word's data.

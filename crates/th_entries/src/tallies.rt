@@ -7,6 +7,7 @@ ghost use Rattle.th_entries.specs.Inside.Tallies.{looks};
 ghost use Rattle.th_entries.specs.Reviews.{is_measured};
 
 use crate::entries::Entry;
+use crate::listed::Listed;
 use crate::reviews::{BookCount, BookReview};
 use crate::running::{Latest, enter};
 use crate::seen::{SeenNames, mention};
@@ -32,7 +33,7 @@ pub struct Tally {
     counts: BookCount,
     latest: Latest,
     entries: Vec<Entry>,
-    lookalikes: Vec<u32>,
+    lookalikes: Listed<u32>,
     names: SeenNames,
     failed: Option<AllocError>,
 }
@@ -87,7 +88,7 @@ impl Tally {
                 instrument: None,
             },
             entries: Vec::new(alloc),
-            lookalikes: Vec::new(alloc),
+            lookalikes: Listed::new(alloc),
             names,
             failed: None,
         }
@@ -113,6 +114,7 @@ impl Tally {
             return Err(error);
         }
         entries.retain(|entry| entry.sights > 0);
+        entries.shrink_to_fit();
         let review = BookReview {
             counts,
             entries,

@@ -1,6 +1,7 @@
 -- Notes of rows, one row further.
-use Rattle.std.proofs.Common.{◌≡◌, ◌<◌, ◌+◌, ◌++◌, ◌∷◌, [], ◌||◌, ◌&&◌, ℕ, Bool, true, false, cond, List, Option, None, Some, drop, get_or, length, slice_get, refl, sym, ap, ◌∙◌, arith, append_assoc}
+use Rattle.std.proofs.Common.{◌≡◌, ◌<◌, ◌≤◌, ◌+◌, ◌++◌, ◌∷◌, [], ◌||◌, ◌&&◌, ℕ, Bool, true, false, cond, List, Option, None, Some, drop, get_or, length, slice_get, refl, sym, ap, ◌∙◌, arith, append_assoc}
 use Rattle.std.specs.List.{cons_option, enumerate_from, filter_map}
+use Rattle.std.proofs.lemmas.List.{append-nil, drop_all}
 use Rattle.std.specs.BTreeSet.{BTreeSet, Updates}
 use Rattle.std.specs.Cmp.Lexicographic.{slice_cmp}
 use Rattle.std.specs.Ordering.{is_eq, nat_cmp, ordering_then}
@@ -74,3 +75,8 @@ module _ {X Y : Type 0} (start : ℕ) (choose : ℕ × X → Option Y) (rows : L
       ∙ ap (λ chosen. ys ++ cons_option chosen (chosen_from (k + 1))) (sym is)
       ∙ ap (λ left. ys ++ left) (sym (chosen-first k x found))
       ∙ so_far
+
+-- all that is chosen of rows, where none is left
+pub all_chosen : {X Y : Type 0} → (choose : ℕ × X → Option Y) (start k : ℕ) (rows : List X) (found all : List Y) → length rows ≤ k → found ++ filter_map choose (enumerate_from (k + start) (drop k rows)) ≡ all → found ≡ all
+all_chosen choose start k rows found all past so_far =
+    sym (append-nil found) ∙ ap (λ left. found ++ filter_map choose (enumerate_from (k + start) left)) (sym (drop_all k rows past)) ∙ so_far

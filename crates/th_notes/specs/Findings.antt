@@ -1,15 +1,19 @@
 -- The notes of a review on a survey, on its tables and on its books.
-use Rattle.std.specs.Prelude.{ℕ, ℤ, ◌-◌, ◌==◌, ◌||◌, ◌++◌, Bool, List, Option, Some, None, if◌then◌else◌, map, option_map}
+use Rattle.std.specs.Prelude.{ℕ, ℤ, ◌-◌, ◌==◌, ◌||◌, ◌++◌, Bool, List, Option, Some, None, if◌then◌else◌, map, option_map, sum, take}
 use Rattle.std.specs.List.{enumerate_from, filter_map, flat_map, list_any}
 use Rattle.gsi_word.specs.Names.{same_name, same_pair}
 use Rattle.th_book.specs.Observed.{Observed}
 use Rattle.th_tables.specs.Rows.{BenchmarkRows, WeightRows}
 use Rattle.th_network.specs.Networks.{Survey}
 use Rattle.th_entries.specs.declared.reviews.BookCount.{BookCount}
+use Rattle.th_entries.specs.Limits.{max_listed}
+use Rattle.th_entries.specs.declared.listed.Listed.{Listed}
 use Rattle.th_entries.specs.declared.reviews.BookReview.{BookReview}
 use Rattle.th_entries.specs.declared.spellings.Spelling.{Spelling}
 use Rattle.th_notes.specs.Books.{counts_of_books}
+use Rattle.th_notes.specs.Limited.{limited, rest_note}
 use Rattle.th_notes.specs.Repeats.{by_book, first_same, observations_in}
+use Rattle.th_notes.specs.declared.notes.Kind.TheVariants.{Lookalikes, Weights, Benchmarks, Spellings}
 use Rattle.th_notes.specs.declared.notes.Note.{Note}
 use Rattle.th_notes.specs.declared.notes.Note.TheVariants.{NoSight, SameObservations, Lookalike, UnusedWeight, TurnedWeight, UnseenBenchmark, Respelled}
 
@@ -31,13 +35,18 @@ same_note observations (book, count) =
 abbrev pub same_notes : List Observed → List BookCount → List Note
 same_notes observations books = filter_map (same_note observations) (enumerate_from 1 books)
 
--- the notes on the lines of a numbered book that look like a setup and are none
+-- the notes on the lines of a numbered book that look like a setup and are none, as many as its review lists
 abbrev pub book_lookalikes : ℕ × BookReview → List Note
-book_lookalikes (book, review) = map (λ line. Lookalike book line) review.lookalikes.items
+book_lookalikes (book, review) = map (λ line. Lookalike book line) review.lookalikes.first.items
 
--- the notes on the lines of all books that look like a setup and are none
+-- how many lines of all books look like a setup and are none
+abbrev pub count_of_lookalikes : List BookReview → ℕ
+count_of_lookalikes reviews = sum (map (λ review. review.lookalikes.count) reviews)
+
+-- the notes on the lines of all books that look like a setup and are none: the first ones, and how many more there are
 abbrev pub lookalike_notes : List BookReview → List Note
-lookalike_notes reviews = flat_map book_lookalikes (enumerate_from 1 reviews)
+lookalike_notes reviews =
+    take max_listed (flat_map book_lookalikes (enumerate_from 1 reviews)) ++ rest_note Lookalikes (count_of_lookalikes reviews)
 
 -- whether an observation runs from the first of two points to the second
 abbrev pub was_observed : List Observed → List ℕ × List ℕ → Bool
@@ -56,7 +65,7 @@ weight_note observations (row, (ends, weight)) = pair_note row ends (was_observe
 
 -- the notes on the table of weights, whose first row is record 2
 abbrev pub weight_notes : List Observed → WeightRows → List Note
-weight_notes observations weights = filter_map (weight_note observations) (enumerate_from 2 weights)
+weight_notes observations weights = limited Weights (filter_map (weight_note observations) (enumerate_from 2 weights))
 
 -- whether a point is an end of an observation
 abbrev pub was_seen : List Observed → List ℕ → Bool
@@ -72,14 +81,15 @@ benchmark_note observations (row, (name, height)) = name_note row name (was_seen
 
 -- the notes on the table of benchmarks, whose first row is record 2
 abbrev pub benchmark_notes : List Observed → BenchmarkRows → List Note
-benchmark_notes observations benchmarks = filter_map (benchmark_note observations) (enumerate_from 2 benchmarks)
+benchmark_notes observations benchmarks = limited Benchmarks (filter_map (benchmark_note observations) (enumerate_from 2 benchmarks))
 
 -- the notes on names that are spelled in another way than before
-abbrev pub spelling_notes : List Spelling → List Note
-spelling_notes spellings = map (λ spelling. Respelled spelling.book spelling.line spelling.name) spellings
+abbrev pub spelling_notes : Listed Spelling → List Note
+spelling_notes spellings =
+    map (λ spelling. Respelled spelling.book spelling.line spelling.name) spellings.first.items ++ rest_note Spellings spellings.count
 
 -- all notes of a review: on the books, then on the weights, the benchmarks and the names
-abbrev pub notes_of : Survey → List BookReview → List Spelling → List Note
+abbrev pub notes_of : Survey → List BookReview → Listed Spelling → List Note
 notes_of survey reviews spellings =
     sight_notes (counts_of_books reviews)
     ++ same_notes survey.observations (counts_of_books reviews)

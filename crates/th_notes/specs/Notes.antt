@@ -3,8 +3,10 @@ use Rattle.std.specs.Prelude.{ℕ, List, ◌++◌, codes, decimal, length}
 use Rattle.std.specs.List.{flat_map}
 use Rattle.th_report.specs.Columns.{line_end}
 use Rattle.th_report.specs.Reports.{label_line}
+use Rattle.th_notes.specs.declared.notes.Kind.{Kind}
+use Rattle.th_notes.specs.declared.notes.Kind.TheVariants.{Lookalikes, Weights, Benchmarks, Spellings}
 use Rattle.th_notes.specs.declared.notes.Note.{Note}
-use Rattle.th_notes.specs.declared.notes.Note.TheVariants.{NoSight, SameObservations, Lookalike, UnusedWeight, TurnedWeight, UnseenBenchmark, Respelled}
+use Rattle.th_notes.specs.declared.notes.Note.TheVariants.{NoSight, SameObservations, Lookalike, UnusedWeight, TurnedWeight, UnseenBenchmark, Respelled, More}
 
 -- a line of a book
 unfoldable pub book_place : ℕ → ℕ → List ℕ
@@ -57,6 +59,17 @@ unseen_text row name = benchmark_text row name ++ codes " was never observed"
 unfoldable pub respelled_text : ℕ → ℕ → List ℕ → List ℕ
 respelled_text book line name = name_place book line name ++ codes " is spelled in another way than before"
 
+-- what the notes of a kind are on
+abbrev pub kind_text : Kind → List ℕ
+kind_text Lookalikes = codes "lines that look like setups"
+kind_text Weights = codes "weights records never observed"
+kind_text Benchmarks = codes "benchmarks records never observed"
+kind_text Spellings = codes "names spelled in another way than before"
+
+-- how many more notes of a kind there are
+unfoldable pub more_text : Kind → ℕ → List ℕ
+more_text kind count = codes "and " ++ decimal count ++ codes " more: " ++ kind_text kind
+
 -- the text of a note
 abbrev pub note_text : Note → List ℕ
 note_text (NoSight book blocks) = no_sight_text book blocks
@@ -66,6 +79,7 @@ note_text (UnusedWeight row station target) = unused_text row station target
 note_text (TurnedWeight row station target) = turned_text row station target
 note_text (UnseenBenchmark row name) = unseen_text row name
 note_text (Respelled book line name) = respelled_text book line name
+note_text (More kind count) = more_text kind count
 
 -- the line of a note
 unfoldable pub note_line : Note → List ℕ

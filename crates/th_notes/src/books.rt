@@ -5,9 +5,10 @@ ghost use Rattle.th_notes.specs.Findings.{book_lookalikes, lookalike_notes, sigh
 ghost use Rattle.th_notes.specs.Limits.{max_reviewed};
 ghost use Rattle.th_notes.specs.declared.notes.Note.TheVariants.{Respelled};
 
-use crate::notes::Note;
-use std::alloc::AllocError;
-use th_entries::{BookCount, BookReview, Spelling};
+use crate::limited::add_rest;
+use crate::notes::{Kind, Note};
+use std::alloc::{AllocError, Global};
+use th_entries::{BookCount, BookReview, Listed, MAX_LISTED, Spelling};
 
 /// Adds a note of each book without a sight.
 pub(crate) fn add_sight_notes(
@@ -40,21 +41,29 @@ fn sight_note(book: u32, count: &BookCount) -> Option<Note>
     }
 }
 
-/// Adds a note of each line that looks like a setup and is none.
+/// Adds a note of each line that looks like a setup and is none: the first ones, and how many more
+/// there are.
 pub(crate) fn add_lookalike_notes(
+    alloc: Global,
     notes: &mut Vec<Note>,
     reviews: &[BookReview],
 ) -> Result<(), AllocError>
     requires { length reviews.now ≤ max_reviewed }
     ensures { OnOk result (notes.new.items ≡ notes.old.items ++ lookalike_notes reviews.now) }
 {
+    let mut found = Vec::new(alloc);
+    let mut count: u64 = 0;
     for (k, review) in reviews.iter().enumerate() {
-        add_book_lookalikes(notes, k as u32 + 1, review)?;
+        add_book_lookalikes(&mut found, k as u32 + 1, review)?;
+        count += u64::from(review.lookalikes.count);
     }
-    Ok(())
+    found.truncate(MAX_LISTED);
+    notes.extend_from_slice(&found)?;
+    add_rest(notes, Kind::Lookalikes, count)
 }
 
-/// Adds a note of each line of a book that looks like a setup and is none.
+/// Adds a note of each line of a book that looks like a setup and is none, as many as its review
+/// lists.
 fn add_book_lookalikes(
     notes: &mut Vec<Note>,
     book: u32,
@@ -63,23 +72,24 @@ fn add_book_lookalikes(
     ensures { OnOk result (notes.new.items
         ≡ notes.old.items ++ book_lookalikes (book, review.now)) }
 {
-    for line in &review.lookalikes {
+    for line in &review.lookalikes.first {
         notes.push(Note::Lookalike { book, line: *line })?;
     }
     Ok(())
 }
 
-/// Adds a note of each name that is spelled in another way than before.
+/// Adds a note of each name that is spelled in another way than before, as many as are listed, and how
+/// many more there are.
 pub(crate) fn add_spelling_notes(
     notes: &mut Vec<Note>,
-    spellings: &[Spelling],
+    spellings: &Listed<Spelling>,
 ) -> Result<(), AllocError>
     ensures { OnOk result (notes.new.items ≡ notes.old.items ++ spelling_notes spellings.now) }
 {
-    for spelling in spellings {
+    for spelling in &spellings.first {
         notes.push(spelling_note(spelling))?;
     }
-    Ok(())
+    add_rest(notes, Kind::Spellings, u64::from(spellings.count))
 }
 
 /// The note of a name that is spelled in another way than before.

@@ -8,16 +8,17 @@ use crate::notes::Note;
 use crate::repeats::add_same_notes;
 use crate::tables::{add_benchmark_notes, add_weight_notes};
 use std::alloc::{AllocError, Global};
-use th_entries::{BookReview, Spelling};
+use th_entries::{BookReview, Listed, Spelling};
 use th_network::Network;
 
 /// The notes of a review, in the order of `Note`: those of the books, which the reviews list in
-/// their order, those of the network's tables, and those of names.
+/// their order, those of the network's tables, and those of names. Of each kind the first
+/// `th_entries::MAX_LISTED` are listed, and a last one counts the rest.
 pub fn notes_of(
     alloc: Global,
     network: &Network,
     reviews: &[BookReview],
-    spellings: &[Spelling],
+    spellings: &Listed<Spelling>,
 ) -> Result<Vec<Note>, AllocError>
     requires { length reviews.now ≤ max_reviewed }
     ensures { IfOk result (λ notes. notes.items ≡ notes_of network.now reviews.now spellings.now) }
@@ -26,7 +27,7 @@ pub fn notes_of(
     let mut notes = Vec::new(alloc);
     add_sight_notes(&mut notes, reviews)?;
     add_same_notes(alloc, &mut notes, observations, reviews)?;
-    add_lookalike_notes(&mut notes, reviews)?;
+    add_lookalike_notes(alloc, &mut notes, reviews)?;
     add_weight_notes(alloc, &mut notes, observations, network.weight_table())?;
     add_benchmark_notes(alloc, &mut notes, observations, network.benchmarks())?;
     add_spelling_notes(&mut notes, spellings)?;

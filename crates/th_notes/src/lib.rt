@@ -7,6 +7,9 @@
 mod lines;
 mod notes;
 
+// How many notes of a kind are listed.
+mod limited;
+
 // What is noted of books, and of the tables.
 mod books;
 mod repeats;
@@ -17,4 +20,4 @@ mod findings;
 
 pub use findings::notes_of;
 pub use lines::write_notes;
-pub use notes::Note;
+pub use notes::{Kind, Note};

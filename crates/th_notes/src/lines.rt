@@ -1,9 +1,9 @@
 //! The lines of notes.
 ghost use Rattle.std.specs.Prelude.{◌≡◌, ◌++◌, OnOk, decimal};
 ghost use Rattle.std.specs.List.{flat_map};
-ghost use Rattle.th_notes.specs.Notes.{benchmark_text, book_place, in_benchmarks, in_weights, lookalike_text, name_place, no_sight_text, note_line, note_lines, note_text, pair_text, respelled_text, same_text, turned_text, unseen_text, unused_text};
+ghost use Rattle.th_notes.specs.Notes.{benchmark_text, book_place, in_benchmarks, in_weights, kind_text, lookalike_text, more_text, name_place, no_sight_text, note_line, note_lines, note_text, pair_text, respelled_text, same_text, turned_text, unseen_text, unused_text};
 
-use crate::notes::Note;
+use crate::notes::{Kind, Note};
 use gsi_word::Name;
 use itoa::Buffer;
 use std::alloc::AllocError;
@@ -57,6 +57,7 @@ fn write_text(page: &mut Page, note: &Note) -> Result<(), AllocError>
         } => write_turned(page, *row, station, target),
         Note::UnseenBenchmark { row, name } => write_unseen(page, *row, name),
         Note::Respelled { book, line, name } => write_respelled(page, *book, *line, name),
+        Note::More { kind, count } => write_more(page, *kind, *count),
     }
 }
 
@@ -68,7 +69,7 @@ fn write_number(page: &mut Page, number: u32) -> Result<(), AllocError>
     page.add(digits.format(number).as_bytes())
 }
 
-/// Writes the digits of a record's number.
+/// Writes the digits of a record's number, or of a count.
 fn write_row(page: &mut Page, row: u64) -> Result<(), AllocError>
     ensures { OnOk result (page.new ≡ page.old ++ decimal row) }
 {
@@ -214,4 +215,27 @@ fn write_respelled(page: &mut Page, book: u32, line: u32, name: &Name) -> Result
 {
     write_name_place(page, book, line, name)?;
     page.add(b" is spelled in another way than before")
+}
+
+/// Writes how many more notes of a kind there are.
+#[tactic(auto, unfolding(crate::specs::Notes::more_text))]
+fn write_more(page: &mut Page, kind: Kind, count: u64) -> Result<(), AllocError>
+    ensures { OnOk result (page.new ≡ page.old ++ more_text kind count) }
+{
+    page.add(b"and ")?;
+    write_row(page, count)?;
+    page.add(b" more: ")?;
+    write_kind(page, kind)
+}
+
+/// Writes what the notes of a kind are on.
+fn write_kind(page: &mut Page, kind: Kind) -> Result<(), AllocError>
+    ensures { OnOk result (page.new ≡ page.old ++ kind_text kind) }
+{
+    match kind {
+        Kind::Lookalikes => page.add(b"lines that look like setups"),
+        Kind::Weights => page.add(b"weights records never observed"),
+        Kind::Benchmarks => page.add(b"benchmarks records never observed"),
+        Kind::Spellings => page.add(b"names spelled in another way than before"),
+    }
 }

@@ -1,5 +1,15 @@
 use gsi_word::Name;
 
+/// The kinds of notes that are many where somebody made them so. Each is listed at most
+/// `th_entries::MAX_LISTED` times.
+#[derive(Clone, Copy, Debug)]
+pub enum Kind {
+    Lookalikes,
+    Weights,
+    Benchmarks,
+    Spellings,
+}
+
 /// What a review notes. Books, lines and the records of a table count from 1. A table's first
 /// record is its header.
 #[derive(Clone, Copy, Debug)]
@@ -41,5 +51,10 @@ pub enum Note {
         book: u32,
         line: u32,
         name: Name,
+    },
+    /// There are so many more notes of a kind, which are not listed.
+    More {
+        kind: Kind,
+        count: u64,
     },
 }

@@ -3,11 +3,13 @@ ghost use Rattle.std.specs.Prelude.{◌≡◌, ◌<◌, ◌+◌, ◌^◌, ◌++�
 ghost use Rattle.th_notes.specs.Findings.{benchmark_notes, name_note, pair_note, was_observed, was_seen, weight_notes};
 ghost use Rattle.th_notes.specs.Inside.Sets.{has_name, has_pair};
 
-use crate::notes::Note;
+use crate::limited::add_limited;
+use crate::notes::{Kind, Note};
 use gsi_word::Name;
 use std::alloc::{AllocError, Global};
 use std::collections::BTreeSet;
 use th_book::Observation;
+use th_entries::Listed;
 use th_tables::{Benchmarks, Weights};
 
 /// The pairs of a station and a target that were observed, in order: each costs the logarithm of their
@@ -17,7 +19,8 @@ type Pairs = BTreeSet<(Name, Name)>;
 /// The names of points that were observed, likewise.
 type Names = BTreeSet<Name>;
 
-/// Adds a note of each row of the table of benchmarks that was never observed.
+/// Adds a note of each row of the table of benchmarks that was never observed: the first ones, and how
+/// many more there are.
 pub(crate) fn add_benchmark_notes(
     alloc: Global,
     notes: &mut Vec<Note>,
@@ -28,12 +31,13 @@ pub(crate) fn add_benchmark_notes(
         ≡ notes.old.items ++ benchmark_notes observations.now benchmarks.now) }
 {
     let names = names_of(alloc, observations)?;
+    let mut found = Listed::new(alloc);
     for k in 0..benchmarks.len() {
         if let Some(note) = benchmark_note(k, benchmarks, &names) {
-            notes.push(note)?;
+            found.push(note)?;
         }
     }
-    Ok(())
+    add_limited(notes, Kind::Benchmarks, &found)
 }
 
 /// The names of the ends of observations.
@@ -71,7 +75,8 @@ fn name_note(row: u64, name: &Name, names: &Names) -> Option<Note>
     Some(Note::UnseenBenchmark { row, name: *name })
 }
 
-/// Adds a note of each row of the table of weights whose pair was never observed.
+/// Adds a note of each row of the table of weights whose pair was never observed: the first ones, and how
+/// many more there are.
 pub(crate) fn add_weight_notes(
     alloc: Global,
     notes: &mut Vec<Note>,
@@ -82,12 +87,13 @@ pub(crate) fn add_weight_notes(
         ≡ notes.old.items ++ weight_notes observations.now weights.now) }
 {
     let pairs = pairs_of(alloc, observations)?;
+    let mut found = Listed::new(alloc);
     for k in 0..weights.len() {
         if let Some(note) = row_note(k, weights, &pairs) {
-            notes.push(note)?;
+            found.push(note)?;
         }
     }
-    Ok(())
+    add_limited(notes, Kind::Weights, &found)
 }
 
 /// The pairs of a station and a target that were observed.

@@ -1,6 +1,7 @@
 -- The texts of a review as functions of a survey and of what was found about it.
 use Rattle.std.specs.Prelude.{◌≡◌, ℕ, ℤ, List, Option}
 use Rattle.th_network.specs.Networks.{Survey}
+use Rattle.th_entries.specs.declared.listed.Listed.{Listed}
 use Rattle.th_entries.specs.declared.reviews.BookReview.{BookReview}
 use Rattle.th_entries.specs.declared.spellings.Spelling.{Spelling}
 use Rattle.th_reliability.specs.declared.benchmarks.BenchmarkEffect.{BenchmarkEffect}
@@ -55,7 +56,7 @@ bytes_of texts = record {
 
 -- the texts of a review, given a survey with its lowest and highest best heights and what was found about it,
 -- the books, the names that are spelled in more than one way, and the limit of blunders
-pub record AreReviewTexts (survey : Survey) (low high : List ℕ → ℤ) (found : Found) (books : List BookReview) (spellings : List Spelling) (limit : ℤ) (texts : ReviewOutTexts) : Type 0 where
+pub record AreReviewTexts (survey : Survey) (low high : List ℕ → ℤ) (found : Found) (books : List BookReview) (spellings : Listed Spelling) (limit : ℤ) (texts : ReviewOutTexts) : Type 0 where
   pub points : texts.points ≡ points_text (point_rows survey low high found.strengths found.unit_strengths)
   pub observations : texts.observations ≡ observations_text (observation_rows survey low found.controls found.blames)
   pub entries : texts.entries ≡ entries_text (entry_rows survey (entries_of books) found.effects)

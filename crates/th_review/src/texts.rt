@@ -14,7 +14,7 @@ use crate::point_list::point_rows;
 use crate::reviews::review_text;
 use crate::tables::{benchmarks_csv, entries_csv, observations_csv, points_csv};
 use std::alloc::{AllocError, Global};
-use th_entries::{BookReview, Spelling};
+use th_entries::{BookReview, Listed, Spelling};
 use th_network::Network;
 use th_notes::notes_of;
 use th_reliability::{BenchmarkEffect, Blame, Effect};
@@ -63,7 +63,7 @@ pub fn review_texts(
     high: &[i64],
     findings: &Findings,
     reviews: &[BookReview],
-    spellings: &[Spelling],
+    spellings: &Listed<Spelling>,
     limit: i64,
 ) -> Result<ReviewTexts, AllocError>
     requires low { AreAtPoints network.now low.now }

@@ -13,8 +13,10 @@ use Rattle.th_entries.specs.Entries.{entries_of as entries_of_book}
 use Rattle.th_entries.specs.Reviews.{parsed_of}
 use Rattle.th_entries.specs.Several.{AreObserved, entries_of_books, numbered}
 use Rattle.th_book.specs.Lines.{ParsedLine}
+use Rattle.th_entries.specs.Listed.{IsListed}
 use Rattle.th_entries.specs.Seen.{AreSeenInBooks}
 use Rattle.th_entries.specs.Spellings.{spellings_of}
+use Rattle.th_entries.specs.declared.listed.Listed.{Listed}
 use Rattle.th_entries.specs.declared.seen.SeenNames.{SeenNames}
 use Rattle.th_entries.specs.declared.spellings.Spelling.{Spelling}
 use Rattle.th_entries.specs.Stations.{HasOneStation}
@@ -117,9 +119,9 @@ all_stationed number tolds after new names more_names read law =
     (All-contains_itself (entries_of_books (numbered number read.texts))))
 
 -- and the reviews are those of the books
-pub reviews_of_all : (number : ℕ) (tolds : List (Option (List ℕ))) (after : List Observed) (new : List BookReview) (names more_names : SeenNames) (found : List Spelling)
+pub reviews_of_all : (number : ℕ) (tolds : List (Option (List ℕ))) (after : List Observed) (new : List BookReview) (names more_names : SeenNames) (found : Listed Spelling)
     → AreAllRead number tolds [] after [] new names more_names → AreSeenInBooks [] names
-    → ((books : List (ℕ × List ParsedLine)) → AreSeenInBooks books more_names → found ≡ spellings_of books) → AreReviewsOf number tolds new found
+    → ((books : List (ℕ × List ParsedLine)) → AreSeenInBooks books more_names → IsListed (spellings_of books) found) → AreReviewsOf number tolds new found
 reviews_of_all number tolds after new names more_names found read none finds = record {
   texts = read.texts;
   told = read.told;

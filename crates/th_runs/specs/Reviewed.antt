@@ -3,9 +3,11 @@ use Rattle.std.specs.Prelude.{◌≡◌, ℕ, ℤ, false, List, [], ◌∷◌, O
 use Rattle.std.specs.List.{AllZip}
 use Rattle.th_book.specs.Lines.{ParsedLine}
 use Rattle.th_circulation.specs.Best.{Best, IsBest}
+use Rattle.th_entries.specs.Listed.{IsListed}
 use Rattle.th_entries.specs.Reviews.{Reviews}
 use Rattle.th_entries.specs.Several.{numbered}
 use Rattle.th_entries.specs.Spellings.{spellings_of}
+use Rattle.th_entries.specs.declared.listed.Listed.{Listed}
 use Rattle.th_entries.specs.declared.reviews.BookReview.{BookReview}
 use Rattle.th_network.specs.Networks.{Survey, at_points_of}
 use Rattle.th_reliability.specs.Numbers.{AreControls, AreStrengths}
@@ -37,12 +39,12 @@ AreTold tolds texts = AllZip (λ told text. IfSome told (λ own. own ≡ text)) 
 abbrev pub IsReviewOf : ℕ × List ParsedLine → BookReview → Type 0
 IsReviewOf book review = Reviews book.0 book.1 review
 
--- the reviews are those of books with the texts that sources gave, numbered from this one on; so are the names that are spelled in more than one way
-pub record AreReviewsOf (number : ℕ) (tolds : List (Option (List ℕ))) (reviews : List BookReview) (spellings : List Spelling) : Type 0 where
+-- the reviews are those of books with the texts that sources gave, numbered from this one on; so is the list of names that are spelled in more than one way
+pub record AreReviewsOf (number : ℕ) (tolds : List (Option (List ℕ))) (reviews : List BookReview) (spellings : Listed Spelling) : Type 0 where
   pub texts : List (List ℕ)
   pub told : AreTold tolds texts
   pub reviewed : AllZip IsReviewOf (numbered number texts) reviews
-  pub spelled : spellings ≡ spellings_of (numbered number texts)
+  pub spelled : IsListed (spellings_of (numbered number texts)) spellings
 
 -- What was found about a survey and the entries of its books: the strengths of its points, with its weights and with
 -- all weights 1; the controls of its observations, and what a mistake in each would move; for each entry what a mistake in it would do; and for each
@@ -57,7 +59,7 @@ pub record AreFound (survey : Survey) (books : List BookReview) (found : Found) 
 
 -- The texts are the review of a survey and of its books, for this limit of blunders in units
 -- of 10 nm. The heights in them are best, and the rest is what was found.
-pub record AreReviewed (survey : Survey) (books : List BookReview) (spellings : List Spelling) (limit : ℤ) (texts : ReviewOutTexts) : Type 0 where
+pub record AreReviewed (survey : Survey) (books : List BookReview) (spellings : Listed Spelling) (limit : ℤ) (texts : ReviewOutTexts) : Type 0 where
   pub answer : Best
   pub answers : IsBest survey answer
   pub found : Found
@@ -65,12 +67,12 @@ pub record AreReviewed (survey : Survey) (books : List BookReview) (spellings : 
   pub printed : AreReviewTexts survey (at_points_of survey answer.low) (at_points_of survey answer.high) found books spellings limit texts
 
 -- these are the texts of a review with these reviews of its books
-abbrev pub ArePrintedOf : List BookReview → List Spelling → ℤ → Survey → Texts → Type 0
+abbrev pub ArePrintedOf : List BookReview → Listed Spelling → ℤ → Survey → Texts → Type 0
 ArePrintedOf reviews spellings limit survey texts =
     (own : ReviewOutTexts) × AreReviewed survey reviews spellings limit own × (texts ≡ in_order own)
 
 -- a run that ends in a review of this survey, and of the books that sources told, writes these texts
 abbrev pub AreOfReview : List (Option (List ℕ)) → ℤ → Survey → Texts → Type 0
 AreOfReview tolds limit survey texts =
-    (reviews : List BookReview) × (spellings : List Spelling) × AreReviewsOf 1 tolds reviews spellings
+    (reviews : List BookReview) × (spellings : Listed Spelling) × AreReviewsOf 1 tolds reviews spellings
     × ArePrintedOf reviews spellings limit survey texts

@@ -26,7 +26,7 @@ use std::alloc::{AllocError, Global};
 use th_circulation::best_heights;
 use th_devices::{Sink, Source};
 use th_entries::laws::entry_of_several_books_has_one_station;
-use th_entries::{BookReview, Entry, Spelling};
+use th_entries::{BookReview, Entry, Listed, Spelling};
 use th_network::Network;
 use th_network::laws::faults_exclude_each_other;
 use th_progress::Progress;
@@ -95,7 +95,7 @@ fn texts_of<P: Progress>(
     alloc: Global,
     survey: Survey,
     reviews: &[BookReview],
-    spellings: &[Spelling],
+    spellings: &Listed<Spelling>,
     limit: i64,
     progress: &mut P,
 ) -> Result<Vec<OutputText>, Refusal>
@@ -117,7 +117,7 @@ fn texts_of_network<P: Progress>(
     alloc: Global,
     network: &Network,
     reviews: &[BookReview],
-    spellings: &[Spelling],
+    spellings: &Listed<Spelling>,
     limit: i64,
     progress: &mut P,
 ) -> Result<Vec<OutputText>, Refusal>

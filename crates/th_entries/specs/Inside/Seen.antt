@@ -4,12 +4,16 @@ use Rattle.std.specs.Option.{option_or}
 use Rattle.gsi_word.specs.Words.{Parts}
 use Rattle.th_book.specs.declared.entries.Entered.{Entered}
 use Rattle.th_entries.specs.Spellings.{Mention}
-use Rattle.th_entries.specs.Seen.{AreSeenIn}
+use Rattle.th_entries.specs.Seen.{AreKnownIn, AreSeenIn}
 use Rattle.th_entries.specs.declared.seen.SeenNames.{SeenNames}
 
 -- a mention, if there is one, was recorded after any mentions recorded before
 abbrev pub IsSeenNext : Option Mention → SeenNames → SeenNames → Type 0
 IsSeenNext mention old new = (before : List Mention) → AreSeenIn before old → AreSeenIn (before ++ option_to_list mention) new
+
+-- one more mention became known, after any mentions known before
+abbrev pub IsKnownNext : Mention → SeenNames → SeenNames → Type 0
+IsKnownNext mention old new = (before : List Mention) → AreKnownIn before old → AreKnownIn (before ++ mention ∷ []) new
 
 -- the mention of a block, given what the block enters: its target or else its station
 abbrev pub mention_by : ℕ → ℕ → Entered → List Parts → Option Mention

@@ -13,6 +13,7 @@ use Rattle.th_book.specs.declared.entries.Entered.{Entered}
 use Rattle.th_book.specs.declared.setups.Setup.{Setup}
 use Rattle.th_entries.specs.Below.{all_below, count_below}
 use Rattle.th_entries.specs.Entries.{begins, begins_from, index_of, length_at, uses}
+use Rattle.th_entries.specs.Listed.{IsListed}
 use Rattle.th_entries.specs.Reviews.{is_block, is_lookalike, is_measured}
 use Rattle.th_entries.specs.Spellings.{Mention, mentions_at}
 use Rattle.th_entries.specs.Seen.{AreSeenIn}
@@ -62,7 +63,7 @@ pub record IsEmpty (names : SeenNames) (number : ℕ) (tally : Tally) : Type 0 w
   pub book : tally.book ≡ number
   pub counts : tally.counts ≡ record { lines = 0; blocks = 0; setups = 0; sights = 0 }
   pub entered : entering tally ≡ record { latest = record { reflector = None; instrument = None }; entries = [] }
-  pub lookalikes : tally.lookalikes.items ≡ []
+  pub lookalikes : IsListed [] tally.lookalikes
 
 -- a block without a fault was taken in a running setup, after its line was counted
 pub record HasBlock (running : Option Setup) (words : List Parts) (old new : Tally) : Type 0 where
@@ -70,7 +71,8 @@ pub record HasBlock (running : Option Setup) (words : List Parts) (old new : Tal
   pub book : new.book ≡ old.book
   pub counts : new.counts ≡ with_block (entered_by words) old.counts
   pub entered : entering new ≡ entering_after old.book old.counts.lines running (entered_by words) (entering old)
-  pub lookalikes : new.lookalikes.items ≡ old.lookalikes.items ++ line_if (looks words (entered_by words) (option_map (λ own. own.station) running)) old.counts.lines
+  pub lookalikes : (before : List ℕ) → IsListed before old.lookalikes
+      → IsListed (before ++ line_if (looks words (entered_by words) (option_map (λ own. own.station) running)) old.counts.lines) new.lookalikes
 
 -- the place of the last entry of an index that begins before place `n`, in the setup that runs there
 abbrev pub open_at : ℕ → List ParsedLine → ℕ → Option ℕ
@@ -138,4 +140,4 @@ pub record IsTallied (names : SeenNames) (number : ℕ) (parsed : List ParsedLin
   pub book : tally.book ≡ number
   pub counts : tally.counts ≡ counts_below parsed n
   pub entered : IsEntering number parsed n (entering tally)
-  pub lookalikes : tally.lookalikes.items ≡ lookalikes_below parsed n
+  pub lookalikes : IsListed (lookalikes_below parsed n) tally.lookalikes

@@ -5,4 +5,4 @@ use Rattle.th_notes.proofs.books.add_book_lookalikes.Given as goal
 
 abbrev pub invariant-loop-line : goal.invariant-loop-line
 invariant-loop-line l =
-    l.notes.items ++ map (λ line. Lookalike l.book line) (drop l.line-index l.review.lookalikes.items) ≡ l.fn.notes.items ++ book_lookalikes (l.book, l.review)
+    l.notes.items ++ map (λ line. Lookalike l.book line) (drop l.line-index l.review.lookalikes.first.items) ≡ l.fn.notes.items ++ book_lookalikes (l.book, l.review)

@@ -1,0 +1,5 @@
+/// The most things of a kind that a review lists.
+pub const MAX_LISTED: usize = 1_000;
+
+/// The most setups and sights whose names a review compares. A network takes at most 40,000 sights.
+pub const MAX_MENTIONS: u32 = 200_000;
