@@ -1,5 +1,6 @@
 //! Runs that succeed.
 use crate::folders::{ADJUST_BACK, ADJUST_SITE, LIST, ROOM, file, project, put, run, same, shown};
+use crate::sure_folders::SureFolder;
 
 /// The heights file of one sight, and of two with the weights.
 const WEIGHTED: &[u8] =
@@ -60,4 +61,17 @@ fn outputs_replace_old_files(rt: HostRuntime) {
     put(&rt, &mut folder, "out.heights.csv", &[b'x'; 2_000]);
     assert_eq!(rt; run(&rt, &mut folder, ADJUST_SITE), 0);
     assert!(rt; same(file(&folder, "out.heights.csv"), WEIGHTED));
+}
+
+#[test]
+fn no_device_is_blamed_where_none_may_fail(rt: HostRuntime) {
+    let mut own = SureFolder {
+        folder: project(&rt, ROOM),
+        rt: &rt,
+    };
+    assert_eq!(rt; run(&rt, &mut own, ADJUST_SITE), 0);
+    assert!(rt; same(file(&own.folder, "out.heights.csv"), WEIGHTED));
+    let check = "check --benchmarks heights --certificate out.certificate.csv site.gsi";
+    assert_eq!(rt; run(&rt, &mut own, check), 0);
+    assert!(rt; same(shown(own.folder.output()), b"yes\n"));
 }

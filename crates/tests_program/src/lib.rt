@@ -6,6 +6,8 @@
 // A folder with a project, and a run of words over it.
 #[cfg(test)]
 mod folders;
+#[cfg(test)]
+mod sure_folders;
 
 // What runs leave.
 #[cfg(test)]
