@@ -1,4 +1,4 @@
-"""The page: the section of docs/FORMATS.md on it. Lengths are in units of 10 nm, coordinates in tenths of a pixel."""
+"""The page: docs/page/README.md. Lengths are in units of 10 nm, coordinates in tenths of a pixel."""
 
 from pathlib import Path
 from typing import List, NamedTuple, Optional

@@ -1,4 +1,4 @@
-"""The pages of projects: what the section of docs/FORMATS.md on the page shows of them."""
+"""The pages of projects: what docs/page/README.md shows of them."""
 
 from random import Random
 from typing import List, Optional
