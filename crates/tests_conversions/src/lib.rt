@@ -5,4 +5,6 @@
 #![tactic(auto)]
 
 #[cfg(test)]
+mod heights;
+#[cfg(test)]
 mod tables;

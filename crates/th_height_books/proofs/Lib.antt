@@ -1,0 +1,11 @@
+pub mod BlockLemmas
+pub mod WordLemmas
+pub mod LongerLemmas
+pub mod SeenLemmas
+pub mod SightLemmas
+pub mod FaultLemmas
+pub mod HeightLaws
+pub mod TextLemmas
+pub mod WholeLemmas
+pub mod LawLemmas
+pub mod BookLemmas

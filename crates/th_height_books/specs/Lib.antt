@@ -1,0 +1,7 @@
+pub mod Indexes
+pub mod Sights
+pub mod Running
+pub mod Words
+pub mod Printed
+pub mod Seen
+pub mod Inside
