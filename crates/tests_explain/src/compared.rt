@@ -154,10 +154,18 @@ fn compare(rt: &impl Abort, alloc: Global, sample: &Sample, limit: u64) -> usize
         rt,
         "a network",
     );
-    let found = explanations(alloc, &network, &sample.numbers, limit).expect(rt, "memory");
+    let found = explanations(alloc, &network, &sample.numbers, limit, None).expect(rt, "memory");
     let best = best_heights(alloc, &network).expect(rt, "memory");
     let fit = Fit::of(alloc, &network, best.low()).expect(rt, "memory");
     assert_eq!(rt; found.len(), sample.numbers.len());
+    let half = fit.cost / 2;
+    let few = explanations(alloc, &network, &sample.numbers, limit, Some(half)).expect(
+        rt, "memory",
+    );
+    for (own, one) in few.iter().zip(&found) {
+        let is_missing = own.is_none() && one.is_some_and(|freed| freed.left > half);
+        assert!(rt; is_missing || own == one);
+    }
     let mut explain = 0usize;
     for (number, own) in sample.numbers.iter().zip(&found) {
         let one = explanation(alloc, &network, &best, fit.cost, number, limit).expect(rt, "memory");

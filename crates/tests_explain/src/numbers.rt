@@ -60,7 +60,7 @@ fn explained(rt: &impl Abort, alloc: Global, number: &Number, limit: u64) -> Opt
         rt,
         "a network",
     );
-    let found = explanations(alloc, &network, &[*number], limit).expect(rt, "memory");
+    let found = explanations(alloc, &network, &[*number], limit, None).expect(rt, "memory");
     match found.first() {
         Some(own) => *own,
         None => None,

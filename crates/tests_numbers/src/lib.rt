@@ -9,4 +9,6 @@ mod projects;
 #[cfg(test)]
 mod surveys;
 #[cfg(test)]
+mod unusual;
+#[cfg(test)]
 mod worked;

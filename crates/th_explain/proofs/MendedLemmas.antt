@@ -1,5 +1,5 @@
 -- The lowest best heights where a change was moved to the differences are those of the changed survey, lower by the change where it was.
-use Rattle.std.proofs.Common.{◌≡◌, ℕ, ◌≤◌, ℤ, ◌+ℤ◌, ◌-ℤ◌, ◌*ℤ◌, ◌≤ℤ◌, List, [], ◌∷◌, ◌++◌, All, map, refl, ap, ◌∙◌, sym, subst, arith}
+use Rattle.std.proofs.Common.{◌≡◌, ℕ, ℤ, ◌≤ℤ◌, List, [], ◌∷◌, ◌++◌, All, map, refl, ap, ◌∙◌, sym, subst, arith}
 use Rattle.std.proofs.lemmas.Int.{ints}
 use Rattle.std.proofs.lemmas.List.Elements.{All-weaker}
 use Rattle.std.proofs.Math.Path.{fun_ext}
@@ -7,13 +7,11 @@ use Rattle.std.specs.List.{count_by}
 use Rattle.th_blunders.specs.Blunders.{is_blunder}
 use Rattle.th_blunders.specs.Residuals.{residuals}
 use Rattle.th_book.specs.Observed.{Observed}
-use Rattle.th_circulation.specs.Extremes.{Low}
 use Rattle.th_points.specs.Points.{distinct, ends, points}
 use Rattle.th_tables.specs.Rows.{BenchmarkRows}
 use Rattle.th_network.specs.Heights.{Least, cost, residual}
 use Rattle.th_network.specs.Networks.{Survey}
 use Rattle.th_explain.specs.declared.numbers.Number.{Number}
-use Rattle.th_explain.specs.Freed.{Keeps}
 use Rattle.th_explain.specs.Inside.Tilted.{tilted, tilted_observation}
 use Rattle.th_explain.specs.Mended.{AreLowest, LeavesBlunders}
 use Rattle.th_explain.specs.Numbers.{changed, changed_observation, changed_row}

@@ -1,5 +1,5 @@
 -- What flows that were sent other ways show.
-use Rattle.std.proofs.Common.{◌≡◌, ℕ, zero, suc, ◌*◌, ◌<◌, ◌≤◌, ◌⊎◌, inl, inr, ℤ, pos, negsuc, ◌+ℤ◌, ◌-ℤ◌, ◌*ℤ◌, ◌≤ℤ◌, ◌<ℤ◌, List, [], ◌∷◌, Option, get_or, length, map, unsigned_abs, unwrap_or, refl, ap, ◌∙◌, sym, subst, arith, mul-le-mul_right}
+use Rattle.std.proofs.Common.{◌≡◌, ℕ, zero, suc, ◌+◌, ◌*◌, ◌<◌, ◌≤◌, ◌⊎◌, inl, inr, ℤ, pos, negsuc, ◌+ℤ◌, ◌-ℤ◌, ◌*ℤ◌, ◌≤ℤ◌, ◌<ℤ◌, List, [], ◌∷◌, Option, get_or, length, map, unsigned_abs, unwrap_or, refl, ap, ◌∙◌, sym, subst, arith, mul-le-mul_right}
 use Rattle.std.proofs.lemmas.Bool.{cases_eq}
 use Rattle.std.proofs.lemmas.Grind.{get_or-set_at}
 use Rattle.std.proofs.lemmas.Int.{ints, unsigned_abs-mul}
@@ -29,7 +29,7 @@ use Rattle.th_explain.specs.declared.numbers.Number.{Number}
 use Rattle.th_explain.specs.declared.numbers.Number.TheVariants.{Benchmark}
 use Rattle.th_explain.specs.Flows.{net, value}
 use Rattle.th_explain.specs.Freed.{Keeps, cost_of}
-use Rattle.th_explain.specs.Inside.Rerouted.{IsCostlyBeyond, IsNext, IsRerouted, IsSteep, rise, summed}
+use Rattle.th_explain.specs.Inside.Rerouted.{IsCostlyBeyond, LeavesMore, IsNext, IsRerouted, IsSteep, rise, summed}
 use Rattle.th_explain.specs.Numbers.{changed, touch}
 use Rattle.th_explain.proofs.Changes.{cost_changed, keeps_lowered, lowered}
 use Rattle.th_explain.proofs.Sums.{changed_by_none}
@@ -311,3 +311,20 @@ costly survey number cost limit flows lost slope start at amount is closed risin
         let more = mul-le-mul_right (unsigned_abs n) far in
         let valued = is.valued in
         omega (arith, ints, most)
+
+pub more_left : (survey : Survey) (number : Number) (cost most : ℕ) (flows : List ℤ) (lost slope : ℤ) (start at amount : ℕ) → IsRerouted survey cost flows lost start at amount → start ≡ at → IsSteep survey number cost slope → ¬ ((pos 0 <ℤ slope) × (pos 0 <ℤ net number survey flows)) → ¬ ((slope <ℤ pos 0) × (net number survey flows <ℤ pos 0)) → (most + unsigned_abs lost) < cost → LeavesMore survey number most
+more_left survey number cost most flows lost slope start at amount is closed rising up_too down_too far x heights kept =
+    by (x *ℤ slope) refl
+  where
+    n : ℤ
+    n = net number survey flows
+
+    bound : unsigned_abs (value survey flows +ℤ x *ℤ n) ≤ cost_of (changed number x survey) heights
+    bound = bounds_closed survey number cost flows lost start at amount x heights is closed kept
+
+    by : (product : ℤ) → x *ℤ slope ≡ product → most < cost_of (changed number x survey) heights
+    by (pos p) e = let more = rising x heights kept in omega (arith, ints)
+    by (negsuc p) e =
+        let product = other_side x slope n (omega (arith, ints)) up_too down_too in
+        let valued = is.valued in
+        omega (arith, ints, bound)

@@ -2,7 +2,7 @@
 ghost use Rattle.std.specs.Prelude.{◌≡◌, ◌<◌, ◌<ℤ◌, [], ◌∷◌, ◌++◌, pos, IfErr, IfOk, OnOk};
 ghost use Rattle.std.specs.List.{AllZip};
 ghost use Rattle.th_circulation.specs.Best.{IsBest};
-ghost use Rattle.th_explain.specs.Explained.{IsExplainedOrNone};
+ghost use Rattle.th_explain.specs.Explained.{IsExplainedOrMore, IsExplainedOrNone};
 ghost use Rattle.th_explain.specs.Freed.{cost_of};
 ghost use Rattle.th_explain.specs.Inside.Brackets.{AreRound, IsRoundOrNone, is_explanation};
 ghost use Rattle.th_explain.specs.Reach.{reach_of};
@@ -56,19 +56,21 @@ pub fn explanation(
 }
 
 /// What is left if each of some numbers is freed, where it explains what does not fit; in their order.
-/// The limit is in units of 10 nm. The only fault is `NoMemory`.
+/// The limit is in units of 10 nm. Numbers that leave more than `most`, in units of 10 nm times weight,
+/// may be missing, if it is given. The only fault is `NoMemory`.
 ///
-/// It adjusts the network once. Of nearly all numbers that explain nothing, short ways by which what
-/// flows through them can be sent back show it; each other number is solved, which takes some 10
-/// adjustments.
+/// It adjusts the network once. Of nearly all numbers that explain nothing, or too little, short ways by
+/// which what flows through them can be sent back show it; each other number is solved, which takes some
+/// 10 adjustments.
 pub fn explanations(
     alloc: Global,
     network: &Network,
     numbers: &[Number],
     limit: u64,
+    most: Option<u128>,
 ) -> Result<Vec<Option<Freed>>, NetFault>
     ensures each { IfOk result (λ found.
-        AllZip (IsExplainedOrNone network.now limit) numbers.now found.items) }
+        AllZip (IsExplainedOrMore network.now limit most) numbers.now found.items) }
     ensures refused { IfErr result (λ fault. fault ≡ NoMemory) }
 {
     let best = best_heights(alloc, network)?;
@@ -76,7 +78,9 @@ pub fn explanations(
     let mut sieve = Sieve::of(alloc, network, &best, &fit)?;
     let mut found = Vec::with_capacity(alloc, numbers.len())?;
     for number in numbers {
-        let own = sifted(alloc, network, &best, fit.cost, &mut sieve, number, limit)?;
+        let own = sifted(
+            alloc, network, &best, fit.cost, &mut sieve, number, limit, most,
+        )?;
         add(&mut found, own)?;
     }
     Ok(found)
@@ -92,17 +96,23 @@ fn sifted(
     sieve: &mut Sieve<'_>,
     number: &Number,
     limit: u64,
+    most: Option<u128>,
 ) -> Result<Option<Freed>, NetFault>
     requires best { IsBest network.now best.now }
     requires cost { cost ≡ cost_of network.now (at_points_of network.now best.now.low) }
     requires network { sieve.old.rerouted.network.now ≡ network.now }
     requires same_cost { sieve.old.rerouted.cost ≡ cost }
-    ensures found { IfOk result (IsExplainedOrNone network.now limit number.now) }
+    ensures found { IfOk result (IsExplainedOrMore network.now limit most number.now) }
     ensures refused { IfErr result (λ fault. fault ≡ NoMemory) }
     ensures network { sieve.new.rerouted.network.now ≡ network.now }
     ensures same_cost { sieve.new.rerouted.cost ≡ cost }
 {
     if sieve.is_costly_beyond(number, limit) {
+        return Ok(None);
+    }
+    if let Some(most) = most
+        && sieve.leaves_more(number, most)
+    {
         return Ok(None);
     }
     explanation(alloc, network, best, cost, number, limit)

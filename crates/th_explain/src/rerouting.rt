@@ -3,11 +3,11 @@
 //! Best flows show what the network costs. If some of what flows through a number is sent round closed
 //! walks instead, less flows through the number, and the flows show less by what the walks cost. Once
 //! none is left, or some flows the other way, they bound what the network costs if the number changes.
-ghost use Rattle.std.specs.Prelude.{◌≡◌, ◌<◌, ◌≤◌, ◌*◌, ◌+ℤ◌, ◌-ℤ◌, ◌*ℤ◌, ◌≤ℤ◌, ◌<ℤ◌, IfOk, IfSome, length, pos, slice_index, slice_index_or, true, unsigned_abs};
+ghost use Rattle.std.specs.Prelude.{◌≡◌, ◌<◌, ◌≤◌, ◌+◌, ◌*◌, ◌+ℤ◌, ◌-ℤ◌, ◌*ℤ◌, ◌≤ℤ◌, ◌<ℤ◌, IfOk, IfSome, length, pos, slice_index, slice_index_or, true, unsigned_abs};
 ghost use Rattle.th_book.specs.Observed.{Observed};
 ghost use Rattle.th_circulation.specs.Best.{IsBest};
 ghost use Rattle.th_explain.specs.Freed.{cost_of};
-ghost use Rattle.th_explain.specs.Inside.Rerouted.{HoldsNumber, IsCostlyBeyond, IsNext, IsRerouted, IsSteep};
+ghost use Rattle.th_explain.specs.Inside.Rerouted.{HoldsNumber, IsCostlyBeyond, IsNext, IsRerouted, IsSteep, LeavesMore};
 ghost use Rattle.th_network.specs.Links.{link_of};
 ghost use Rattle.th_network.specs.Networks.{at_points_of, weights_of};
 ghost use Rattle.th_tables.specs.Limits.{max_weight};
@@ -200,6 +200,32 @@ impl<'a> Rerouted<'a> {
             return false;
         }
         is_paid(self.lost, limit, net)
+    }
+
+    /// Whether the flows show that more than this is left, whatever a number is changed by.
+    pub fn leaves_more(&self, number: &Number, run: (usize, usize), slope: i64, most: u128) -> bool
+        requires run { HoldsNumber self.now.network.now.observations number.now run }
+        requires slope { IsSteep self.now.network.now number.now self.now.cost slope }
+        ensures { result ≡ true → LeavesMore self.now.network.now number.now most }
+    {
+        if self.start != self.at {
+            return false;
+        }
+        let net = net_in(self.network, number, &self.flows, run);
+        if !is_turned(slope, net) {
+            return false;
+        }
+        is_far_above(self.cost, self.lost, most)
+    }
+}
+
+/// Whether a cost is above another by more than what is lost.
+fn is_far_above(cost: u128, lost: i64, most: u128) -> bool
+    ensures { result ≡ true → (most + unsigned_abs lost) < cost }
+{
+    match most.checked_add(u128::from(lost.unsigned_abs())) {
+        Some(sum) => sum < cost,
+        None => false,
     }
 }
 

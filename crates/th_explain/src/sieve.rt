@@ -2,7 +2,7 @@
 ghost use Rattle.std.specs.Prelude.{◌≡◌, IfOk, true};
 ghost use Rattle.th_circulation.specs.Best.{IsBest};
 ghost use Rattle.th_explain.specs.Freed.{cost_of};
-ghost use Rattle.th_explain.specs.Inside.Rerouted.{IsCostlyBeyond};
+ghost use Rattle.th_explain.specs.Inside.Rerouted.{IsCostlyBeyond, LeavesMore};
 ghost use Rattle.th_network.specs.Networks.{at_points_of};
 
 use crate::nets::run_of;
@@ -76,6 +76,42 @@ impl<'a> Sieve<'a> {
         send_back(&mut self.rerouted, &self.guide);
         is_costly
     }
+
+    /// Whether it is shown that more than this is left, whatever a number is changed by. If not, it may be
+    /// so all the same.
+    pub fn leaves_more(&mut self, number: &Number, most: u128) -> bool
+        ensures network { self.new.rerouted.network.now ≡ self.old.rerouted.network.now }
+        ensures cost { self.new.rerouted.cost ≡ self.old.rerouted.cost }
+        ensures more { result ≡ true → LeavesMore self.old.rerouted.network.now number.now most }
+    {
+        let run = run_of(number, &self.runs);
+        let Some(slope) = self.rerouted.slope(number, run) else {
+            return false;
+        };
+        let worth = worth_above(self.rerouted.cost, most);
+        if propose_below(
+            &mut self.guide,
+            self.rerouted.network,
+            number,
+            run,
+            slope,
+            worth,
+        )
+        .is_none()
+        {
+            return false;
+        }
+        send(&mut self.rerouted, &self.guide);
+        let leaves_more = self.rerouted.leaves_more(number, run, slope, most);
+        send_back(&mut self.rerouted, &self.guide);
+        leaves_more
+    }
+}
+
+/// How much less than a cost may be left, if more than another is to be left.
+fn worth_above(cost: u128, most: u128) -> u64 {
+    let worth = cost.saturating_sub(most).saturating_sub(1);
+    u64::try_from(worth).unwrap_or(u64::MAX)
 }
 
 /// The guide for a network with its best flows. The lengths of its links are the sizes of the residuals.
@@ -120,17 +156,43 @@ fn propose(
     slope: i64,
     limit: u64,
 ) -> Option<()> {
+    let (group, base, need) = parted(guide, network, number, run, slope)?;
+    guide.propose(group, base, need, limit)
+}
+
+/// Has the guide propose walks for a number, through whose observations so much flows, that cost no more
+/// than this.
+fn propose_below(
+    guide: &mut Guide,
+    network: &Network,
+    number: &Number,
+    run: (usize, usize),
+    slope: i64,
+    worth: u64,
+) -> Option<()> {
+    let (group, base, need) = parted(guide, network, number, run, slope)?;
+    guide.propose_below(group, base, need, worth)
+}
+
+/// The ends that a number has, the vertex from which they are parted, and what flows from there.
+fn parted(
+    guide: &mut Guide,
+    network: &Network,
+    number: &Number,
+    run: (usize, usize),
+    slope: i64,
+) -> Option<(Group, u32, i64)> {
     let (start, end) = run;
     let tails = Group::Tails { start, end };
     match number {
-        Number::Added(_) => guide.propose(tails, network.arcs().get(start)?.tail, slope, limit),
+        Number::Added(_) => Some((tails, network.arcs().get(start)?.tail, slope)),
         Number::Subtracted(_) => {
             let need = slope.checked_neg()?;
-            guide.propose(tails, network.arcs().get(start)?.tail, need, limit)
+            Some((tails, network.arcs().get(start)?.tail, need))
         }
         Number::Benchmark(name) => {
             mark(guide, network, name);
-            guide.propose(Group::Marked, 0, slope, limit)
+            Some((Group::Marked, 0, slope))
         }
     }
 }

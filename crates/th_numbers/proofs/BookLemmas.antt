@@ -1,9 +1,8 @@
 -- The row of a book that is read from mark to mark.
-use Rattle.std.proofs.Common.{◌≡◌, ◌∙◌, ℕ, ℤ, Bool, true, false, List, ap, refl, subst, sym, arith}
+use Rattle.std.proofs.Common.{◌≡◌, ◌∙◌, ℕ, ℤ, true, false, List, ap, subst, sym, arith}
 use Rattle.std.specs.List.{count_by}
 use Rattle.th_blunders.specs.Blunders.{is_blunder}
 use Rattle.th_blunders.specs.Residuals.{residuals}
-use Rattle.th_circulation.specs.Extremes.{Low}
 use Rattle.th_entries.specs.declared.entries.Entry.{Entry}
 use Rattle.th_explain.specs.Freed.{cost_of}
 use Rattle.th_explain.specs.Mended.{AreLowest, blunders_at}

@@ -1,5 +1,5 @@
 -- Entries of one kind in the order of books and lines, and lists from which nothing that passes is missing.
-use Rattle.std.proofs.Common.{◌≡◌, ◌<◌, ◌≤◌, ◌+◌, ◌-◌, ◌&&◌, ◌++◌, [], ◌∷◌, ℕ, zero, suc, Bool, true, false, List, Option, None, Some, cond, drop, get_or, if◌then◌else◌, length, min, nat_le, nat_lt, refl, subst, take, sym, ap, ◌∙◌, arith}
+use Rattle.std.proofs.Common.{◌≡◌, ◌<◌, ◌≤◌, ◌+◌, ◌-◌, ◌&&◌, ◌++◌, [], ◌∷◌, ℕ, zero, suc, Bool, true, false, List, Some, cond, drop, get_or, if◌then◌else◌, length, min, refl, subst, take, sym, ap, ◌∙◌, arith}
 use Rattle.std.specs.List.{count_by, filter, find, flat_map, slice_range}
 use Rattle.std.specs.List.Sorted.{IsPartitionedBy}
 use Rattle.std.proofs.Math.Nat.{le-min, min-le_left}

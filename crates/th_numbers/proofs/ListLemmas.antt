@@ -1,5 +1,5 @@
 -- Lists that grow by what is made of one item after another.
-use Rattle.std.proofs.Common.{◌≡◌, ◌<◌, ◌≤◌, ◌+◌, ◌&&◌, ℕ, Bool, true, false, List, ◌∷◌, ◌++◌, drop, get_or, length, nat_le, nat_lt, refl, sym, ap, ◌∙◌, append_assoc, arith}
+use Rattle.std.proofs.Common.{◌≡◌, ◌<◌, ◌≤◌, ◌+◌, ◌&&◌, ℕ, Bool, true, false, List, ◌++◌, drop, get_or, length, nat_le, nat_lt, refl, sym, ap, ◌∙◌, append_assoc, arith}
 use Rattle.std.proofs.lemmas.Bool.{false≢true, le-leb, leb-true}
 use Rattle.std.specs.List.{flat_map}
 use Rattle.th_numbers.specs.Lists.{Listed}

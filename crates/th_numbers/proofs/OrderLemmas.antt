@@ -1,7 +1,6 @@
 -- Rows that are ranked: which they are, and in which order.
-use Rattle.std.proofs.Common.{◌≡◌, ◌<◌, ◌≤◌, ◌+◌, ◌⊎◌, inl, inr, ℕ, zero, suc, Bool, true, false, cond, not, List, [], ◌∷◌, All, Contains, Option, None, Some, fold, get_or, length, nat_lt, take, refl, subst, sym, ap, ◌∙◌, arith}
+use Rattle.std.proofs.Common.{◌≡◌, ◌<◌, ◌≤◌, ◌+◌, ◌⊎◌, inl, inr, ℕ, zero, suc, Bool, true, false, cond, not, List, [], ◌∷◌, All, Contains, Option, None, Some, fold, get_or, length, take, refl, subst, sym, ap, ◌∙◌, arith}
 use Rattle.std.specs.List.{insert, position_or_len}
-use Rattle.std.proofs.lemmas.Bool.{le-leb, leb-true}
 use Rattle.std.proofs.lemmas.Bool.Decides.{nat_tests}
 use Rattle.std.proofs.lemmas.List.Elements.{All-contains, All-contains_itself, All-cons, All-get_or, All-head, All-nil, All-tail, All-weaker}
 use Rattle.th_explanations.specs.Ranks.{by_left, leading, leaves_more, number_after, numbered_from, ranked, with_number, with_row}

@@ -1,9 +1,10 @@
 -- Rows that are printed: each is that of a number or of a book, and none that passes is missing.
-use Rattle.std.proofs.Common.{◌≡◌, ◌<◌, ◌≤◌, ◌⊎◌, ◌++◌, inl, inr, ℕ, zero, suc, ℤ, List, [], ◌∷◌, All, Contains, Option, None, Some, get_or, length, refl, subst, sym, ap, ◌∙◌, arith}
+use Rattle.std.proofs.Common.{◌≡◌, ◌≤◌, ◌⊎◌, inl, inr, ℕ, zero, suc, ℤ, List, [], ◌∷◌, All, Contains, Option, None, Some, length, refl, subst, sym, ap, ◌∙◌, arith}
 use Rattle.std.specs.Prelude.{option_to_list}
 use Rattle.std.specs.List.{AllZip, flat_map}
 use Rattle.std.proofs.lemmas.List.Elements.{All-weaker, Contains-append_cases, Contains-append_left, Contains-append_right}
 use Rattle.th_entries.specs.declared.reviews.BookReview.{BookReview}
+use Rattle.th_explain.specs.Explained.{IsMore}
 use Rattle.th_explain.specs.Freed.{IsFreed, cost_of}
 use Rattle.th_explain.specs.declared.freed.Freed.{Freed}
 use Rattle.th_explain.specs.declared.numbers.Number.{Number}
@@ -13,12 +14,11 @@ use Rattle.th_explanations.specs.declared.rows.Row.{Row}
 use Rattle.th_network.specs.Networks.{Survey}
 use Rattle.th_review.specs.Entries.{entries_of}
 use Rattle.th_numbers.specs.Candidates.{number_of}
-use Rattle.th_numbers.specs.Explanations.{AreExplained, all_rows}
+use Rattle.th_numbers.specs.Explanations.{AreExplained, IsEnough, all_rows}
 use Rattle.th_numbers.specs.Lists.{books_of, in_order, listed_of}
 use Rattle.th_numbers.specs.Printed.{IsAmongRows, IsOfBook, IsOfNumber}
 use Rattle.th_numbers.specs.Readings.{IsBookRowOrNone}
-use Rattle.th_numbers.specs.Rows.{IsRow, IsRowOrNone, Passes}
-use Rattle.th_numbers.specs.declared.books.SightedBook.{SightedBook}
+use Rattle.th_numbers.specs.Rows.{IsRowOrMore, Passes}
 use Rattle.th_numbers.specs.declared.candidates.Candidate.{Candidate}
 use Rattle.th_numbers.specs.declared.findings.Explanations.{Explanations}
 use Rattle.th_numbers.proofs.OrderLemmas.{complete_ranked, each_ranked}
@@ -69,18 +69,18 @@ module _ (survey : Survey) (reviews : List BookReview) (limit : ℤ) (explained 
 
   pub each_printed : All (λ (row : Row). IsOfNumber survey cost limit candidates row ⊎ IsOfBook survey (entries_of reviews) cost limit reviews row) explained.rows.items
   each_printed =
-      subst (All (λ (row : Row). IsOfNumber survey cost limit candidates row ⊎ IsOfBook survey (entries_of reviews) cost limit reviews row)) (sym are.rows)
-      (All-weaker (λ (row : Row). (own : Row) × Contains (all_rows are.own are.read) own × (row ≡ with_number own row.number)) (λ (row : Row). IsOfNumber survey cost limit candidates row ⊎ IsOfBook survey (entries_of reviews) cost limit reviews row)
-      by (ranked (all_rows are.own are.read)) (each_ranked (all_rows are.own are.read)))
+      subst (All (λ (row : Row). IsOfNumber survey cost limit candidates row ⊎ IsOfBook survey (entries_of reviews) cost limit reviews row)) (sym are.printed.leading)
+      (All-weaker (λ (row : Row). (own : Row) × Contains (all_rows are.printed.own are.printed.read) own × (row ≡ with_number own row.number)) (λ (row : Row). IsOfNumber survey cost limit candidates row ⊎ IsOfBook survey (entries_of reviews) cost limit reviews row)
+      by (ranked (all_rows are.printed.own are.printed.read)) (each_ranked (all_rows are.printed.own are.printed.read)))
     where
-      by : (row : Row) → (own : Row) × Contains (all_rows are.own are.read) own × (row ≡ with_number own row.number) → IsOfNumber survey cost limit candidates row ⊎ IsOfBook survey (entries_of reviews) cost limit reviews row
+      by : (row : Row) → (own : Row) × Contains (all_rows are.printed.own are.printed.read) own × (row ≡ with_number own row.number) → IsOfNumber survey cost limit candidates row ⊎ IsOfBook survey (entries_of reviews) cost limit reviews row
       by row (own, has, same) =
-          elim (Contains-append_cases (flat_map option_to_list are.own) (flat_map option_to_list are.read) own has) [
+          elim (Contains-append_cases (flat_map option_to_list are.printed.own) (flat_map option_to_list are.printed.read) own has) [
             | inl h ↦
-                let (candidate, listed, passes) = from_row (IsRowOrNone survey cost limit) candidates are.own own are.found.numbers h in
+                let (candidate, listed, passes) = from_row (IsRowOrMore survey cost limit are.printed.most) candidates are.printed.own own are.printed.found.numbers h in
                 inl (record { candidate = candidate; listed = listed; own = own; passes = passes; same = same })
             | inr h ↦
-                let (book, listed, fits) = from_row (IsBookRowOrNone survey (entries_of reviews) cost limit) (books_of reviews) are.read own are.found.books h in
+                let (book, listed, fits) = from_row (IsBookRowOrNone survey (entries_of reviews) cost limit) (books_of reviews) are.printed.read own are.printed.found.books h in
                 inr (record { book = book; listed = listed; own = own; fits = fits; same = same })
           ]
 
@@ -88,15 +88,20 @@ module _ (survey : Survey) (reviews : List BookReview) (limit : ℤ) (explained 
       → (candidate : Candidate) (freed : Freed) → Contains candidates candidate → Passes survey limit candidate freed
       → IsAmongRows survey cost limit candidate explained.rows.items ⊎ ((length explained.rows.items ≡ most_rows) × All (λ (row : Row). row.left ≤ freed.left) explained.rows.items)
   complete_printed one candidate freed has passes =
-      let (found, is, there) = to_row (IsRowOrNone survey cost limit) candidates are.own candidate are.found.numbers has in
+      let (found, is, there) = to_row (IsRowOrMore survey cost limit are.printed.most) candidates are.printed.own candidate are.printed.found.numbers has in
       by found is there
     where
-      by : (found : Option Row) → IsRowOrNone survey cost limit candidate found → IsThere (IsRowOrNone survey cost limit) are.own found
+      nothing_less : (most : Option ℕ) → IsEnough most explained.rows.items → IsMore most freed.left → (length explained.rows.items ≡ most_rows) × All (λ (row : Row). row.left ≤ freed.left) explained.rows.items
+      nothing_less None enough more = absurd more
+      nothing_less (Some most) enough more =
+          (enough.0, All-weaker (λ (row : Row). row.left ≤ most) (λ (row : Row). row.left ≤ freed.left) (λ row less. omega (arith, less, more)) explained.rows.items enough.1)
+
+      by : (found : Option Row) → IsRowOrMore survey cost limit are.printed.most candidate found → IsThere (IsRowOrMore survey cost limit are.printed.most) are.printed.own found
           → IsAmongRows survey cost limit candidate explained.rows.items ⊎ ((length explained.rows.items ≡ most_rows) × All (λ (row : Row). row.left ≤ freed.left) explained.rows.items)
-      by None none there = absurd (none freed passes)
+      by None none there = inr (nothing_less are.printed.most are.printed.enough (none freed passes))
       by (Some own) is there =
           let left : own.left ≡ freed.left = ap (λ (row : Row). row.left) is.printed ∙ one survey (number_of candidate) is.freed.left freed.left is.passes.explains.exact.left passes.explains.exact.left in
-          elim (complete_ranked (all_rows are.own are.read) own (Contains-append_left (flat_map option_to_list are.own) (flat_map option_to_list are.read) own there)) [
-            | inl h ↦ inl (record { own = own; passes = is; number = h.0; printed = subst (λ (rows : List Row). Contains rows (with_number own h.0)) (sym are.rows) h.1 })
-            | inr h ↦ inr (ap length are.rows ∙ h.0, subst (All (λ (row : Row). row.left ≤ freed.left)) (sym are.rows) (subst (λ (n : ℕ). All (λ (row : Row). row.left ≤ n) (ranked (all_rows are.own are.read))) left h.1))
+          elim (complete_ranked (all_rows are.printed.own are.printed.read) own (Contains-append_left (flat_map option_to_list are.printed.own) (flat_map option_to_list are.printed.read) own there)) [
+            | inl h ↦ inl (record { own = own; passes = is; number = h.0; printed = subst (λ (rows : List Row). Contains rows (with_number own h.0)) (sym are.printed.leading) h.1 })
+            | inr h ↦ inr (ap length are.printed.leading ∙ h.0, subst (All (λ (row : Row). row.left ≤ freed.left)) (sym are.printed.leading) (subst (λ (n : ℕ). All (λ (row : Row). row.left ≤ n) (ranked (all_rows are.printed.own are.printed.read))) left h.1))
           ]

@@ -2,14 +2,15 @@
 use Rattle.std.proofs.Common.{◌≡◌, ℕ, zero, suc, Bool, true, false, ◌<◌, ◌≤◌, ◌↔◌, ℤ, pos, List, [], ◌∷◌, get_or, if◌then◌else◌, int_lt, length, map, unsigned_abs, subst, sym, arith}
 use Rattle.std.specs.List.{AllZip}
 use Rattle.std.proofs.lemmas.Int.{ints}
-use Rattle.th_explain.specs.Explained.{Explains, IsLeastInReach}
+use Rattle.th_explain.specs.Explained.{Explains, IsExplainedOrMore, IsLeastInReach}
 use Rattle.th_explain.specs.declared.freed.Freed.{Freed}
 use Rattle.th_explain.specs.declared.numbers.Number.{Number}
 use Rattle.th_network.specs.Networks.{Survey}
-use Rattle.std.specs.Prelude.{Some}
+use Rattle.std.specs.Prelude.{Option, None, Some}
 use Rattle.th_explain.specs.Freed.{IsFreed}
 use Rattle.th_numbers.specs.Candidates.{number_of, whole_of}
-use Rattle.th_numbers.specs.Rows.{LeavesNoMore, Passes, limit_size, mildest_change}
+use Rattle.th_explanations.specs.declared.rows.Row.{Row}
+use Rattle.th_numbers.specs.Rows.{IsRowOrMore, IsRowOrNone, LeavesNoMore, Passes, limit_size, mildest_change}
 use Rattle.th_numbers.specs.declared.candidates.Candidate.{Candidate}
 
 -- the mildest change is within what both ends are within
@@ -46,3 +47,11 @@ made_at R f [] ys i x d all within here = absurd (omega (arith, within))
 made_at R f (z ∷ xs) [] i x d all within here = absurd all
 made_at R f (z ∷ xs) (v ∷ ys) zero x d all within here = subst (λ own. R (f own) v) (sym here) all.0
 made_at R f (z ∷ xs) (v ∷ ys) (suc i) x d all within here = made_at R f xs ys i x d all.1 (omega arith) here
+
+-- ---- numbers that leave more
+pub more_row : (survey : Survey) (cost : ℕ) (limit : ℤ) (most : Option ℕ) (candidate : Candidate) (row : Option Row) → IsRowOrNone survey cost limit candidate row → IsRowOrMore survey cost limit most candidate row
+more_row survey cost limit most candidate None none = λ freed passes. absurd (none freed passes)
+more_row survey cost limit most candidate (Some row) is = is
+
+pub more_none : (survey : Survey) (cost : ℕ) (limit : ℤ) (most : Option ℕ) (candidate : Candidate) → IsExplainedOrMore survey (limit_size limit) most (number_of candidate) None → IsRowOrMore survey cost limit most candidate None
+more_none survey cost limit most candidate none freed passes = none freed passes.explains

@@ -1,3 +1,4 @@
 -- what private functions promise each other
 pub mod Parts
 pub mod Kinds
+pub mod Leading

@@ -1,6 +1,6 @@
 -- The row of a number, where it explains what does not fit.
 use Rattle.std.specs.Prelude.{◌≡◌, ℕ, ◌-◌, ◌≤◌, ℤ, pos, ◌+ℤ◌, List, Option, Some, None, if◌then◌else◌, int_lt, unsigned_abs}
-use Rattle.th_explain.specs.Explained.{Explains}
+use Rattle.th_explain.specs.Explained.{Explains, IsMore}
 use Rattle.th_explain.specs.Freed.{Keeps, cost_of}
 use Rattle.th_explain.specs.Mended.{LeavesBlunders}
 use Rattle.th_explain.specs.Numbers.{changed}
@@ -70,3 +70,8 @@ pub record IsRow (survey : Survey) (cost : ℕ) (limit : ℤ) (candidate : Candi
 abbrev pub IsRowOrNone : Survey → ℕ → ℤ → Candidate → Option Row → Type 0
 IsRowOrNone survey cost limit candidate None = (freed : Freed) → ¬ Passes survey limit candidate freed
 IsRowOrNone survey cost limit candidate (Some row) = IsRow survey cost limit candidate row
+
+-- the row of a number; or none if it does not pass, or leaves more than this
+abbrev pub IsRowOrMore : Survey → ℕ → ℤ → Option ℕ → Candidate → Option Row → Type 0
+IsRowOrMore survey cost limit most candidate None = (freed : Freed) → Passes survey limit candidate freed → IsMore most freed.left
+IsRowOrMore survey cost limit most candidate (Some row) = IsRow survey cost limit candidate row

@@ -1,9 +1,13 @@
 //! The rows of all numbers, and how many were looked at.
-ghost use Rattle.std.specs.Prelude.{◌≡◌, ◌≤◌, ◌++◌, IfErr, IfOk, OnOk, length, option_to_list};
+ghost use Rattle.std.specs.Prelude.{◌≡◌, ◌≤◌, ◌++◌, ℕ, All, Option, IfErr, IfOk, OnOk, length, option_to_list, true};
 ghost use Rattle.std.specs.List.{flat_map};
+ghost use Rattle.th_circulation.specs.Best.{IsBest};
+ghost use Rattle.th_explain.specs.Freed.{cost_of};
 ghost use Rattle.th_limits.specs.Limits.{max_books};
+ghost use Rattle.th_network.specs.Networks.{at_points_of};
 ghost use Rattle.th_network.specs.declared.faults.NetFault.TheVariants.{NoMemory};
-ghost use Rattle.th_numbers.specs.Explanations.{AreExplained, all_rows, summary_with};
+ghost use Rattle.th_numbers.specs.Explanations.{AreExplained, IsEnough, all_rows, summary_with};
+ghost use Rattle.th_numbers.specs.Inside.Leading.{AreLeading};
 ghost use Rattle.th_numbers.specs.Lists.{in_order, listed_in};
 
 use crate::books::books_of;
@@ -11,15 +15,21 @@ use crate::candidates::Candidate;
 use crate::kinds::Kinds;
 use crate::listing::{Listing, listing_of};
 use crate::readings::book_rows;
-use crate::rows::rows_or_none;
+use crate::rows::rows_or_more;
 use std::alloc::{AllocError, Global};
-use th_blunders::Fit;
-use th_circulation::best_heights;
+use th_blunders::{Fit, is_blunder};
+use th_circulation::{BestHeights, best_heights};
 use th_entries::BookReview;
 use th_explain::blunder_count;
 use th_explanations::{Row, Summary, ranked};
 use th_network::{NetFault, Network};
 use th_review::entries_of;
+
+/// The most rows.
+const MOST_ROWS: usize = 20;
+
+/// Of so many sights that do not fit, 20 are expected to be rows.
+const EXPECTED_ROWS: usize = 30;
 
 /// What was looked at, and the rows of the numbers that explain most.
 #[derive(Drop)]
@@ -30,9 +40,8 @@ pub struct Explanations {
 
 /// Which numbers of a network, and of the books with these reviews, explain what does not fit.
 ///
-/// The limit of blunders is in units of 10 nm. The only fault is `NoMemory`. The network is adjusted
-/// once, about once more for each number that some flow goes through, and about twenty times more for
-/// each number that explains what does not fit.
+/// The limit of blunders is in units of 10 nm. The only fault is `NoMemory`. The network is adjusted a few
+/// times, and some 10 to 20 times more for each number that explains as much as what is printed.
 pub fn explanations_of(
     alloc: Global,
     network: &Network,
@@ -55,11 +64,119 @@ pub fn explanations_of(
     let summary = summary_with(fit.cost, marked, &listing, books.len(), limit);
     let all = in_order(alloc, listing)?;
     let candidates = all.as_slice();
-    let own = rows_or_none(alloc, network, &best, fit.cost, candidates, limit)?;
     let read = book_rows(alloc, network, &kinds, fit.cost, books, limit)?;
-    let found = all_rows(alloc, own.as_slice(), read.as_slice())?;
-    let rows = ranked(alloc, found.as_slice())?;
+    let rows = printed_rows(
+        alloc,
+        network,
+        &best,
+        &fit,
+        candidates,
+        read.as_slice(),
+        limit,
+    )?;
     Ok(Explanations { summary, rows })
+}
+
+/// The rows that leave least, of all numbers and of these of books.
+fn printed_rows(
+    alloc: Global,
+    network: &Network,
+    best: &BestHeights,
+    fit: &Fit,
+    candidates: &[Candidate],
+    read: &[Option<Row>],
+    limit: i64,
+) -> Result<Vec<Row>, NetFault>
+    requires best { IsBest network.now best.now }
+    requires cost { fit.now.cost ≡ cost_of network.now (at_points_of network.now best.now.low) }
+    ensures rows { IfOk result (λ rows. (most : Option ℕ)
+        × IsEnough most rows.items × AreLeading network.now fit.now.cost limit candidates.now read.now most rows.items) }
+    ensures refused { IfErr result (λ fault. fault ≡ NoMemory) }
+{
+    let most = most_expected(alloc, network, fit, limit)?;
+    let first = leading_rows(
+        alloc, network, best, fit.cost, candidates, read, limit, most,
+    )?;
+    if is_enough(most, first.as_slice()) {
+        return Ok(first);
+    }
+    let rows = leading_rows(
+        alloc, network, best, fit.cost, candidates, read, limit, None,
+    )?;
+    Ok(rows)
+}
+
+/// The rows that leave least of those that are found, where numbers that leave more than `most` may be
+/// missing.
+fn leading_rows(
+    alloc: Global,
+    network: &Network,
+    best: &BestHeights,
+    cost: u128,
+    candidates: &[Candidate],
+    read: &[Option<Row>],
+    limit: i64,
+    most: Option<u128>,
+) -> Result<Vec<Row>, NetFault>
+    requires best { IsBest network.now best.now }
+    requires cost { cost ≡ cost_of network.now (at_points_of network.now best.now.low) }
+    ensures rows { IfOk result (λ rows.
+        AreLeading network.now cost limit candidates.now read.now most rows.items) }
+    ensures refused { IfErr result (λ fault. fault ≡ NoMemory) }
+{
+    let own = rows_or_more(alloc, network, best, cost, candidates, limit, most)?;
+    let found = all_rows(alloc, own.as_slice(), read)?;
+    let rows = ranked(alloc, found.as_slice())?;
+    Ok(rows)
+}
+
+/// Whether rows are as many as there may be, none of which leaves more than `most`, if it is given.
+fn is_enough(most: Option<u128>, rows: &[Row]) -> bool
+    ensures { result ≡ true → IsEnough most rows.now }
+{
+    match most {
+        Some(most) => rows.len() == MOST_ROWS && leave_at_most(rows, most),
+        None => true,
+    }
+}
+
+/// Whether none of some rows leaves more than this.
+fn leave_at_most(rows: &[Row], most: u128) -> bool
+    ensures { result ≡ true → All (λ row. row.left ≤ most) rows.now }
+{
+    for k in 0..rows.len() {
+        if rows[k].left > most {
+            return false;
+        }
+    }
+    true
+}
+
+/// What the last row is expected to leave at most, if there are many sights that do not fit. Each of
+/// these would explain at least its residual times its weight. Nothing is promised: it is checked when
+/// there are rows.
+fn most_expected(
+    alloc: Global,
+    network: &Network,
+    fit: &Fit,
+    limit: i64,
+) -> Result<Option<u128>, AllocError> {
+    let mut gains = Vec::with_capacity(alloc, fit.residuals.len())?;
+    for (i, residual) in fit.residuals.iter().enumerate() {
+        if is_blunder(*residual, limit)
+            && let Some(weight) = network.weights().get(i)
+        {
+            gains.push(u128::from(residual.unsigned_abs()).saturating_mul(u128::from(*weight)))?;
+        }
+    }
+    gains.sort_unstable();
+    let Some(place) = gains.len().checked_sub(EXPECTED_ROWS) else {
+        return Ok(None);
+    };
+    match gains.get(place) {
+        Some(gain) => Ok(fit.cost.checked_sub(*gain)),
+        None => Ok(None),
+    }
 }
 
 /// What was looked at in numbers.

@@ -3,12 +3,12 @@ ghost use Rattle.std.specs.Prelude.{◌≡◌, ◌≤◌, ◌↔◌, ◌++◌, �
 ghost use Rattle.std.specs.List.{AllZip};
 ghost use Rattle.th_book.specs.Observed.{largest_difference};
 ghost use Rattle.th_circulation.specs.Best.{IsBest};
-ghost use Rattle.th_explain.specs.Explained.{Explains, IsExplainedOrNone};
+ghost use Rattle.th_explain.specs.Explained.{Explains, IsExplainedOrMore};
 ghost use Rattle.th_explain.specs.Freed.{cost_of};
 ghost use Rattle.th_network.specs.Networks.{at_points_of};
 ghost use Rattle.th_network.specs.declared.faults.NetFault.TheVariants.{NoMemory};
 ghost use Rattle.th_numbers.specs.Candidates.{number_of};
-ghost use Rattle.th_numbers.specs.Rows.{IsRowOrNone, LeavesNoMore, limit_size, mildest_change, row_of, row_with, values_of};
+ghost use Rattle.th_numbers.specs.Rows.{IsRowOrMore, IsRowOrNone, LeavesNoMore, limit_size, mildest_change, row_of, row_with, values_of};
 
 use crate::candidates::{Candidate, Label, sight_count};
 use std::alloc::{AllocError, Global};
@@ -18,30 +18,41 @@ use th_explain::{Freed, Number, blunders_left, explanations, least_in_reach};
 use th_explanations::{Row, Values};
 use th_network::{NetFault, Network};
 
-/// For each number its row, where it explains what does not fit.
+/// For each number its row, where it explains what does not fit. Those that leave more than `most` may be
+/// missing, if it is given.
 ///
 /// `best` are the best heights of the network, and `cost` is what they cost. The limit of blunders is in
 /// units of 10 nm. The only fault is `NoMemory`.
-pub(crate) fn rows_or_none(
+pub(crate) fn rows_or_more(
     alloc: Global,
     network: &Network,
     best: &BestHeights,
     cost: u128,
     candidates: &[Candidate],
     limit: i64,
+    most: Option<u128>,
 ) -> Result<Vec<Option<Row>>, NetFault>
     requires best { IsBest network.now best.now }
     requires cost { cost ≡ cost_of network.now (at_points_of network.now best.now.low) }
     ensures rows { IfOk result (λ rows.
-        AllZip (IsRowOrNone network.now cost limit) candidates.now rows.items) }
+        AllZip (IsRowOrMore network.now cost limit most) candidates.now rows.items) }
     ensures refused { IfErr result (λ fault. fault ≡ NoMemory) }
 {
     let numbers = numbers_of(alloc, candidates)?;
-    let all = explanations(alloc, network, numbers.as_slice(), limit_size(limit))?;
+    let all = explanations(alloc, network, numbers.as_slice(), limit_size(limit), most)?;
     let found = all.as_slice();
     let mut rows = Vec::with_capacity(alloc, candidates.len())?;
     for k in 0..candidates.len() {
-        let row = row_or_none(alloc, network, best, cost, &candidates[k], &found[k], limit)?;
+        let row = row_or_more(
+            alloc,
+            network,
+            best,
+            cost,
+            &candidates[k],
+            &found[k],
+            limit,
+            most,
+        )?;
         add_found(&mut rows, row)?;
     }
     Ok(rows)
@@ -66,7 +77,7 @@ pub(crate) fn add_found(rows: &mut Vec<Option<Row>>, found: Option<Row>) -> Resu
 }
 
 /// The row of a number, given what is left if it is freed, where it explains what does not fit.
-fn row_or_none(
+fn row_or_more(
     alloc: Global,
     network: &Network,
     best: &BestHeights,
@@ -74,15 +85,19 @@ fn row_or_none(
     candidate: &Candidate,
     found: &Option<Freed>,
     limit: i64,
+    most: Option<u128>,
 ) -> Result<Option<Row>, NetFault>
     requires best { IsBest network.now best.now }
     requires cost { cost ≡ cost_of network.now (at_points_of network.now best.now.low) }
-    requires found { IsExplainedOrNone network.now (limit_size limit) (number_of candidate.now) found.now }
-    ensures row { IfOk result (IsRowOrNone network.now cost limit candidate.now) }
+    requires found { IsExplainedOrMore network.now (limit_size limit) most (number_of candidate.now) found.now }
+    ensures row { IfOk result (IsRowOrMore network.now cost limit most candidate.now) }
     ensures refused { IfErr result (λ fault. fault ≡ NoMemory) }
 {
     match found {
-        Some(freed) => row_if_leading(alloc, network, best, cost, candidate, freed, limit),
+        Some(freed) => {
+            let row = row_if_leading(alloc, network, best, cost, candidate, freed, limit)?;
+            Ok(row)
+        }
         None => Ok(None),
     }
 }

@@ -24,6 +24,8 @@ pub(crate) struct Ground<'a> {
     /// The vertex from which they are parted, and the one that has them instead.
     pub base: u32,
     pub spare: u32,
+    /// The sides of the spare vertex; if there are none here, they are among those of the base.
+    pub own: &'a [Side],
     /// What each link counts more than its length.
     pub toll: u64,
 }
@@ -32,12 +34,13 @@ impl Ground<'_> {
     /// The sides from among which those of a vertex are.
     #[inline]
     fn sides(&self, vertex: u32) -> Option<&[Side]> {
-        let own = if vertex == self.spare {
-            self.base
-        } else {
-            vertex
-        };
-        self.sides.of(own)
+        if vertex != self.spare {
+            return self.sides.of(vertex);
+        }
+        if self.own.is_empty() {
+            return self.sides.of(self.base);
+        }
+        Some(self.own)
     }
 
     /// The vertex that an arc leaves.

@@ -2,7 +2,7 @@ use crate::balls::Ground;
 use crate::groups::{End, Ends, Group};
 use crate::links::Link;
 use crate::searches::Search;
-use crate::sides::Sides;
+use crate::sides::{Side, Sides};
 use std::alloc::{AllocError, Global};
 use th_tree::{ResidualArc, push_if_room};
 
@@ -12,6 +12,10 @@ const MOST_WALKS: usize = 64;
 /// Each link of a path counts as much more as this part of a good path's length. The flows of a tree
 /// that ties all points have no length, and a search would wander over all of them.
 const TOLL: u64 = 16;
+
+/// How many ends a number has at most whose sides are listed. The sides of one with more are looked for among
+/// those of its vertex.
+const MOST_OWN: usize = 64;
 
 /// A closed walk, and how much is to be sent round it.
 #[derive(Clone, Copy)]
@@ -56,6 +60,8 @@ pub struct Guide {
     links: Vec<Link>,
     sides: Sides,
     ends: Ends,
+    /// The sides of the ends that a number has, the shortest first, if they are few.
+    own: Vec<Side>,
     search: Search,
     /// The vertex from which ends are parted, and the one that they have.
     base: u32,
@@ -72,6 +78,7 @@ impl Guide {
             links: vec![in alloc; Link::NONE; links]?,
             sides: Sides::new(alloc, vertices, links)?,
             ends: Ends::new(alloc, links)?,
+            own: Vec::with_capacity(alloc, MOST_OWN)?,
             search: Search::new(alloc, all)?,
             base: 0,
             spare: vertices,
@@ -101,11 +108,17 @@ impl Guide {
     /// flows into the links. Together the walks send back all of it, and more: they cost at most
     /// the limit for each unit that is sent beyond the need.
     pub fn propose(&mut self, group: Group, base: u32, need: i64, limit: u64) -> Option<()> {
-        self.ends.group = group;
-        self.base = base;
-        self.walks.clear();
-        self.arcs.clear();
+        self.begin(group, base)?;
         let found = self.gather(need, limit);
+        let undone = self.undo();
+        found.and(undone)
+    }
+
+    /// Proposes walks that send back all that flows through a number and cost less than `worth`, or no
+    /// more.
+    pub fn propose_below(&mut self, group: Group, base: u32, need: i64, worth: u64) -> Option<()> {
+        self.begin(group, base)?;
+        let found = self.gather_below(need, worth);
         let undone = self.undo();
         found.and(undone)
     }
@@ -123,6 +136,36 @@ impl Guide {
     /// The arcs of a walk, in the order in which they lead round.
     pub fn arcs(&self, walk: &Walk) -> &[ResidualArc] {
         self.arcs.get(walk.start..walk.end).unwrap_or(&[])
+    }
+
+    /// Begins a proposal for a number with these ends.
+    fn begin(&mut self, group: Group, base: u32) -> Option<()> {
+        self.ends.group = group;
+        self.base = base;
+        self.walks.clear();
+        self.arcs.clear();
+        self.own.clear();
+        if let Group::Tails { start, end } = group
+            && end.saturating_sub(start) <= MOST_OWN
+        {
+            for place in start..end {
+                self.list_own(place)?;
+            }
+            self.own.sort_unstable_by_key(|side| side.length);
+        }
+        Some(())
+    }
+
+    /// Lists the side of a number's end at the tail of a link.
+    fn list_own(&mut self, place: usize) -> Option<()> {
+        let link = self.links.get(place)?;
+        let arc = ResidualArc::along(u32::try_from(place).ok()?)?;
+        let side = Side {
+            other: link.head,
+            arc,
+            length: link.length,
+        };
+        push_if_room(&mut self.own, side)
     }
 
     fn gather(&mut self, need: i64, limit: u64) -> Option<()> {
@@ -147,6 +190,24 @@ impl Guide {
         None
     }
 
+    fn gather_below(&mut self, need: i64, worth: u64) -> Option<()> {
+        let mut left = need.unsigned_abs();
+        let mut worth = worth;
+        for _ in 0..MOST_WALKS {
+            let far = worth.checked_div(left)?;
+            self.find(need, far - far / 4, far)?;
+            let length = self.length()?;
+            let amount = left.min(self.room()?);
+            self.send(amount)?;
+            worth = worth.checked_sub(amount.checked_mul(length)?)?;
+            left = left.checked_sub(amount)?;
+            if left == 0 {
+                return Some(());
+            }
+        }
+        None
+    }
+
     /// Finds a path from the base to the spare vertex, or back.
     fn find(&mut self, need: i64, good: u64, far: u64) -> Option<()> {
         let (from, to) = if need > 0 {
@@ -160,6 +221,7 @@ impl Guide {
             ends: &self.ends,
             base: self.base,
             spare: self.spare,
+            own: &self.own,
             toll: good / TOLL,
         };
         self.search.run(ground, from, to, good, far)

@@ -49,3 +49,7 @@ IsSteep survey number cost slope = (x : ℤ) (heights : List ℕ → ℤ) → Ke
 -- if the number changes by more than the limit, the survey costs no less
 abbrev pub IsCostlyBeyond : Survey → Number → ℕ → ℕ → Type 0
 IsCostlyBeyond survey number cost limit = (x : ℤ) (heights : List ℕ → ℤ) → limit < unsigned_abs x → Keeps (changed number x survey) heights → cost ≤ cost_of (changed number x survey) heights
+
+-- whatever the number is changed by, more than this is left
+abbrev pub LeavesMore : Survey → Number → ℕ → Type 0
+LeavesMore survey number most = (x : ℤ) (heights : List ℕ → ℤ) → Keeps (changed number x survey) heights → most < cost_of (changed number x survey) heights

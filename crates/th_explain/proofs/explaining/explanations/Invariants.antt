@@ -1,11 +1,11 @@
 use Rattle.std.proofs.Common.{◌≡◌, take}
 use Rattle.std.specs.List.{AllZip}
-use Rattle.th_explain.specs.Explained.{IsExplainedOrNone}
+use Rattle.th_explain.specs.Explained.{IsExplainedOrMore}
 use Rattle.th_explain.proofs.explaining.explanations.Given as goal
 
 abbrev pub invariant-loop-number : goal.invariant-loop-number
 invariant-loop-number l = record {
-  found : AllZip (IsExplainedOrNone l.network l.limit) (take l.number-index l.numbers) l.found.items;
+  found : AllZip (IsExplainedOrMore l.network l.limit l.most) (take l.number-index l.numbers) l.found.items;
   network : l.sieve.rerouted.network.now ≡ l.network;
   same_cost : l.sieve.rerouted.cost ≡ l.fit.cost;
 }

@@ -1,10 +1,9 @@
-use Rattle.std.proofs.Common.{◌≡◌, ℤ, List, ap, length, of_z, subst, sym, to_z, w64, ◌∙◌, arith}
+use Rattle.std.proofs.Common.{◌≡◌, ℤ, List, ap, length, of_z, subst, sym, to_z, w64, ◌∙◌}
 use Rattle.std.proofs.lemmas.Int.{to_z-of_z}
 use Rattle.std.proofs.lemmas.List.{length-map}
 use Rattle.std.specs.List.{count_by}
 use Rattle.th_blunders.specs.Blunders.{is_blunder}
 use Rattle.th_blunders.specs.Residuals.{residuals}
-use Rattle.th_book.specs.Observed.{Observed}
 use Rattle.th_circulation.specs.Best.{IsBest}
 use Rattle.th_network.specs.Heights.{residual}
 use Rattle.th_network.specs.Networks.{Survey, at_points_of}

@@ -1,4 +1,4 @@
-use Rattle.std.proofs.Common.{◌≡◌, ◌≤◌, ℕ, Bool, true, false, ◌&&◌, ap, nat_le, nat_lt, ◌∙◌, refl, arith}
+use Rattle.std.proofs.Common.{ap, ◌∙◌, arith}
 use Rattle.th_book.specs.Observed.{Observed}
 use Rattle.th_numbers.specs.Candidates.{count_in, sights_since}
 use Rattle.th_numbers.proofs.ListLemmas.{part_else, part_then}

@@ -7,14 +7,14 @@ use Rattle.th_blunders.specs.Residuals.{residuals}
 use Rattle.th_entries.specs.declared.entries.Entry.{Entry}
 use Rattle.th_explain.specs.Freed.{cost_of}
 use Rattle.th_explain.specs.Mended.{blunders_at}
-use Rattle.th_explanations.specs.Ranks.{ranked}
 use Rattle.th_explanations.specs.declared.rows.Row.{Row}
 use Rattle.th_network.specs.Heights.{residual}
 use Rattle.th_network.specs.Networks.{at_points_of}
-use Rattle.th_numbers.specs.Explanations.{all_rows, summary_with}
+use Rattle.th_numbers.specs.Explanations.{IsEnough, summary_with}
+use Rattle.th_numbers.specs.Inside.Leading.{AreLeading}
 use Rattle.th_numbers.specs.Lists.{listed_in, listed_of}
 use Rattle.th_numbers.specs.Readings.{IsBookRowOrNone}
-use Rattle.th_numbers.specs.Rows.{IsRowOrNone}
+use Rattle.th_numbers.specs.Rows.{IsRowOrMore}
 use Rattle.th_numbers.proofs.FindLemmas.{explained_of}
 use Rattle.th_numbers.proofs.findings.explanations_of.Goals as goal
 
@@ -28,22 +28,26 @@ returns-clause-explained c =
     let survey = c.args.network.now in
     let heights = at_points_of survey c.in_ok-best.best.low in
     let (tied, are, listed) = c.in_ok-listing.ensures in
+    let printed : (most : Option ℕ) × IsEnough most c.in_ok-rows.rows.items × AreLeading survey c.in_ok-fit.fit.cost (to_z w64 (of_z w64 c.args.limit)) c.as_slice-candidates.result.now c.as_slice.result.now most c.in_ok-rows.rows.items = c.in_ok-rows.ensures.rows in
+    let most : Option ℕ = printed.0 in
+    let own : List (Option Row) = printed.2.0 in
     let limit = to_z-of_z w64 c.args.limit c.ranges.limit in
     let entries = c.as_slice-entries.result.now in
     let books = c.as_slice-books.result.now in
+    let read : List (Option Row) = c.as_slice.result.now in
     let all = listed_in c.in_ok-listing.listing in
     let cost : c.in_ok-fit.fit.cost ≡ cost_of survey heights = c.in_ok-fit.ensures.cost ∙ ap (λ (low : List ℤ). cost_of survey (at_points_of survey low)) c.low.ensures in
     let marked : c.blunder_count-marked.result ≡ blunders_at c.args.limit survey heights =
     c.blunder_count-marked.ensures ∙ ap (λ (own : ℤ). count_by (is_blunder own) c.deref.result.now) limit
     ∙ ap (count_by (is_blunder c.args.limit)) (c.deref.ensures.value ∙ c.in_ok-fit.ensures.residuals ∙ ap (λ (low : List ℤ). residuals survey.observations (at_points_of survey low)) c.low.ensures) in
     explained_of survey c.args.reviews.now c.args.limit (record { summary = c.summary_with-summary.result; rows = c.in_ok-rows.rows }) heights tied entries all c.in_ok-fit.fit.cost
-    c.as_slice-candidates.result.now books c.in_ok-own.own.items c.in_ok-read.read.items c.in_ok-best.ensures.low are
+    c.as_slice-candidates.result.now books most own read c.in_ok-best.ensures.low are
     (c.as_slice-entries.ensures.value ∙ c.in_ok-all_entries.ensures) (listed ∙ ap (λ (own : List Entry). listed_of survey own tied) c.in_ok-kinds.ensures) cost (c.as_slice-candidates.ensures.value ∙ c.in_ok-all.ensures) (c.as_slice-books.ensures.value ∙ c.in_ok-all_books.ensures)
-    (subst (λ (own : ℤ). AllZip (IsRowOrNone survey c.in_ok-fit.fit.cost own) c.as_slice-candidates.result.now c.in_ok-own.own.items) limit c.in_ok-own.ensures.rows)
-    (subst (λ (own : ℤ). AllZip (IsBookRowOrNone survey entries c.in_ok-fit.fit.cost own) books c.in_ok-read.read.items) limit
-    (subst (λ (own : List Entry). AllZip (IsBookRowOrNone survey own c.in_ok-fit.fit.cost (to_z w64 (of_z w64 c.args.limit))) books c.in_ok-read.read.items) c.in_ok-kinds.ensures c.in_ok-read.ensures.rows))
+    (subst (λ (z : ℤ). AllZip (IsRowOrMore survey c.in_ok-fit.fit.cost z most) c.as_slice-candidates.result.now own) limit printed.2.1)
+    (subst (λ (z : ℤ). AllZip (IsBookRowOrNone survey entries c.in_ok-fit.fit.cost z) books read) limit
+    (subst (λ (own : List Entry). AllZip (IsBookRowOrNone survey own c.in_ok-fit.fit.cost (to_z w64 (of_z w64 c.args.limit))) books read) c.in_ok-kinds.ensures
+    (subst (λ (found : List (Option Row)). AllZip (IsBookRowOrNone survey c.in_ok-kinds.kinds.entries.now c.in_ok-fit.fit.cost (to_z w64 (of_z w64 c.args.limit))) books found) (sym c.as_slice.ensures.value) c.in_ok-read.ensures.rows)))
     (c.summary_with-summary.ensures ∙ ap (λ (own : ℤ). summary_with c.in_ok-fit.fit.cost c.blunder_count-marked.result all (length books) own) limit
     ∙ ap (λ (own : ℕ). summary_with own c.blunder_count-marked.result all (length books) c.args.limit) cost
     ∙ ap (λ (own : ℕ). summary_with (cost_of survey heights) own all (length books) c.args.limit) marked)
-    (c.in_ok-rows.ensures ∙ ap ranked (c.as_slice-3.ensures.value ∙ c.in_ok-found.ensures
-    ∙ ap (λ (own : List (Option Row)). all_rows own c.as_slice-2.result.now) c.as_slice.ensures.value ∙ ap (all_rows c.in_ok-own.own.items) c.as_slice-2.ensures.value))
+    printed.1 printed.2.2

@@ -1,4 +1,4 @@
-use Rattle.std.proofs.Common.{◌≡◌, ◌∙◌, ◌++◌, List, ap, map}
+use Rattle.std.proofs.Common.{◌∙◌, ◌++◌, List, ap, map}
 use Rattle.th_book.specs.Observed.{Observed}
 use Rattle.th_entries.specs.declared.entries.HeightKind.TheVariants as height
 use Rattle.th_numbers.specs.Lists.{changes, entered}

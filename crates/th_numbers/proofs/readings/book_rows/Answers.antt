@@ -1,4 +1,4 @@
-use Rattle.std.proofs.Common.{ℤ, List, get_or, of_z, subst, to_z, w64, ◌∙◌}
+use Rattle.std.proofs.Common.{ℤ, List, get_or, of_z, subst, to_z, w64}
 use Rattle.std.proofs.lemmas.Int.{to_z-of_z}
 use Rattle.std.proofs.lemmas.List.{get_or_default, take_all}
 use Rattle.std.specs.List.{AllZip}

@@ -1,17 +1,16 @@
-use Rattle.std.proofs.Common.{◌≡◌, ◌∙◌, ℕ, Bool, true, false, Err, List, ap, length, of_z, rules, subst, sym, to_z, w64, refl}
+use Rattle.std.proofs.Common.{◌≡◌, ◌∙◌, true, false, Err, List, ap, length, rules, subst, sym, w64}
 use Rattle.std.proofs.lemmas.Int.{to_z-of_z}
 use Rattle.std.proofs.lemmas.List.{length-map}
 use Rattle.std.specs.List.{count_by}
 use Rattle.th_blunders.specs.Blunders.{is_blunder}
 use Rattle.th_blunders.specs.Residuals.{residuals}
 use Rattle.th_book.specs.Observed.{Observed}
-use Rattle.th_circulation.specs.Best.{IsBest}
 use Rattle.th_explain.specs.Freed.{cost_of}
 use Rattle.th_explain.proofs.TiltLemmas.{only_memory}
 use Rattle.th_network.specs.Faults.{IsNetwork}
 use Rattle.th_network.specs.Heights.{residual}
 use Rattle.th_network.specs.Networks.{Survey, at_points_of, surveyed}
-use Rattle.th_numbers.specs.Readings.{is_cheaper, reread}
+use Rattle.th_numbers.specs.Readings.{reread}
 use Rattle.th_numbers.proofs.BookLemmas.{book_row_of, no_book_row}
 use Rattle.th_numbers.proofs.RereadLemmas.{network_read}
 use Rattle.th_numbers.proofs.readings.row_if_cheaper.Goals as goal

@@ -1,4 +1,4 @@
-use Rattle.std.proofs.Common.{◌≡◌, ℤ, ◌+ℤ◌, ◌-ℤ◌, of_z, to_z, w64, arith}
+use Rattle.std.proofs.Common.{ℤ, ◌+ℤ◌, ◌-ℤ◌, of_z, to_z, w64, arith}
 use Rattle.std.proofs.lemmas.Int.{fits_signed_from_abs, ints, to_z-of_z}
 use Rattle.th_numbers.proofs.readings.word_33.Goals as goal
 

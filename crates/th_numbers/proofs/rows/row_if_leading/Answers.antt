@@ -1,13 +1,11 @@
 use Rattle.std.proofs.Common.{◌≡◌, ◌∙◌, ℕ, ℤ, FitsSigned, Option, of_z, refl, rules, subst, sym, to_z, true, w64, arith}
-use Rattle.std.proofs.lemmas.Int.{ints, to_z-of_z}
+use Rattle.std.proofs.lemmas.Int.{to_z-of_z}
 use Rattle.th_explain.specs.Mended.{LeavesBlunders}
 use Rattle.th_explain.specs.declared.numbers.Number.{Number}
 use Rattle.th_explain.proofs.TiltLemmas.{reach_small}
-use Rattle.th_explanations.specs.declared.rows.Row.{Row}
 use Rattle.th_network.specs.Networks.{at_points_of}
-use Rattle.th_numbers.specs.Candidates.{number_of, whole_of}
+use Rattle.th_numbers.specs.Candidates.{number_of}
 use Rattle.th_numbers.specs.Rows.{IsRow, LeavesNoMore, mildest_change}
-use Rattle.th_numbers.proofs.RowLemmas.{mildest_within}
 use Rattle.th_numbers.proofs.rows.row_if_leading.Goals as goal
 
 pub row_of-requires-clause-low : goal.row_of-requires-clause-low

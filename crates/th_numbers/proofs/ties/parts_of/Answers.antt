@@ -1,8 +1,7 @@
-use Rattle.std.proofs.Common.{◌≡◌, ℕ, Some, List, ap, get_or, length, slice_get, subst, sym, ◌∙◌, arith}
+use Rattle.std.proofs.Common.{◌≡◌, ℕ, Some, List, ap, get_or, length, slice_get, subst, sym, ◌∙◌}
 use Rattle.std.proofs.lemmas.Option.{slice_get-get_or}
-use Rattle.th_network.specs.Networks.{points_of}
 use Rattle.th_points.specs.Ends.{ends_of}
-use Rattle.th_numbers.specs.Inside.Parts.{AreApart, AreParts}
+use Rattle.th_numbers.specs.Inside.Parts.{AreApart}
 use Rattle.th_numbers.proofs.PartLemmas.{apart_parts, joined_map}
 use Rattle.th_numbers.proofs.ties.parts_of.Goals as goal
 

@@ -1,4 +1,4 @@
-use Rattle.std.proofs.Common.{◌≡◌, List, get_or, refl, subst, sym, ◌∙◌, arith}
+use Rattle.std.proofs.Common.{refl, subst, sym, ◌∙◌, arith}
 use Rattle.std.proofs.lemmas.Option.{get_or_from_slice_get, slice_get_within}
 use Rattle.std.proofs.lemmas.Slice.Zip.{AllZip-long}
 use Rattle.std.specs.List.{AllZip}

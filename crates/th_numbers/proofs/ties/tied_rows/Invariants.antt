@@ -1,4 +1,4 @@
-use Rattle.std.proofs.Common.{◌≡◌, ◌-◌, ◌≤◌, length, take}
+use Rattle.std.proofs.Common.{◌-◌, ◌≤◌, length, take}
 use Rattle.std.specs.List.{AllZip}
 use Rattle.th_numbers.specs.Ties.{IsTold}
 use Rattle.th_numbers.proofs.ties.tied_rows.Given as goal

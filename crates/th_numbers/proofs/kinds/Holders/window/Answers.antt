@@ -1,4 +1,4 @@
-use Rattle.std.proofs.Common.{◌≡◌, ◌<◌, ◌≤◌, ℕ, true, false, List, get_or, length, subst, sym, ap, arith}
+use Rattle.std.proofs.Common.{◌≡◌, ℕ, true, false, List, get_or, subst, sym, ap, arith}
 use Rattle.th_book.specs.Observed.{Observed}
 use Rattle.th_entries.specs.declared.entries.Entry.{Entry}
 use Rattle.th_numbers.specs.Inside.Kinds.{AreAround, FollowEachOther, is_ended}
