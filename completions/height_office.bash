@@ -17,7 +17,8 @@ _height_office() {
             ;;
     esac
     case ${COMP_WORDS[1]} in
-        list | book) options='--help' ;;
+        list) options='--help' ;;
+        book) options='--heights --help' ;;
         adjust | review) options='--benchmarks --weights --blunder --out --help' ;;
         explain) options='--benchmarks --weights --blunder --csv --help' ;;
         check) options='--benchmarks --weights --certificate --help' ;;

@@ -78,6 +78,11 @@ TRIANGLE_EXPLAINED = (b"cost                          0.50000000\n"
                         b"   1   1       8        A                 C                    2.00000000    0.00000000        0\n"
                         b"\n"
                         b"One wrong number explains this: the sight of line 8.\n")
+# A setup and a sight with heights, and their book.
+HEIGHTS = (b"110001+0000000A 86..40+00250112 88..10+00001545\n"
+           b"110002+0000000B 31..00+00027472 83..00+00251384\n")
+HEIGHTS_BOOK = (b"110001+0000000A 86..40+00250112 88..10+00001545\r\n"
+                b"110002+0000000B 31..00+00027472 83..00+00251384 87..48+00000000 33..48-00027300 \r\n")
 INPUTS = {
     "misread.gsi": MISREAD,
     "triangle.gsi": TRIANGLE,
@@ -86,6 +91,7 @@ INPUTS = {
     "misread.csv": MISREAD_CERTIFICATE,
     "triangle.csv": TRIANGLE_CERTIFICATE,
     "differences.csv": b"from,to,difference\nA,B,1.5\nA,C,-0.00001\n",
+    "heights.gsi": HEIGHTS,
 }
 # The calls that are refused memory in turn.
 CALLS = {f"{call} wants memory\n".encode("ascii")
@@ -131,6 +137,7 @@ SERIES = (
     Series("check of a triangle", ["check"] + TABLES + ["--certificate", "triangle.csv", "triangle.gsi"], b"yes\n",
            None),
     Series("book of a table", ["book", "differences.csv"], DIFFERENCES_BOOK, None),
+    Series("book of a book with heights", ["book", "--heights", "heights.gsi"], HEIGHTS_BOOK, None),
 )
 
 

@@ -58,7 +58,7 @@ fn names_no_files(rt: &(impl AllocGlobal + Abort), words: &str) {
 }
 
 /// Words that are no plan, and the kind of the error that `clap` answers.
-const WRONG_WORDS: [(&str, ErrorKind); 63] = [
+const WRONG_WORDS: [(&str, ErrorKind); 67] = [
     ("height_office list", ErrorKind::MissingRequiredArgument),
     ("height_office list a b", ErrorKind::UnknownArgument),
     ("height_office lisst a", ErrorKind::InvalidSubcommand),
@@ -82,6 +82,19 @@ const WRONG_WORDS: [(&str, ErrorKind); 63] = [
     ("height_office book --out p a", ErrorKind::UnknownArgument),
     ("height_office books a", ErrorKind::InvalidSubcommand),
     ("height_office book --help", ErrorKind::DisplayHelp),
+    (
+        "height_office book --heights",
+        ErrorKind::MissingRequiredArgument,
+    ),
+    (
+        "height_office book --heights a b",
+        ErrorKind::UnknownArgument,
+    ),
+    ("height_office book --heights=a", ErrorKind::TooManyValues),
+    (
+        "height_office book --heights a --heights",
+        ErrorKind::ArgumentConflict,
+    ),
     // Each that must be there is missing.
     (
         "height_office adjust --out p a",

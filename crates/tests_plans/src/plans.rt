@@ -3,7 +3,7 @@ use std::test::Fail;
 use th_plans::{Inputs, Limit, Plan, plan};
 
 /// Command lines, and the plans that they name.
-const PLANS: [(&str, &str); 37] = [
+const PLANS: [(&str, &str); 41] = [
     ("height_office", "standard"),
     ("height_office list k.gsi", "list k.gsi"),
     ("height_office list -", "list -"),
@@ -132,6 +132,19 @@ const PLANS: [(&str, &str); 37] = [
     ("height_office book t.csv", "book t.csv"),
     ("height_office book book", "book book"),
     ("height_office book -- --out", "book --out"),
+    (
+        "height_office book --heights k.gsi",
+        "book of heights k.gsi",
+    ),
+    (
+        "height_office book k.gsi --heights",
+        "book of heights k.gsi",
+    ),
+    (
+        "height_office book --heights -- --heights",
+        "book of heights --heights",
+    ),
+    ("height_office book -- --heights", "book --heights"),
 ];
 
 #[test]
@@ -246,6 +259,9 @@ fn text_of(rt: &(impl AllocGlobal + Abort), plan: &Plan<'_>) -> String {
             format!(in rt.alloc(); "check {files} certificate {certificate}").expect(rt, "memory")
         }
         Plan::Book { table } => format!(in rt.alloc(); "book {table}").expect(rt, "memory"),
+        Plan::BookOfHeights { book } => {
+            format!(in rt.alloc(); "book of heights {book}").expect(rt, "memory")
+        }
     }
 }
 

@@ -15,6 +15,8 @@ mod books;
 #[cfg(test)]
 mod commands;
 #[cfg(test)]
+mod heights;
+#[cfg(test)]
 mod overwrites;
 #[cfg(test)]
 mod refusals;

@@ -37,3 +37,13 @@ book_help NoReflectorHeight = codes "the recording mask needs word 87, the pole 
 book_help SightToItself = codes "the sight has the name of its own station"
 book_help BookTooLong = codes "a book has at most 64 MiB"
 book_help NoMemory = codes "this is no fault of the book"
+
+-- a fault of a book with heights, which is converted: words 83 and 86 count, and word 33 does not come from the instrument
+abbrev pub heights_help : BookKind → List ℕ
+heights_help (Block TooManyWords) = codes "a line has at most 64 words, and a sight gets up to three more"
+heights_help RepeatedWord = codes "a book with words 33 needs no conversion; a line has one word each of 83, 84, 85, 86, 87 and 88"
+heights_help BadNumber = codes "words 83, 86, 87 and 88 have nothing but digits behind the sign"
+heights_help BadUnit = codes "position 6 of words 83, 86, 87 and 88 is 0, 1, 6, 7 or 8: all metric, or all in feet"
+heights_help TooLarge = codes "words 83, 86, 87 and 88 are at most 10 km, and in GSI-8 the word 33 has room for 1 km"
+heights_help NoInstrumentHeight = codes "the station line needs word 86, the height of the station"
+heights_help other = book_help other

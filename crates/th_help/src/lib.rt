@@ -18,7 +18,7 @@ mod helps;
 // What a surveyor should know of a run that was not refused.
 mod notes;
 
-pub use books::book_help;
+pub use books::{book_help, heights_help};
 pub use certificates::certificate_help;
 pub use differences::differences_help;
 pub use faults::{

@@ -15,7 +15,7 @@ pub record Files : Type 0 where
 
 -- what a command line requests: to list a book; to adjust or to review, with a limit of blunders
 -- in units of 10 nm and the prefix of the outputs; to explain, with a limit and whether a table is printed; to check a certificate;
--- or to make a book of a table of differences
+-- or to make a book of a table of differences, or of a book with heights
 pub data Asked : Type 0 where
   list : Text → Asked
   adjust : Files → ℤ → Text → Asked
@@ -23,6 +23,7 @@ pub data Asked : Type 0 where
   explain : Files → ℤ → Bool → Asked
   check : Files → Text → Asked
   book : Text → Asked
+  book_of_heights : Text → Asked
 
 -- the names of the books, if there are as many as a command takes: 1 to 16
 abbrev pub books_of : List Text → Option (List Text)
@@ -60,9 +61,16 @@ abbrev pub options_in : List Row → Option (Files × ℤ × Text)
 options_in rows =
     option_and_then (λ files. option_and_then (λ limit. option_map (λ prefix. (files, limit, prefix)) (prefix_in rows)) (limit_in rows)) (files_in rows)
 
--- whether `clap` found the flag for a table
+-- whether `clap` found a flag
+abbrev pub flag_in : Text → List Row → Bool
+flag_in name rows = option_map_or (λ text. bytes_eq text (codes "true")) (first_of name rows) false
+
+-- the flag for a table, and that for a book with heights
 abbrev pub table_in : List Row → Bool
-table_in rows = option_map_or (λ text. bytes_eq text (codes "true")) (first_of (codes "csv") rows) false
+table_in rows = flag_in (codes "csv") rows
+
+abbrev pub heights_in : List Row → Bool
+heights_in rows = flag_in (codes "heights") rows
 
 -- whether `clap` found a prefix that names no files
 abbrev pub has_bad_prefix : List Row → Bool
@@ -89,7 +97,7 @@ abbrev pub check_asked : List Row → Option Asked
 check_asked rows = option_and_then (λ files. option_map (check files) (first_of (codes "certificate") rows)) (files_in rows)
 
 abbrev pub book_asked : List Row → Option Asked
-book_asked rows = option_map book (first_of (codes "table") rows)
+book_asked rows = option_map (λ file. if heights_in rows then book_of_heights file else book file) (first_of (codes "table") rows)
 
 -- what the command of this name requests
 abbrev pub command_asked : Text → List Row → Option Asked

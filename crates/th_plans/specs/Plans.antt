@@ -5,7 +5,7 @@ use Rattle.clap.specs.Words.{App, IsAmong, Rule, Text, fault_of, kind_of, new_ap
 use Rattle.clap.specs.declared.builder.action.ArgAction.TheVariants.{Append, SetTrue}
 use Rattle.clap.specs.declared.builder.value_parser.ValueParser.TheVariants.{Signed}
 use Rattle.clap.specs.declared.error.kind.ErrorKind.TheVariants.{OutOfMemory}
-use Rattle.th_plans.specs.Asked.{Asked, Files, adjust, asked_by, book, book_count, check, explain, has_bad_prefix, list, review}
+use Rattle.th_plans.specs.Asked.{Asked, Files, adjust, asked_by, book, book_count, book_of_heights, check, explain, has_bad_prefix, list, review}
 use Rattle.th_plans.specs.Books.{names_in}
 use Rattle.th_plans.specs.Limits.{max_blunder, max_books}
 use Rattle.th_plans.specs.declared.plans.Inputs.{Inputs}
@@ -27,7 +27,7 @@ books_rule = record book_rule {
   range = Some (record { start_inclusive = 1; end_inclusive = usize_max });
 }
 
--- the argument `TABLE`
+-- the file of `book`: a table, or a book with heights
 abbrev pub table_rule : Rule
 table_rule = record (new_rule (codes "table")) {
   required = true;
@@ -51,10 +51,10 @@ blunder_rule = record (option_rule (codes "blunder")) {
   parser = Some (Signed (pos 0) (pos max_blunder));
 }
 
--- `--csv`, which takes no value
-abbrev pub csv_rule : Rule
-csv_rule = record (new_rule (codes "csv")) {
-  long = Some (codes "csv");
+-- an option that takes no value
+abbrev pub flag_rule : Text → Rule
+flag_rule name = record (new_rule name) {
+  long = Some name;
   action = Some SetTrue;
 }
 
@@ -79,7 +79,7 @@ review_command = with_options (new_app (codes "review"))
 abbrev pub explain_command : App
 explain_command =
     with_rule (with_rule (with_rule (with_rule (with_rule (new_app (codes "explain")) (needed_rule (codes "benchmarks")))
-    (option_rule (codes "weights"))) blunder_rule) csv_rule) books_rule
+    (option_rule (codes "weights"))) blunder_rule) (flag_rule (codes "csv"))) books_rule
 
 -- `check --benchmarks FILE [--weights FILE] --certificate FILE BOOK...`
 abbrev pub check_command : App
@@ -87,9 +87,9 @@ check_command =
     with_rule (with_rule (with_rule (with_rule (new_app (codes "check")) (needed_rule (codes "benchmarks")))
     (option_rule (codes "weights"))) (needed_rule (codes "certificate"))) books_rule
 
--- `book TABLE`
+-- `book TABLE`, and `book --heights BOOK`
 abbrev pub book_command : App
-book_command = with_rule (new_app (codes "book")) table_rule
+book_command = with_rule (with_rule (new_app (codes "book")) (flag_rule (codes "heights"))) table_rule
 
 -- the program, with a version and a required command
 abbrev pub bare_program : App
@@ -136,6 +136,7 @@ said_by (plan.Review inputs limit prefix) = Some (review (files inputs) limit pr
 said_by (plan.Explain inputs limit table) = Some (explain (files inputs) limit table)
 said_by (plan.Check inputs certificate) = Some (check (files inputs) certificate.now)
 said_by (plan.Book table) = Some (book table.now)
+said_by (plan.BookOfHeights name) = Some (book_of_heights name.now)
 
 -- The plan is what the arguments request. With no argument after the program's name, or without even that name, it is to
 -- list standard input. `-` is a file's name like any other, and so is the empty name, which no file has.

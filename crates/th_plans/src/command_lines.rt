@@ -2,7 +2,7 @@
 ghost use Rattle.std.specs.Prelude.{◌≡◌, ◌<◌, ◌≤◌, ◌↔◌, IfErr, IfOk, IsTrue, Ok, Some, false, length, map, option_map};
 ghost use Rattle.std.specs.Option.{option_map_or};
 ghost use Rattle.clap.specs.Words.{all_of, first_of, found_of, rows_of, subcommand_rows_of};
-ghost use Rattle.th_plans.specs.Asked.{adjust_asked, asked_by, book_asked, book_count, check_asked, explain_asked, files_in, has_bad_prefix, limit_in, list_asked, options_in, prefix_in, review_asked, table_in};
+ghost use Rattle.th_plans.specs.Asked.{adjust_asked, asked_by, book_asked, book_count, check_asked, explain_asked, files_in, flag_in, has_bad_prefix, heights_in, limit_in, list_asked, options_in, prefix_in, review_asked, table_in};
 ghost use Rattle.th_plans.specs.Limits.{max_books};
 ghost use Rattle.th_plans.specs.Plans.{IsFaultOf, IsPlanOf, files, said_by};
 
@@ -156,9 +156,12 @@ fn book_of<'a>(found: &ArgMatches<'a>) -> Option<Plan<'a>>
     ensures { option_map said_by result
         ≡ option_map Some (book_asked (rows_of (found_of found.now))) }
 {
-    Some(Plan::Book {
-        table: value_of(found, "table")?,
-    })
+    let file = value_of(found, "table")?;
+    if heights_of(found) {
+        Some(Plan::BookOfHeights { book: file })
+    } else {
+        Some(Plan::Book { table: file })
+    }
 }
 
 /// The options of `adjust` and `review`: the inputs, the limit of blunders, and the prefix of the
@@ -192,7 +195,21 @@ fn limit_of(found: &ArgMatches<'_>) -> Option<Limit>
 fn table_of(found: &ArgMatches<'_>) -> bool
     ensures { result ≡ table_in (rows_of (found_of found.now)) }
 {
-    match value_of(found, "csv") {
+    flag_of(found, "csv")
+}
+
+/// Whether the flag for a book with heights is there.
+fn heights_of(found: &ArgMatches<'_>) -> bool
+    ensures { result ≡ heights_in (rows_of (found_of found.now)) }
+{
+    flag_of(found, "heights")
+}
+
+/// Whether a flag is there.
+fn flag_of(found: &ArgMatches<'_>, name: &str) -> bool
+    ensures { result ≡ flag_in name.now (rows_of (found_of found.now)) }
+{
+    match value_of(found, name) {
         Some(text) => text == "true",
         None => false,
     }

@@ -2,7 +2,7 @@
 ghost use Rattle.std.specs.Prelude.{◌≡◌, IfOk, codes};
 ghost use Rattle.clap.specs.Words.{App, app_of};
 ghost use Rattle.th_plans.specs.Inside.Commands.{IsArgument, IsCommand};
-ghost use Rattle.th_plans.specs.Plans.{adjust_command, blunder_rule, book_command, book_rule, books_rule, check_command, command_line, csv_rule, explain_command, list_command, needed_rule, option_rule, review_command, table_rule, with_options};
+ghost use Rattle.th_plans.specs.Plans.{adjust_command, blunder_rule, book_command, book_rule, books_rule, check_command, command_line, explain_command, flag_rule, list_command, needed_rule, option_rule, review_command, table_rule, with_options};
 
 use crate::limits::MAX_BLUNDER;
 use clap::{Arg, ArgAction, Command};
@@ -18,6 +18,7 @@ const USAGE: &str = "height_office list <BOOK>
        height_office explain [OPTIONS] --benchmarks <FILE> <BOOK>...
        height_office check [OPTIONS] --benchmarks <FILE> --certificate <FILE> <BOOK>...
        height_office book <TABLE>
+       height_office book --heights <BOOK>
        height_office < BOOK        (lists the book on standard input)";
 
 /// What the help of the program ends with.
@@ -118,11 +119,17 @@ const AFTER_BOOK: &str =
 metres, a whole number of 1/100 mm; or it is what 'list' prints. The book that is printed has these
 height differences, in order: 'list' of it prints the table again.
 
-Example:
-  height_office book differences.csv > level.gsi
+With '--heights' the file is a book whose sights have a word 83, the height of the target, and whose
+setups have a word 86, the height of the station. It is printed line for line, and each of these
+sights gets a word 33 of 83 - 86 - 88 + 87, so its height difference is 83 less 86. A missing 87 or 88
+is written as zero.
 
-Exit status: 0 the book was printed, 2 the table was refused, 3 a bad command line or help,
-4 out of memory, 5 the table could not be read or the book not written";
+Examples:
+  height_office book differences.csv > level.gsi
+  height_office book --heights monday.gsi > with33.gsi
+
+Exit status: 0 the book was printed, 2 the table or the book was refused, 3 a bad command line or
+help, 4 out of memory, 5 the file could not be read or the book not written";
 
 /// The program's command line: `list`, `adjust`, `review`, `explain`, `check` or `book`.
 pub(crate) fn command_line<'a>(alloc: Global) -> Result<Command<'a>, AllocError>
@@ -215,13 +222,14 @@ fn check_command<'a>(alloc: Global) -> Result<Command<'a>, AllocError>
         .arg(books(alloc))
 }
 
-/// `book TABLE`.
+/// `book TABLE`, and `book --heights BOOK`.
 fn book_command<'a>(alloc: Global) -> Result<Command<'a>, AllocError>
     ensures { IfOk result (IsCommand book_command) }
 {
     Command::new(alloc, "book")
-        .about("Makes a book of a table of height differences, and prints it")
+        .about("Makes a book of a table of height differences, or of a book with heights")
         .after_help(AFTER_BOOK)
+        .arg(heights(alloc))?
         .arg(table(alloc))
 }
 
@@ -247,14 +255,16 @@ fn books<'a>(alloc: Global) -> Arg<'a>
         .help("The files of 1 to 16 books, in GSI-8 or GSI-16 blocks")
 }
 
-/// The table of `book`.
+/// The file of `book`.
 fn table<'a>(alloc: Global) -> Arg<'a>
     ensures { IsArgument table_rule result }
 {
     Arg::new(alloc, "table")
         .required(true)
         .value_name("TABLE")
-        .help("The file of the table, with the columns 'from,to,difference'")
+        .help(
+            "The file of the table, with the columns 'from,to,difference'; that of the book with --heights",
+        )
 }
 
 /// `--benchmarks FILE`.
@@ -294,12 +304,22 @@ fn blunder<'a>(alloc: Global) -> Arg<'a>
 
 /// `--csv`.
 fn csv<'a>(alloc: Global) -> Arg<'a>
-    ensures { IsArgument csv_rule result }
+    ensures { IsArgument (flag_rule (codes "csv")) result }
 {
     Arg::new(alloc, "csv")
         .long("csv")
         .action(ArgAction::SetTrue)
         .help("Print a table of comma-separated values in place of the text")
+}
+
+/// `--heights`.
+fn heights<'a>(alloc: Global) -> Arg<'a>
+    ensures { IsArgument (flag_rule (codes "heights")) result }
+{
+    Arg::new(alloc, "heights")
+        .long("heights")
+        .action(ArgAction::SetTrue)
+        .help("Read a book with words 83 and 86, and print it with words 33")
 }
 
 /// `--out PREFIX`.

@@ -53,4 +53,9 @@ pub enum Plan<'a> {
     Book {
         table: &'a str,
     },
+    /// `book --heights BOOK`: print the book with heights in the file of this name with height
+    /// differences.
+    BookOfHeights {
+        book: &'a str,
+    },
 }

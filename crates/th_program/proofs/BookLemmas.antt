@@ -1,13 +1,14 @@
--- What a book of a table over a folder comes to.
+-- What a book of a file of a folder comes to.
 use Rattle.std.proofs.Common.{◌≡◌, ◌∷◌, [], ℕ, Bool, List, Ok, Err, IfErr, subst, refl}
 use Rattle.std.specs.Prelude.{OnOk, Result}
 use Rattle.std.specs.List.{AllByRecursion}
 use Rattle.th_booking.specs.Booked.{IsOfBooking, booked as booked_texts}
+use Rattle.th_booking.specs.declared.conversions.Conversion.{Conversion}
 use Rattle.th_devices.specs.Devices.{SinkState}
 use Rattle.th_devices.specs.Spots.{Spot, file, output}
 use Rattle.th_program.specs.Done.{IsBooked, IsRefusedBook}
 use Rattle.th_program.specs.Failing.{Failing, HasCause}
-use Rattle.th_program.specs.Owed.{Told, differences_owed}
+use Rattle.th_program.specs.Owed.{Told, converted_owed}
 use Rattle.th_program.specs.Inside.Opened.{AreMade, IsTaken}
 use Rattle.th_program.proofs.OutputLemmas.{all_whole}
 use Rattle.th_runs.specs.Inputs.{Meets, MeetsRefusal, Owed}
@@ -16,13 +17,13 @@ use Rattle.th_runs.specs.Writes.{AreWritten, IsWritten, UnlessWrite}
 use Rattle.th_runs.specs.declared.refusals.Refusal.{Refusal}
 
 -- a book that was written
-pub booked : {X K : Type 0} (tells : Bool) (writing : Spot → Bool) (before after : Told) (table : List ℕ) (state_of : K → SinkState) (olds news : List K) (given_owed : Owed (List ℕ))
-    (result : Result X Refusal) → given_owed ≡ differences_owed before (refused result) table → AreMade state_of tells writing (output ∷ []) olds
+pub booked : {X K : Type 0} (tells : Bool) (writing : Spot → Bool) (before after : Told) (conversion : Conversion) (name : List ℕ) (state_of : K → SinkState) (olds news : List K) (given_owed : Owed (List ℕ))
+    (result : Result X Refusal) → given_owed ≡ converted_owed before (refused result) conversion name → AreMade state_of tells writing (output ∷ []) olds
     → AllByRecursion (λ own. IsTaken before after (state_of own)) news
     → (IsWritten result → ((book : List ℕ) × Meets given_owed (Ok book) × AreWritten state_of (refused result) (booked_texts book) olds news))
-    → OnOk result (IsBooked tells before after table)
-booked tells writing before after table state_of olds news given_owed (Err own) owed made taken written = tt
-booked tells writing before after table state_of olds news given_owed (Ok x) owed made taken written =
+    → OnOk result (IsBooked tells before after conversion name)
+booked tells writing before after conversion name state_of olds news given_owed (Err own) owed made taken written = tt
+booked tells writing before after conversion name state_of olds news given_owed (Ok x) owed made taken written =
     let (book, meets, of_book) = written tt in
     let whole = all_whole state_of tells writing before after (booked_texts book) (output ∷ []) olds news (refl, tt) made taken of_book in
     record {
@@ -32,12 +33,12 @@ booked tells writing before after table state_of olds news given_owed (Ok x) owe
     }
 
 -- a book that was refused
-pub refused-book : {X : Type 0} (failing : Failing) (before : Told) (table : List ℕ) (given_owed : Owed (List ℕ)) (result : Result X Refusal)
-    → given_owed ≡ differences_owed before (refused result) table → IfErr result IsOfBooking
-    → IfErr result (λ own. UnlessWrite own (MeetsRefusal given_owed own)) → IfErr result (HasCause failing (λ which spot. spot ≡ file table) [])
-    → IfErr result (IsRefusedBook failing before table)
-refused-book failing before table given_owed (Ok x) owed named owes caused = tt
-refused-book failing before table given_owed (Err own) owed named owes caused = record {
+pub refused-book : {X : Type 0} (failing : Failing) (before : Told) (conversion : Conversion) (name : List ℕ) (given_owed : Owed (List ℕ)) (result : Result X Refusal)
+    → given_owed ≡ converted_owed before (refused result) conversion name → IfErr result (IsOfBooking conversion)
+    → IfErr result (λ own. UnlessWrite own (MeetsRefusal given_owed own)) → IfErr result (HasCause failing (λ which spot. spot ≡ file name) [])
+    → IfErr result (IsRefusedBook failing before conversion name)
+refused-book failing before conversion name given_owed (Ok x) owed named owes caused = tt
+refused-book failing before conversion name given_owed (Err own) owed named owes caused = record {
   named = named;
   owes = subst (λ (known : Owed (List ℕ)). UnlessWrite own (MeetsRefusal known own)) owed owes;
   cause = caused;

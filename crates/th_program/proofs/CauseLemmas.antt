@@ -2,7 +2,9 @@
 use Rattle.std.proofs.Common.{◌≡◌, ◌<◌, ◌+◌, ◌∙◌, ℕ, Bool, true, List, [], ◌∷◌, Some, None, Ok, Err, IfErr, ap, arith, inl, inr, is_some, length, map, refl, subst, suc, sym, zero}
 use Rattle.std.specs.Prelude.{Option, Result, if◌then◌else◌, nat_eq, option_map, slice_get}
 use Rattle.std.proofs.lemmas.Option.{slice_get-map}
-use Rattle.th_booking.specs.Booked.{IsOfBooking}
+use Rattle.th_booking.specs.Booked.{IsOfBooking, input_of}
+use Rattle.th_booking.specs.declared.conversions.Conversion.{Conversion}
+use Rattle.th_booking.specs.declared.conversions.Conversion.TheVariants.{Differences, Heights}
 use Rattle.th_devices.specs.Devices.{IsOpened, SinkState, SourceState}
 use Rattle.th_devices.specs.Spots.{Spot, file}
 use Rattle.th_folders.specs.Folders.{IsStopped}
@@ -136,18 +138,23 @@ book_caused state_of reading told book (Err own) old new opened read named which
           (is ∙ ap (λ (input : Input). Some (refusal.Read input)) first) read),
     )
 
--- and the table of a book
-pub table_caused : {S X : Type 0} (state_of : S → SourceState) (reading : Spot → Bool) (told : Told) (table : Spot) (result : Result X Refusal) (old new : S)
-    → IsOpened (reading table) (told table) (state_of old) → IsReadFor state_of input.Differences (refused result) old new → IfErr result IsOfBooking
-    → (which : Input) → refused result ≡ Some (refusal.Read which) → ReadCause reading (λ own spot. spot ≡ table) which
-table_caused state_of reading told table (Ok x) old new opened read named which is = absurd (cc is)
-table_caused state_of reading told table (Err own) old new opened read named which is =
+-- a failed read of a conversion is one of its input
+read_of_input : (conversion : Conversion) (which : Input) → IsOfBooking conversion (refusal.Read which) → which ≡ input_of conversion
+read_of_input Differences which is = is
+read_of_input Heights which is = is
+
+-- and what becomes a book
+pub input_caused : {S X : Type 0} (state_of : S → SourceState) (reading : Spot → Bool) (told : Told) (conversion : Conversion) (name : Spot) (result : Result X Refusal) (old new : S)
+    → IsOpened (reading name) (told name) (state_of old) → IsReadFor state_of (input_of conversion) (refused result) old new → IfErr result (IsOfBooking conversion)
+    → (which : Input) → refused result ≡ Some (refusal.Read which) → ReadCause reading (λ own spot. spot ≡ name) which
+input_caused state_of reading told conversion name (Ok x) old new opened read named which is = absurd (cc is)
+input_caused state_of reading told conversion name (Err own) old new opened read named which is =
     let same : own ≡ refusal.Read which = cc is in
-    let first : which ≡ input.Differences = subst IsOfBooking same named in (
-      table,
+    let first : which ≡ input_of conversion = read_of_input conversion which (subst (IsOfBooking conversion) same named) in (
+      name,
       refl,
-      blamed state_of reading told input.Differences table old new opened
-          (subst (λ (answer : Option Refusal). IsReadFor state_of input.Differences answer old new)
+      blamed state_of reading told (input_of conversion) name old new opened
+          (subst (λ (answer : Option Refusal). IsReadFor state_of (input_of conversion) answer old new)
           (is ∙ ap (λ (input : Input). Some (refusal.Read input)) first) read),
     )
 

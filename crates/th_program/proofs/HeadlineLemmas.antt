@@ -42,6 +42,7 @@ said_is words (plan.Review inputs limit prefix) wanted is asks = sym is.2 ∙ as
 said_is words (plan.Explain inputs limit table) wanted is asks = sym is.2 ∙ asks.2
 said_is words (plan.Check inputs certificate) wanted is asks = sym is.2 ∙ asks.2
 said_is words (plan.Book table) wanted is asks = sym is.2 ∙ asks.2
+said_is words (plan.BookOfHeights book) wanted is asks = sym is.2 ∙ asks.2
 
 -- words that ask for something have no fault but that there is no memory
 only_memory : {F : Type 0} (held : F → Told) (old new : F) (words : List (List ℕ)) (own : PlanFault) (status : ℕ) (wanted : Asked)
@@ -178,7 +179,9 @@ ran_plan tells held has_failed failing old new (plan.Explain inputs limit table)
 ran_plan tells held has_failed failing old new (plan.Check inputs certificate) status (inl done) = inl done.0
 ran_plan tells held has_failed failing old new (plan.Check inputs certificate) status (inr (own, run)) = inr (own, run.status_is, run.refused)
 ran_plan tells held has_failed failing old new (plan.Book table) status (inl done) = inl tt
+ran_plan tells held has_failed failing old new (plan.BookOfHeights book) status (inl done) = inl tt
 ran_plan tells held has_failed failing old new (plan.Book table) status (inr (own, run)) = inr (own, run.status_is, tt)
+ran_plan tells held has_failed failing old new (plan.BookOfHeights book) status (inr (own, run)) = inr (own, run.status_is, tt)
 
 -- what keeps a run from its beginning, beside memory: an adjustment would overwrite an input, and a check writes no file
 abbrev StoppedAs : Bool → Option Asked → Type 0
@@ -199,6 +202,7 @@ stopped_plan tells (plan.Review inputs limit prefix) written which name would = 
 stopped_plan tells (plan.Explain inputs limit table) written which name would = tt
 stopped_plan tells (plan.Check inputs certificate) written which name would = no_file written would.is_written
 stopped_plan tells (plan.Book table) written which name would = tt
+stopped_plan tells (plan.BookOfHeights book) written which name would = tt
 
 -- what became of a run, of what was asked for
 abbrev BecameAs : Bool → Failing → Told → Told → ℕ → Option Asked → Type 0

@@ -28,3 +28,4 @@ refused-after tells failing before after later (plan.Review inputs limit prefix)
 refused-after tells failing before after later (plan.Explain inputs limit table) own same is = is
 refused-after tells failing before after later (plan.Check inputs certificate) own same is = is
 refused-after tells failing before after later (plan.Book table) own same is = is
+refused-after tells failing before after later (plan.BookOfHeights book) own same is = is

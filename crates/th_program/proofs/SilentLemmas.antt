@@ -16,6 +16,7 @@ apart (plan.Review inputs limit prefix) own on is = on
 apart (plan.Explain inputs limit table) own on is = cc
 apart (plan.Check inputs certificate) own on is = cc
 apart (plan.Book table) own on is = cc
+apart (plan.BookOfHeights book) own on is = cc
 
 -- a refusal that was told, or not, after a plan was carried out so far
 pub told-or-silent : {F : Type 0} (tells : Bool) (held : F → Told) (before after later : F) (asked : Plan) (own : Refusal)

@@ -17,6 +17,8 @@ use Rattle.th_plans.specs.declared.plans.Plan.{Plan}
 use Rattle.th_plans.specs.declared.plans.Plan.TheVariants as plan
 use Rattle.th_report.specs.Lists.{list_text}
 use Rattle.th_booking.specs.Booked.{IsOfBooking}
+use Rattle.th_booking.specs.declared.conversions.Conversion.{Conversion}
+use Rattle.th_booking.specs.declared.conversions.Conversion.TheVariants.{Differences, Heights}
 use Rattle.th_runs.specs.Adjusted.{AreOfAdjustment, adjusting}
 use Rattle.th_runs.specs.Checked.{IsRight, checking, verdict_line, verdict_on}
 use Rattle.th_runs.specs.Explained.{AreOfExplanation, explaining}
@@ -37,7 +39,7 @@ use Rattle.th_runs.specs.declared.refusals.Refusal.TheVariants as refusal
 use Rattle.th_program.specs.Failing.{Failing, HasCause, IsInClaim, IsInFiles}
 use Rattle.th_program.specs.Helped.{refused_lines}
 use Rattle.th_program.specs.Outputs.{AreLeft, spots_of}
-use Rattle.th_program.specs.Owed.{HasName, Told, book_owed, claim_owed, differences_owed, survey_owed}
+use Rattle.th_program.specs.Owed.{HasName, Told, book_owed, claim_owed, converted_owed, survey_owed}
 
 -- the spot has this text, if the folder reports its bytes
 abbrev pub Holds : Bool → Told → Spot → List ℕ → Type 0
@@ -49,10 +51,10 @@ pub record IsListed (tells : Bool) (old new : Told) (book : Spot) : Type 0 where
   pub given : Meets (book_owed old None book) (Ok observations)
   pub listed : Holds tells new output (list_text observations)
 
--- standard output has the book of the table of differences in the file of this name
-pub record IsBooked (tells : Bool) (old new : Told) (table : List ℕ) : Type 0 where
+-- standard output has the book that the file of this name becomes
+pub record IsBooked (tells : Bool) (old new : Told) (conversion : Conversion) (name : List ℕ) : Type 0 where
   pub book : List ℕ
-  pub given : Meets (differences_owed old None table) (Ok book)
+  pub given : Meets (converted_owed old None conversion name) (Ok book)
   pub booked : Holds tells new output book
 
 -- The files of these outputs have texts of the survey in the named files: all of them, if there is no refusal. If a write failed, all files are unchanged;
@@ -107,7 +109,8 @@ IsDone tells old new (plan.Review inputs limit prefix) status = (status ≡ 0) �
 IsDone tells old new (plan.Explain inputs limit table) status = (status ≡ 0) × IsExplained tells old new (files inputs) limit (form_of table)
 IsDone tells old new (plan.Check inputs certificate) status =
     (verdict : Verdict) × (status ≡ status_of_verdict verdict) × IsChecked tells old new (files inputs) certificate.now verdict
-IsDone tells old new (plan.Book table) status = (status ≡ 0) × IsBooked tells old new table.now
+IsDone tells old new (plan.Book table) status = (status ≡ 0) × IsBooked tells old new Differences table.now
+IsDone tells old new (plan.BookOfHeights book) status = (status ≡ 0) × IsBooked tells old new Heights book.now
 
 -- an output was not written
 abbrev pub IsWrite : Refusal → Type 0
@@ -121,11 +124,11 @@ pub record IsRefusedList (failing : Failing) (old : Told) (book : Spot) (own : R
   pub owes : UnlessWrite own (MeetsRefusal (book_owed old (Some own) book) own)
   pub cause : HasCause failing (λ which spot. spot ≡ book) [] own
 
--- the same of a book of the table in the file of this name; it names the table or the book
-pub record IsRefusedBook (failing : Failing) (old : Told) (table : List ℕ) (own : Refusal) : Type 0 where
-  pub named : IsOfBooking own
-  pub owes : UnlessWrite own (MeetsRefusal (differences_owed old (Some own) table) own)
-  pub cause : HasCause failing (λ which spot. spot ≡ file table) [] own
+-- the same of the book that the file of this name becomes; it names that file or the book
+pub record IsRefusedBook (failing : Failing) (old : Told) (conversion : Conversion) (name : List ℕ) (own : Refusal) : Type 0 where
+  pub named : IsOfBooking conversion own
+  pub owes : UnlessWrite own (MeetsRefusal (converted_owed old (Some own) conversion name) own)
+  pub cause : HasCause failing (λ which spot. spot ≡ file name) [] own
 
 -- The refusal of a run over the named files. It names a device of this run. Unless it is a failed write, it is the one
 -- that the run must return for its inputs; after a failed write, `HasLeft` says what the outputs have. If it blames a device, it has a cause.
@@ -165,7 +168,8 @@ IsRefused tells failing old new (plan.Adjust inputs limit prefix) own = IsRefuse
 IsRefused tells failing old new (plan.Review inputs limit prefix) own = IsRefusedReview tells failing old new (files inputs) limit prefix.now own
 IsRefused tells failing old new (plan.Explain inputs limit table) own = IsRefusedExplain failing old (files inputs) own
 IsRefused tells failing old new (plan.Check inputs certificate) own = IsRefusedCheck failing old (files inputs) certificate.now own
-IsRefused tells failing old new (plan.Book table) own = IsRefusedBook failing old table.now own
+IsRefused tells failing old new (plan.Book table) own = IsRefusedBook failing old Differences table.now own
+IsRefused tells failing old new (plan.BookOfHeights book) own = IsRefusedBook failing old Heights book.now own
 
 -- the spots that an adjustment with this prefix writes to, and those of a review
 abbrev pub IsAdjustOutput : List ℕ → Spot → Type 0
@@ -189,6 +193,7 @@ IsInputOf (plan.Review inputs limit prefix) which name = HasName (files inputs) 
 IsInputOf (plan.Explain inputs limit table) which name = HasName (files inputs) which name
 IsInputOf (plan.Check inputs certificate) which name = HasName (files inputs) which name ⊎ ((which ≡ source.Certificate) × (name ≡ certificate.now))
 IsInputOf (plan.Book table) which name = (which ≡ source.Differences) × (name ≡ table.now)
+IsInputOf (plan.BookOfHeights book) which name = (which ≡ source.Book 1) × (name ≡ book.now)
 
 -- no file that a plan writes is one that it reads
 abbrev pub KeepsInputs : Plan → Type 0

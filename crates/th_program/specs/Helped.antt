@@ -1,7 +1,8 @@
 -- The lines of a refusal: its own, and the second, which names the file and what helps.
 use Rattle.std.specs.Prelude.{◌++◌, ◌-◌, ◌∷◌, [], ℕ, List, Option, Some, None, option_map, slice_get}
 use Rattle.th_devices.specs.declared.reasons.Reason.{Reason}
-use Rattle.th_help.specs.Books.{book_help}
+use Rattle.th_book.specs.declared.faults.BookKind.{BookKind}
+use Rattle.th_help.specs.Books.{book_help, heights_help}
 use Rattle.th_help.specs.Certificates.{certificate_help}
 use Rattle.th_help.specs.Differences.{differences_help}
 use Rattle.th_help.specs.Helps.{help_line, read_reason, reason_line, write_reason}
@@ -39,12 +40,18 @@ name_of_input (plan.Explain inputs limit table) which = name_in (files inputs) w
 name_of_input (plan.Check inputs certificate) source.Certificate = Some certificate.now
 name_of_input (plan.Check inputs certificate) other = name_in (files inputs) other
 name_of_input (plan.Book table) which = Some table.now
+name_of_input (plan.BookOfHeights book) which = Some book.now
 
 -- the name of an output of a plan; standard output has none
 abbrev pub name_of_output : Plan → Output → Option (List ℕ)
 name_of_output (plan.Adjust inputs limit prefix) which = option_map (λ ending. prefix.now ++ ending) (ending_of which)
 name_of_output (plan.Review inputs limit prefix) which = option_map (λ ending. prefix.now ++ ending) (ending_of which)
 name_of_output other which = None
+
+-- what helps against a fault of a book; one with heights needs other words
+abbrev pub help_of_book : Plan → BookKind → List ℕ
+help_of_book (plan.BookOfHeights book) kind = heights_help kind
+help_of_book other kind = book_help kind
 
 -- the second line for a fault of the network: a point without a benchmark may be spelled otherwise in the table of benchmarks
 abbrev pub network_line : Plan → NetFault → List ℕ
@@ -53,7 +60,7 @@ network_line asked other = help_line None (network_help other)
 
 -- the second line of a refusal, if the system told this reason or none; there is none where memory ran out
 abbrev pub second_line : Plan → Refusal → Option Reason → List ℕ
-second_line asked (refusal.Book number fault) reason = help_line (name_of_input asked (source.Book number)) (book_help fault.kind)
+second_line asked (refusal.Book number fault) reason = help_line (name_of_input asked (source.Book number)) (help_of_book asked fault.kind)
 second_line asked (refusal.Benchmarks fault) reason = help_line (name_of_input asked source.Benchmarks) (benchmarks_help fault.kind)
 second_line asked (refusal.Weights fault) reason = help_line (name_of_input asked source.Weights) (weights_help fault.kind)
 second_line asked (refusal.Certificate fault) reason = help_line (name_of_input asked source.Certificate) (certificate_help fault.kind)

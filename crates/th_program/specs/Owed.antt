@@ -1,7 +1,8 @@
 -- What a run over a folder must return, given what is in the folder.
 use Rattle.std.specs.Prelude.{◌≡◌, ◌+◌, ℕ, List, [], ◌∷◌, Option, Some, option_map, slice_get}
 use Rattle.th_book.specs.Observed.{Observed}
-use Rattle.th_booking.specs.Booked.{owed_for_differences}
+use Rattle.th_booking.specs.Booked.{converted, input_of}
+use Rattle.th_booking.specs.declared.conversions.Conversion.{Conversion}
 use Rattle.th_devices.specs.Spots.{Spot, file}
 use Rattle.th_network.specs.Networks.{Survey}
 use Rattle.th_plans.specs.Asked.{Files}
@@ -44,9 +45,9 @@ given_by_books told answer number [] = []
 abbrev pub book_owed : Told → Option Refusal → Spot → Owed (List Observed)
 book_owed told answer spot = owed_for_book 1 (given_from told answer (input.Book 1) spot)
 
--- what must be returned for the table of differences in the file of this name: its book, or its first fault
-abbrev pub differences_owed : Told → Option Refusal → List ℕ → Owed (List ℕ)
-differences_owed told answer name = owed_for_differences (given_by told answer input.Differences name)
+-- what must be returned for the file of this name that becomes a book: that book, or its first fault
+abbrev pub converted_owed : Told → Option Refusal → Conversion → List ℕ → Owed (List ℕ)
+converted_owed told answer conversion name = converted conversion (given_by told answer (input_of conversion) name)
 
 -- what a run that reads these files must return: their survey, or their first fault
 abbrev pub survey_owed : Told → Option Refusal → Files → Owed Survey

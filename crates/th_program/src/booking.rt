@@ -1,4 +1,4 @@
-//! Making a book of a table of differences of a folder.
+//! Making a book of a file of a folder.
 ghost use Rattle.std.specs.Prelude.{◌≡◌, ◌≢◌, OnOk, IfErr};
 ghost use Rattle.th_devices.specs.Spots.{output};
 ghost use Rattle.th_program.specs.Done.{IsBooked, IsRefusedBook};
@@ -7,26 +7,28 @@ ghost use Rattle.th_runs.specs.Writes.{UnlessWrite};
 
 use crate::outputs::{close_sinks, sinks_of};
 use std::alloc::Global;
-use th_booking::{BOOKED, run_book};
+use th_booking::{BOOKED, Conversion, run_book};
 use th_folders::{Folder, Origin};
 use th_runs::Refusal;
 
-/// Prints the book of the table of differences in the named file on standard output.
+/// Prints the book that the named file becomes on standard output.
 pub(crate) fn make_book<F: Folder>(
     alloc: Global,
     folder: &mut F,
-    table: &str,
+    conversion: Conversion,
+    name: &str,
 ) -> Result<(), Refusal>
-    ensures booked { OnOk result (IsBooked F.tells (F.held folder.old) (F.held folder.new) table.now) }
+    ensures booked { OnOk result (IsBooked F.tells (F.held folder.old) (F.held folder.new)
+        conversion name.now) }
     ensures refused { IfErr result (IsRefusedBook
         (failing_of F.reading_may_fail F.writing_may_fail folder.old)
-        (F.held folder.old) table.now) }
+        (F.held folder.old) conversion name.now) }
     ensures untouched { IfErr result (λ own. UnlessWrite own (folder.new ≡ folder.old)) }
     ensures others { (spot : _) → spot ≢ output → F.held folder.new spot ≡ F.held folder.old spot }
 {
-    let mut table = folder.source(alloc, Origin::File(table))?;
+    let mut source = folder.source(alloc, Origin::File(name))?;
     let mut outs = sinks_of(alloc, folder, "", &BOOKED)?;
-    let answer = run_book(alloc, &mut table, outs.as_mut_slice());
+    let answer = run_book(alloc, conversion, &mut source, outs.as_mut_slice());
     close_sinks(folder, outs);
     answer
 }

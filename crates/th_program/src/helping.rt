@@ -3,13 +3,14 @@ ghost use Rattle.std.specs.Prelude.{◌≡◌, option_map};
 ghost use Rattle.th_help.specs.Helps.{read_reason, whole_name, write_reason};
 ghost use Rattle.th_lines.specs.Lines.{HasRoom, IsPut};
 ghost use Rattle.th_plans.specs.Plans.{files};
-ghost use Rattle.th_program.specs.Helped.{name_in, name_of_input, name_of_output, network_line, second_line};
+ghost use Rattle.th_program.specs.Helped.{help_of_book, name_in, name_of_input, name_of_output, network_line, second_line};
 
 use crate::outputs::ending_of;
+use th_book::BookKind;
 use th_devices::{Failed, Reason, Sink};
 use th_help::{
-    FileName, benchmarks_help, book_help, certificate_help, differences_help, network_help,
-    put_help_line, put_reason_line, read_reason, weights_help, write_reason,
+    FileName, benchmarks_help, book_help, certificate_help, differences_help, heights_help,
+    network_help, put_help_line, put_reason_line, read_reason, weights_help, write_reason,
 };
 use th_lines::Line;
 use th_network::NetFault;
@@ -29,7 +30,7 @@ pub(crate) fn put_second_line<K: Sink>(
     match refusal {
         Refusal::Book(number, fault) => {
             let name = name_of_input(plan, Input::Book(*number));
-            put_help_line(line, name, book_help(fault.kind))
+            put_help_line(line, name, help_of_book(plan, fault.kind))
         }
         Refusal::Benchmarks(fault) => {
             let name = name_of_input(plan, Input::Benchmarks);
@@ -55,6 +56,16 @@ pub(crate) fn put_second_line<K: Sink>(
             put_reason_line(line, name_of_output(plan, *output), why_unwritten(reason))
         }
         Refusal::NoMemory => Ok(()),
+    }
+}
+
+/// What helps against a fault of a book, in a plan.
+fn help_of_book(plan: &Plan<'_>, kind: BookKind) -> &'static str
+    ensures { result.now ≡ help_of_book plan.now kind }
+{
+    match plan {
+        Plan::BookOfHeights { .. } => heights_help(kind),
+        _ => book_help(kind),
     }
 }
 
@@ -96,6 +107,7 @@ fn name_of_input<'a>(plan: &Plan<'a>, input: Input) -> Option<FileName<'a>>
         Plan::Standard => None,
         Plan::List { book } => Some(given(*book)),
         Plan::Book { table } => Some(given(*table)),
+        Plan::BookOfHeights { book } => Some(given(*book)),
         Plan::Adjust { inputs, .. } | Plan::Review { inputs, .. } | Plan::Explain { inputs, .. } =>
             name_in(inputs, input),
         Plan::Check {
@@ -137,7 +149,8 @@ fn name_of_output<'a>(plan: &Plan<'a>, output: Output) -> Option<FileName<'a>>
         | Plan::List { .. }
         | Plan::Explain { .. }
         | Plan::Check { .. }
-        | Plan::Book { .. } => None,
+        | Plan::Book { .. }
+        | Plan::BookOfHeights { .. } => None,
     }
 }
 

@@ -61,7 +61,8 @@ pub(crate) fn keep_inputs<'a, F: Folder>(
         | Plan::List { .. }
         | Plan::Explain { .. }
         | Plan::Check { .. }
-        | Plan::Book { .. } => Ok(()),
+        | Plan::Book { .. }
+        | Plan::BookOfHeights { .. } => Ok(()),
     }
 }
 

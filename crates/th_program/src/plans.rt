@@ -13,6 +13,7 @@ use crate::overwrites::{Stop, keep_inputs};
 use crate::refusals::{refuse, refuse_memory, refuse_overwrite};
 use crate::reviewing::review;
 use std::alloc::Global;
+use th_booking::Conversion;
 use th_folders::{Folder, Origin};
 use th_plans::Plan;
 use th_runs::{DONE, Refusal, status_of_verdict};
@@ -78,7 +79,8 @@ fn carry_out<F: Folder>(alloc: Global, folder: &mut F, plan: &Plan<'_>) -> Resul
             let verdict = check(alloc, folder, inputs, *certificate)?;
             return Ok(status_of_verdict(&verdict));
         }
-        Plan::Book { table } => make_book(alloc, folder, *table)?,
+        Plan::Book { table } => make_book(alloc, folder, Conversion::Differences, *table)?,
+        Plan::BookOfHeights { book } => make_book(alloc, folder, Conversion::Heights, *book)?,
     }
     Ok(DONE)
 }

@@ -1,17 +1,17 @@
 use Rattle.std.proofs.Common.{◌≡◌, ◌+◌, ◌∙◌, ◌∷◌, [], ℕ, Err, List, ap, rules, subst, arith}
-use Rattle.th_runs.specs.declared.refusals.Input.TheVariants as input
 use Rattle.th_runs.specs.declared.refusals.Output.{Output}
 use Rattle.th_runs.specs.Reads.{outputs_place, refused}
 use Rattle.th_runs.specs.Writes.{AreWritten, Texts}
 use Rattle.th_runs.proofs.RunLemmas.{begun_of, outcome_begun, written_within}
 use Rattle.th_runs.proofs.SourceLemmas.{read_before}
-use Rattle.th_booking.proofs.BookingLemmas.{book_refused}
+use Rattle.th_booking.specs.Booked.{input_of}
+use Rattle.th_booking.proofs.BookingLemmas.{book_refused, input_before}
 use Rattle.th_booking.proofs.booking.run_book.Goals as goal
 
 pub returns-in_err-book-clause-outcome : goal.returns-in_err-book-clause-outcome
 returns-in_err-book-clause-outcome g c =
     let is : c.from_residual.result ≡ Err c.in_err-book.field-0.0 = search rules in
-    rw is (book_refused _ _ _ c.in_err-book.field-0.0 _ _ c.in_err-book.ensures.named c.in_err-book.ensures.refused (search rules))
+    rw is (book_refused _ _ _ c.args.conversion c.in_err-book.field-0.0 _ _ c.in_err-book.ensures.named c.in_err-book.ensures.refused (search rules))
 
 pub returns-clause-outcome : goal.returns-clause-outcome
 returns-clause-outcome g c =
@@ -19,7 +19,7 @@ returns-clause-outcome g c =
     c.in_ok-book.ensures.book (subst (λ (own : Texts). AreWritten g.K.Sink.state (refused c.write_outs.result) own c.args.outs.now c.write_outs.new.outs)
     (ap (λ (own : Output × List ℕ). own ∷ []) c.new.ensures) c.write_outs.ensures.written)
 
-pub returns-clause-table : goal.returns-clause-table
-returns-clause-table g c =
-    read_before _ input.Differences (refused c.write_outs.result) outputs_place (outputs_place + 1) _ _
-    (written_within c.write_outs.result (begun_of (c.new.result.0 ∷ []) c.write_outs.result c.write_outs.ensures.named)) (omega arith) c.in_ok-book.ensures.table
+pub returns-clause-source : goal.returns-clause-source
+returns-clause-source g c =
+    read_before _ (input_of c.args.conversion) (refused c.write_outs.result) outputs_place (outputs_place + 1) _ _
+    (written_within c.write_outs.result (begun_of (c.new.result.0 ∷ []) c.write_outs.result c.write_outs.ensures.named)) (omega (arith, input_before c.args.conversion)) c.in_ok-book.ensures.source

@@ -1,7 +1,7 @@
 use Rattle.std.proofs.Common.{◌≡◌, ◌∙◌, [], ap, map, refl, subst, sym, arith, ◌≢◌}
 use Rattle.std.specs.List.{AllByRecursion}
 use Rattle.th_devices.specs.Spots.{file}
-use Rattle.th_program.proofs.CauseLemmas.{output_caused, run_caused, table_caused}
+use Rattle.th_program.proofs.CauseLemmas.{input_caused, output_caused, run_caused}
 use Rattle.th_program.proofs.BookLemmas.{booked, refused-book}
 use Rattle.th_program.proofs.OutputLemmas.{lent, made_ready, made_untouched, none_among, spots_after}
 use Rattle.th_program.proofs.RefusalLemmas.{unless-all}
@@ -9,9 +9,8 @@ use Rattle.th_program.proofs.OpenedLemmas.{given-there}
 use Rattle.th_program.specs.Failing.{failing_of}
 use Rattle.th_program.specs.Inside.Opened.{AreApart, AreMade, IsTaken, IsUntouched}
 use Rattle.th_program.specs.Outputs.{spots_of}
-use Rattle.th_booking.specs.Booked.{booked as booked_texts, booking, owed_for_differences}
+use Rattle.th_booking.specs.Booked.{booked as booked_texts, booking, converted, input_of}
 use Rattle.th_runs.specs.Reads.{refused}
-use Rattle.th_runs.specs.declared.refusals.Input.TheVariants as input
 use Rattle.th_program.proofs.booking.make_book.Goals as goal
 
 pub run_book-answer-requires-clause-outs : goal.run_book-answer-requires-clause-outs
@@ -33,29 +32,29 @@ returns-clause-booked g c =
     let outs = lent c.in_ok-outs.outs.items c.run_book-answer.new.outs c.in_ok-outs.outs.len (omega (arith, c.as_mut_slice.ensures.len, c.run_book-answer.auto.outs)) in
     let run = c.run_book-answer in
     let told = g.F.Folder.held c.args.folder.now in
-    let owed = ap owed_for_differences (given-there g.F.In.Source.state (g.F.Folder.reading_may_fail c.args.folder.now) told input.Differences (refused run.result) _ _ _ c.in_ok-table.ensures.opened run.ensures.table.read.failed) in
+    let owed = ap (converted c.args.conversion) (given-there g.F.In.Source.state (g.F.Folder.reading_may_fail c.args.folder.now) told (input_of c.args.conversion) (refused run.result) _ _ _ c.in_ok-source.ensures.opened run.ensures.source.read.failed) in
     let unopened : c.source.new.self ≡ c.args.folder.now = c.source.ensures.same in
     let made : AreMade g.F.Out.Sink.state g.F.Folder.tells (g.F.Folder.writing_may_fail c.args.folder.now) (spots_of [] booking) c.as_mut_slice.result.now =
     rw c.as_mut_slice.ensures.value (subst (λ folder. AreMade g.F.Out.Sink.state g.F.Folder.tells (g.F.Folder.writing_may_fail folder) (spots_of [] booking) c.in_ok-outs.outs.items) unopened c.in_ok-outs.ensures.made) in
     let same : c.sinks_of.new.folder ≡ c.args.folder.now = c.sinks_of.ensures.same ∙ c.source.ensures.same in
-    booked g.F.Folder.tells (g.F.Folder.writing_may_fail c.args.folder.now) told (g.F.Folder.held c.close_sinks.new.folder) _ g.F.Out.Sink.state _ _ _ run.result owed made (subst (AllByRecursion (λ own. IsTaken told (g.F.Folder.held c.close_sinks.new.folder) (g.F.Out.Sink.state own))) outs (rw same at c.close_sinks.ensures.taken))
+    booked g.F.Folder.tells (g.F.Folder.writing_may_fail c.args.folder.now) told (g.F.Folder.held c.close_sinks.new.folder) c.args.conversion _ g.F.Out.Sink.state _ _ _ run.result owed made (subst (AllByRecursion (λ own. IsTaken told (g.F.Folder.held c.close_sinks.new.folder) (g.F.Out.Sink.state own))) outs (rw same at c.close_sinks.ensures.taken))
     run.ensures.outcome.written
 
 pub returns-clause-refused : goal.returns-clause-refused
 returns-clause-refused g c =
     let run = c.run_book-answer in
-    let owed = ap owed_for_differences (given-there g.F.In.Source.state (g.F.Folder.reading_may_fail c.args.folder.now) (g.F.Folder.held c.args.folder.now) input.Differences (refused run.result) _ _ _
-    c.in_ok-table.ensures.opened run.ensures.table.read.failed) in
+    let owed = ap (converted c.args.conversion) (given-there g.F.In.Source.state (g.F.Folder.reading_may_fail c.args.folder.now) (g.F.Folder.held c.args.folder.now) (input_of c.args.conversion) (refused run.result) _ _ _
+    c.in_ok-source.ensures.opened run.ensures.source.read.failed) in
     let failing = failing_of g.F.Folder.reading_may_fail g.F.Folder.writing_may_fail c.args.folder.now in
     let unopened : c.source.new.self ≡ c.args.folder.now = c.source.ensures.same in
     let made : AreMade g.F.Out.Sink.state g.F.Folder.tells (g.F.Folder.writing_may_fail c.args.folder.now) (spots_of [] booking) c.as_mut_slice.result.now =
     rw c.as_mut_slice.ensures.value (subst (λ folder. AreMade g.F.Out.Sink.state g.F.Folder.tells (g.F.Folder.writing_may_fail folder) (spots_of [] booking) c.in_ok-outs.outs.items) unopened c.in_ok-outs.ensures.made) in
-    let caused = run_caused failing (λ which spot. spot ≡ file c.args.table.now) [] run.result
-    (table_caused g.F.In.Source.state (g.F.Folder.reading_may_fail c.args.folder.now) (g.F.Folder.held c.args.folder.now) (file c.args.table.now) run.result _ _ c.in_ok-table.ensures.opened
-    run.ensures.table run.ensures.named)
+    let caused = run_caused failing (λ which spot. spot ≡ file c.args.name.now) [] run.result
+    (input_caused g.F.In.Source.state (g.F.Folder.reading_may_fail c.args.folder.now) (g.F.Folder.held c.args.folder.now) c.args.conversion (file c.args.name.now) run.result _ _ c.in_ok-source.ensures.opened
+    run.ensures.source run.ensures.named)
     (output_caused g.F.Out.Sink.state g.F.Folder.tells (g.F.Folder.writing_may_fail c.args.folder.now) [] booking run.result _ _ made
     (λ begun. let (book, meets, has) = run.ensures.outcome.written begun in (booked_texts book, refl, has))) in
-    refused-book failing (g.F.Folder.held c.args.folder.now) _ _ run.result owed run.ensures.named run.ensures.outcome.refused caused
+    refused-book failing (g.F.Folder.held c.args.folder.now) c.args.conversion _ _ run.result owed run.ensures.named run.ensures.outcome.refused caused
 
 pub returns-clause-others : goal.returns-clause-others
 returns-clause-others g c =

@@ -5,7 +5,7 @@ use Rattle.th_runs.proofs.Givens.{meets_fault, meets_front}
 use Rattle.th_runs.specs.declared.refusals.Input.TheVariants as input
 use Rattle.th_runs.specs.declared.refusals.Refusal.TheVariants as refusal
 use Rattle.th_booking.proofs.BookingLemmas.{book_of_table-take, difference_fault}
-use Rattle.th_booking.proofs.sources.book_from.Goals as goal
+use Rattle.th_booking.proofs.sources.book_of_differences.Goals as goal
 
 pub returns-in-Ok-clause-book : goal.returns-in-Ok-clause-book
 returns-in-Ok-clause-book g c =
