@@ -18,7 +18,7 @@ use Rattle.th_runs.specs.Reads.{outputs_place, place}
 use Rattle.th_runs.specs.Writes.{IsWritten}
 use Rattle.th_runs.specs.declared.refusals.Refusal.{Refusal}
 use Rattle.th_runs.specs.declared.refusals.Refusal.TheVariants as refusal
-use Rattle.th_booking.specs.Booked.{IsOfConversion, IsOfDifferences, input_of}
+use Rattle.th_booking.specs.Booked.{IsOfConversion, input_of}
 use Rattle.th_booking.specs.declared.conversions.Conversion.{Conversion}
 use Rattle.th_booking.specs.declared.conversions.Conversion.TheVariants.{Differences, Heights}
 

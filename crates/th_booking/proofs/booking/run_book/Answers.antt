@@ -1,4 +1,4 @@
-use Rattle.std.proofs.Common.{◌≡◌, ◌+◌, ◌∙◌, ◌∷◌, [], ℕ, Err, List, ap, rules, subst, arith}
+use Rattle.std.proofs.Common.{◌≡◌, ◌+◌, ◌∷◌, [], ℕ, Err, List, ap, rules, subst, arith}
 use Rattle.th_runs.specs.declared.refusals.Output.{Output}
 use Rattle.th_runs.specs.Reads.{outputs_place, refused}
 use Rattle.th_runs.specs.Writes.{AreWritten, Texts}
