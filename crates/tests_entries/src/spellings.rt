@@ -211,7 +211,13 @@ fn most_spellings(rt: HostRuntime) {
     for _ in 0..many {
         count_up(&mut digits);
         let wide: &[u8] = b" 84..10+0000000000000000 \n";
-        for part in [b"110001+", &digits as &[u8], b" 84..10+00000000 \n*110001+00000000", &digits, wide] {
+        for part in [
+            b"110001+",
+            &digits as &[u8],
+            b" 84..10+00000000 \n*110001+00000000",
+            &digits,
+            wide,
+        ] {
             feed.feed_to(part, &mut tally).expect(&rt, "memory");
         }
     }

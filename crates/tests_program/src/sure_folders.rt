@@ -24,11 +24,11 @@ impl<'a, R: Abort> Sink for SureSink<'a, R> {
     ghost use Rattle.th_folders.specs.MemoryFolders.{sink_of, spot_of};
 
     ghost state = { λ own. record {
-        spot = spot_of own.sink;
-        held = Some (sink_of own.sink).held;
-        is_finished = (sink_of own.sink).finished;
-        may_fail = false;
-        counts = (sink_of own.sink).counts;
+      spot = spot_of own.sink;
+      held = Some (sink_of own.sink).held;
+      is_finished = (sink_of own.sink).finished;
+      may_fail = false;
+      counts = (sink_of own.sink).counts;
     } };
 
     fn begin(&mut self) -> Result<(), Failed> {

@@ -18,8 +18,7 @@ returns-clause-texts g c =
     let survey : Survey = c.args.network.now in
     let best : Best = c.in_ok-best.best in
     let low : c.low-low.result.now ≡ best.low = search rules in
-    let high : c.high-high.result.now ≡ best.high = search rules in
-    (
+    let high : c.high-high.result.now ≡ best.high = search rules in (
       bytes_of c.in_ok-texts.texts,
       record {
         answer = best;
