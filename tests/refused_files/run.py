@@ -83,13 +83,13 @@ def look(folder: Path, command: str, texts: dict, number: int, status: int, line
     name, _, path = calls[number - 1].partition(" ")
     found = outputs_of(folder, command)
     old, new = texts["old", command], texts["new", command]
-    count = next((k for k in range(5) if found == new[:k] + old[k:]), None)
+    count = next((k for k in range(len(new) + 1) if found == new[:k] + old[k:]), None)
     renames = sum(call.startswith("rename ") for call in calls[:number - 1])
     endings = list(OUTPUTS[command])
     if name == "rename":
         wanted = (5, lines_of("write", OUTPUTS[command][endings[renames]], f"own.{endings[renames]}"), renames)
     elif status == 0:
-        wanted = (0, "", 4)
+        wanted = (0, "", len(endings))
     elif path in INPUTS:
         wanted = (5, lines_of("read", INPUTS[path], path), 0)
     else:
@@ -131,12 +131,13 @@ def look_at_order(command: str, calls: list) -> None:
     """Each file is created for its owner alone, where nothing has its name. All outputs are synchronised before the first rename, and
     the folder after the last one."""
     created = [call for call in calls if call.startswith(("create ", "share "))]
-    if len(created) != 4 or any(call.startswith("share ") for call in created):
+    outputs = len(OUTPUTS[command])
+    if len(created) != outputs or any(call.startswith("share ") for call in created):
         raise Wrong(f"{command} creates its files as {created}")
     renames = [place for place, call in enumerate(calls) if call.startswith("rename ")]
     files = [place for place, call in enumerate(calls) if call.startswith("fsync own.")]
     folders = [place for place, call in enumerate(calls) if call == "fsync ."]
-    if (len(renames), len(files), len(folders)) != (4, 4, 1) or not max(files) < min(renames) <= max(renames) < folders[0]:
+    if (len(renames), len(files), len(folders)) != (outputs, outputs, 1) or not max(files) < min(renames) <= max(renames) < folders[0]:
         raise Wrong(f"{command} has its renames at {renames}, and synchronises files at {files}, folders at {folders}")
 
 
