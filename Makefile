@@ -72,13 +72,20 @@ built:
 calls:
 	@cd crates/tests_memory && rt run < /dev/null > ../../$(LOG) 2>&1 || { tail -n 40 ../../$(LOG); exit 1; }
 
+# What runs the built program or only reads the repository, several at a time: each works in folders of its own.
+SCRIPTS := examples statuses killed files completions documents made-up edits reserved compare office mutated planted memory
+AT_ONCE ?= $(shell nproc)
+SIDE_BY_SIDE = $(MAKE) --no-print-directory --jobs=$(AT_ONCE) --output-sync=target
+
 check:
 	@echo 'proving what changed; the log is $(LOG)'
 	@rt all check > $(LOG) 2>&1 || { tail -n 40 $(LOG); exit 1; }
-	@$(MAKE) --no-print-directory build calls examples statuses killed files completions documents made-up edits reserved compare office mutated planted memory
+	@$(MAKE) --no-print-directory build calls
+	@$(SIDE_BY_SIDE) $(SCRIPTS)
 
 # The gate leaves the program that it proved and built, so nothing is proved again after it.
-test: gate try examples statuses killed files completions documents made-up edits guides reserved compare office mutated planted memory
+test: gate
+	@$(SIDE_BY_SIDE) try guides $(SCRIPTS)
 
 gate:
 	@rt ci
@@ -163,7 +170,6 @@ bench: build
 	@bench/settle/run
 	@bench/adjust/run --program $(PROGRAM)
 	@bench/review/run --program $(PROGRAM)
-	@bench/explain/run --program $(PROGRAM)
 	@bench/explain/run --program $(PROGRAM)
 	@$(MAKE) --no-print-directory hostile
 
