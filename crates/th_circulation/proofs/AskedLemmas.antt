@@ -36,20 +36,6 @@ pub answered_again : (n : ℕ) (arcs : List Arc) (values : List ℤ) (found : Fo
 answered_again n arcs values (Potentials potentials) asked exclude feasible is e = (potentials.items, is.feasible, e)
 answered_again n arcs values (Cycle cycle) asked exclude feasible is e = absurd (exclude arcs values cycle.items feasible is)
 
--- a later answer of the same arcs is as good
-pub asked_anew : (graph : LinkGraph) (diffs flows : List ℤ) (arcs : List Arc) (asked later : Option Asked) → IsAskedFor graph diffs flows arcs asked → ((values : List ℤ) × IsFeasible arcs values × WasAsked graph.vertices arcs values later) → IsAskedFor graph diffs flows arcs later
-asked_anew graph diffs flows arcs asked later is again = record {
-  heights = is.heights;
-  slots = is.slots;
-  potentials = again.0;
-  residual = is.residual;
-  all = is.all;
-  many = is.many;
-  arcs_are = is.arcs_are;
-  feasible = again.1;
-  last = again.2;
-}
-
 -- in the last phase, the arc of a slot is the residual arc of its link
 arc_of_last : (links : List Link) (levels : ℕ → ℤ) (slot : Slot) → arc_of links (differences_in 0 links) levels slot ≡ residual_arc levels (link_at_place links slot.place) slot.is_forward
 arc_of_last links levels slot =

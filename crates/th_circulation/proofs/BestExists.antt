@@ -70,15 +70,6 @@ choose F P make (suc n) each = by (choose F P make n each)
 abbrev level : ℕ → ℕ → ℤ
 level k i = if nat_le i (2 * k) then pos i -ℤ pos k else pos 0
 
-level_near : (k i : ℕ) → IsNear k (level k i)
-level_near k i = by (nat_le i (2 * k)) refl
-  where
-    by : (b : Bool) → nat_le i (2 * k) ≡ b → IsNear k (if b then pos i -ℤ pos k else pos 0)
-    by true e =
-        let few : i ≤ 2 * k = grind (arith, nat_tests) in
-        omega (arith, ints)
-    by false e = omega (arith, ints)
-
 -- each height within the range is one of them
 level_of : (k : ℕ) (a : ℤ) → IsNear k a → (i : ℕ) × (i ≤ 2 * k) × (level k i ≡ a)
 level_of k a near = (unsigned_abs (a +ℤ pos k), few, by (nat_le (unsigned_abs (a +ℤ pos k)) (2 * k)) refl)

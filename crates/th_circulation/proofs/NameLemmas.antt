@@ -19,10 +19,9 @@ use Rattle.th_points.proofs.PointLemmas.{is_among, bytes_eq_same, EndsAmong, end
 use Rattle.th_network.proofs.NetworkLemmas.{vertices_apart}
 use Rattle.th_points.proofs.PlaceLemmas.{at_place_of}
 use Rattle.std.proofs.Common.{◌-ℤ◌, ◌*ℤ◌, ◌*◌, subst, unwrap_or}
-use Rattle.th_network.specs.Heights.{residual, LeastFine}
+use Rattle.th_network.specs.Heights.{residual}
 use Rattle.th_network.specs.Circulation.{Shows}
 use Rattle.th_network.specs.Links.{base, link_difference}
-use Rattle.th_network.proofs.Slackness.{slackness}
 use Rattle.th_network.proofs.FreePoints.{fixed_vertex, free_vertex}
 use Rattle.th_circulation.specs.Inside.Flows.{IsFlow, ShowsLinks, arriving, leaving, residual as link_residual, residuals}
 use Rattle.th_circulation.specs.Inside.PointHeights.{point_height}
@@ -117,7 +116,3 @@ shows_same all benchmarks weights heights [] [] h s = tt
 shows_same all benchmarks weights heights [] (flow ∷ flows) h s = absurd h
 shows_same all benchmarks weights heights (o ∷ observations) [] h s = absurd h
 shows_same all benchmarks weights heights (o ∷ observations) (flow ∷ flows) h s = (subst (λ r. flow *ℤ r ≡ pos (weight_of weights o.station o.target * unsigned_abs r)) (residual_same all benchmarks heights o) s.0, shows_same all benchmarks weights heights observations flows h.1 s.1)
-
-pub shown_is_least : (observations : List Observed) (benchmarks : BenchmarkRows) (weights : WeightRows) (heights : ℕ → ℤ) (flows : List ℤ) → IsFlow (map (link_of observations benchmarks) observations) (map (λ o. weight_of weights o.station o.target) observations) flows → ShowsLinks (map (λ o. weight_of weights o.station o.target) observations) flows (residuals (map (link_of observations benchmarks) observations) (map (link_difference benchmarks) observations) heights) → LeastFine observations benchmarks weights (point_height observations benchmarks heights)
-shown_is_least observations benchmarks weights heights flows flow s =
-    slackness observations benchmarks weights (point_height observations benchmarks heights) flows (λ name height e. ap (λ found. unwrap_or found (heights (vertex_of observations benchmarks name) -ℤ heights 0)) e) (flow_circulates observations benchmarks weights flows flow) (shows_same observations benchmarks weights heights observations flows flow.bounded s)

@@ -1,12 +1,10 @@
 -- The rows of a table as its records are read one after the other.
 use Rattle.std.proofs.Common.{◌≡◌, ◌+◌, ℕ, List, [], ◌∷◌, ◌++◌, Result, Ok, Err, refl, sym, ap, ◌∙◌, append_assoc}
-use Rattle.std.proofs.lemmas.List.{append-nil}
 use Rattle.th_csv.specs.Records.{Fields}
 use Rattle.th_conversions.specs.Rows.{row_in}
 use Rattle.th_conversions.specs.Tables.{row_first, rows_from}
 use Rattle.th_conversions.specs.declared.columns.Columns.{Columns}
 use Rattle.th_conversions.specs.declared.faults.DifferenceFault.{DifferenceFault}
-use Rattle.th_conversions.specs.declared.faults.DifferenceKind.{DifferenceKind}
 use Rattle.th_conversions.specs.declared.rows.Row.{Row}
 
 -- rows before those of later records, or the fault of these
@@ -18,18 +16,10 @@ rows_before rows (Err fault) = Err fault
 abbrev pub SoFar : Columns → List Fields → List Fields → List Row → ℕ → Type 0
 SoFar columns all left rows number = rows_from columns 2 all ≡ rows_before rows (rows_from columns (number + 1) left)
 
-none_before : (later : Result (List Row) DifferenceFault) → later ≡ rows_before [] later
-none_before (Ok later) = refl
-none_before (Err fault) = refl
-
 -- one row more before the others
 before-push : (number : ℕ) (rows : List Row) (row : Row) (later : Result (List Row) DifferenceFault) → rows_before rows (row_first number (Ok row) later) ≡ rows_before (rows ++ row ∷ []) later
 before-push number rows row (Ok later) = ap Ok (sym (append_assoc rows (row ∷ []) later))
 before-push number rows row (Err fault) = refl
-
--- before the first record
-pub read_none : (columns : Columns) (all : List Fields) → SoFar columns all all [] 1
-read_none columns all = none_before (rows_from columns 2 all)
 
 -- the first of the records that are left
 next_row : (columns : Columns) (all left later : List Fields) (this : Fields) (rows : List Row) (number : ℕ) → SoFar columns all left rows number → left ≡ this ∷ later
@@ -43,14 +33,3 @@ read_row columns all left later this rows number row so_far first is =
     next_row columns all left later this rows number so_far first
     ∙ ap (λ read. rows_before rows (row_first (number + 1) read (rows_from columns (number + 1 + 1) later))) is
     ∙ before-push (number + 1) rows row (rows_from columns (number + 1 + 1) later)
-
--- a record with a fault
-pub read_fault : (columns : Columns) (all left later : List Fields) (this : Fields) (rows : List Row) (number : ℕ) (kind : DifferenceKind) → SoFar columns all left rows number → left ≡ this ∷ later
-    → row_in columns this ≡ Err kind → rows_from columns 2 all ≡ Err (record { row = number + 1; kind = kind })
-read_fault columns all left later this rows number kind so_far first is =
-    next_row columns all left later this rows number so_far first
-    ∙ ap (λ read. rows_before rows (row_first (number + 1) read (rows_from columns (number + 1 + 1) later))) is
-
--- after the last record
-pub read_all : (columns : Columns) (all left : List Fields) (rows : List Row) (number : ℕ) → SoFar columns all left rows number → left ≡ [] → rows_from columns 2 all ≡ Ok rows
-read_all columns all left rows number so_far none = so_far ∙ ap (λ left. rows_before rows (rows_from columns (number + 1) left)) none ∙ ap Ok (append-nil rows)

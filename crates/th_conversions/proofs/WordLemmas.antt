@@ -1,5 +1,5 @@
 -- The words of a printed book are spelled in GSI-16.
-use Rattle.std.proofs.Common.{◌≡◌, ◌<◌, ◌≤◌, ◌+◌, ◌/◌, ◌%◌, ℕ, zero, suc, Bool, true, false, List, [], ◌∷◌, codes, length, pos, replicate, ◌-◌, refl, subst, ap, arith, length-append, unsigned_abs, Some}
+use Rattle.std.proofs.Common.{◌≡◌, ◌<◌, ◌≤◌, ◌+◌, ◌/◌, ◌%◌, ℕ, zero, suc, Bool, true, false, List, [], ◌∷◌, codes, length, pos, replicate, ◌-◌, refl, arith, length-append, unsigned_abs, Some}
 use Rattle.std.specs.Int.{is_negative}
 use Rattle.std.specs.List.{list_all}
 use Rattle.th_units.specs.Lengths.{is_digit, number}
@@ -7,12 +7,11 @@ use Rattle.th_units.specs.Metres.{last_digits}
 use Rattle.gsi_word.specs.Bytes.{is_data, is_info}
 use Rattle.gsi_word.specs.Names.{name_of}
 use Rattle.gsi_word.specs.Words.{Parts, Spells, parts, spelling_of}
-use Rattle.gsi_word.specs.declared.words.Width.{Width}
-use Rattle.gsi_word.specs.declared.words.Width.TheVariants.{Eight, Sixteen}
+use Rattle.gsi_word.specs.declared.words.Width.TheVariants.{Sixteen}
 use Rattle.gsi_block.specs.Blocks.{BlockParts, IsBlockOf}
 use Rattle.gsi_block.specs.Spelled.{AreSpelled}
 use Rattle.gsi_block.specs.Writing.{block_line}
-use Rattle.gsi_block.proofs.WrittenBlocks.{AreSpelled-row, IsBlock-block_line, WordHasOneSpelling}
+use Rattle.gsi_block.proofs.WrittenBlocks.{IsBlock-block_line}
 use Rattle.th_report.specs.Gsi.{number_word, padded_name}
 use Rattle.th_report.proofs.NameLemmas.{name_printable, name_short, zeros_before}
 use Rattle.th_report.proofs.WordLemmas.{digit_is_data, last_digits-all, spelled_number}
@@ -93,26 +92,8 @@ sight_proper number row is = record {
 
 -- ---- blocks
 
--- words of GSI-16 are not words of GSI-8
-not_eight : (words : List Parts) → 0 < length words → AreSpelled Sixteen words → AreSpelled Eight words → ⊥
-not_eight [] some sixteen eight = omega arith
-not_eight (word ∷ words) some sixteen eight = omega (arith, sixteen.0.length, eight.0.length)
-
-with_words : Width → List Parts → BlockParts
-with_words width words = record { width = width; words = words }
-
 -- 1 to 64 words of GSI-16 are a block
 pub block_there : (words : List Parts) → 0 < length words → length words ≤ 64 → AreSpelled Sixteen words → IsBlockOf words (record { width = Sixteen; words = words })
 block_there words some few are =
     let block : BlockParts = record { width = Sixteen; words = words } in
     (refl, (block_line block, IsBlock-block_line block some few are))
-
--- and no other block has them
-pub block_only : WordHasOneSpelling → (words : List Parts) (block : BlockParts) → 0 < length words → AreSpelled Sixteen words → IsBlockOf words block → block ≡ record { width = Sixteen; words = words }
-unfolding with_words
-block_only one words block some are (same, (line, is)) =
-    by block.width (subst (AreSpelled block.width) same (AreSpelled-row one block.width block.words is.row.0 is.row.2))
-  where
-    by : (width : Width) → AreSpelled width words → with_words width block.words ≡ with_words Sixteen words
-    by Sixteen own = ap (with_words Sixteen) same
-    by Eight own = absurd (not_eight words some are own)

@@ -14,12 +14,6 @@ use Rattle.th_cuts.specs.Inside.CutTrees.{AreBranches, IsBranch, IsCut}
 abbrev apart : Bool → Bool → Bool
 apart a b = if a then (if b then false else true) else b
 
-turned : (a b : Bool) → apart a b ≡ apart b a
-turned true true = refl
-turned true false = refl
-turned false true = refl
-turned false false = refl
-
 pub through : (a b c : Bool) → apart a b ≡ true → (apart a c ≡ true) ⊎ (apart b c ≡ true)
 through true false true h = inr refl
 through true false false h = inl refl
@@ -31,9 +25,6 @@ through false false c h = absurd (false≢true h)
 pub apart_itself : (a : Bool) → apart a a ≡ false
 apart_itself true = refl
 apart_itself false = refl
-
-pub separates_turned : (inside : ℕ → Bool) (u v : ℕ) → separates inside u v ≡ separates inside v u
-separates_turned inside u v = turned (inside u) (inside v)
 
 -- ---- the other side
 pub mirrored : (a b : Bool) → apart (not a) (not b) ≡ apart a b
@@ -66,23 +57,6 @@ least_both edges source sink value least inside h = by (inside source) (inside s
 
 pub separated : (inside : ℕ → Bool) (u v : ℕ) → inside u ≡ true → inside v ≡ false → separates inside u v ≡ true
 separated inside u v in_it out = ap (λ (a : Bool). apart a (inside v)) in_it ∙ ap (apart true) out
-
--- two that differ are apart
-pub differing : (a b : Bool) → (a ≡ b → ⊥) → apart a b ≡ true
-differing true true h = absurd (h refl)
-differing true false h = refl
-differing false true h = refl
-differing false false h = absurd (h refl)
-
--- ---- a step of a walk
-pub walk_step : (inside : ℕ → Bool) (early late parent e l value : ℕ) (edges : List Edge) → ((e ≡ early) × (l ≡ parent)) ⊎ ((e ≡ parent) × (l ≡ early)) → (separates inside late parent ≡ true → value ≤ cut_weight inside edges) → separates inside early late ≡ true → (separates inside e l ≡ true) ⊎ (value ≤ cut_weight inside edges)
-walk_step inside early late parent e l value edges same least h = elim (through (inside early) (inside late) (inside parent) h) [
-  | inl on ↦ elim same [
-    | inl is ↦ inl (ap (λ (u : ℕ). separates inside u l) is.0 ∙ ap (separates inside early) is.1 ∙ on)
-    | inr is ↦ inl (ap (λ (u : ℕ). separates inside u l) is.0 ∙ ap (separates inside parent) is.1 ∙ separates_turned inside parent early ∙ on)
-  ]
-  | inr here ↦ inr (least here)
-]
 
 -- ---- one more branch
 pub branches_more : (vertices : ℕ) (edges : List Edge) (branches more : List Branch) (branch : Branch) (vertex : ℕ) → AreBranches vertices edges branches → length branches + 1 ≡ vertex → IsBranch vertices edges vertex branch → more ≡ branches ++ branch ∷ [] → AreBranches vertices edges more

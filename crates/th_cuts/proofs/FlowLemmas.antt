@@ -1,6 +1,6 @@
 -- What flows take out of a set: at most what its cut weighs, and just that where its ways out are full. So their value is at most what the
 -- set drains.
-use Rattle.std.proofs.Common.{◌≡◌, ℕ, zero, suc, ◌+◌, ◌-◌, ◌<◌, ◌≤◌, ℤ, pos, ◌+ℤ◌, ◌-ℤ◌, ◌≤ℤ◌, Bool, true, false, List, [], ◌∷◌, length, sum_by, eqb, if◌then◌else◌, unsigned_abs, refl, ap, sym, subst, ◌∙◌, arith, ◌↔◌, replicate}
+use Rattle.std.proofs.Common.{◌≡◌, ℕ, zero, suc, ◌+◌, ◌-◌, ◌<◌, ◌≤◌, ℤ, pos, ◌+ℤ◌, ◌-ℤ◌, ◌≤ℤ◌, Bool, true, false, List, [], ◌∷◌, length, sum_by, eqb, if◌then◌else◌, unsigned_abs, refl, ap, sym, subst, ◌∙◌, arith, replicate}
 use Rattle.std.specs.Prelude.{slice_set}
 use Rattle.std.proofs.lemmas.Int.{ints}
 use Rattle.std.proofs.lemmas.Bool.{eqb-false, eqb-true, false≢true}
@@ -205,11 +205,6 @@ finish_within vertices edges way ends among = by way.is_forward
     by : (b : Bool) → (if b then (edge_at edges way.edge).head else (edge_at edges way.edge).tail) < vertices
     by true = (ends way.edge (edge_at [] 0) among).1
     by false = (ends way.edge (edge_at [] 0) among).0
-
--- how much more can flow along a way
-pub room_is : (forward : Bool) (w : ℕ) (f r : ℤ) (amount : ℕ) → unsigned_abs f ≤ w → r ≡ (if forward then (pos w -ℤ f) else (pos w +ℤ f)) → (unsigned_abs (f +ℤ signed amount forward) ≤ w) ↔ (pos amount ≤ℤ r)
-room_is true w f r amount bounded e = (λ h. omega (arith, ints), λ h. omega (arith, ints))
-room_is false w f r amount bounded e = (λ h. omega (arith, ints), λ h. omega (arith, ints))
 
 -- there is room for less where there is room for more
 pub room_for_less : (forward : Bool) (w less more : ℕ) (f : ℤ) → unsigned_abs f ≤ w → less ≤ more → unsigned_abs (f +ℤ signed more forward) ≤ w → unsigned_abs (f +ℤ signed less forward) ≤ w

@@ -1,26 +1,18 @@
 -- What a vertex alone weighs, and what flow to the vertices near another one shows of the cuts between the two.
-use Rattle.std.proofs.Common.{◌≡◌, ◌≢◌, ℕ, ◌+◌, ◌<◌, ◌≤◌, inl, inr, ℤ, Bool, true, false, not, List, [], ◌∷◌, ◌++◌, eqb, ltb, if◌then◌else◌, length, sum_by, take, refl, ap, sym, ◌∙◌, subst, arith}
+use Rattle.std.proofs.Common.{◌≡◌, ◌≢◌, ℕ, ◌+◌, ◌<◌, ◌≤◌, inl, inr, ℤ, Bool, true, false, not, List, [], ◌∷◌, eqb, ltb, if◌then◌else◌, length, sum_by, take, refl, ap, sym, ◌∙◌, subst, arith}
 use Rattle.std.specs.Prelude.{slice_set}
-use borrow.Author.Count.{below_more}
-use Rattle.std.proofs.lemmas.Bool.{cases_Bool, eq-eqb, eqb-false, eqb-true, false≢true, ltb-false, ltb-true, ne_eqb}
-use Rattle.std.proofs.lemmas.List.{get_or-set_other, get_or-set_same, get_or_append_left, get_or_push, length-append, length-set}
+use Rattle.std.proofs.lemmas.Bool.{cases_Bool, eq-eqb, eqb-false, eqb-true, ltb-false, ltb-true, ne_eqb}
+use Rattle.std.proofs.lemmas.List.{get_or-set_other, get_or-set_same, length-set}
 use Rattle.std.proofs.lemmas.List.Elements.{All-head, All-tail}
 use Rattle.std.proofs.lemmas.List.Sums.{sum_by-cons, sum_by_more, sum_by_more_le}
 use Rattle.th_cuts.specs.declared.edges.Edge.{Edge}
 use Rattle.th_cuts.specs.Cuts.{crosses, cut_weight, on_side, separates}
-use Rattle.th_cuts.specs.Inside.CutTrees.{AreLone, AreNear, AreTops, IsSame, raised, with_edge}
+use Rattle.th_cuts.specs.Inside.CutTrees.{AreLone, AreNear, IsSame, raised, with_edge}
 use Rattle.th_cuts.specs.Inside.Flows.{IsClosedSide, IsFlow, edge_at, room_at}
 use Rattle.th_cuts.specs.Inside.Merges.{AreAmong, weight_in}
-use Rattle.th_cuts.proofs.CutTreeLemmas.{apart_itself, least_both, other_side, separated, separates_turned, through}
+use Rattle.th_cuts.proofs.CutTreeLemmas.{apart_itself, least_both, other_side, separated, through}
 use Rattle.th_cuts.proofs.FlowLemmas.{value_full, value_most, weight_most}
 use Rattle.th_cuts.proofs.RoomLemmas.{room_in_least, room_in_none}
-
--- ---- vertices that no light cut separates
-pub same_itself : (edges : List Edge) (weight u : ℕ) → IsSame edges weight u u
-same_itself edges weight u = λ inside h. absurd (false≢true (sym (apart_itself (inside u)) ∙ h))
-
-pub same_turned : (edges : List Edge) (weight u v : ℕ) → IsSame edges weight u v → IsSame edges weight v u
-same_turned edges weight u v same = λ inside h. same inside (separates_turned inside u v ∙ h)
 
 pub same_through : (edges : List Edge) (weight u v w : ℕ) → IsSame edges weight u w → IsSame edges weight v w → IsSame edges weight u v
 same_through edges weight u v w one other = λ inside h. elim (through (inside u) (inside v) (inside w) h) [
@@ -159,15 +151,6 @@ lone_fits edges k vertex among =
     let less = weight_most (alone vertex) (take k edges) in
     let all = sum_by_more_le (λ (e : Edge). e.weight) edges k (edge_at [] 0) among in
     omega arith
-
--- ---- one more vertex that others are tied to
-pub tops_more : (edges : List Edge) (weight top : ℕ) (tops : List ℕ) → AreTops edges weight tops → IsSame edges weight (length tops) top → AreTops edges weight (tops ++ top ∷ [])
-tops_more edges weight top tops are is = λ k h.
-    let long = length-append tops (top ∷ []) in
-    below_more (λ k. IsSame edges weight k (room_at (tops ++ top ∷ []) k)) (length tops)
-    (λ k h. subst (IsSame edges weight k) (sym (get_or_append_left tops (top ∷ []) 0 k h)) (are k h))
-    (subst (IsSame edges weight (length tops)) (sym (get_or_push tops top 0 (length tops) refl)) is)
-    k (omega arith)
 
 -- ---- room at those of the first vertices that no light cut separates from a vertex
 pub record AreNearTo (vertices : ℕ) (edges : List Edge) (most vertex count : ℕ) (rooms : List ℕ) : Type 0 where

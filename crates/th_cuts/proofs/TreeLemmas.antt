@@ -178,11 +178,6 @@ back_step edges first source end amount steps flows here are each_apart back som
 pub back_done : (edges : List Edge) (first : List ℤ) (source end amount : ℕ) (steps : List WayStep) (flows : List ℤ) → AreSteps edges first source steps → IsBack edges first end amount steps flows 0 → IsSent edges first source end amount flows
 back_done edges first source end amount steps flows are back = subst (λ v. IsSent edges first v end amount flows) are.root_vertex back.sent
 
--- ---- a tree's steps lead to different vertices
-pub tree_apart : (vertices : ℕ) (edges : List Edge) (flows : List ℤ) (source : ℕ) (steps : List WayStep) (places : List (Option ℕ)) → IsTree vertices edges flows source steps places → AreApart steps
-tree_apart vertices edges flows source steps places tree j k h i same =
-    let e = sym (tree.found j h) ∙ ap (place_at places) same ∙ tree.found k i in cc
-
 -- ---- the side that is reached
 pub on_side_is : (places : List (Option ℕ)) (vertex : ℕ) → reached places vertex ≡ on_side (map is_placed places) vertex
 on_side_is [] vertex = refl

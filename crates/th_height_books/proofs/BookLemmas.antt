@@ -1,5 +1,5 @@
 -- The text of a book as it is printed line by line.
-use Rattle.std.proofs.Common.{◌≡◌, ◌≢◌, ◌+◌, ◌++◌, ◌∷◌, [], ℕ, List, Option, Some, None, Ok, Err, refl, sym, subst, ap, ◌∙◌, append_assoc}
+use Rattle.std.proofs.Common.{◌≡◌, ◌≢◌, ◌+◌, ◌++◌, ◌∷◌, [], ℕ, List, Option, Some, Err, refl, sym, ap, ◌∙◌}
 use Rattle.std.specs.List.{flat_map}
 use Rattle.std.specs.Prelude.{Result}
 use Rattle.std.proofs.lemmas.List.{append-nil}
@@ -7,7 +7,7 @@ use Rattle.th_book.specs.Faults.{fault_in}
 use Rattle.th_book.specs.declared.faults.BookFault.{BookFault}
 use Rattle.th_book.specs.declared.faults.BookKind.{BookKind}
 use Rattle.th_book.specs.declared.faults.BookKind.TheVariants as kind
-use Rattle.th_height_books.specs.Inside.Stops.{IsPrinted, IsStopOf, stop_kind}
+use Rattle.th_height_books.specs.Inside.Stops.{IsStopOf, stop_kind}
 use Rattle.th_height_books.specs.Printed.{Lines, Step, ended, printed_from, printed_line, then_lines}
 use Rattle.th_height_books.specs.declared.lines.Stop.{Stop}
 use Rattle.th_height_books.specs.declared.lines.Stop.TheVariants as stop
@@ -29,18 +29,6 @@ first_step : (running : Option Running) (count : ℕ) (line : List ℕ) (left re
 first_step running count line left rest step first is =
     ap (printed_from running count) first ∙ ap (λ (own : Result Step BookKind). then_lines count own (λ next. printed_from next (count + 1) rest)) is
 
--- a line was printed
-pub one_more : (text text' all : List ℕ) (end : Option BookFault) (running running' : Option Running) (count : ℕ) (line : List ℕ) (left rest : List (List ℕ)) → left ≡ line ∷ rest
-    → IsPrinted (printed_line running line) running' text text' → Makes text (printed_from running count left) all end → Makes text' (printed_from running' (count + 1) rest) all end
-one_more text text' all end running running' count line left rest first printed makes =
-    let step = first_step running count line left rest (Ok printed.step) first printed.is in
-    subst (λ (own : Option Running). Makes text' (printed_from own (count + 1) rest) all end) (sym printed.runs) (record {
-      whole = ap (λ (front : List ℕ). front ++ flat_map ended (printed_from printed.step.1 (count + 1) rest).0) printed.text
-          ∙ append_assoc text (ended printed.step.0) (flat_map ended (printed_from printed.step.1 (count + 1) rest).0)
-          ∙ sym (ap (λ (own : Lines). text ++ flat_map ended own.0) step) ∙ makes.whole;
-      ends = sym (ap (λ (own : Lines). own.1) step) ∙ makes.ends;
-    })
-
 -- a line was not printed
 pub no_more : (text all : List ℕ) (end : Option BookFault) (running : Option Running) (count : ℕ) (line : List ℕ) (left rest : List (List ℕ)) (kind : BookKind) → left ≡ line ∷ rest
     → printed_line running line ≡ Err kind → Makes text (printed_from running count left) all end → (text ≡ all) × (end ≡ Some (fault_in count kind))
@@ -49,11 +37,3 @@ no_more text all end running count line left rest kind first is makes =
       sym (append-nil text) ∙ sym (ap (λ (own : Lines). text ++ flat_map ended own.0) step) ∙ makes.whole,
       sym makes.ends ∙ ap (λ (own : Lines). own.1) step,
     )
-
--- all lines were printed
-pub all_printed : (text all : List ℕ) (end : Option BookFault) (running : Option Running) (count : ℕ) (left : List (List ℕ)) → left ≡ []
-    → Makes text (printed_from running count left) all end → (text ≡ all) × (end ≡ None)
-all_printed text all end running count left none makes = (
-  sym (append-nil text) ∙ sym (ap (λ (own : List (List ℕ)). text ++ flat_map ended (printed_from running count own).0) none) ∙ makes.whole,
-  sym makes.ends ∙ ap (λ (own : List (List ℕ)). (printed_from running count own).1) none,
-)

@@ -1,7 +1,6 @@
 -- What is known of a height sight that was printed.
-use Rattle.std.proofs.Common.{◌≡◌, ◌<◌, ◌≤◌, ◌*◌, ◌%◌, ◌^◌, ◌==◌, ◌||◌, ◌⊎◌, ℤ, Bool, true, false, List, Option, Some, None, Ok, Err, if◌then◌else◌, inl, inr, length, nat_le, nat_lt, unsigned_abs, refl, sym, subst, ap, ◌∙◌, arith}
+use Rattle.std.proofs.Common.{◌≡◌, ◌≤◌, ◌*◌, ◌%◌, ◌^◌, ◌==◌, ◌||◌, ◌⊎◌, ℤ, Bool, true, false, List, Option, Some, None, Ok, Err, if◌then◌else◌, inl, inr, length, nat_le, nat_lt, unsigned_abs, refl, sym, subst, ap, ◌∙◌, arith}
 use Rattle.std.specs.Prelude.{Result}
-use Rattle.std.proofs.lemmas.Bool.{le-ltb, lt-ltb}
 use Rattle.std.proofs.lemmas.Bool.Decides.{nat_tests}
 use Rattle.th_units.specs.Limits.{max_len}
 use Rattle.th_units.specs.Units.{step}
@@ -16,7 +15,7 @@ use Rattle.th_book.specs.Books.{known}
 use Rattle.th_book.specs.Lines.{length_in}
 use Rattle.th_book.specs.declared.faults.BookKind.{BookKind}
 use Rattle.th_book.specs.declared.faults.BookKind.TheVariants.{BadUnit, Block, TooLarge}
-use Rattle.th_height_books.specs.Printed.{Step, line_of, longer, sight_from, sight_line, sighted, with_word}
+use Rattle.th_height_books.specs.Printed.{Step, longer, sight_from, sight_line, sighted, with_word}
 use Rattle.th_height_books.specs.Running.{with_heights}
 use Rattle.th_height_books.specs.Words.{Written, if_room, number_of, written_of}
 use Rattle.th_height_books.specs.declared.running.Running.{Running}
@@ -113,27 +112,3 @@ sight_printed (Some setup) block step is = by_station setup.station refl
     by_station (Some station) e =
         by_written station e (written_of block.width (sighted (known (length_in 83 block.words)) station (with_heights block.words setup))) refl
         (sym (ap (sight_from setup block) e) ∙ is)
-
--- the line of a height sight whose word 33 can be written
-line_is : (running : Option Running) (block : BlockParts) (setup : Running) (station : ℤ) (written : Written) → running ≡ Some setup → setup.station ≡ Some station
-    → written_of block.width (sighted (known (length_in 83 block.words)) station (with_heights block.words setup)) ≡ Ok written
-    → sight_line running block ≡ line_of setup (record { width = block.width; words = words_of block setup written })
-line_is running block setup station written runs above value =
-    ap (λ (own : Option Running). sight_line own block) runs ∙ ap (sight_from setup block) above ∙ ap (with_word setup block (with_heights block.words setup)) value
-
--- it has too many words
-pub too_long : (running : Option Running) (block : BlockParts) (setup : Running) (station : ℤ) (written : Written) → running ≡ Some setup → setup.station ≡ Some station
-    → written_of block.width (sighted (known (length_in 83 block.words)) station (with_heights block.words setup)) ≡ Ok written
-    → max_words < length (words_of block setup written) → sight_line running block ≡ Err (Block TooManyWords)
-too_long running block setup station written runs above value many =
-    line_is running block setup station written runs above value
-    ∙ ap (λ (b : Bool). if b then Err (Block TooManyWords) else Ok (block_line (record { width = block.width; words = words_of block setup written }), Some (with_heights (words_of block setup written) setup))) (lt-ltb _ _ many)
-
--- or it is printed
-pub short : (running : Option Running) (block : BlockParts) (setup : Running) (station : ℤ) (written : Written) → running ≡ Some setup → setup.station ≡ Some station
-    → written_of block.width (sighted (known (length_in 83 block.words)) station (with_heights block.words setup)) ≡ Ok written
-    → length (words_of block setup written) ≤ max_words
-    → sight_line running block ≡ Ok (block_line (record { width = block.width; words = words_of block setup written }), Some (with_heights (words_of block setup written) setup))
-short running block setup station written runs above value few =
-    line_is running block setup station written runs above value
-    ∙ ap (λ (b : Bool). if b then Err (Block TooManyWords) else Ok (block_line (record { width = block.width; words = words_of block setup written }), Some (with_heights (words_of block setup written) setup))) (le-ltb _ _ few)

@@ -3,7 +3,6 @@ use Rattle.std.proofs.Common.{◌≡◌, ◌<◌, ◌+◌, ◌/◌, ◌%◌, ℕ
 use Rattle.std.specs.Int.{is_negative}
 use Rattle.std.specs.List.{list_all}
 use Rattle.th_units.specs.Metres.{last_digits}
-use Rattle.th_units.specs.Units.{step}
 use Rattle.th_units.specs.declared.units.Unit.{Unit}
 use Rattle.th_units.specs.declared.units.Unit.TheVariants.{Mm, MilliFoot, TenthMm, TenMilliFoot, HundredthMm}
 use Rattle.gsi_word.specs.Bytes.{is_data, is_info}
@@ -54,14 +53,6 @@ written_has_spelling width index own info negative body small is_info is_sign is
     (sym (ap (λ (i : List ℕ). parts index i negative body) is_info ∙ ap (λ (n : Bool). parts index (info_of own.unit) n body) is_sign
     ∙ ap (parts index (info_of own.unit) (is_negative own.length)) is_body))
     (width, spelling_of (word_of width index own), written_spelled width index own small)
-
--- each unit has a size
-pub step_some : (unit : Unit) → 0 < step unit
-step_some Mm = omega arith
-step_some MilliFoot = omega arith
-step_some TenthMm = omega arith
-step_some TenMilliFoot = omega arith
-step_some HundredthMm = omega arith
 
 -- words of one width, and more of it behind them
 pub spelled-append : (width : Width) (front back : List Parts) → AreSpelled width front → AreSpelled width back → AreSpelled width (front ++ back)

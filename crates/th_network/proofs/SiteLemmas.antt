@@ -1,5 +1,5 @@
 -- What is looked up of the points of a network.
-use Rattle.std.proofs.Common.{◌≡◌, ◌≤◌, ℕ, ℤ, pos, List, Option, Some, None, Result, Ok, Err, IfOk, IfSome, MatchOption, map, unsigned_abs, unwrap_or, ap, ◌∙◌, subst}
+use Rattle.std.proofs.Common.{◌≡◌, ℕ, ℤ, List, Option, Some, None, Result, Ok, Err, IfOk, MatchOption, map, ap, ◌∙◌, subst}
 use Rattle.std.specs.declared.alloc.AllocError.{AllocError}
 use Rattle.th_tables.specs.Rows.{height_of}
 use Rattle.th_points.specs.Points.{points}
@@ -39,8 +39,3 @@ pub untied_if_some : (looked own : Looked) (found : Option (List ℕ)) (name : L
 untied_if_some looked own found name same some h =
     subst (λ (l : Looked). IsFirstUntied l.observations l.benchmarks name) same
     (subst (λ (f : Option (List ℕ)). MatchOption f (Anchored looked.observations looked.benchmarks) (IsFirstUntied looked.observations looked.benchmarks)) some h)
-
--- a height that is at most this in size, or zero
-pub small_if_some : (height : Option ℤ) (most : ℕ) → unsigned_abs (unwrap_or height (pos 0)) ≤ most → IfSome height (λ z. unsigned_abs z ≤ most)
-small_if_some None most small = tt
-small_if_some (Some z) most small = small

@@ -1,9 +1,8 @@
 -- Strengths and controls from least cuts between vertices.
 use Rattle.std.proofs.Common.{◌≡◌, ℕ, ◌+◌, ◌-◌, ◌*◌, ◌<◌, ◌≤◌, ℤ, pos, Bool, true, false, not, List, [], ◌∷◌, ◌++◌, length, get_or, slice_get, map, take, Option, Some, None, IsSome, All, Contains, is_none, is_some, if◌then◌else◌, refl, sym, ap, ◌∙◌, subst, arith}
-use borrow.Author.Count.{below_more}
 use Rattle.std.specs.Prelude.{slice_index_or, sum_by}
 use Rattle.std.proofs.lemmas.Bool.{false≢true}
-use Rattle.std.proofs.lemmas.List.{get_or-map, get_or_default, get_or_append_left, get_or_push, length-append, length-map, map-append, take_more}
+use Rattle.std.proofs.lemmas.List.{get_or-map, get_or_default, length-map, map-append, take_more}
 use Rattle.std.proofs.lemmas.List.Sums.{sum_by-append, sum_by-cons, get_or-le-sum_by}
 use Rattle.std.proofs.lemmas.List.Elements.{All-push}
 use Rattle.std.proofs.lemmas.Option.{get_or_from_slice_get, slice_get-get_or, slice_get_within}
@@ -27,16 +26,6 @@ use Rattle.th_reliability.specs.Edges.{edge_of, names_in, vertices_in}
 use Rattle.th_reliability.specs.Inside.Graphs.{IsGraphOf}
 use Rattle.th_reliability.specs.Numbers.{HasControl, HasStrength}
 use Rattle.th_reliability.proofs.VertexLemmas.{crossing_same, fixed_vertex, names_are_free, names_cut, vertices_at, vertices_cut, vertices_without_0}
-
--- ---- lists that grow
--- what holds of each item before, and of the next, holds of each item of the longer list
-pub pushed_more : (P : ℕ → Option ℕ → Type 0) (list more : List (Option ℕ)) (item : Option ℕ) (n : ℕ) → length list ≡ n → ((k : ℕ) (d : Option ℕ) → k < length list → P k (slice_index_or list k d)) → P n item → more ≡ list ++ item ∷ [] → (k : ℕ) (d : Option ℕ) → k < length more → P k (slice_index_or more k d)
-pushed_more P list more item n long before here pushed = subst (λ (xs : List (Option ℕ)). (k : ℕ) (d : Option ℕ) → k < length xs → P k (slice_index_or xs k d)) (sym pushed) (λ k d h.
-    let sum = length-append list (item ∷ []) in
-    below_more (λ k. P k (slice_index_or (list ++ item ∷ []) k d)) (length list)
-    (λ k h. subst (P k) (sym (get_or_append_left list (item ∷ []) d k h)) (before k d h))
-    (subst (P (length list)) (sym (get_or_push list item d (length list) refl)) (subst (λ (m : ℕ). P m item) (sym long) here))
-    k (omega arith))
 
 -- ---- edges
 none : Observed

@@ -1,11 +1,11 @@
 -- The cycle over which the entries lead back, made from its last arc back.
-use Rattle.std.proofs.Common.{◌≡◌, ◌≢◌, ℕ, suc, ◌<◌, ◌⊎◌, inl, inr, false, ℤ, pos, ◌+ℤ◌, ◌≤ℤ◌, ◌<ℤ◌, List, [], ◌∷◌, ◌++◌, reverse, Option, Some, All, length, eqb, refl, sym, ap, ◌∙◌, subst, arith}
+use Rattle.std.proofs.Common.{◌≡◌, ◌≢◌, ℕ, suc, ◌<◌, ◌⊎◌, inl, inr, false, ℤ, ◌+ℤ◌, ◌≤ℤ◌, List, [], ◌∷◌, ◌++◌, reverse, Option, Some, All, length, eqb, refl, sym, ap, ◌∙◌, subst, arith}
 use Rattle.std.specs.List.{AllByRecursion, IsDistinct}
 use Rattle.std.proofs.lemmas.Bool.{ne_eqb}
 use Rattle.std.proofs.lemmas.Int.{ints}
 use Rattle.std.proofs.lemmas.List.{reverse-append}
 use Rattle.std.proofs.lemmas.Map.Keys.{IsDistinct-cons}
-use Rattle.th_search.specs.Walks.{IsArc, IsWalk, IsNegativeCycle, arc_at, cost_of, entered_by}
+use Rattle.th_search.specs.Walks.{IsArc, IsWalk, arc_at, cost_of, entered_by}
 use Rattle.th_search.specs.Potentials.{value_at}
 use Rattle.th_search.specs.Inside.Entries.{HasDepth, IsOnCycle, Meets, cut_at, entry_at}
 use Rattle.th_search.specs.Inside.Labels.{AreLabels, Holds}
@@ -97,23 +97,6 @@ closing_next arcs values entries goal vertex number walk all labels inside other
             weaker (IsBehind arcs cut goal (suc depth)) (IsBehind arcs cut goal depth) (nearer arcs cut goal depth) (entered_by arcs walk) (closing.behind (suc depth) further),
           );
       meets = meets_next arcs entries vertex number goal at other closing.meets;
-    }
-
-below_or_zero : (z : ℤ) → z ≤ℤ pos 0 → (z ≡ pos 0 → ⊥) → z <ℤ pos 0
-below_or_zero z least other = grind (arith, ints)
-
-pub closing_last : (arcs : List Arc) (values : List ℤ) (entries : List (Option ℕ)) (goal vertex : ℕ) (walk : List ℕ) → AreLabels arcs values entries → vertex ≡ goal → IsClosing arcs values entries goal vertex walk → IsNegativeCycle arcs walk
-closing_last arcs values entries goal vertex walk labels same closing =
-    let falls = closing.falls in
-    let at = ap (value_at values) same in
-    record {
-      some = closing.some;
-      closed = (goal, subst (λ v. IsWalk arcs v walk goal) same closing.leads);
-      once = closing.once;
-      negative = below_or_zero (cost_of arcs walk) (omega (arith, ints)) (λ nothing.
-          let less = closing.ranked labels.falls.0 labels.falls.1 (omega (arith, ints)) in
-          let level = ap labels.falls.0 same in
-          omega arith);
     }
 
 -- an arc more is one more in front

@@ -3,10 +3,9 @@ use Rattle.std.proofs.Common.{◌≡◌, ◌≢◌, ℕ, zero, suc, ◌+◌, ◌
 use Rattle.std.proofs.Math.ListN.{set}
 use Rattle.std.proofs.lemmas.Bool.{cases_eq, cases_lt}
 use Rattle.std.proofs.lemmas.List.{get_or-set_other, get_or-set_same, get_or_past}
-use Rattle.std.proofs.lemmas.List.Sums.{sum_by-set}
 use Rattle.std.specs.List.{sum_by}
 use Rattle.th_search.specs.Walks.{arc_at}
-use Rattle.th_search.specs.Inside.Entries.{IsOnCycle, IsRooted, MeetsAfter, entry_at}
+use Rattle.th_search.specs.Inside.Entries.{IsRooted, MeetsAfter, entry_at}
 use Rattle.th_search.specs.Inside.Labels.{IsForest}
 use Rattle.th_search.specs.Inside.Marks.{AreMarked, mark_at}
 use Rattle.th_search.specs.declared.arcs.Arc.{Arc}
@@ -20,16 +19,6 @@ pub record IsMarking (arcs : List Arc) (entries : List (Option ℕ)) (marks : Li
   pub most : (v : ℕ) → mark_at marks v ≤ start + 1
   pub rooted : (v : ℕ) → mark_at marks v ≢ 0 → mark_at marks v ≤ start → IsRooted arcs entries v
   pub led : (v : ℕ) → mark_at marks v ≡ start + 1 → (steps : ℕ) × MeetsAfter arcs entries (suc steps) v vertex
-
-pub marking_first : (arcs : List Arc) (entries : List (Option ℕ)) (marks : List ℕ) (start : ℕ) → start < length marks → AreMarked arcs entries marks start → IsMarking arcs entries marks start start
-marking_first arcs entries marks start within marked = record {
-  within = within;
-  each = marked.each;
-  begun = inr refl;
-  most = λ v. let few = marked.most v in omega arith;
-  rooted = λ v some few. marked.rooted v some;
-  led = λ v is. let few = marked.most v in absurd (omega arith);
-}
 
 mark_here : (marks : List ℕ) (vertex mark v : ℕ) → vertex < length marks → v ≡ vertex → mark_at (set marks vertex mark) v ≡ mark
 mark_here marks vertex mark v within same = ap (mark_at (set marks vertex mark)) same ∙ get_or-set_same marks vertex mark 0 within
@@ -132,18 +121,9 @@ marking_met arcs entries marks start vertex some other marking =
     root : IsRooted arcs entries vertex
     root = let few = marking.most vertex in marking.rooted vertex some (omega arith)
 
--- or on itself
-pub marking_closed : (arcs : List Arc) (entries : List (Option ℕ)) (marks : List ℕ) (start vertex : ℕ) → mark_at marks vertex ≡ start + 1 → IsMarking arcs entries marks start vertex → IsOnCycle arcs entries vertex
-marking_closed arcs entries marks start vertex is marking = marking.led vertex is
-
 -- how many vertices are not marked
 abbrev pub unmarked : List ℕ → ℕ
 unmarked marks = sum_by (λ mark. 1 - mark) marks
-
-pub unmarked_falls : (marks : List ℕ) (vertex start : ℕ) → vertex < length marks → mark_at marks vertex ≡ 0 → unmarked (set marks vertex (start + 1)) < unmarked marks
-unmarked_falls marks vertex start within none =
-    let sums = sum_by-set (λ mark. 1 - mark) marks vertex (start + 1) 0 within in
-    omega arith
 
 -- once all vertices are marked
 pub marked_all : (arcs : List Arc) (entries : List (Option ℕ)) (marks : List ℕ) (count : ℕ) → length entries ≤ count → AreMarked arcs entries marks count → IsForest arcs entries

@@ -1,7 +1,7 @@
 -- Which vertices the entries lead back to.
 use Rattle.std.proofs.Common.{◌≡◌, ◌≢◌, ℕ, zero, suc, ◌<◌, List, Option, None, Some, length, get_or, refl, sym, ap, ◌∙◌, subst}
 use Rattle.std.proofs.lemmas.List.{get_or_default}
-use Rattle.std.proofs.lemmas.Option.{none-some, same_Some}
+use Rattle.std.proofs.lemmas.Option.{same_Some}
 use Rattle.th_search.specs.Walks.{arc_at}
 use Rattle.th_search.specs.Inside.Entries.{IsOnCycle, IsRooted, MeetsAfter, Meets, entry_at}
 use Rattle.th_search.specs.declared.arcs.Arc.{Arc}
@@ -21,18 +21,6 @@ meets_next arcs entries v number goal at other met = steps_next arcs entries met
 
 pub meets_before : (arcs : List Arc) (entries : List (Option ℕ)) (v number goal : ℕ) → entry_at entries v ≡ Some number → Meets arcs entries (arc_at arcs number).tail goal → Meets arcs entries v goal
 meets_before arcs entries v number goal at met = (suc met.0, (number, at, met.1))
-
--- where a vertex is met that is another, the one that meets it was entered
-pub meets_none : (arcs : List Arc) (entries : List (Option ℕ)) (v goal : ℕ) → entry_at entries v ≡ None → v ≢ goal → Meets arcs entries v goal → ⊥
-meets_none arcs entries v goal none other met = steps_none arcs entries met.0 v goal none other met.1
-  where
-    steps_none : (arcs : List Arc) (entries : List (Option ℕ)) (steps v goal : ℕ) → entry_at entries v ≡ None → v ≢ goal → MeetsAfter arcs entries steps v goal → ⊥
-    steps_none arcs entries zero v goal none other met = other met
-    steps_none arcs entries (suc steps) v goal none other met = none-some met.0 (sym none ∙ met.1)
-
--- a vertex on a cycle was entered, and from the tail of its entry it is met
-pub cycle_entered : (arcs : List Arc) (entries : List (Option ℕ)) (v : ℕ) → entry_at entries v ≡ None → IsOnCycle arcs entries v → ⊥
-cycle_entered arcs entries v none cycle = none-some cycle.1.0 (sym none ∙ cycle.1.1)
 
 pub cycle_met : (arcs : List Arc) (entries : List (Option ℕ)) (v number : ℕ) → entry_at entries v ≡ Some number → IsOnCycle arcs entries v → Meets arcs entries (arc_at arcs number).tail v
 cycle_met arcs entries v number at cycle =
