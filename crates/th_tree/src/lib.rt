@@ -14,6 +14,7 @@ mod links;
 mod residual_arcs;
 mod rows;
 mod sides;
+mod starts;
 
 // The spanning tree, and the part of it that a pivot moves.
 mod families;
@@ -31,4 +32,5 @@ pub use residual_arcs::ResidualArc;
 pub use rows::push_if_room;
 pub use scales::Scale;
 pub use sides::{Side, Sides};
+pub use starts::Starts;
 pub use trees::{Tree, Up};
