@@ -1,19 +1,35 @@
 //! The rows of the entries.
 ghost use Rattle.std.specs.Prelude.{◌≡◌, IfOk, length};
+ghost use Rattle.th_review.specs.Entries.{entries_of};
 ghost use Rattle.th_review.specs.Rows.{entry_rows, entry_weight};
 
-use crate::entries::sights_of;
+use crate::entries::{entries_of, sights_of};
 use crate::rows::EntryRow;
 use std::alloc::{AllocError, Global};
-use th_entries::Entry;
+use th_entries::{BookReview, Entry};
 use th_network::Network;
 use th_reliability::{Effect, Runs};
 
-/// The rows of entries, with what a mistake in each would do, listed in the order of the entries.
+/// The rows of the entries of all books, with what a mistake in each would do, listed in the order of the entries.
 ///
 /// If the observations are in the order of books and lines, as in a survey, it takes one pass over
 /// them, and one over the sights of each entry.
 pub(crate) fn entry_rows(
+    alloc: Global,
+    network: &Network,
+    reviews: &[BookReview],
+    effects: &[Effect],
+) -> Result<Vec<EntryRow>, AllocError>
+    requires { length effects.now ≡ length (entries_of reviews.now) }
+    ensures { IfOk result (λ rows. rows.items
+        ≡ entry_rows network.now (entries_of reviews.now) effects.now) }
+{
+    let entries = entries_of(alloc, reviews)?;
+    rows_of(alloc, network, &entries, effects)
+}
+
+/// The rows of entries.
+fn rows_of(
     alloc: Global,
     network: &Network,
     entries: &[Entry],

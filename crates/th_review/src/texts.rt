@@ -7,7 +7,6 @@ ghost use Rattle.th_review.specs.Entries.{entries_of};
 ghost use Rattle.th_review.specs.Texts.{AreReviewTexts, bytes_of, found_in};
 
 use crate::benchmark_list::benchmark_rows;
-use crate::entries::entries_of;
 use crate::entry_list::entry_rows;
 use crate::observation_list::observation_rows;
 use crate::point_list::point_rows;
@@ -79,7 +78,6 @@ pub fn review_texts(
         (heights_at (points_of network.now) low.now) (heights_at (points_of network.now) high.now)
         (found_in findings.now) reviews.now spellings.now limit (bytes_of texts)) }
 {
-    let entries = entries_of(alloc, reviews)?;
     let points = point_rows(
         alloc,
         network,
@@ -89,7 +87,7 @@ pub fn review_texts(
         &findings.unit_strengths,
     )?;
     let observations = observation_rows(alloc, network, low, &findings.controls, &findings.blames)?;
-    let entries = entry_rows(alloc, network, &entries, &findings.effects)?;
+    let entries = entry_rows(alloc, network, reviews, &findings.effects)?;
     let benchmarks = benchmark_rows(alloc, network, &findings.benchmarks)?;
     let notes = notes_of(alloc, network, reviews, spellings)?;
     let review = review_text(

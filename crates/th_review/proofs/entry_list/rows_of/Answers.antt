@@ -7,7 +7,7 @@ use Rattle.th_reliability.specs.declared.mistakes.SharedMistake.TheVariants.{Sho
 use Rattle.th_review.specs.declared.rows.EntryRow.{EntryRow}
 use Rattle.th_review.specs.Rows.{entry_row, entry_rows}
 use Rattle.th_review.proofs.RowLemmas.{pushed, zipped-first}
-use Rattle.th_review.proofs.entry_list.entry_rows.Goals as goal
+use Rattle.th_review.proofs.entry_list.rows_of.Goals as goal
 
 -- the row with this weight
 abbrev row_of : Entry → Effect → ℕ → EntryRow

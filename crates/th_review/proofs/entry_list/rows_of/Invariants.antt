@@ -1,7 +1,7 @@
 use Rattle.std.proofs.Common.{◌≡◌, ◌++◌, drop, map}
 use Rattle.std.specs.List.{zip}
 use Rattle.th_review.specs.Rows.{entry_row, entry_rows}
-use Rattle.th_review.proofs.entry_list.entry_rows.Given as goal
+use Rattle.th_review.proofs.entry_list.rows_of.Given as goal
 
 abbrev pub invariant-loop-k : goal.invariant-loop-k
 invariant-loop-k l =
