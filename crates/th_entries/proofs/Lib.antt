@@ -1,4 +1,5 @@
 mod ListedLemmas
+mod OddityLemmas
 mod BelowLemmas
 mod Uses
 mod Continued

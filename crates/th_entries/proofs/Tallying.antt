@@ -1,13 +1,13 @@
 -- What is known after one more line of a book without a fault.
-use Rattle.std.proofs.Common.{◌≡◌, ℕ, suc, ◌+◌, ◌<◌, ◌≤◌, Bool, true, false, not, cond, ◌&&◌, ◌||◌, List, [], ◌∷◌, ◌++◌, Option, Some, None, length, refl, sym, ap, ◌∙◌, subst, arith, append_assoc}
+use Rattle.std.proofs.Common.{◌≡◌, ℕ, ℤ, suc, ◌+◌, ◌<◌, ◌≤◌, Bool, true, false, not, cond, ◌&&◌, ◌||◌, List, [], ◌∷◌, ◌++◌, Option, Some, None, length, refl, sym, ap, ◌∙◌, subst, arith, append_assoc}
 use Rattle.std.specs.Prelude.{is_some, option_and_then, option_map, option_to_list}
 use Rattle.std.specs.List.{list_any}
 use Rattle.std.specs.Option.{option_or}
 use Rattle.std.proofs.lemmas.List.{append-nil}
 use Rattle.gsi_word.specs.Words.{Parts}
 use Rattle.gsi_word.specs.Names.{name_of}
-use Rattle.th_book.specs.Lines.{ParsedLine, holds, is_setup, is_sight, point_name, words_in}
-use Rattle.th_book.specs.Places.{line_at, setup_of, station_at, words_at}
+use Rattle.th_book.specs.Lines.{ParsedLine, holds, is_setup, is_sight, length_in, point_name, words_in}
+use Rattle.th_book.specs.Places.{holds_from, last_below, line_at, setup_of, station_at, words_at}
 use Rattle.th_book.specs.Faults.{are_one, begins_with_point, first_fault}
 use Rattle.th_book.specs.Limits.{max_book}
 use Rattle.th_book.specs.Entered.{AreSound, IsSound, IsWhole, entered_by}
@@ -16,14 +16,16 @@ use Rattle.th_book.specs.Witnesses.{IsBlankAt, IsBlockAt}
 use Rattle.th_book.specs.declared.entries.Entered.{Entered}
 use Rattle.th_book.specs.declared.setups.Setup.{Setup}
 use Rattle.th_book.specs.Indexes.{instrument_height}
-use Rattle.th_entries.specs.Below.{all_below, count_below}
+use Rattle.th_entries.specs.Below.{all_below, any_below, count_below}
 use Rattle.th_entries.specs.Listed.{IsListed}
 use Rattle.th_entries.specs.Reviews.{is_block, is_lookalike, is_measured, resembles_setup}
 use Rattle.th_entries.specs.Spellings.{Mention, mention_in, mentions_at}
 use Rattle.th_entries.specs.Seen.{AreSeenIn}
 use Rattle.th_entries.specs.Inside.Running.{Entering, entering_after}
 use Rattle.th_entries.specs.Inside.Seen.{mention_by}
-use Rattle.th_entries.specs.Inside.Tallies.{HasBlock, IsEmpty, IsEntering, IsTallied, counts_below, entering, line_if, lookalikes_below, looks, one_more, with_block, with_line}
+use Rattle.th_entries.specs.Oddities.{changes_height, differ, height_before, is_direction, slope_distance, target_height}
+use Rattle.th_entries.specs.Inside.Oddities.{changes, line_if, with_words}
+use Rattle.th_entries.specs.Inside.Tallies.{HasBlock, IsEmpty, IsEntering, IsTallied, changes_below, counts_below, directions_below, entering, lookalikes_below, looks, one_more, with_block, with_line, words_below}
 use Rattle.th_entries.specs.declared.reviews.BookCount.{BookCount}
 use Rattle.th_entries.specs.declared.seen.SeenNames.{SeenNames}
 use Rattle.th_entries.specs.declared.tallies.Tally.{Tally}
@@ -34,6 +36,10 @@ use Rattle.th_entries.proofs.Entering.{entering-blank, entering-more}
 counted : (test : ℕ → Bool) (n : ℕ) (is : Bool) → n < 4294967295 → test n ≡ is → cond is (one_more (count_below test n)) (count_below test n) ≡ count_below test (suc n)
 counted test n true small e = omega (arith, small, count-le test n, ap {B = ℕ} (λ (own : Bool). cond own 1 0) e)
 counted test n false small e = omega (arith, ap {B = ℕ} (λ (own : Bool). cond own 1 0) e)
+
+or_false : (b : Bool) → (b || false) ≡ b
+or_false true = refl
+or_false false = refl
 
 one_line : (n : ℕ) → n < 4294967295 → one_more n ≡ suc n
 one_line n small = omega (arith, small)
@@ -71,6 +77,28 @@ looks_same parsed n station same whole =
     ∙ ap (λ own. (begins_with_point words && (holds instrument_height words && (not (is_sight words) && (not own && none)))) && rest) whole.station
     ∙ ap (λ own. resembles_setup words && not (are_one own (point_name words))) same
 
+-- a sight that enters another height to the code does so at its place
+changes_same : (parsed : List ParsedLine) (n : ℕ) (running : Option Setup) → IsWhole (words_at parsed n) (entered_by (words_at parsed n)) → IsRunning parsed n (setup_of parsed n) running → changes running (entered_by (words_at parsed n)) ≡ changes_height parsed n
+changes_same parsed n running whole runs = go (setup_of parsed n) running runs
+  where
+    words : List Parts
+    words = words_at parsed n
+
+    before : Option ℕ → Option ℤ
+    before setup = option_and_then (λ from. option_and_then (λ k. length_in instrument_height (words_at parsed k)) (last_below (holds_from parsed instrument_height from) n)) setup
+
+    no_change : (sight : Bool) → false ≡ (sight && false)
+    no_change true = refl
+    no_change false = refl
+
+    go : (found : Option ℕ) (own : Option Setup) → IsRunning parsed n found own → changes own (entered_by words) ≡ (is_sight words && differ (before found) (length_in instrument_height words))
+    go None None r = no_change (is_sight words)
+    go None (Some own) r = absurd r
+    go (Some from) None r = absurd r
+    go (Some from) (Some own) r =
+        ap (λ sight. sight && differ own.instrument (length_in instrument_height words)) whole.target
+        ∙ ap (λ height. is_sight words && differ height (length_in instrument_height words)) r.instrument.length
+
 -- the next line is a block
 pub block-taken : (names : SeenNames) (number : ℕ) (parsed : List ParsedLine) (n : ℕ) (running : Option Setup) (old mid new : Tally) → n < 4294967295 → is_block (line_at parsed n) ≡ true → AreSound (words_at parsed n) → mid ≡ record old { counts = with_line old.counts } → HasBlock running (words_at parsed n) mid new → IsRunning parsed n (setup_of parsed n) running → IsTallied names number parsed n old → IsTallied names number parsed (suc n) new
 block-taken names number parsed n running old mid new small block sound between has runs was = record {
@@ -84,6 +112,16 @@ block-taken names number parsed n running old mid new small block sound between 
       ∙ ap (λ own. lookalikes_below parsed n ++ line_if own (one_more old.counts.lines)) (looks_same parsed n station (station_same parsed n (setup_of parsed n) running runs) sound.whole)
       ∙ ap (λ own. lookalikes_below parsed n ++ line_if (is_lookalike parsed n) own) line)
       (has.lookalikes (lookalikes_below parsed n) (subst (λ (tally : Tally). IsListed (lookalikes_below parsed n) tally.lookalikes) (sym between) was.lookalikes));
+  words = has.measured ∙ ap (λ (tally : Tally). with_words words tally.words) between ∙ ap (with_words words) was.words;
+  directions = subst (λ (lines : List ℕ). IsListed lines new.directions)
+      (ap (λ (tally : Tally). directions_below parsed n ++ line_if (is_direction words) tally.counts.lines) between
+      ∙ ap (λ own. directions_below parsed n ++ line_if (is_direction words) own) line)
+      (has.directions (directions_below parsed n) (subst (λ (tally : Tally). IsListed (directions_below parsed n) tally.directions) (sym between) was.directions));
+  changes = subst (λ (lines : List ℕ). IsListed lines new.changes)
+      (ap (λ (tally : Tally). changes_below parsed n ++ line_if (changes running entered) tally.counts.lines) between
+      ∙ ap (λ own. changes_below parsed n ++ line_if own (one_more old.counts.lines)) (changes_same parsed n running sound.whole runs)
+      ∙ ap (λ own. changes_below parsed n ++ line_if (changes_height parsed n) own) line)
+      (has.changes (changes_below parsed n) (subst (λ (tally : Tally). IsListed (changes_below parsed n) tally.changes) (sym between) was.changes));
 }
   where
     words : List Parts
@@ -130,6 +168,9 @@ blank-taken names number parsed n old counts small block blank more was = record
   counts = more ∙ ap with_line was.counts ∙ same;
   entered = entering-blank number parsed n (entering old) blank was.entered;
   lookalikes = subst (λ (lines : List ℕ). IsListed lines old.lookalikes) (sym (append-nil (lookalikes_below parsed n)) ∙ ap (λ own. lookalikes_below parsed n ++ line_if own (n + 1)) (sym none)) was.lookalikes;
+  words = was.words ∙ seen;
+  directions = subst (λ (lines : List ℕ). IsListed lines old.directions) (sym (append-nil (directions_below parsed n)) ∙ ap (λ own. directions_below parsed n ++ line_if own (n + 1)) (sym (ap is_direction blank))) was.directions;
+  changes = subst (λ (lines : List ℕ). IsListed lines old.changes) (sym (append-nil (changes_below parsed n)) ∙ ap (λ own. changes_below parsed n ++ line_if own (n + 1)) (sym unchanged)) was.changes;
 }
   where
     mentioned : List Mention
@@ -137,6 +178,18 @@ blank-taken names number parsed n old counts small block blank more was = record
 
     none : is_lookalike parsed n ≡ false
     none = ap (λ own. resembles_setup own && not (are_one (station_at parsed n) (point_name own))) blank
+
+    unchanged : changes_height parsed n ≡ false
+    unchanged = ap (λ own. is_sight own && differ (height_before parsed n) (length_in instrument_height own)) blank
+
+    none_more : (index : ℕ) → any_below (λ place. holds index (words_at parsed place)) n ≡ any_below (λ place. holds index (words_at parsed place)) (suc n)
+    none_more index = sym (ap (λ own. any_below (λ place. holds index (words_at parsed place)) n || holds index own) blank ∙ or_false (any_below (λ place. holds index (words_at parsed place)) n))
+
+    seen : words_below parsed n ≡ words_below parsed (suc n)
+    seen =
+        let distances = none_more slope_distance in
+        let heights = none_more target_height in
+        cc
 
     same : with_line (counts_below parsed n) ≡ counts_below parsed (suc n)
     same =
@@ -157,7 +210,10 @@ empty-tallied names number parsed tally is = record {
   book = is.book;
   counts = is.counts;
   entered = subst (λ (own : Entering). IsEntering number parsed 0 own) (sym is.entered) (record { reflector = refl; instrument = refl; entries = refl });
+  words = is.words;
   lookalikes = is.lookalikes;
+  directions = is.directions;
+  changes = is.changes;
 }
 
 -- the next line is blank

@@ -1,3 +1,4 @@
+pub mod Oddities
 pub mod Running
 pub mod Seen
 pub mod Tallies

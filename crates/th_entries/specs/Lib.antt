@@ -3,6 +3,7 @@ pub mod Listed
 pub mod Below
 pub mod Entries
 pub mod Stations
+pub mod Oddities
 pub mod Reviews
 pub mod Spellings
 pub mod Seen

@@ -9,6 +9,7 @@ use Rattle.th_book.specs.Indexes.{instrument_height}
 use Rattle.th_entries.specs.Below.{all_below, count_below}
 use Rattle.th_entries.specs.Entries.{entries_of}
 use Rattle.th_entries.specs.Listed.{IsListed}
+use Rattle.th_entries.specs.Oddities.{changes_of, directions_of, words_of}
 use Rattle.th_entries.specs.declared.reviews.BookCount.{BookCount}
 use Rattle.th_entries.specs.declared.reviews.BookReview.{BookReview}
 
@@ -49,4 +50,7 @@ lookalikes_of parsed = all_below (λ place. if is_lookalike parsed place then (p
 pub record Reviews (book : ℕ) (parsed : List ParsedLine) (review : BookReview) : Type 0 where
   pub counts : review.counts ≡ counts_of parsed
   pub entries : review.entries.items ≡ entries_of book parsed
+  pub words : review.words ≡ words_of parsed
   pub lookalikes : IsListed (lookalikes_of parsed) review.lookalikes
+  pub directions : IsListed (directions_of parsed) review.directions
+  pub changes : IsListed (changes_of parsed) review.changes

@@ -19,6 +19,9 @@ mod running;
 // What is known of a book after some of its lines.
 mod tallies;
 
+// What looks odd in a block.
+mod oddities;
+
 // The review of a book.
 mod reviews;
 
@@ -34,7 +37,7 @@ pub mod laws;
 pub use entries::{Entry, HeightKind};
 pub use limits::{MAX_LISTED, MAX_MENTIONS};
 pub use listed::Listed;
-pub use reviews::{BookCount, BookReview};
+pub use reviews::{BookCount, BookReview, WordsSeen};
 pub use seen::SeenNames;
 pub use spellings::Spelling;
 pub use tallies::Tally;

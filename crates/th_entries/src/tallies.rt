@@ -8,7 +8,8 @@ ghost use Rattle.th_entries.specs.Reviews.{is_measured};
 
 use crate::entries::Entry;
 use crate::listed::Listed;
-use crate::reviews::{BookCount, BookReview};
+use crate::oddities::{changes_height, is_direction, list_if};
+use crate::reviews::{BookCount, BookReview, WordsSeen};
 use crate::running::{Latest, enter};
 use crate::seen::{SeenNames, mention};
 use gsi_word::{Name, Word, name_of};
@@ -31,9 +32,12 @@ const HORIZONTAL_DISTANCE: u8 = 32;
 pub struct Tally {
     book: u32,
     counts: BookCount,
+    words: WordsSeen,
     latest: Latest,
     entries: Vec<Entry>,
     lookalikes: Listed<u32>,
+    directions: Listed<u32>,
+    changes: Listed<u32>,
     names: SeenNames,
     failed: Option<AllocError>,
 }
@@ -83,12 +87,18 @@ impl Tally {
                 setups: 0,
                 sights: 0,
             },
+            words: WordsSeen {
+                distances: false,
+                heights: false,
+            },
             latest: Latest {
                 reflector: None,
                 instrument: None,
             },
             entries: Vec::new(alloc),
             lookalikes: Listed::new(alloc),
+            directions: Listed::new(alloc),
+            changes: Listed::new(alloc),
             names,
             failed: None,
         }
@@ -104,8 +114,11 @@ impl Tally {
     {
         let Tally {
             counts,
+            words,
             mut entries,
             lookalikes,
+            directions,
+            changes,
             names,
             failed,
             ..
@@ -117,8 +130,11 @@ impl Tally {
         entries.shrink_to_fit();
         let review = BookReview {
             counts,
+            words,
             entries,
             lookalikes,
+            directions,
+            changes,
         };
         Ok((review, names))
     }
@@ -135,9 +151,11 @@ impl Tally {
     {
         let line = self.counts.lines;
         self.counts.block(entered);
-        if is_lookalike(words, entered, &station_of(running)) {
-            self.lookalikes.push(line)?;
-        }
+        self.words.block(words);
+        let looks = is_lookalike(words, entered, &station_of(running));
+        list_if(&mut self.lookalikes, looks, line)?;
+        list_if(&mut self.directions, is_direction(entered, words), line)?;
+        list_if(&mut self.changes, changes_height(running, entered), line)?;
         mention(&mut self.names, self.book, line, entered, words)?;
         enter(
             &mut self.latest,

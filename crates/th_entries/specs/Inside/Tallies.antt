@@ -1,9 +1,9 @@
 -- What is known of a book after some of its lines.
-use Rattle.std.specs.Prelude.{◌≡◌, ℕ, suc, ◌+◌, ◌-◌, ◌^◌, ◌++◌, ◌&&◌, not, min, Bool, List, [], ◌∷◌, Option, None, if◌then◌else◌, is_some, length, option_and_then, option_map}
+use Rattle.std.specs.Prelude.{◌≡◌, ℕ, suc, ◌+◌, ◌-◌, ◌^◌, ◌++◌, ◌&&◌, not, min, Bool, false, List, [], ◌∷◌, Option, None, if◌then◌else◌, is_some, length, option_and_then, option_map}
 use Rattle.std.specs.List.{list_any}
 use Rattle.std.specs.Option.{option_map_or}
 use Rattle.gsi_word.specs.Words.{Parts}
-use Rattle.th_book.specs.Lines.{ParsedLine, is_setup, is_sight, point_name}
+use Rattle.th_book.specs.Lines.{ParsedLine, holds, is_setup, is_sight, point_name}
 use Rattle.th_book.specs.Places.{last_below, line_at, setup_of, station_at, words_at}
 use Rattle.th_book.specs.Faults.{are_one, begins_with_point}
 use Rattle.th_book.specs.Books.{known_name}
@@ -11,18 +11,21 @@ use Rattle.th_book.specs.Entered.{entered_by}
 use Rattle.th_book.specs.Indexes.{reflector_height, instrument_height}
 use Rattle.th_book.specs.declared.entries.Entered.{Entered}
 use Rattle.th_book.specs.declared.setups.Setup.{Setup}
-use Rattle.th_entries.specs.Below.{all_below, count_below}
+use Rattle.th_entries.specs.Below.{all_below, any_below, count_below}
 use Rattle.th_entries.specs.Entries.{begins, begins_from, index_of, length_at, uses}
 use Rattle.th_entries.specs.Listed.{IsListed}
 use Rattle.th_entries.specs.Reviews.{is_block, is_lookalike, is_measured}
 use Rattle.th_entries.specs.Spellings.{Mention, mentions_at}
 use Rattle.th_entries.specs.Seen.{AreSeenIn}
+use Rattle.th_entries.specs.Oddities.{changes_height, is_direction, slope_distance, target_height}
+use Rattle.th_entries.specs.Inside.Oddities.{changes, line_if, points, with_words}
 use Rattle.th_entries.specs.Inside.Running.{Entering, entering_after}
 use Rattle.th_entries.specs.Inside.Seen.{IsSeenNext, mention_by}
 use Rattle.th_entries.specs.declared.entries.Entry.{Entry}
 use Rattle.th_entries.specs.declared.entries.HeightKind.{HeightKind}
 use Rattle.th_entries.specs.declared.entries.HeightKind.TheVariants.{Reflector, Instrument}
 use Rattle.th_entries.specs.declared.reviews.BookCount.{BookCount}
+use Rattle.th_entries.specs.declared.reviews.WordsSeen.{WordsSeen}
 use Rattle.th_entries.specs.declared.seen.SeenNames.{SeenNames}
 use Rattle.th_entries.specs.declared.tallies.Tally.{Tally}
 
@@ -49,10 +52,6 @@ looks words entered station =
     (begins_with_point words && (is_some entered.instrument && (not (is_some entered.target) && (not (is_some entered.station) && not (list_any is_measured words)))))
     && not (are_one station (point_name words))
 
--- a line's number if the line looks like a setup, else nothing
-abbrev pub line_if : Bool → ℕ → List ℕ
-line_if looks line = if looks then line ∷ [] else []
-
 -- the entries of a tally, and where the latest are
 abbrev pub entering : Tally → Entering
 entering tally = record { latest = tally.latest; entries = tally.entries.items }
@@ -63,7 +62,10 @@ pub record IsEmpty (names : SeenNames) (number : ℕ) (tally : Tally) : Type 0 w
   pub book : tally.book ≡ number
   pub counts : tally.counts ≡ record { lines = 0; blocks = 0; setups = 0; sights = 0 }
   pub entered : entering tally ≡ record { latest = record { reflector = None; instrument = None }; entries = [] }
+  pub words : tally.words ≡ record { distances = false; heights = false }
   pub lookalikes : IsListed [] tally.lookalikes
+  pub directions : IsListed [] tally.directions
+  pub changes : IsListed [] tally.changes
 
 -- a block without a fault was taken in a running setup, after its line was counted
 pub record HasBlock (running : Option Setup) (words : List Parts) (old new : Tally) : Type 0 where
@@ -71,8 +73,11 @@ pub record HasBlock (running : Option Setup) (words : List Parts) (old new : Tal
   pub book : new.book ≡ old.book
   pub counts : new.counts ≡ with_block (entered_by words) old.counts
   pub entered : entering new ≡ entering_after old.book old.counts.lines running (entered_by words) (entering old)
+  pub measured : new.words ≡ with_words words old.words
   pub lookalikes : (before : List ℕ) → IsListed before old.lookalikes
       → IsListed (before ++ line_if (looks words (entered_by words) (option_map (λ own. own.station) running)) old.counts.lines) new.lookalikes
+  pub directions : (before : List ℕ) → IsListed before old.directions → IsListed (before ++ line_if (points (entered_by words) words) old.counts.lines) new.directions
+  pub changes : (before : List ℕ) → IsListed before old.changes → IsListed (before ++ line_if (changes running (entered_by words)) old.counts.lines) new.changes
 
 -- the place of the last entry of an index that begins before place `n`, in the setup that runs there
 abbrev pub open_at : ℕ → List ParsedLine → ℕ → Option ℕ
@@ -129,6 +134,20 @@ counts_below parsed n = record {
 abbrev pub lookalikes_below : List ParsedLine → ℕ → List ℕ
 lookalikes_below parsed n = all_below (λ place. line_if (is_lookalike parsed place) (place + 1)) n
 
+-- the lines before place `n` of directions alone, and of sights that enter another instrument height
+abbrev pub directions_below : List ParsedLine → ℕ → List ℕ
+directions_below parsed n = all_below (λ place. line_if (is_direction (words_at parsed place)) (place + 1)) n
+
+abbrev pub changes_below : List ParsedLine → ℕ → List ℕ
+changes_below parsed n = all_below (λ place. line_if (changes_height parsed place) (place + 1)) n
+
+-- the words of the lines before place `n`
+abbrev pub words_below : List ParsedLine → ℕ → WordsSeen
+words_below parsed n = record {
+  distances = any_below (λ place. holds slope_distance (words_at parsed place)) n;
+  heights = any_below (λ place. holds target_height (words_at parsed place)) n;
+}
+
 -- what the lines before place `n` mention was recorded, after anything mentioned before the book
 abbrev pub AreSeenBelow : ℕ → List ParsedLine → ℕ → SeenNames → SeenNames → Type 0
 AreSeenBelow number parsed n old new =
@@ -140,4 +159,7 @@ pub record IsTallied (names : SeenNames) (number : ℕ) (parsed : List ParsedLin
   pub book : tally.book ≡ number
   pub counts : tally.counts ≡ counts_below parsed n
   pub entered : IsEntering number parsed n (entering tally)
+  pub words : tally.words ≡ words_below parsed n
   pub lookalikes : IsListed (lookalikes_below parsed n) tally.lookalikes
+  pub directions : IsListed (directions_below parsed n) tally.directions
+  pub changes : IsListed (changes_below parsed n) tally.changes

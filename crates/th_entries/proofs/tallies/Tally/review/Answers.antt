@@ -10,7 +10,10 @@ pub returns-clause-review : goal.returns-clause-review
 returns-clause-review c = λ names number parsed seen. let is = seen c.in_default.is in record {
   counts = is.counts;
   entries = c.shrink_to_fit.ensures.items ∙ filter_same _ is_used _ (λ x b f' k. search rules) _ _ c.retain.ensures.filtered ∙ ap (filter is_used) is.entered.entries ∙ kept number parsed;
+  words = is.words;
   lookalikes = is.lookalikes;
+  directions = is.directions;
+  changes = is.changes;
 }
 
 pub returns-clause-names : goal.returns-clause-names
