@@ -6,6 +6,8 @@
 #![tactic(auto)]
 
 #[cfg(test)]
+mod oddities;
+#[cfg(test)]
 mod reviews;
 #[cfg(test)]
 mod spellings;
