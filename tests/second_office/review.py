@@ -1,5 +1,6 @@
 """The five texts of a review, and its notes: the section of docs/FORMATS.md on what `review` writes."""
 
+from collections import Counter
 from typing import Dict, Iterator, List, NamedTuple, Optional, Sequence, Set, Tuple
 
 from certificates import csv_row, number_text
@@ -15,6 +16,8 @@ SHARED_MARKS = {None: "", "shows": "", "ties": "  =", "drags": "  <", "unchecked
 ANY_BLAME = Blame(0, 0, None)  # where the network is too large for all of its sets to be tried
 FIRST_RECORD = 2  # the header is record 1
 MEASURED_INDEXES = (b"21", b"22", b"31", b"32")  # angles and distances
+SLOPE_DISTANCE = b"31"
+MEASUREMENT_INDEXES = (SLOPE_DISTANCE, b"83")  # what a book without a sight may have
 MOST_LISTED = 1_000  # notes of a kind
 MOST_COMPARED = 200_000  # setups and sights whose names are compared
 
@@ -92,8 +95,21 @@ def limited(notes: List[str], kind: str) -> List[str]:
     return notes[:MOST_LISTED] + ([f"and {rest} more: {kind}"] if rest > 0 else [])
 
 
-def without_sight(counts: List[BookCount]) -> List[str]:
-    return [f"book {number}: no sight in {count.blocks} blocks" for number, count in enumerate(counts, start=1) if count.sights == 0]
+def dotted_words(words: List[reader.Word], index: bytes) -> List[reader.Word]:
+    """The words with an index and a dot at position 3."""
+    return [word for word in words if word.index == index and word.information[0:1] == reader.DOT]
+
+
+def without_sight(counts: List[BookCount], books: List[bytes]) -> List[str]:
+    notes = []
+    for number, (count, book) in enumerate(zip(counts, books), start=1):
+        if count.blocks == 0 or count.sights != 0:
+            continue
+        seen = [index.decode("ascii") for index in MEASUREMENT_INDEXES
+                if any(dotted_words(words, index) for _, words in blocks_of(book))]
+        has = f"; it has word{'s' if len(seen) == 2 else ''} {' and '.join(seen)}" if seen else ""
+        notes.append(f"book {number}: no sight in {count.blocks} blocks (no word 33{has})")
+    return notes
 
 
 def repeated_books(network: Network, count: int) -> List[str]:
@@ -127,6 +143,34 @@ def lookalikes(books: List[bytes]) -> List[str]:
     return limited(notes, "lines that look like setups")
 
 
+def other_heights(books: List[bytes]) -> List[str]:
+    notes = []
+    for number, book in enumerate(books, start=1):
+        height: Optional[int] = None
+        for line, words in blocks_of(book):
+            if reader.is_setup(words):
+                height = None
+            own = [reader.length_of(word) for word in reader.counting_words(words, reader.INSTRUMENT_HEIGHT)]
+            if reader.is_sight(words) and own and height is not None and own[0] != height:
+                notes.append(f"book {number} line {line}: another instrument height than its setup")
+            height = own[0] if own else height
+    return limited(notes, "sights with another instrument height")
+
+
+def is_zero(word: reader.Word) -> bool:
+    return reader.is_made_of(word.data, reader.DIGITS) and word.unit() in reader.UNITS and reader.length_of(word) == 0
+
+
+def directions(books: List[bytes]) -> List[str]:
+    notes = []
+    for number, book in enumerate(books, start=1):
+        for line, words in blocks_of(book):
+            if all(any(is_zero(word) for word in dotted_words(words, index))
+                   for index in (SLOPE_DISTANCE, reader.HEIGHT_DIFFERENCE)):
+                notes.append(f"book {number} line {line}: words 31 and 33 are both zero")
+    return limited(notes, "sights whose words 31 and 33 are both zero")
+
+
 def unused_weights(network: Network, weights: Dict[Pair, int]) -> List[str]:
     observed = {(own.station, own.target) for own in network.observations}
     notes = []
@@ -144,6 +188,14 @@ def unseen_benchmarks(network: Network) -> List[str]:
     notes = [f"benchmarks record {record}: {name.decode('ascii')} was never observed"
              for record, name in enumerate(network.benchmarks, start=FIRST_RECORD) if name not in seen]
     return limited(notes, "benchmarks records never observed")
+
+
+def sighted_once(network: Network) -> List[str]:
+    ends = [(name, own) for own in network.observations for name in (own.station, own.target)]
+    often = Counter(name for name, _ in ends)
+    notes = [f"{name.decode('ascii')} is sighted once (book {own.book} line {own.line})"
+             for name, own in ends if often[name] == 1 and name not in network.benchmarks]
+    return limited(notes, "points sighted once")
 
 
 def other_spellings(books: List[bytes]) -> List[str]:
@@ -167,8 +219,9 @@ def other_spellings(books: List[bytes]) -> List[str]:
 def review_of(network: Network, low: Heights, high: Heights, limit: int, books: List[bytes], weights: Dict[Pair, int]) -> Review:
     counts = [count_of(book) for book in books]
     entries = [entry for number, book in enumerate(books, start=1) for entry in entries_of(number, book)]
-    notes = (without_sight(counts) + repeated_books(network, len(books)) + lookalikes(books) + unused_weights(network, weights)
-             + unseen_benchmarks(network) + other_spellings(books))
+    notes = (without_sight(counts, books) + repeated_books(network, len(books)) + lookalikes(books) + other_heights(books) + directions(books)
+             + unused_weights(network, weights)
+             + unseen_benchmarks(network) + sighted_once(network) + other_spellings(books))
     benchmarks = benchmarks_of(network)
     review = Review(network, low, high, limit, strengths_of(network), controls_of(network), entries, counts, notes, [], [], benchmarks, [])
     places = [{place} for place in range(len(network.observations))]

@@ -1,7 +1,8 @@
 -- Notes of rows, one row further.
-use Rattle.std.proofs.Common.{◌≡◌, ◌<◌, ◌≤◌, ◌+◌, ◌++◌, ◌∷◌, [], ◌||◌, ◌&&◌, ℕ, Bool, true, false, cond, List, Option, None, Some, drop, get_or, length, slice_get, refl, sym, ap, ◌∙◌, arith, append_assoc}
-use Rattle.std.specs.List.{cons_option, enumerate_from, filter_map}
-use Rattle.std.proofs.lemmas.List.{append-nil, drop_all}
+use Rattle.std.proofs.Common.{◌≡◌, ◌<◌, ◌≤◌, ◌+◌, ◌++◌, ◌∷◌, [], ◌||◌, ◌&&◌, ℕ, Bool, true, false, cond, List, Option, None, Some, drop, get_or, length, slice_get, take, refl, sym, ap, ◌∙◌, arith, append_assoc}
+use Rattle.std.specs.List.{cons_option, enumerate_from, filter_map, flat_map}
+use Rattle.std.proofs.lemmas.Grind.{flat_map-append}
+use Rattle.std.proofs.lemmas.List.{append-nil, drop_all, take_more}
 use Rattle.std.specs.BTreeSet.{BTreeSet, Updates}
 use Rattle.std.specs.Cmp.Lexicographic.{slice_cmp}
 use Rattle.std.specs.Ordering.{is_eq, nat_cmp, ordering_then}
@@ -80,3 +81,10 @@ module _ {X Y : Type 0} (start : ℕ) (choose : ℕ × X → Option Y) (rows : L
 pub all_chosen : {X Y : Type 0} → (choose : ℕ × X → Option Y) (start k : ℕ) (rows : List X) (found all : List Y) → length rows ≤ k → found ++ filter_map choose (enumerate_from (k + start) (drop k rows)) ≡ all → found ≡ all
 all_chosen choose start k rows found all past so_far =
     sym (append-nil found) ∙ ap (λ left. found ++ filter_map choose (enumerate_from (k + start) left)) (sym (drop_all k rows past)) ∙ so_far
+
+-- what items give, one item further
+pub given_more : {X Y : Type 0} → (give : X → List Y) (xs : List X) (i : ℕ) (x : X) → i < length xs → x ≡ get_or xs i x → flat_map give (take (i + 1) xs) ≡ flat_map give (take i xs) ++ give x
+given_more give xs i x within is =
+    ap (flat_map give) (take_more xs i x within ∙ ap (λ last. take i xs ++ last ∷ []) (sym is))
+    ∙ flat_map-append give (take i xs) (x ∷ [])
+    ∙ ap (λ last. flat_map give (take i xs) ++ last) (append-nil (give x))

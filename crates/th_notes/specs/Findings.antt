@@ -1,7 +1,7 @@
 -- The notes of a review on a survey, on its tables and on its books.
-use Rattle.std.specs.Prelude.{ℕ, ℤ, ◌-◌, ◌==◌, ◌||◌, ◌++◌, Bool, List, Option, Some, None, if◌then◌else◌, map, option_map, sum, take}
+use Rattle.std.specs.Prelude.{ℕ, ℤ, ◌-◌, ◌==◌, ◌&&◌, not, ◌++◌, Bool, List, Option, Some, None, if◌then◌else◌, map, option_map, sum, take}
 use Rattle.std.specs.List.{enumerate_from, filter_map, flat_map, list_any}
-use Rattle.gsi_word.specs.Names.{same_name, same_pair}
+use Rattle.gsi_word.specs.Names.{same_pair}
 use Rattle.th_book.specs.Observed.{Observed}
 use Rattle.th_tables.specs.Rows.{BenchmarkRows, WeightRows}
 use Rattle.th_network.specs.Networks.{Survey}
@@ -12,18 +12,23 @@ use Rattle.th_entries.specs.declared.reviews.BookReview.{BookReview}
 use Rattle.th_entries.specs.declared.spellings.Spelling.{Spelling}
 use Rattle.th_notes.specs.Books.{counts_of_books}
 use Rattle.th_notes.specs.Limited.{limited, rest_note}
+use Rattle.th_notes.specs.Points.{once_notes}
+use Rattle.th_notes.specs.Seen.{was_seen}
 use Rattle.th_notes.specs.Repeats.{by_book, first_same, observations_in}
-use Rattle.th_notes.specs.declared.notes.Kind.TheVariants.{Lookalikes, Weights, Benchmarks, Spellings}
+use Rattle.th_notes.specs.declared.notes.LineKind.{LineKind}
+use Rattle.th_notes.specs.declared.notes.LineKind.TheVariants.{Lookalike, OtherHeight, Direction}
+use Rattle.th_notes.specs.declared.notes.Kind.TheVariants.{Lines, Weights, Benchmarks, Spellings}
 use Rattle.th_notes.specs.declared.notes.Note.{Note}
-use Rattle.th_notes.specs.declared.notes.Note.TheVariants.{NoSight, SameObservations, Lookalike, UnusedWeight, TurnedWeight, UnseenBenchmark, Respelled}
+use Rattle.th_notes.specs.declared.notes.Note.TheVariants.{NoSight, SameObservations, Line, UnusedWeight, TurnedWeight, UnseenBenchmark, Respelled}
 
--- the note on a numbered book, if it has no sight
-abbrev pub sight_note : ℕ × BookCount → Option Note
-sight_note (book, count) = if count.sights == 0 then Some (NoSight book count.blocks) else None
+-- the note on a numbered book, if it has blocks and no sight
+abbrev pub sight_note : ℕ × BookReview → Option Note
+sight_note (book, review) =
+    if (review.counts.sights == 0) && not (review.counts.blocks == 0) then Some (NoSight book review.counts.blocks review.words) else None
 
 -- the notes on the books without a sight
-abbrev pub sight_notes : List BookCount → List Note
-sight_notes books = filter_map sight_note (enumerate_from 1 books)
+abbrev pub sight_notes : List BookReview → List Note
+sight_notes reviews = filter_map sight_note (enumerate_from 1 reviews)
 
 -- the note on a numbered book with a sight, if it has the same observations as an earlier one
 abbrev pub same_note : List Observed → ℕ × BookCount → Option Note
@@ -35,18 +40,25 @@ same_note observations (book, count) =
 abbrev pub same_notes : List Observed → List BookCount → List Note
 same_notes observations books = filter_map (same_note observations) (enumerate_from 1 books)
 
--- the notes on the lines of a numbered book that look like a setup and are none, as many as its review lists
-abbrev pub book_lookalikes : ℕ × BookReview → List Note
-book_lookalikes (book, review) = map (λ line. Lookalike book line) review.lookalikes.first.items
+-- the lines of a book that are odd in a way
+abbrev pub lines_of : LineKind → BookReview → Listed ℕ
+lines_of Lookalike review = review.lookalikes
+lines_of OtherHeight review = review.changes
+lines_of Direction review = review.directions
 
--- how many lines of all books look like a setup and are none
-abbrev pub count_of_lookalikes : List BookReview → ℕ
-count_of_lookalikes reviews = sum (map (λ review. review.lookalikes.count) reviews)
+-- the notes on lines of a numbered book, as many as its review lists
+abbrev pub book_lines : LineKind → ℕ → Listed ℕ → List Note
+book_lines kind book lines = map (λ line. Line kind book line) lines.first.items
 
--- the notes on the lines of all books that look like a setup and are none: the first ones, and how many more there are
-abbrev pub lookalike_notes : List BookReview → List Note
-lookalike_notes reviews =
-    take max_listed (flat_map book_lookalikes (enumerate_from 1 reviews)) ++ rest_note Lookalikes (count_of_lookalikes reviews)
+-- how many lines of all books are odd in a way
+abbrev pub count_of_lines : LineKind → List BookReview → ℕ
+count_of_lines kind reviews = sum (map (λ review. (lines_of kind review).count) reviews)
+
+-- the notes on the lines of all books that are odd in a way: the first ones, and how many more there are
+abbrev pub line_notes : LineKind → List BookReview → List Note
+line_notes kind reviews =
+    take max_listed (flat_map (λ book. book_lines kind book.0 (lines_of kind book.1)) (enumerate_from 1 reviews))
+    ++ rest_note (Lines kind) (count_of_lines kind reviews)
 
 -- whether an observation runs from the first of two points to the second
 abbrev pub was_observed : List Observed → List ℕ × List ℕ → Bool
@@ -66,10 +78,6 @@ weight_note observations (row, (ends, weight)) = pair_note row ends (was_observe
 -- the notes on the table of weights, whose first row is record 2
 abbrev pub weight_notes : List Observed → WeightRows → List Note
 weight_notes observations weights = limited Weights (filter_map (weight_note observations) (enumerate_from 2 weights))
-
--- whether a point is an end of an observation
-abbrev pub was_seen : List Observed → List ℕ → Bool
-was_seen observations name = list_any (λ o. same_name o.station name || same_name o.target name) observations
 
 -- the note on a row of the benchmarks, unless it was `seen` in an observation
 abbrev pub name_note : ℕ → List ℕ → Bool → Option Note
@@ -91,9 +99,12 @@ spelling_notes spellings =
 -- all notes of a review: on the books, then on the weights, the benchmarks and the names
 abbrev pub notes_of : Survey → List BookReview → Listed Spelling → List Note
 notes_of survey reviews spellings =
-    sight_notes (counts_of_books reviews)
+    sight_notes reviews
     ++ same_notes survey.observations (counts_of_books reviews)
-    ++ lookalike_notes reviews
+    ++ line_notes Lookalike reviews
+    ++ line_notes OtherHeight reviews
+    ++ line_notes Direction reviews
     ++ weight_notes survey.observations survey.weights
     ++ benchmark_notes survey.observations survey.benchmarks
+    ++ once_notes survey.observations survey.benchmarks
     ++ spelling_notes spellings

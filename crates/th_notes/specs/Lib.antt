@@ -2,6 +2,9 @@ pub mod Limits
 pub mod Books
 pub mod Repeats
 pub mod Limited
+pub mod Seen
+pub mod Uses
+pub mod Points
 pub mod Findings
 pub mod Inside
 pub mod Notes

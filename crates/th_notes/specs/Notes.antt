@@ -1,12 +1,15 @@
 -- The texts of a review's notes.
-use Rattle.std.specs.Prelude.{ℕ, List, ◌++◌, codes, decimal, length}
+use Rattle.std.specs.Prelude.{ℕ, Bool, true, false, List, [], ◌++◌, codes, decimal, length}
 use Rattle.std.specs.List.{flat_map}
 use Rattle.th_report.specs.Columns.{line_end}
 use Rattle.th_report.specs.Reports.{label_line}
+use Rattle.th_entries.specs.declared.reviews.WordsSeen.{WordsSeen}
+use Rattle.th_notes.specs.declared.notes.LineKind.{LineKind}
+use Rattle.th_notes.specs.declared.notes.LineKind.TheVariants.{Lookalike, OtherHeight, Direction}
 use Rattle.th_notes.specs.declared.notes.Kind.{Kind}
-use Rattle.th_notes.specs.declared.notes.Kind.TheVariants.{Lookalikes, Weights, Benchmarks, Spellings}
+use Rattle.th_notes.specs.declared.notes.Kind.TheVariants.{Lines, Weights, Benchmarks, Once, Spellings}
 use Rattle.th_notes.specs.declared.notes.Note.{Note}
-use Rattle.th_notes.specs.declared.notes.Note.TheVariants.{NoSight, SameObservations, Lookalike, UnusedWeight, TurnedWeight, UnseenBenchmark, Respelled, More}
+use Rattle.th_notes.specs.declared.notes.Note.TheVariants.{NoSight, SameObservations, Line, UnusedWeight, TurnedWeight, UnseenBenchmark, SightedOnce, Respelled, More}
 
 -- a line of a book
 unfoldable pub book_place : ℕ → ℕ → List ℕ
@@ -31,17 +34,31 @@ pair_text row station target = in_weights ++ decimal row ++ codes ": " ++ statio
 unfoldable pub benchmark_text : ℕ → List ℕ → List ℕ
 benchmark_text row name = in_benchmarks ++ decimal row ++ codes ": " ++ name
 
--- a book without a sight
-unfoldable pub no_sight_text : ℕ → ℕ → List ℕ
-no_sight_text book blocks = codes "book " ++ decimal book ++ codes ": no sight in " ++ decimal blocks ++ codes " blocks"
+-- which words of measurements a book without a sight has
+abbrev pub words_text : Bool → Bool → List ℕ
+words_text true true = codes "; it has words 31 and 83"
+words_text true false = codes "; it has word 31"
+words_text false true = codes "; it has word 83"
+words_text false false = []
+
+-- a book with blocks and without a sight
+unfoldable pub no_sight_text : ℕ → ℕ → WordsSeen → List ℕ
+no_sight_text book blocks words =
+    codes "book " ++ decimal book ++ codes ": no sight in " ++ decimal blocks ++ codes " blocks (no word 33" ++ words_text words.distances words.heights ++ codes ")"
 
 -- a book with the observations of an earlier one
 unfoldable pub same_text : ℕ → ℕ → List ℕ
 same_text book earlier = codes "book " ++ decimal book ++ codes ": same observations as book " ++ decimal earlier
 
--- a block that looks like a setup, and is none
-unfoldable pub lookalike_text : ℕ → ℕ → List ℕ
-lookalike_text book line = book_place book line ++ codes ": looks like a setup, but has no word 84, 85 or 86"
+-- what is odd in a line: it looks like a setup, and is none; it enters another instrument height; it is a direction alone
+abbrev pub odd_text : LineKind → List ℕ
+odd_text Lookalike = codes ": looks like a setup, but has no word 84, 85 or 86"
+odd_text OtherHeight = codes ": another instrument height than its setup"
+odd_text Direction = codes ": words 31 and 33 are both zero"
+
+-- an odd line of a book
+unfoldable pub line_text : LineKind → ℕ → ℕ → List ℕ
+line_text kind book line = book_place book line ++ odd_text kind
 
 -- a row of the table of weights whose pair was never observed
 unfoldable pub unused_text : ℕ → List ℕ → List ℕ → List ℕ
@@ -55,15 +72,22 @@ turned_text row station target = unused_text row station target ++ codes ", but 
 unfoldable pub unseen_text : ℕ → List ℕ → List ℕ
 unseen_text row name = benchmark_text row name ++ codes " was never observed"
 
+-- a point that is no benchmark and has one observation
+unfoldable pub once_text : ℕ → ℕ → List ℕ → List ℕ
+once_text book line name = name ++ codes " is sighted once (" ++ book_place book line ++ codes ")"
+
 -- a name that is spelled in another way than before
 unfoldable pub respelled_text : ℕ → ℕ → List ℕ → List ℕ
 respelled_text book line name = name_place book line name ++ codes " is spelled in another way than before"
 
 -- what the notes of a kind are on
 abbrev pub kind_text : Kind → List ℕ
-kind_text Lookalikes = codes "lines that look like setups"
+kind_text (Lines Lookalike) = codes "lines that look like setups"
+kind_text (Lines OtherHeight) = codes "sights with another instrument height"
+kind_text (Lines Direction) = codes "sights whose words 31 and 33 are both zero"
 kind_text Weights = codes "weights records never observed"
 kind_text Benchmarks = codes "benchmarks records never observed"
+kind_text Once = codes "points sighted once"
 kind_text Spellings = codes "names spelled in another way than before"
 
 -- how many more notes of a kind there are
@@ -72,12 +96,13 @@ more_text kind count = codes "and " ++ decimal count ++ codes " more: " ++ kind_
 
 -- the text of a note
 abbrev pub note_text : Note → List ℕ
-note_text (NoSight book blocks) = no_sight_text book blocks
+note_text (NoSight book blocks words) = no_sight_text book blocks words
 note_text (SameObservations book earlier) = same_text book earlier
-note_text (Lookalike book line) = lookalike_text book line
+note_text (Line kind book line) = line_text kind book line
 note_text (UnusedWeight row station target) = unused_text row station target
 note_text (TurnedWeight row station target) = turned_text row station target
 note_text (UnseenBenchmark row name) = unseen_text row name
+note_text (SightedOnce book line name) = once_text book line name
 note_text (Respelled book line name) = respelled_text book line name
 note_text (More kind count) = more_text kind count
 

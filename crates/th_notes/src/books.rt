@@ -1,79 +1,93 @@
 //! The notes of books, one by one.
 ghost use Rattle.std.specs.Prelude.{◌≡◌, ◌≤◌, ◌++◌, OnOk, length};
-ghost use Rattle.th_notes.specs.Books.{counts_of_books};
-ghost use Rattle.th_notes.specs.Findings.{book_lookalikes, lookalike_notes, sight_note, sight_notes, spelling_notes};
+ghost use Rattle.th_notes.specs.Findings.{book_lines, line_notes, lines_of, sight_note, sight_notes, spelling_notes};
 ghost use Rattle.th_notes.specs.Limits.{max_reviewed};
 ghost use Rattle.th_notes.specs.declared.notes.Note.TheVariants.{Respelled};
 
 use crate::limited::add_rest;
-use crate::notes::{Kind, Note};
+use crate::notes::{Kind, LineKind, Note};
 use std::alloc::{AllocError, Global};
-use th_entries::{BookCount, BookReview, Listed, MAX_LISTED, Spelling};
+use th_entries::{BookReview, Listed, MAX_LISTED, Spelling};
 
-/// Adds a note of each book without a sight.
+/// Adds a note of each book with blocks and without a sight.
 pub(crate) fn add_sight_notes(
     notes: &mut Vec<Note>,
     reviews: &[BookReview],
 ) -> Result<(), AllocError>
     requires { length reviews.now ≤ max_reviewed }
-    ensures { OnOk result (notes.new.items
-        ≡ notes.old.items ++ sight_notes (counts_of_books reviews.now)) }
+    ensures { OnOk result (notes.new.items ≡ notes.old.items ++ sight_notes reviews.now) }
 {
     for (k, review) in reviews.iter().enumerate() {
-        if let Some(note) = sight_note(k as u32 + 1, &review.counts) {
+        if let Some(note) = sight_note(k as u32 + 1, review) {
             notes.push(note)?;
         }
     }
     Ok(())
 }
 
-/// The note of a book, if it has no sight.
-fn sight_note(book: u32, count: &BookCount) -> Option<Note>
-    ensures { result ≡ sight_note (book, count.now) }
+/// The note of a book, if it has blocks and no sight.
+fn sight_note(book: u32, review: &BookReview) -> Option<Note>
+    ensures { result ≡ sight_note (book, review.now) }
 {
-    if count.sights == 0 {
+    if review.counts.sights == 0 && review.counts.blocks != 0 {
         Some(Note::NoSight {
             book,
-            blocks: count.blocks,
+            blocks: review.counts.blocks,
+            words: review.words,
         })
     } else {
         None
     }
 }
 
-/// Adds a note of each line that looks like a setup and is none: the first ones, and how many more
-/// there are.
-pub(crate) fn add_lookalike_notes(
+/// Adds a note of each line that is odd in a way: the first ones, and how many more there are.
+pub(crate) fn add_line_notes(
     alloc: Global,
     notes: &mut Vec<Note>,
+    kind: LineKind,
     reviews: &[BookReview],
 ) -> Result<(), AllocError>
     requires { length reviews.now ≤ max_reviewed }
-    ensures { OnOk result (notes.new.items ≡ notes.old.items ++ lookalike_notes reviews.now) }
+    ensures { OnOk result (notes.new.items ≡ notes.old.items ++ line_notes kind reviews.now) }
 {
     let mut found = Vec::new(alloc);
     let mut count: u64 = 0;
     for (k, review) in reviews.iter().enumerate() {
-        add_book_lookalikes(&mut found, k as u32 + 1, review)?;
-        count += u64::from(review.lookalikes.count);
+        let lines = lines_of(kind, review);
+        add_book_lines(&mut found, kind, k as u32 + 1, lines)?;
+        count += u64::from(lines.count);
     }
     found.truncate(MAX_LISTED);
     notes.extend_from_slice(&found)?;
-    add_rest(notes, Kind::Lookalikes, count)
+    add_rest(notes, Kind::Lines(kind), count)
 }
 
-/// Adds a note of each line of a book that looks like a setup and is none, as many as its review
-/// lists.
-fn add_book_lookalikes(
-    notes: &mut Vec<Note>,
-    book: u32,
-    review: &BookReview,
-) -> Result<(), AllocError>
-    ensures { OnOk result (notes.new.items
-        ≡ notes.old.items ++ book_lookalikes (book, review.now)) }
+/// The lines of a book that are odd in a way.
+fn lines_of(kind: LineKind, review: &BookReview) -> &Listed<u32>
+    ensures { result.now ≡ lines_of kind review.now }
 {
-    for line in &review.lookalikes.first {
-        notes.push(Note::Lookalike { book, line: *line })?;
+    match kind {
+        LineKind::Lookalike => &review.lookalikes,
+        LineKind::OtherHeight => &review.changes,
+        LineKind::Direction => &review.directions,
+    }
+}
+
+/// Adds a note of each line that a book's review lists.
+fn add_book_lines(
+    notes: &mut Vec<Note>,
+    kind: LineKind,
+    book: u32,
+    lines: &Listed<u32>,
+) -> Result<(), AllocError>
+    ensures { OnOk result (notes.new.items ≡ notes.old.items ++ book_lines kind book lines.now) }
+{
+    for line in &lines.first {
+        notes.push(Note::Line {
+            kind,
+            book,
+            line: *line,
+        })?;
     }
     Ok(())
 }

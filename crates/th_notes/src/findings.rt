@@ -3,8 +3,9 @@ ghost use Rattle.std.specs.Prelude.{◌≡◌, ◌≤◌, IfOk, length};
 ghost use Rattle.th_notes.specs.Findings.{notes_of};
 ghost use Rattle.th_notes.specs.Limits.{max_reviewed};
 
-use crate::books::{add_lookalike_notes, add_sight_notes, add_spelling_notes};
-use crate::notes::Note;
+use crate::books::{add_line_notes, add_sight_notes, add_spelling_notes};
+use crate::notes::{LineKind, Note};
+use crate::points::add_once_notes;
 use crate::repeats::add_same_notes;
 use crate::tables::{add_benchmark_notes, add_weight_notes};
 use std::alloc::{AllocError, Global};
@@ -27,9 +28,12 @@ pub fn notes_of(
     let mut notes = Vec::new(alloc);
     add_sight_notes(&mut notes, reviews)?;
     add_same_notes(alloc, &mut notes, observations, reviews)?;
-    add_lookalike_notes(alloc, &mut notes, reviews)?;
+    add_line_notes(alloc, &mut notes, LineKind::Lookalike, reviews)?;
+    add_line_notes(alloc, &mut notes, LineKind::OtherHeight, reviews)?;
+    add_line_notes(alloc, &mut notes, LineKind::Direction, reviews)?;
     add_weight_notes(alloc, &mut notes, observations, network.weight_table())?;
     add_benchmark_notes(alloc, &mut notes, observations, network.benchmarks())?;
+    add_once_notes(alloc, &mut notes, observations, network.benchmarks())?;
     add_spelling_notes(&mut notes, spellings)?;
     Ok(notes)
 }

@@ -15,9 +15,15 @@ mod books;
 mod repeats;
 mod tables;
 
+// How often names are used.
+mod uses;
+
+// What is noted of points.
+mod points;
+
 // All notes of a review.
 mod findings;
 
 pub use findings::notes_of;
 pub use lines::write_notes;
-pub use notes::{Kind, Note};
+pub use notes::{Kind, LineKind, Note};

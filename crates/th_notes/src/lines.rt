@@ -1,12 +1,13 @@
 //! The lines of notes.
 ghost use Rattle.std.specs.Prelude.{◌≡◌, ◌++◌, OnOk, decimal};
 ghost use Rattle.std.specs.List.{flat_map};
-ghost use Rattle.th_notes.specs.Notes.{benchmark_text, book_place, in_benchmarks, in_weights, kind_text, lookalike_text, more_text, name_place, no_sight_text, note_line, note_lines, note_text, pair_text, respelled_text, same_text, turned_text, unseen_text, unused_text};
+ghost use Rattle.th_notes.specs.Notes.{benchmark_text, book_place, in_benchmarks, in_weights, kind_text, line_text, more_text, name_place, no_sight_text, note_line, note_lines, note_text, odd_text, once_text, pair_text, respelled_text, same_text, turned_text, unseen_text, unused_text, words_text};
 
-use crate::notes::{Kind, Note};
+use crate::notes::{Kind, LineKind, Note};
 use gsi_word::Name;
 use itoa::Buffer;
 use std::alloc::AllocError;
+use th_entries::WordsSeen;
 use th_report::{Page, write_count};
 
 /// Writes how many notes there are, and a line for each.
@@ -42,9 +43,13 @@ fn write_text(page: &mut Page, note: &Note) -> Result<(), AllocError>
     ensures { OnOk result (page.new ≡ page.old ++ note_text note.now) }
 {
     match note {
-        Note::NoSight { book, blocks } => write_no_sight(page, *book, *blocks),
+        Note::NoSight {
+            book,
+            blocks,
+            words,
+        } => write_no_sight(page, *book, *blocks, words),
         Note::SameObservations { book, earlier } => write_same(page, *book, *earlier),
-        Note::Lookalike { book, line } => write_lookalike(page, *book, *line),
+        Note::Line { kind, book, line } => write_line(page, *kind, *book, *line),
         Note::UnusedWeight {
             row,
             station,
@@ -56,6 +61,7 @@ fn write_text(page: &mut Page, note: &Note) -> Result<(), AllocError>
             target,
         } => write_turned(page, *row, station, target),
         Note::UnseenBenchmark { row, name } => write_unseen(page, *row, name),
+        Note::SightedOnce { book, line, name } => write_once(page, *book, *line, name),
         Note::Respelled { book, line, name } => write_respelled(page, *book, *line, name),
         Note::More { kind, count } => write_more(page, *kind, *count),
     }
@@ -145,16 +151,36 @@ fn write_benchmark(page: &mut Page, row: u64, name: &Name) -> Result<(), AllocEr
     write_name(page, name)
 }
 
-/// Writes the note of a book without a sight.
+/// Writes the note of a book with blocks and without a sight.
 #[tactic(auto, unfolding(crate::specs::Notes::no_sight_text))]
-fn write_no_sight(page: &mut Page, book: u32, blocks: u32) -> Result<(), AllocError>
-    ensures { OnOk result (page.new ≡ page.old ++ no_sight_text book blocks) }
+fn write_no_sight(
+    page: &mut Page,
+    book: u32,
+    blocks: u32,
+    words: &WordsSeen,
+) -> Result<(), AllocError>
+    ensures { OnOk result (page.new ≡ page.old ++ no_sight_text book blocks words.now) }
 {
     page.add(b"book ")?;
     write_number(page, book)?;
     page.add(b": no sight in ")?;
     write_number(page, blocks)?;
-    page.add(b" blocks")
+    page.add(b" blocks (no word 33")?;
+    write_words(page, words)?;
+    page.add(b")")
+}
+
+/// Writes which words of measurements a book has.
+fn write_words(page: &mut Page, words: &WordsSeen) -> Result<(), AllocError>
+    ensures { OnOk result (page.new
+        ≡ page.old ++ words_text words.now.distances words.now.heights) }
+{
+    match (words.distances, words.heights) {
+        (true, true) => page.add(b"; it has words 31 and 83"),
+        (true, false) => page.add(b"; it has word 31"),
+        (false, true) => page.add(b"; it has word 83"),
+        (false, false) => page.add(b""),
+    }
 }
 
 /// Writes the note of a book with the observations of an earlier one.
@@ -168,13 +194,24 @@ fn write_same(page: &mut Page, book: u32, earlier: u32) -> Result<(), AllocError
     write_number(page, earlier)
 }
 
-/// Writes the note of a block that looks like a setup, and is none.
-#[tactic(auto, unfolding(crate::specs::Notes::lookalike_text))]
-fn write_lookalike(page: &mut Page, book: u32, line: u32) -> Result<(), AllocError>
-    ensures { OnOk result (page.new ≡ page.old ++ lookalike_text book line) }
+/// Writes the note of an odd line of a book.
+#[tactic(auto, unfolding(crate::specs::Notes::line_text))]
+fn write_line(page: &mut Page, kind: LineKind, book: u32, line: u32) -> Result<(), AllocError>
+    ensures { OnOk result (page.new ≡ page.old ++ line_text kind book line) }
 {
     write_place(page, book, line)?;
-    page.add(b": looks like a setup, but has no word 84, 85 or 86")
+    write_odd(page, kind)
+}
+
+/// Writes what is odd in a line.
+fn write_odd(page: &mut Page, kind: LineKind) -> Result<(), AllocError>
+    ensures { OnOk result (page.new ≡ page.old ++ odd_text kind) }
+{
+    match kind {
+        LineKind::Lookalike => page.add(b": looks like a setup, but has no word 84, 85 or 86"),
+        LineKind::OtherHeight => page.add(b": another instrument height than its setup"),
+        LineKind::Direction => page.add(b": words 31 and 33 are both zero"),
+    }
 }
 
 /// Writes the note of a row of the table of weights whose pair was never observed.
@@ -208,6 +245,17 @@ fn write_unseen(page: &mut Page, row: u64, name: &Name) -> Result<(), AllocError
     page.add(b" was never observed")
 }
 
+/// Writes the note of a point with one observation.
+#[tactic(auto, unfolding(crate::specs::Notes::once_text))]
+fn write_once(page: &mut Page, book: u32, line: u32, name: &Name) -> Result<(), AllocError>
+    ensures { OnOk result (page.new ≡ page.old ++ once_text book line name.now) }
+{
+    write_name(page, name)?;
+    page.add(b" is sighted once (")?;
+    write_place(page, book, line)?;
+    page.add(b")")
+}
+
 /// Writes the note of a name that is spelled in another way than before.
 #[tactic(auto, unfolding(crate::specs::Notes::respelled_text))]
 fn write_respelled(page: &mut Page, book: u32, line: u32, name: &Name) -> Result<(), AllocError>
@@ -233,9 +281,14 @@ fn write_kind(page: &mut Page, kind: Kind) -> Result<(), AllocError>
     ensures { OnOk result (page.new ≡ page.old ++ kind_text kind) }
 {
     match kind {
-        Kind::Lookalikes => page.add(b"lines that look like setups"),
+        Kind::Lines(LineKind::Lookalike) => page.add(b"lines that look like setups"),
+        Kind::Lines(LineKind::OtherHeight) => page.add(b"sights with another instrument height"),
+        Kind::Lines(LineKind::Direction) => {
+            page.add(b"sights whose words 31 and 33 are both zero")
+        }
         Kind::Weights => page.add(b"weights records never observed"),
         Kind::Benchmarks => page.add(b"benchmarks records never observed"),
+        Kind::Once => page.add(b"points sighted once"),
         Kind::Spellings => page.add(b"names spelled in another way than before"),
     }
 }

@@ -1,12 +1,25 @@
 use gsi_word::Name;
+use th_entries::WordsSeen;
+
+/// The kinds of notes on a line of a book.
+#[derive(Clone, Copy, Debug)]
+pub enum LineKind {
+    /// A block looks like a setup, and is none.
+    Lookalike,
+    /// A sight enters another instrument height than the one in force before it.
+    OtherHeight,
+    /// A sight is a direction alone: its words 31 and 33 are both zero.
+    Direction,
+}
 
 /// The kinds of notes that are many where somebody made them so. Each is listed at most
 /// `th_entries::MAX_LISTED` times.
 #[derive(Clone, Copy, Debug)]
 pub enum Kind {
-    Lookalikes,
+    Lines(LineKind),
     Weights,
     Benchmarks,
+    Once,
     Spellings,
 }
 
@@ -14,18 +27,20 @@ pub enum Kind {
 /// record is its header.
 #[derive(Clone, Copy, Debug)]
 pub enum Note {
-    /// A book has no sight, and so many blocks.
+    /// A book has so many blocks, and none is a sight. It has these words of measurements.
     NoSight {
         book: u32,
         blocks: u32,
+        words: WordsSeen,
     },
     /// A book has the same observations as an earlier one.
     SameObservations {
         book: u32,
         earlier: u32,
     },
-    /// A block looks like a setup, and is none.
-    Lookalike {
+    /// A line of a book is odd in this way.
+    Line {
+        kind: LineKind,
         book: u32,
         line: u32,
     },
@@ -44,6 +59,12 @@ pub enum Note {
     /// A benchmark was never observed.
     UnseenBenchmark {
         row: u64,
+        name: Name,
+    },
+    /// A point that is no benchmark has one observation, on this line.
+    SightedOnce {
+        book: u32,
+        line: u32,
         name: Name,
     },
     /// A name is spelled in another way than before.

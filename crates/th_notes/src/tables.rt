@@ -1,7 +1,8 @@
 //! The notes of the tables of benchmarks and of weights.
 ghost use Rattle.std.specs.Prelude.{◌≡◌, ◌<◌, ◌+◌, ◌^◌, ◌++◌, ℕ, ℤ, List, IfOk, OnOk, Some, length, slice_get};
-ghost use Rattle.th_notes.specs.Findings.{benchmark_notes, name_note, pair_note, was_observed, was_seen, weight_notes};
+ghost use Rattle.th_notes.specs.Findings.{benchmark_notes, name_note, pair_note, was_observed, weight_notes};
 ghost use Rattle.th_notes.specs.Inside.Sets.{has_name, has_pair};
+ghost use Rattle.th_notes.specs.Seen.{was_seen};
 
 use crate::limited::add_limited;
 use crate::notes::{Kind, Note};

@@ -1,5 +1,5 @@
 use Rattle.std.proofs.Common.{◌≡◌, ℕ, List, take}
-use Rattle.th_notes.specs.Findings.{was_seen}
+use Rattle.th_notes.specs.Seen.{was_seen}
 use Rattle.th_notes.specs.Inside.Sets.{has_name}
 use Rattle.th_notes.proofs.tables.names_of.Given as goal
 

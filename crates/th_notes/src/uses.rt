@@ -1,0 +1,65 @@
+//! How often names are used.
+ghost use Rattle.std.specs.Prelude.{◌≡◌, ◌&&◌, ◌||◌, ◌++◌, ◌∷◌, [], ℕ, List, IfOk, OnOk};
+ghost use Rattle.gsi_word.specs.Names.{same_name};
+ghost use Rattle.th_notes.specs.Inside.Sets.{has_name};
+
+use gsi_word::Name;
+use std::alloc::{AllocError, Global};
+use std::collections::BTreeSet;
+use th_book::Observation;
+
+/// Names: all that are used, and those that are used at least twice.
+#[derive(Drop)]
+pub(crate) struct UsedNames {
+    pub names: BTreeSet<Name>,
+    pub again: BTreeSet<Name>,
+}
+
+impl UsedNames {
+    ghost use Rattle.th_notes.specs.Uses.{AreUsed, all_ends};
+
+    /// The ends of observations.
+    pub fn of_ends(alloc: Global, observations: &[Observation]) -> Result<UsedNames, AllocError>
+        ensures { IfOk result (AreUsed (all_ends observations.now)) }
+    {
+        let mut used = UsedNames::new(alloc);
+        for o in observations {
+            let (station, target) = o.ends();
+            used.take(station)?;
+            used.take(target)?;
+        }
+        Ok(used)
+    }
+
+    /// No names yet.
+    fn new(alloc: Global) -> UsedNames
+        ensures { AreUsed [] result }
+    {
+        UsedNames {
+            names: BTreeSet::new(alloc),
+            again: BTreeSet::new(alloc),
+        }
+    }
+
+    /// Takes a name once more.
+    fn take(&mut self, name: Name) -> Result<(), AllocError>
+        ensures { OnOk result ((before : List (List ℕ)) → AreUsed before self.old
+            → AreUsed (before ++ name ∷ []) self.new) }
+    {
+        let known = self.names.contains(&name);
+        add_if(&mut self.again, known, name)?;
+        self.names.insert(name)?;
+        Ok(())
+    }
+}
+
+/// Adds a name to a set where it is known already.
+fn add_if(names: &mut BTreeSet<Name>, known: bool, name: Name) -> Result<(), AllocError>
+    ensures { OnOk result ((other : List ℕ) → has_name names.new other
+        ≡ (has_name names.old other || (known && same_name name other))) }
+{
+    if known {
+        names.insert(name)?;
+    }
+    Ok(())
+}
