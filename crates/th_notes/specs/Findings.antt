@@ -4,7 +4,7 @@ use Rattle.std.specs.List.{enumerate_from, filter_map, flat_map, list_any}
 use Rattle.gsi_word.specs.Names.{same_pair}
 use Rattle.th_book.specs.Observed.{Observed}
 use Rattle.th_tables.specs.Rows.{BenchmarkRows, WeightRows}
-use Rattle.th_network.specs.Networks.{Survey}
+use Rattle.th_network.specs.Networks.{Survey, points_of}
 use Rattle.th_entries.specs.declared.reviews.BookCount.{BookCount}
 use Rattle.th_entries.specs.Limits.{max_listed}
 use Rattle.th_entries.specs.declared.listed.Listed.{Listed}
@@ -12,6 +12,7 @@ use Rattle.th_entries.specs.declared.reviews.BookReview.{BookReview}
 use Rattle.th_entries.specs.declared.spellings.Spelling.{Spelling}
 use Rattle.th_notes.specs.Books.{counts_of_books}
 use Rattle.th_notes.specs.Limited.{limited, rest_note}
+use Rattle.th_notes.specs.Names.{formula_notes}
 use Rattle.th_notes.specs.Points.{once_notes}
 use Rattle.th_notes.specs.Seen.{was_seen}
 use Rattle.th_notes.specs.Repeats.{by_book, first_same, observations_in}
@@ -108,3 +109,4 @@ notes_of survey reviews spellings =
     ++ benchmark_notes survey.observations survey.benchmarks
     ++ once_notes survey.observations survey.benchmarks
     ++ spelling_notes spellings
+    ++ formula_notes (points_of survey)

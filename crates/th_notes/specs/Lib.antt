@@ -5,6 +5,7 @@ pub mod Limited
 pub mod Seen
 pub mod Uses
 pub mod Points
+pub mod Names
 pub mod Findings
 pub mod Inside
 pub mod Notes

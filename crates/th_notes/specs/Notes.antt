@@ -7,9 +7,9 @@ use Rattle.th_entries.specs.declared.reviews.WordsSeen.{WordsSeen}
 use Rattle.th_notes.specs.declared.notes.LineKind.{LineKind}
 use Rattle.th_notes.specs.declared.notes.LineKind.TheVariants.{Lookalike, OtherHeight, Direction}
 use Rattle.th_notes.specs.declared.notes.Kind.{Kind}
-use Rattle.th_notes.specs.declared.notes.Kind.TheVariants.{Lines, Weights, Benchmarks, Once, Spellings}
+use Rattle.th_notes.specs.declared.notes.Kind.TheVariants.{Lines, Weights, Benchmarks, Once, Spellings, Formulas}
 use Rattle.th_notes.specs.declared.notes.Note.{Note}
-use Rattle.th_notes.specs.declared.notes.Note.TheVariants.{NoSight, SameObservations, Line, UnusedWeight, TurnedWeight, UnseenBenchmark, SightedOnce, Respelled, More}
+use Rattle.th_notes.specs.declared.notes.Note.TheVariants.{NoSight, SameObservations, Line, UnusedWeight, TurnedWeight, UnseenBenchmark, SightedOnce, Respelled, Formula, More}
 
 -- a line of a book
 unfoldable pub book_place : ℕ → ℕ → List ℕ
@@ -80,6 +80,10 @@ once_text book line name = name ++ codes " is sighted once (" ++ book_place book
 unfoldable pub respelled_text : ℕ → ℕ → List ℕ → List ℕ
 respelled_text book line name = name_place book line name ++ codes " is spelled in another way than before"
 
+-- a name that reads as a formula
+unfoldable pub formula_text : List ℕ → List ℕ
+formula_text name = name ++ codes " reads as a formula in a spreadsheet"
+
 -- what the notes of a kind are on
 abbrev pub kind_text : Kind → List ℕ
 kind_text (Lines Lookalike) = codes "lines that look like setups"
@@ -89,6 +93,7 @@ kind_text Weights = codes "weights records never observed"
 kind_text Benchmarks = codes "benchmarks records never observed"
 kind_text Once = codes "points sighted once"
 kind_text Spellings = codes "names spelled in another way than before"
+kind_text Formulas = codes "names that read as formulas"
 
 -- how many more notes of a kind there are
 unfoldable pub more_text : Kind → ℕ → List ℕ
@@ -104,6 +109,7 @@ note_text (TurnedWeight row station target) = turned_text row station target
 note_text (UnseenBenchmark row name) = unseen_text row name
 note_text (SightedOnce book line name) = once_text book line name
 note_text (Respelled book line name) = respelled_text book line name
+note_text (Formula name) = formula_text name
 note_text (More kind count) = more_text kind count
 
 -- the line of a note

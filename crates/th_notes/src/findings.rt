@@ -4,6 +4,7 @@ ghost use Rattle.th_notes.specs.Findings.{notes_of};
 ghost use Rattle.th_notes.specs.Limits.{max_reviewed};
 
 use crate::books::{add_line_notes, add_sight_notes, add_spelling_notes};
+use crate::names::add_formula_notes;
 use crate::notes::{LineKind, Note};
 use crate::points::add_once_notes;
 use crate::repeats::add_same_notes;
@@ -35,5 +36,6 @@ pub fn notes_of(
     add_benchmark_notes(alloc, &mut notes, observations, network.benchmarks())?;
     add_once_notes(alloc, &mut notes, observations, network.benchmarks())?;
     add_spelling_notes(&mut notes, spellings)?;
+    add_formula_notes(alloc, &mut notes, network.points())?;
     Ok(notes)
 }

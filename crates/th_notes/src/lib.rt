@@ -18,7 +18,8 @@ mod tables;
 // How often names are used.
 mod uses;
 
-// What is noted of points.
+// What is noted of points, and of their names.
+mod names;
 mod points;
 
 // All notes of a review.

@@ -1,7 +1,7 @@
 //! The lines of notes.
 ghost use Rattle.std.specs.Prelude.{◌≡◌, ◌++◌, OnOk, decimal};
 ghost use Rattle.std.specs.List.{flat_map};
-ghost use Rattle.th_notes.specs.Notes.{benchmark_text, book_place, in_benchmarks, in_weights, kind_text, line_text, more_text, name_place, no_sight_text, note_line, note_lines, note_text, odd_text, once_text, pair_text, respelled_text, same_text, turned_text, unseen_text, unused_text, words_text};
+ghost use Rattle.th_notes.specs.Notes.{benchmark_text, book_place, formula_text, in_benchmarks, in_weights, kind_text, line_text, more_text, name_place, no_sight_text, note_line, note_lines, note_text, odd_text, once_text, pair_text, respelled_text, same_text, turned_text, unseen_text, unused_text, words_text};
 
 use crate::notes::{Kind, LineKind, Note};
 use gsi_word::Name;
@@ -63,6 +63,7 @@ fn write_text(page: &mut Page, note: &Note) -> Result<(), AllocError>
         Note::UnseenBenchmark { row, name } => write_unseen(page, *row, name),
         Note::SightedOnce { book, line, name } => write_once(page, *book, *line, name),
         Note::Respelled { book, line, name } => write_respelled(page, *book, *line, name),
+        Note::Formula { name } => write_formula(page, name),
         Note::More { kind, count } => write_more(page, *kind, *count),
     }
 }
@@ -265,6 +266,15 @@ fn write_respelled(page: &mut Page, book: u32, line: u32, name: &Name) -> Result
     page.add(b" is spelled in another way than before")
 }
 
+/// Writes the note of a name that reads as a formula.
+#[tactic(auto, unfolding(crate::specs::Notes::formula_text))]
+fn write_formula(page: &mut Page, name: &Name) -> Result<(), AllocError>
+    ensures { OnOk result (page.new ≡ page.old ++ formula_text name.now) }
+{
+    write_name(page, name)?;
+    page.add(b" reads as a formula in a spreadsheet")
+}
+
 /// Writes how many more notes of a kind there are.
 #[tactic(auto, unfolding(crate::specs::Notes::more_text))]
 fn write_more(page: &mut Page, kind: Kind, count: u64) -> Result<(), AllocError>
@@ -290,5 +300,6 @@ fn write_kind(page: &mut Page, kind: Kind) -> Result<(), AllocError>
         Kind::Benchmarks => page.add(b"benchmarks records never observed"),
         Kind::Once => page.add(b"points sighted once"),
         Kind::Spellings => page.add(b"names spelled in another way than before"),
+        Kind::Formulas => page.add(b"names that read as formulas"),
     }
 }

@@ -21,6 +21,7 @@ pub enum Kind {
     Benchmarks,
     Once,
     Spellings,
+    Formulas,
 }
 
 /// What a review notes. Books, lines and the records of a table count from 1. A table's first
@@ -71,6 +72,10 @@ pub enum Note {
     Respelled {
         book: u32,
         line: u32,
+        name: Name,
+    },
+    /// The name of a point reads as a formula in a spreadsheet.
+    Formula {
         name: Name,
     },
     /// There are so many more notes of a kind, which are not listed.
