@@ -1,6 +1,6 @@
 -- Notes of rows, one row further.
 use Rattle.std.proofs.Common.{◌≡◌, ◌<◌, ◌≤◌, ◌+◌, ◌++◌, ◌∷◌, [], ◌||◌, ◌&&◌, ℕ, Bool, true, false, cond, List, Option, None, Some, drop, get_or, length, slice_get, take, refl, sym, ap, ◌∙◌, arith, append_assoc}
-use Rattle.std.specs.List.{cons_option, enumerate_from, filter_map, flat_map}
+use Rattle.std.specs.List.{cons_option, enumerate_from, filter_map, flat_map, zip}
 use Rattle.std.proofs.lemmas.Grind.{flat_map-append}
 use Rattle.std.proofs.lemmas.List.{append-nil, drop_all, take_more}
 use Rattle.std.specs.BTreeSet.{BTreeSet, Updates}
@@ -88,3 +88,18 @@ given_more give xs i x within is =
     ap (flat_map give) (take_more xs i x within ∙ ap (λ last. take i xs ++ last ∷ []) (sym is))
     ∙ flat_map-append give (take i xs) (x ∷ [])
     ∙ ap (λ last. flat_map give (take i xs) ++ last) (append-nil (give x))
+
+-- what items give behind what was given before, one item further
+pub given_rest : {X Y : Type 0} → (give : X → List Y) (x : X) (left left' : List X) (ys ys' all : List Y) → left ≡ x ∷ left' → ys' ≡ ys ++ give x → ys ++ flat_map give left ≡ all → ys' ++ flat_map give left' ≡ all
+given_rest give x left left' ys ys' all first more so_far =
+    ap (λ front. front ++ flat_map give left') more
+    ∙ append_assoc ys (give x) (flat_map give left')
+    ∙ ap (λ left. ys ++ flat_map give left) (sym first)
+    ∙ so_far
+
+-- two lists side by side, from a place on
+pub zipped-first : {X Y : Type 0} → (xs : List X) (ys : List Y) (k : ℕ) (x : X) (y : Y) → k < length xs → k < length ys → x ≡ get_or xs k x → y ≡ get_or ys k y
+    → zip (drop k xs) (drop k ys) ≡ (x, y) ∷ zip (drop (k + 1) xs) (drop (k + 1) ys)
+zipped-first xs ys k x y within within' is is' =
+    ap (λ (left : List _). zip left (drop k ys)) (drop-first xs k x within is)
+    ∙ ap (λ (left : List _). zip (x ∷ drop (k + 1) xs) left) (drop-first ys k y within' is')

@@ -1,2 +1,3 @@
 pub mod FindingLemmas
 mod UseLemmas
+mod PartLemmas

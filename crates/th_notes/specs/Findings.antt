@@ -13,6 +13,7 @@ use Rattle.th_entries.specs.declared.spellings.Spelling.{Spelling}
 use Rattle.th_notes.specs.Books.{counts_of_books}
 use Rattle.th_notes.specs.Limited.{limited, rest_note}
 use Rattle.th_notes.specs.Names.{formula_notes}
+use Rattle.th_notes.specs.Parts.{hanging_notes}
 use Rattle.th_notes.specs.Points.{once_notes}
 use Rattle.th_notes.specs.Seen.{was_seen}
 use Rattle.th_notes.specs.Repeats.{by_book, first_same, observations_in}
@@ -107,6 +108,7 @@ notes_of survey reviews spellings =
     ++ line_notes Direction reviews
     ++ weight_notes survey.observations survey.weights
     ++ benchmark_notes survey.observations survey.benchmarks
+    ++ hanging_notes survey
     ++ once_notes survey.observations survey.benchmarks
     ++ spelling_notes spellings
     ++ formula_notes (points_of survey)

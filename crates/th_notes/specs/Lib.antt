@@ -3,6 +3,7 @@ pub mod Books
 pub mod Repeats
 pub mod Limited
 pub mod Seen
+pub mod Parts
 pub mod Uses
 pub mod Points
 pub mod Names

@@ -7,9 +7,9 @@ use Rattle.th_entries.specs.declared.reviews.WordsSeen.{WordsSeen}
 use Rattle.th_notes.specs.declared.notes.LineKind.{LineKind}
 use Rattle.th_notes.specs.declared.notes.LineKind.TheVariants.{Lookalike, OtherHeight, Direction}
 use Rattle.th_notes.specs.declared.notes.Kind.{Kind}
-use Rattle.th_notes.specs.declared.notes.Kind.TheVariants.{Lines, Weights, Benchmarks, Once, Spellings, Formulas}
+use Rattle.th_notes.specs.declared.notes.Kind.TheVariants.{Lines, Weights, Benchmarks, Hanging, Once, Spellings, Formulas}
 use Rattle.th_notes.specs.declared.notes.Note.{Note}
-use Rattle.th_notes.specs.declared.notes.Note.TheVariants.{NoSight, SameObservations, Line, UnusedWeight, TurnedWeight, UnseenBenchmark, SightedOnce, Respelled, Formula, More}
+use Rattle.th_notes.specs.declared.notes.Note.TheVariants.{NoSight, SameObservations, Line, UnusedWeight, TurnedWeight, UnseenBenchmark, OneBenchmark, TwoBenchmarks, SightedOnce, Respelled, Formula, More}
 
 -- a line of a book
 unfoldable pub book_place : ℕ → ℕ → List ℕ
@@ -72,6 +72,23 @@ turned_text row station target = unused_text row station target ++ codes ", but 
 unfoldable pub unseen_text : ℕ → List ℕ → List ℕ
 unseen_text row name = benchmark_text row name ++ codes " was never observed"
 
+-- either of two benchmarks may be wrong
+unfoldable pub doubt_text : List ℕ
+doubt_text = codes ": nothing says which is wrong"
+
+-- a part of the network hangs on a benchmark, on it alone, or on two
+unfoldable pub hanging_text : List ℕ → List ℕ
+hanging_text name = codes "a part of the network hangs on " ++ name
+
+unfoldable pub one_text : List ℕ → List ℕ
+one_text name = hanging_text name ++ codes " alone: nothing checks its height"
+
+unfoldable pub second_text : List ℕ → List ℕ
+second_text other = codes " and " ++ other ++ doubt_text
+
+unfoldable pub two_text : List ℕ → List ℕ → List ℕ
+two_text name other = hanging_text name ++ second_text other
+
 -- a point that is no benchmark and has one observation
 unfoldable pub once_text : ℕ → ℕ → List ℕ → List ℕ
 once_text book line name = name ++ codes " is sighted once (" ++ book_place book line ++ codes ")"
@@ -91,6 +108,7 @@ kind_text (Lines OtherHeight) = codes "sights with another instrument height"
 kind_text (Lines Direction) = codes "sights whose words 31 and 33 are both zero"
 kind_text Weights = codes "weights records never observed"
 kind_text Benchmarks = codes "benchmarks records never observed"
+kind_text Hanging = codes "parts with one or two benchmarks"
 kind_text Once = codes "points sighted once"
 kind_text Spellings = codes "names spelled in another way than before"
 kind_text Formulas = codes "names that read as formulas"
@@ -107,6 +125,8 @@ note_text (Line kind book line) = line_text kind book line
 note_text (UnusedWeight row station target) = unused_text row station target
 note_text (TurnedWeight row station target) = turned_text row station target
 note_text (UnseenBenchmark row name) = unseen_text row name
+note_text (OneBenchmark name) = one_text name
+note_text (TwoBenchmarks name other) = two_text name other
 note_text (SightedOnce book line name) = once_text book line name
 note_text (Respelled book line name) = respelled_text book line name
 note_text (Formula name) = formula_text name

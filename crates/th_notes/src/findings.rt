@@ -6,6 +6,7 @@ ghost use Rattle.th_notes.specs.Limits.{max_reviewed};
 use crate::books::{add_line_notes, add_sight_notes, add_spelling_notes};
 use crate::names::add_formula_notes;
 use crate::notes::{LineKind, Note};
+use crate::parts::add_hanging_notes;
 use crate::points::add_once_notes;
 use crate::repeats::add_same_notes;
 use crate::tables::{add_benchmark_notes, add_weight_notes};
@@ -34,6 +35,7 @@ pub fn notes_of(
     add_line_notes(alloc, &mut notes, LineKind::Direction, reviews)?;
     add_weight_notes(alloc, &mut notes, observations, network.weight_table())?;
     add_benchmark_notes(alloc, &mut notes, observations, network.benchmarks())?;
+    add_hanging_notes(alloc, &mut notes, network)?;
     add_once_notes(alloc, &mut notes, observations, network.benchmarks())?;
     add_spelling_notes(&mut notes, spellings)?;
     add_formula_notes(alloc, &mut notes, network.points())?;

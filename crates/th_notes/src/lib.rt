@@ -15,6 +15,9 @@ mod books;
 mod repeats;
 mod tables;
 
+// What is noted of parts of the network.
+mod parts;
+
 // How often names are used.
 mod uses;
 

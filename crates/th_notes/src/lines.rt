@@ -1,7 +1,7 @@
 //! The lines of notes.
 ghost use Rattle.std.specs.Prelude.{◌≡◌, ◌++◌, OnOk, decimal};
 ghost use Rattle.std.specs.List.{flat_map};
-ghost use Rattle.th_notes.specs.Notes.{benchmark_text, book_place, formula_text, in_benchmarks, in_weights, kind_text, line_text, more_text, name_place, no_sight_text, note_line, note_lines, note_text, odd_text, once_text, pair_text, respelled_text, same_text, turned_text, unseen_text, unused_text, words_text};
+ghost use Rattle.th_notes.specs.Notes.{benchmark_text, book_place, doubt_text, formula_text, hanging_text, in_benchmarks, in_weights, kind_text, line_text, more_text, name_place, no_sight_text, note_line, note_lines, note_text, odd_text, once_text, one_text, pair_text, respelled_text, same_text, second_text, turned_text, two_text, unseen_text, unused_text, words_text};
 
 use crate::notes::{Kind, LineKind, Note};
 use gsi_word::Name;
@@ -61,6 +61,8 @@ fn write_text(page: &mut Page, note: &Note) -> Result<(), AllocError>
             target,
         } => write_turned(page, *row, station, target),
         Note::UnseenBenchmark { row, name } => write_unseen(page, *row, name),
+        Note::OneBenchmark { name } => write_one(page, name),
+        Note::TwoBenchmarks { name, other } => write_two(page, name, other),
         Note::SightedOnce { book, line, name } => write_once(page, *book, *line, name),
         Note::Respelled { book, line, name } => write_respelled(page, *book, *line, name),
         Note::Formula { name } => write_formula(page, name),
@@ -246,6 +248,51 @@ fn write_unseen(page: &mut Page, row: u64, name: &Name) -> Result<(), AllocError
     page.add(b" was never observed")
 }
 
+/// Writes that a part of the network hangs on a benchmark.
+#[tactic(auto, unfolding(crate::specs::Notes::hanging_text))]
+fn write_hanging(page: &mut Page, name: &Name) -> Result<(), AllocError>
+    ensures { OnOk result (page.new ≡ page.old ++ hanging_text name.now) }
+{
+    page.add(b"a part of the network hangs on ")?;
+    write_name(page, name)
+}
+
+/// Writes the note of a part of the network with one benchmark.
+#[tactic(auto, unfolding(crate::specs::Notes::one_text))]
+fn write_one(page: &mut Page, name: &Name) -> Result<(), AllocError>
+    ensures { OnOk result (page.new ≡ page.old ++ one_text name.now) }
+{
+    write_hanging(page, name)?;
+    page.add(b" alone: nothing checks its height")
+}
+
+/// Writes the note of a part of the network with two benchmarks.
+#[tactic(auto, unfolding(crate::specs::Notes::two_text))]
+fn write_two(page: &mut Page, name: &Name, other: &Name) -> Result<(), AllocError>
+    ensures { OnOk result (page.new ≡ page.old ++ two_text name.now other.now) }
+{
+    write_hanging(page, name)?;
+    write_second(page, other)
+}
+
+/// Writes that the part hangs on a second benchmark.
+#[tactic(auto, unfolding(crate::specs::Notes::second_text))]
+fn write_second(page: &mut Page, other: &Name) -> Result<(), AllocError>
+    ensures { OnOk result (page.new ≡ page.old ++ second_text other.now) }
+{
+    page.add(b" and ")?;
+    write_name(page, other)?;
+    write_doubt(page)
+}
+
+/// Writes that either of two benchmarks may be wrong.
+#[tactic(auto, unfolding(crate::specs::Notes::doubt_text))]
+fn write_doubt(page: &mut Page) -> Result<(), AllocError>
+    ensures { OnOk result (page.new ≡ page.old ++ doubt_text) }
+{
+    page.add(b": nothing says which is wrong")
+}
+
 /// Writes the note of a point with one observation.
 #[tactic(auto, unfolding(crate::specs::Notes::once_text))]
 fn write_once(page: &mut Page, book: u32, line: u32, name: &Name) -> Result<(), AllocError>
@@ -298,6 +345,7 @@ fn write_kind(page: &mut Page, kind: Kind) -> Result<(), AllocError>
         }
         Kind::Weights => page.add(b"weights records never observed"),
         Kind::Benchmarks => page.add(b"benchmarks records never observed"),
+        Kind::Hanging => page.add(b"parts with one or two benchmarks"),
         Kind::Once => page.add(b"points sighted once"),
         Kind::Spellings => page.add(b"names spelled in another way than before"),
         Kind::Formulas => page.add(b"names that read as formulas"),

@@ -19,6 +19,7 @@ pub enum Kind {
     Lines(LineKind),
     Weights,
     Benchmarks,
+    Hanging,
     Once,
     Spellings,
     Formulas,
@@ -61,6 +62,15 @@ pub enum Note {
     UnseenBenchmark {
         row: u64,
         name: Name,
+    },
+    /// A part of the network has this benchmark alone.
+    OneBenchmark {
+        name: Name,
+    },
+    /// A part of the network has these two benchmarks alone.
+    TwoBenchmarks {
+        name: Name,
+        other: Name,
     },
     /// A point that is no benchmark has one observation, on this line.
     SightedOnce {

@@ -18,7 +18,7 @@ use th_tables::{Benchmarks, Weights};
 type Pairs = BTreeSet<(Name, Name)>;
 
 /// The names of points that were observed, likewise.
-type Names = BTreeSet<Name>;
+pub(crate) type Names = BTreeSet<Name>;
 
 /// Adds a note of each row of the table of benchmarks that was never observed: the first ones, and how
 /// many more there are.
@@ -42,7 +42,7 @@ pub(crate) fn add_benchmark_notes(
 }
 
 /// The names of the ends of observations.
-fn names_of(alloc: Global, observations: &[Observation]) -> Result<Names, AllocError>
+pub(crate) fn names_of(alloc: Global, observations: &[Observation]) -> Result<Names, AllocError>
     ensures { IfOk result (λ names. (name : List ℕ)
         → has_name names name ≡ was_seen observations.now name) }
 {

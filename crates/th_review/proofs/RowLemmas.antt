@@ -2,6 +2,7 @@
 use Rattle.std.proofs.Common.{◌≡◌, ◌<◌, ◌+◌, ℕ, List, [], ◌∷◌, ◌++◌, drop, get_or, length, map, sym, ap, ◌∙◌, append_assoc}
 use Rattle.std.specs.List.{zip}
 use Rattle.th_report.proofs.RowLemmas.{drop-first}
+use Rattle.th_notes.proofs.FindingLemmas.{zipped-first}
 
 -- one row more, where what is left begins with what it is the row of
 pub pushed : {X Y : Type 0} → (row : X → Y) (x : X) (left left' : List X) (rows rows' all : List Y) → left ≡ x ∷ left' → rows' ≡ rows ++ row x ∷ [] → rows ++ map row left ≡ all → rows' ++ map row left' ≡ all
@@ -10,13 +11,6 @@ pushed row x left left' rows rows' all first more so_far =
     ∙ append_assoc rows (row x ∷ []) (map row left')
     ∙ ap (λ left. rows ++ map row left) (sym first)
     ∙ so_far
-
--- two lists side by side, from a place on
-pub zipped-first : {X Y : Type 0} → (xs : List X) (ys : List Y) (k : ℕ) (x : X) (y : Y) → k < length xs → k < length ys → x ≡ get_or xs k x → y ≡ get_or ys k y
-    → zip (drop k xs) (drop k ys) ≡ (x, y) ∷ zip (drop (k + 1) xs) (drop (k + 1) ys)
-zipped-first xs ys k x y within within' is is' =
-    ap (λ (left : List _). zip left (drop k ys)) (drop-first xs k x within is)
-    ∙ ap (λ (left : List _). zip (x ∷ drop (k + 1) xs) left) (drop-first ys k y within' is')
 
 -- three lists side by side
 pub zipped-first3 : {X Y Z : Type 0} → (xs : List X) (ys : List Y) (zs : List Z) (k : ℕ) (x : X) (y : Y) (z : Z) → k < length xs → k < length ys → k < length zs → x ≡ get_or xs k x → y ≡ get_or ys k y → z ≡ get_or zs k z

@@ -8,7 +8,8 @@ use Rattle.th_tables.specs.Rows.{BenchmarkRows}
 use Rattle.th_reliability.specs.declared.benchmarks.BenchmarkEffect.{BenchmarkEffect}
 use Rattle.th_review.specs.declared.rows.BenchmarkRow.{BenchmarkRow}
 use Rattle.th_review.specs.Rows.{benchmark_row}
-use Rattle.th_review.proofs.RowLemmas.{pushed, zipped-first}
+use Rattle.th_notes.proofs.FindingLemmas.{zipped-first}
+use Rattle.th_review.proofs.RowLemmas.{pushed}
 use Rattle.th_review.proofs.benchmark_list.benchmark_rows.Goals as goal
 
 -- the row of a benchmark with this name and height

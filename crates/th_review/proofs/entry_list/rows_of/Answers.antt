@@ -6,7 +6,8 @@ use Rattle.th_reliability.specs.declared.effects.Effect.{Effect}
 use Rattle.th_reliability.specs.declared.mistakes.SharedMistake.TheVariants.{Shows}
 use Rattle.th_review.specs.declared.rows.EntryRow.{EntryRow}
 use Rattle.th_review.specs.Rows.{entry_row, entry_rows}
-use Rattle.th_review.proofs.RowLemmas.{pushed, zipped-first}
+use Rattle.th_notes.proofs.FindingLemmas.{zipped-first}
+use Rattle.th_review.proofs.RowLemmas.{pushed}
 use Rattle.th_review.proofs.entry_list.rows_of.Goals as goal
 
 -- the row with this weight
