@@ -1,0 +1,4 @@
+mod AnyLemmas
+mod BelowLemmas
+mod GapLemmas
+mod WatchLemmas

@@ -1,0 +1,5 @@
+pub mod Words
+pub mod Sights
+pub mod Watched
+pub mod Heights
+pub mod Inside
