@@ -1,1 +1,1 @@
-pub mod AsciiLengths
+mod NumberLemmas

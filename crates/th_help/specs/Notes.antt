@@ -1,21 +1,41 @@
 -- Notes of a run that was not refused: what the surveyor should know beside its outputs.
-use Rattle.std.specs.Prelude.{ℕ, ℤ, Bool, true, false, List, [], ◌++◌, codes}
+use Rattle.std.specs.Prelude.{ℕ, Bool, true, false, List, [], ◌∷◌, ◌++◌, codes}
 use Rattle.std.specs.Fmt.{decimal}
+use Rattle.th_remarks.specs.Words.{measured}
+use Rattle.th_remarks.specs.declared.heights.ManyHeights.{ManyHeights}
+use Rattle.th_remarks.specs.declared.sights.NoSight.{NoSight}
 use Rattle.th_units.specs.Metres.{metres}
 
--- the words of a book that tell of distances (31) and of heights (83)
-abbrev pub words_seen : Bool → Bool → List ℕ
-words_seen true true = codes "; it has words 31 and 83"
-words_seen true false = codes "; it has word 31"
-words_seen false true = codes "; it has word 83"
-words_seen false false = []
+-- the numbers at places that are true
+abbrev pub numbers_in : List Bool → List ℕ → List ℕ
+numbers_in (true ∷ words) (number ∷ numbers) = number ∷ numbers_in words numbers
+numbers_in (false ∷ words) (number ∷ numbers) = numbers_in words numbers
+numbers_in words numbers = []
 
--- a book with this number, from 1, has blocks and no sight
-abbrev pub no_sight_note : ℕ → ℕ → Bool → Bool → List ℕ
-no_sight_note book blocks distances heights =
-    codes "note: book " ++ (decimal book ++ (codes " has no sight in " ++ (decimal blocks ++ (codes " blocks (no word 33" ++ (words_seen distances heights ++ codes ")")))))
+-- what stands between a number and those behind it
+abbrev pub separator : List ℕ → List ℕ
+separator [] = []
+separator (last ∷ []) = codes " and "
+separator (next ∷ more ∷ rest) = codes ", "
 
--- so many points have more than one best height; the lowest and the highest are farthest apart at this point
-abbrev pub many_heights_note : ℕ → ℤ → List ℕ → List ℕ
-many_heights_note points apart name =
-    codes "note: " ++ (decimal points ++ (codes " points have more than one best height, up to " ++ (metres apart ++ (codes " m apart at " ++ name))))
+-- some numbers one after the other
+abbrev pub enumerated : List ℕ → List ℕ
+enumerated [] = []
+enumerated (number ∷ rest) = decimal number ++ (separator rest ++ enumerated rest)
+
+-- the words that a book has in place of sights, by their numbers
+abbrev pub words_seen : List ℕ → List ℕ
+words_seen [] = []
+words_seen (number ∷ []) = codes "; it has word " ++ enumerated (number ∷ [])
+words_seen (number ∷ next ∷ rest) = codes "; it has words " ++ enumerated (number ∷ next ∷ rest)
+
+-- the line of a book that has blocks and no sight
+abbrev pub no_sight_note : NoSight → List ℕ
+no_sight_note note =
+    codes "note: book " ++ (decimal note.book ++ (codes " has no sight in " ++ (decimal note.blocks ++ (codes " blocks (no word 33"
+    ++ (words_seen (numbers_in note.words measured) ++ codes ")\n")))))
+
+-- the line of points that have more than one best height: the lowest and the highest are farthest apart at the named one
+abbrev pub many_heights_note : ManyHeights → List ℕ
+many_heights_note note =
+    codes "note: " ++ (decimal note.points ++ (codes " points have more than one best height, up to " ++ (metres note.apart ++ (codes " m apart at " ++ (note.name ++ codes "\n")))))

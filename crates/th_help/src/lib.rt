@@ -1,7 +1,7 @@
 //! What helps against a refusal, one line for each kind of fault, and notes of runs that are done.
 //!
 //! The texts are tables in `specs/`, and these functions give them without allocating. Those of faults
-//! are put on lines for standard error.
+//! and notes are put on lines for standard error.
 #![tactic(auto)]
 
 // Faults of one input each, and of the network.
@@ -26,5 +26,5 @@ pub use faults::{
 };
 pub use helps::{FileName, put_help_line, put_reason_line, read_reason, write_reason};
 pub use networks::network_help;
-pub use notes::{ManyHeights, NoSight};
+pub use notes::{put_many_heights, put_no_sight};
 pub use tables::{benchmarks_help, weights_help};

@@ -1,123 +1,86 @@
-//! Notes of a run that was not refused.
-ghost use Rattle.std.specs.Prelude.{◌≡◌, ◌<◌, unsigned_abs};
-ghost use Rattle.std.specs.Str.{IsUtf8};
-ghost use Rattle.th_units.specs.Limits.{size_limit};
+//! Notes of a run that was not refused, put on a line part by part.
+ghost use Rattle.std.specs.Prelude.{◌≡◌, ◌≤◌, ◌*◌, length};
+ghost use Rattle.th_help.specs.Notes.{enumerated, many_heights_note, no_sight_note, numbers_in, words_seen};
+ghost use Rattle.th_lines.specs.Lines.{HasRoom, IsPut};
+ghost use Rattle.th_remarks.specs.Words.{measured};
 
-use gsi_word::Name;
-use std::{fmt, str};
-use th_units::{MetreText, metre_text};
+use arrayvec::ArrayVec;
+use th_devices::{Failed, Sink};
+use th_lines::Line;
+use th_remarks::{MEASURED, MEASURED_WORDS, ManyHeights, NoSight};
 
-/// A book has blocks and no sight, as those of most recording masks as they leave the factory.
-#[derive(Clone, Copy, Debug)]
-pub struct NoSight {
-    /// The book's number, from 1.
-    pub book: u32,
-    /// How many blocks it has.
-    pub blocks: u32,
-    /// Whether a word 31 counts, a slope distance.
-    pub distances: bool,
-    /// Whether a word 83 counts, the height of a target.
-    pub heights: bool,
-}
-
-impl fmt::Display for NoSight {
-    ghost use Rattle.std.specs.Prelude.{Some};
-    ghost use Rattle.th_help.specs.Notes.{no_sight_note};
-
-    ghost output = { λ note. Some (no_sight_note note.book note.blocks note.distances note.heights) };
-
-    fn fmt<W: fmt::Write>(&self, f: &mut fmt::Formatter<W>) -> fmt::Result {
-        let book = self.book;
-        let blocks = self.blocks;
-        let seen = WordsSeen {
-            distances: self.distances,
-            heights: self.heights,
-        };
-        write!(
-            f,
-            "note: book {book} has no sight in {blocks} blocks (no word 33{seen})"
-        )
-    }
-}
-
-/// What a book without a sight has in its place.
-#[derive(Clone, Copy, Debug)]
-struct WordsSeen {
-    distances: bool,
-    heights: bool,
-}
-
-impl fmt::Display for WordsSeen {
-    ghost use Rattle.std.specs.Prelude.{Some};
-    ghost use Rattle.th_help.specs.Notes.{words_seen};
-
-    ghost output = { λ seen. Some (words_seen seen.distances seen.heights) };
-
-    fn fmt<W: fmt::Write>(&self, f: &mut fmt::Formatter<W>) -> fmt::Result {
-        f.write_str(match (self.distances, self.heights) {
-            (true, true) => "; it has words 31 and 83",
-            (true, false) => "; it has word 31",
-            (false, true) => "; it has word 83",
-            (false, false) => "",
-        })
-    }
-}
-
-/// Points have more than one best height.
-#[derive(Clone, Copy, Debug)]
-pub struct ManyHeights {
-    /// How many points.
-    pub points: u32,
-    /// How far the lowest and the highest best height are apart at most, in units of 10 nm: below 10^17.
-    pub apart: i64,
-    /// The first point where they are that far apart.
-    pub name: Name,
-    ghost in_range: { unsigned_abs apart < size_limit },
-}
-
-impl fmt::Display for ManyHeights {
-    ghost use Rattle.std.specs.Prelude.{Some};
-    ghost use Rattle.th_help.specs.Notes.{many_heights_note};
-
-    ghost output = { λ note. Some (many_heights_note note.points note.apart note.name) };
-
-    fn fmt<W: fmt::Write>(&self, f: &mut fmt::Formatter<W>) -> fmt::Result {
-        let points = self.points;
-        let apart = Metres { units: self.apart };
-        let name = self.name;
-        write!(
-            f,
-            "note: {points} points have more than one best height, up to {apart} m apart at {name}"
-        )
-    }
-}
-
-/// A length in units of 10 nm, which is shown in metres.
-#[derive(Clone, Copy, Debug)]
-struct Metres {
-    units: i64,
-    ghost in_range: { unsigned_abs units < size_limit },
-}
-
-impl fmt::Display for Metres {
-    ghost use Rattle.std.specs.Prelude.{Some};
-    ghost use Rattle.th_units.specs.Metres.{metres};
-
-    ghost output = { λ length. Some (metres length.units) };
-
-    fn fmt<W: fmt::Write>(&self, f: &mut fmt::Formatter<W>) -> fmt::Result {
-        let text = metre_text(self.units);
-        f.write_str(text_of(&text))
-    }
-}
-
-/// A length as text: its bytes are ASCII, so that the other arm is never taken.
-fn text_of(length: &MetreText) -> &str
-    requires { IsUtf8 length.now }
-    ensures { result.now ≡ length.now }
+/// Puts the note of a book without a sight.
+#[tactic(auto, using(th_lines::proofs::LineLemmas::appended))]
+pub fn put_no_sight<K: Sink>(line: &mut Line<K>, note: &NoSight) -> Result<(), Failed>
+    requires { HasRoom 40 line.old }
+    ensures { IsPut 40 (no_sight_note note.now) line.old line.new result }
 {
-    match str::from_utf8(length.as_bytes()) {
-        Ok(text) => text,
-        Err(_) => "",
+    line.put("note: book ")?;
+    line.put_number(note.book)?;
+    line.put(" has no sight in ")?;
+    line.put_number(note.blocks)?;
+    line.put(" blocks (no word 33")?;
+    put_words(line, numbers_in(&note.words).as_slice())?;
+    line.put(")\n")
+}
+
+/// The numbers of the words that a book has in place of sights.
+fn numbers_in(words: &[bool; MEASURED_WORDS]) -> ArrayVec<u16, MEASURED_WORDS>
+    ensures { result.now ≡ numbers_in words.now measured }
+{
+    let mut numbers = ArrayVec::new();
+    for (place, has) in words.iter().enumerate() {
+        if *has {
+            numbers.push(MEASURED[place]);
+        }
     }
+    numbers
+}
+
+/// Puts which words a book has in place of sights.
+#[tactic(auto, using(th_lines::proofs::LineLemmas::appended))]
+fn put_words<K: Sink>(line: &mut Line<K>, numbers: &[u16]) -> Result<(), Failed>
+    requires few { length numbers.now ≤ 14 }
+    requires room { HasRoom 30 line.old }
+    ensures { IsPut 30 (words_seen numbers.now) line.old line.new result }
+{
+    match numbers.len() {
+        0 => return Ok(()),
+        1 => line.put("; it has word ")?,
+        _ => line.put("; it has words ")?,
+    }
+    put_numbers(line, numbers)
+}
+
+/// Puts some numbers one after the other.
+#[tactic(auto, using(th_lines::proofs::LineLemmas::appended))]
+fn put_numbers<K: Sink>(line: &mut Line<K>, numbers: &[u16]) -> Result<(), Failed>
+    requires { HasRoom (2 * length numbers.now) line.old }
+    ensures { IsPut (2 * length numbers.now) (enumerated numbers.now) line.old line.new result }
+{
+    let Some((first, rest)) = numbers.split_first() else {
+        return Ok(());
+    };
+    line.put_number(u32::from(*first))?;
+    match rest.len() {
+        0 => return Ok(()),
+        1 => line.put(" and ")?,
+        _ => line.put(", ")?,
+    }
+    put_numbers(line, rest)
+}
+
+/// Puts the note of points with more than one best height.
+#[tactic(auto, using(th_lines::proofs::LineLemmas::appended))]
+pub fn put_many_heights<K: Sink>(line: &mut Line<K>, note: &ManyHeights) -> Result<(), Failed>
+    requires { HasRoom 8 line.old }
+    ensures { IsPut 8 (many_heights_note note.now) line.old line.new result }
+{
+    line.put("note: ")?;
+    line.put_number(note.points)?;
+    line.put(" points have more than one best height, up to ")?;
+    line.put_metres(note.apart)?;
+    line.put(" m apart at ")?;
+    line.put_name(&note.name)?;
+    line.put("\n")
 }

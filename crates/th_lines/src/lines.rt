@@ -5,12 +5,14 @@ ghost use Rattle.th_devices.specs.Limits.{calls_before};
 ghost use Rattle.th_lines.specs.Lines.{HasRoom, IsEnded, IsNew, IsPut, IsPutIn};
 ghost use Rattle.th_lines.specs.Shown.{shown, shown_lines};
 ghost use Rattle.th_lines.specs.declared.lines.TheConstants.{CAPACITY};
+ghost use Rattle.th_units.specs.Metres.{metres};
 
 use crate::shown::shown_byte;
 use gsi_word::Name;
 use itoa::Buffer;
 use std::marker::Model;
 use th_devices::{Failed, Sink};
+use th_units::metre_text;
 
 /// How many bytes wait until they are passed on together.
 const CAPACITY: usize = 1_024;
@@ -80,6 +82,14 @@ impl<K: Sink> Line<K> {
         ensures { IsPut 1 name.now self.old self.new result }
     {
         self.put_bytes(name.as_bytes())
+    }
+
+    /// Puts a length in units of 10 nm, in metres.
+    pub fn put_metres(&mut self, units: i64) -> Result<(), Failed>
+        requires { HasRoom 1 self.old }
+        ensures { IsPut 1 (metres units) self.old self.new result }
+    {
+        self.put_bytes(metre_text(units).as_bytes())
     }
 
     /// Puts a text as its bytes are shown.

@@ -9,9 +9,8 @@ ghost use Rattle.th_devices.specs.Devices.{IsReady};
 use crate::inputs::limit_of;
 use crate::refusals::{Input, Refusal};
 use std::alloc::AllocError;
-use th_book::BookFeed;
+use th_book::{BookFeed, Witness};
 use th_devices::{Failed, Source};
-use th_entries::Tally;
 
 /// How many bytes of a book are read at once, at most.
 const PIECE: usize = 4_096;
@@ -44,26 +43,24 @@ impl Feed for BookFeed {
     }
 }
 
-/// A book whose observations and whose review are read at once.
+/// A book whose observations are read while a witness sees its lines.
 #[derive(Drop)]
-pub(crate) struct ReviewedFeed {
+pub(crate) struct SeenFeed<W: Witness> {
     pub(crate) observations: BookFeed,
-    pub(crate) review: Tally,
+    pub(crate) witness: W,
 }
 
-impl Feed for ReviewedFeed {
+impl<W: Witness> Feed for SeenFeed<W> {
     ghost use Rattle.std.specs.Prelude.{ℕ, List};
     ghost use Rattle.th_book.specs.Witnesses.{IsSeeing};
-    ghost use Rattle.th_entries.specs.Tallied.{HasSeen};
-    ghost use Rattle.th_entries.specs.declared.seen.SeenNames.{SeenNames};
 
-    ghost Start = { SeenNames × ℕ × List ℕ };
+    ghost Start = { W.Start × ℕ × List ℕ };
 
     ghost has_taken = { λ start rest feed.
-        IsSeeing HasSeen start.0 start.1 start.2 rest feed.observations feed.review };
+        IsSeeing W.has_seen start.0 start.1 start.2 rest feed.observations feed.witness };
 
     fn take(&mut self, piece: &[u8]) -> Result<(), AllocError> {
-        self.observations.feed_to(piece, &mut self.review)
+        self.observations.feed_to(piece, &mut self.witness)
     }
 }
 

@@ -1,14 +1,16 @@
 //! A run that lists the observations of one book.
-ghost use Rattle.std.specs.Prelude.{IfErr, Ok};
+ghost use Rattle.std.specs.Prelude.{IfErr, Ok, OnOk};
 ghost use Rattle.th_devices.specs.Devices.{IsReady};
 ghost use Rattle.th_runs.specs.Inputs.{Meets, MeetsRefusal, given, owed_for_book};
 ghost use Rattle.th_runs.specs.Listed.{IsOfList, listed, listing};
+ghost use Rattle.th_runs.specs.Noted.{AreNone, AreNotesOfList};
 ghost use Rattle.th_runs.specs.Reads.{IsReadFor, refused};
 ghost use Rattle.th_runs.specs.Outcomes.{Outcome};
 ghost use Rattle.th_runs.specs.Writes.{AreWritable, AreWritten};
 
+use crate::notes::Notes;
 use crate::outputs::{OutputText, write_outs};
-use crate::readers::{BookReader, ObservationReader};
+use crate::readers::BookReader;
 use crate::refusals::{Input, Output, Refusal};
 use std::alloc::Global;
 use th_devices::{Sink, Source};
@@ -40,7 +42,35 @@ pub fn run_list<S: Source, K: Sink>(
     // How the book is read.
     ensures book { IsReadFor S.state (Input.Book 1) (refused result) book.old book.new }
 {
-    let observations = ObservationReader.read(alloc, 1, book)?;
+    run_list_with_notes(alloc, book, outs, &mut Notes::new(alloc))
+}
+
+/// Lists the observations of a book, as `run_list` does, and notes if it has no sight.
+pub fn run_list_with_notes<S: Source, K: Sink>(
+    alloc: Global,
+    book: &mut S,
+    outs: &mut [K],
+    notes: &mut Notes,
+) -> Result<(), Refusal>
+    requires none { AreNone notes.old }
+    requires book { IsReady (S.state book.old).counts }
+    requires outs { AreWritable K.state listing outs.old }
+
+    // What the answer means.
+    ensures outcome { Outcome
+        (MeetsRefusal (owed_for_book 1 (given S.state book.old book.new)))
+        (λ own. Meets (owed_for_book 1 (given S.state book.old book.new)) (Ok own))
+        (λ own. AreWritten K.state (refused result) (listed own) outs.old outs.new)
+        result outs.old outs.new }
+    ensures named { IfErr result IsOfList }
+
+    // How the book is read.
+    ensures book { IsReadFor S.state (Input.Book 1) (refused result) book.old book.new }
+
+    // What is noted.
+    ensures noted { OnOk result (AreNotesOfList (S.state book.old).left notes.new) }
+{
+    let observations = notes.read(alloc, 1, book)?;
     let list = list_text(alloc, observations.as_slice())?;
     write_outs(outs, &[OutputText::new(Output::List, list)])
 }

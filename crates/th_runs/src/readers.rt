@@ -7,7 +7,7 @@ ghost use Rattle.th_runs.specs.Inputs.{Meets, MeetsRefusal, given, owed_for_book
 ghost use Rattle.th_runs.specs.Reads.{IsOfBook, IsReadFor, refused};
 ghost use Rattle.th_devices.specs.Devices.{IsReady};
 
-use crate::feeds::{ReviewedFeed, feed_from};
+use crate::feeds::{SeenFeed, feed_from};
 use crate::refusals::{Input, Refusal};
 use std::alloc::{AllocError, Global};
 use std::mem;
@@ -110,18 +110,18 @@ impl BookReader for ReviewReader {
         book: &mut S,
     ) -> Result<Vec<Observation>, Refusal> {
         let names = mem::replace(&mut self.names, SeenNames::new(alloc));
-        let mut feed = ReviewedFeed {
+        let mut feed = SeenFeed {
             observations: BookFeed::new(alloc, number),
-            review: Tally::new(alloc, number, names),
+            witness: Tally::new(alloc, number, names),
         };
         feed_from(number, book, &mut feed)?;
-        let ReviewedFeed {
+        let SeenFeed {
             observations,
-            mut review,
+            mut witness,
         } = feed;
-        match observations.finish_to(&mut review) {
+        match observations.finish_to(&mut witness) {
             Ok(observations) => {
-                self.add(review)?;
+                self.add(witness)?;
                 Ok(observations)
             }
             Err(fault) => Err(refusal_of(number, fault)),
@@ -130,7 +130,7 @@ impl BookReader for ReviewReader {
 }
 
 /// The refusal for a fault of the book with this number.
-fn refusal_of(number: u32, fault: BookFault) -> Refusal
+pub(crate) fn refusal_of(number: u32, fault: BookFault) -> Refusal
     ensures memory { fault.kind ≡ BookKind.NoMemory → result ≡ Refusal.NoMemory }
     ensures book { fault.kind ≢ BookKind.NoMemory → result ≡ Refusal.Book number fault }
     ensures named { IsOfBook number result }

@@ -1,5 +1,5 @@
 -- What the readers of books promise one another.
-use Rattle.std.specs.Prelude.{◌≡◌, ◌+◌, ◌++◌, ℕ, List, [], ◌∷◌, Option, IfSome, Ok, length}
+use Rattle.std.specs.Prelude.{◌≡◌, ◌+◌, ◌++◌, ℕ, List, [], ◌∷◌, Option, IfSome, Ok, length, option_to_list}
 use Rattle.th_book.specs.Books.{book_answer}
 use Rattle.th_book.specs.Observed.{Observed}
 use Rattle.th_book.specs.Lines.{ParsedLine}
@@ -9,6 +9,8 @@ use Rattle.th_entries.specs.declared.seen.SeenNames.{SeenNames}
 use Rattle.th_entries.specs.Tallied.{HasSeen}
 use Rattle.th_entries.specs.declared.tallies.Tally.{Tally}
 use Rattle.th_entries.specs.declared.reviews.BookReview.{BookReview}
+use Rattle.th_remarks.specs.Sights.{no_sight_in}
+use Rattle.th_runs.specs.declared.notes.Notes.{Notes}
 
 -- a feed took these bytes: if it had just them left to take, it has none left now
 abbrev pub AreTaken : {B F : Type 0} → (B → List ℕ → F → Type 0) → List ℕ → F → F → Type 0
@@ -31,6 +33,13 @@ pub record IsReviewedNext (number : ℕ) (told : Option (List ℕ)) (observation
   pub reviewed : Reviews number (parsed_of text) review
   pub joined : new ≡ old ++ review ∷ []
   pub named : AddsBook number (parsed_of text) names more
+
+-- the book with this number was read, and noted if it has no sight; its text is the reported one, if one is reported
+pub record IsNotedNext (number : ℕ) (told : Option (List ℕ)) (old new : Notes) : Type 0 where
+  pub text : List ℕ
+  pub is_told : IfSome told (λ own. own ≡ text)
+  pub noted : new.books.items ≡ old.books.items ++ option_to_list (no_sight_in number (parsed_of text))
+  pub heights : new.heights ≡ old.heights
 
 -- a reader read books one after the other, numbered from this one on, and their observations were put after others
 abbrev pub HasReadBooks : {R : Type 0} → (ℕ → Option (List ℕ) → List Observed → R → R → Type 0) → ℕ → List (Option (List ℕ)) → List Observed → List Observed → R → R → Type 0

@@ -3,8 +3,8 @@ use Rattle.th_runs.specs.Adjusted.{OutTexts}
 use Rattle.th_runs.proofs.ReaderLemmas.{if_ok}
 use Rattle.th_runs.proofs.adjusting.texts_of_network.Goals as goal
 
-pub returns : goal.returns
-returns c =
+pub returns-clause-texts : goal.returns-clause-texts
+returns-clause-texts c =
     let texts : OutTexts = record {
       heights = c.in_ok-heights.heights.items;
       certificate = c.in_ok-certificate.certificate.items;

@@ -7,7 +7,7 @@ use Rattle.th_runs.specs.Reads.{outputs_place, refused}
 use Rattle.th_runs.specs.Writes.{AreWritten, Texts}
 use Rattle.th_runs.proofs.RunLemmas.{begun_of, list_refused, outcome_begun, written_within}
 use Rattle.th_runs.proofs.SourceLemmas.{read_before}
-use Rattle.th_runs.proofs.listing.run_list.Goals as goal
+use Rattle.th_runs.proofs.listing.run_list_with_notes.Goals as goal
 
 pub returns-in_err-observations-clause-outcome : goal.returns-in_err-observations-clause-outcome
 returns-in_err-observations-clause-outcome g c =

@@ -1,0 +1,44 @@
+-- What is noted of books that were read one after the other.
+use Rattle.std.proofs.Common.{◌≡◌, ◌∙◌, ◌+◌, ℕ, List, [], ◌∷◌, ◌++◌, IfSome, Ok, Err, ap, append-nil, append_assoc, subst, sym}
+use Rattle.std.specs.Prelude.{OnOk, Option, Result, option_to_list}
+use Rattle.th_book.specs.Observed.{Observed}
+use Rattle.th_entries.specs.Reviews.{parsed_of}
+use Rattle.th_entries.specs.Several.{numbered}
+use Rattle.th_remarks.specs.Sights.{no_sight_in}
+use Rattle.th_remarks.specs.declared.sights.NoSight.{NoSight}
+use Rattle.th_runs.specs.Inside.Readers.{HasReadBooks, IsNotedNext}
+use Rattle.th_runs.specs.Noted.{AreSightless, sightless}
+use Rattle.th_runs.specs.Reviewed.{AreTold}
+use Rattle.th_runs.specs.declared.notes.Notes.{Notes}
+
+-- books were read: what their texts are, and which of them were noted behind others
+pub record AreAllNoted (number : ℕ) (tolds : List (Option (List ℕ))) (old new : Notes) : Type 0 where
+  pub texts : List (List ℕ)
+  pub told : AreTold tolds texts
+  pub noted : new.books.items ≡ old.books.items ++ sightless (numbered number texts)
+
+pub all_noted : (number : ℕ) (tolds : List (Option (List ℕ))) (before after : List Observed) (old new : Notes)
+    → HasReadBooks (λ own told observations (first last : Notes). IsNotedNext own told first last) number tolds before after old new
+    → AreAllNoted number tolds old new
+all_noted number [] before after old new read = record {
+  texts = [];
+  told = tt;
+  noted = ap (λ (own : Notes). own.books.items) read.1 ∙ sym (append-nil old.books.items);
+}
+all_noted number (told ∷ tolds) before after old new read =
+    let next : IsNotedNext number told old read.0 = read.2 in
+    let rest : AreAllNoted (number + 1) tolds read.0 new = all_noted (number + 1) tolds (before ++ read.1) after read.0 new read.3 in
+    record {
+      texts = next.text ∷ rest.texts;
+      told = (next.is_told, rest.told);
+      noted = rest.noted ∙ ap (λ (own : List NoSight). own ++ sightless (numbered (number + 1) rest.texts)) next.noted
+          ∙ append_assoc old.books.items (option_to_list (no_sight_in number (parsed_of next.text))) (sightless (numbered (number + 1) rest.texts));
+    }
+
+-- where nothing was noted before, just they are noted
+pub sightless_of_all : (tolds : List (Option (List ℕ))) (old new : Notes) → AreAllNoted 1 tolds old new → old.books.items ≡ [] → AreSightless 1 tolds new.books.items
+sightless_of_all tolds old new read none = record {
+  texts = read.texts;
+  told = read.told;
+  noted = read.noted ∙ ap (λ (own : List NoSight). own ++ sightless (numbered 1 read.texts)) none;
+}
