@@ -1,5 +1,5 @@
 -- Notes of a run that was not refused: what the surveyor should know beside its outputs.
-use Rattle.std.specs.Prelude.{ℕ, Bool, true, false, List, [], ◌∷◌, ◌++◌, codes}
+use Rattle.std.specs.Prelude.{ℕ, ◌==◌, Bool, true, false, List, [], ◌∷◌, ◌++◌, codes, if◌then◌else◌, length}
 use Rattle.std.specs.Fmt.{decimal}
 use Rattle.th_remarks.specs.Words.{measured}
 use Rattle.th_remarks.specs.declared.heights.ManyHeights.{ManyHeights}
@@ -25,17 +25,23 @@ enumerated (number ∷ rest) = decimal number ++ (separator rest ++ enumerated r
 
 -- the words that a book has in place of sights, by their numbers
 abbrev pub words_seen : List ℕ → List ℕ
-words_seen [] = []
-words_seen (number ∷ []) = codes "; it has word " ++ enumerated (number ∷ [])
-words_seen (number ∷ next ∷ rest) = codes "; it has words " ++ enumerated (number ∷ next ∷ rest)
+words_seen numbers =
+    if length numbers == 0 then []
+    else ((if length numbers == 1 then codes "; it has word " else codes "; it has words ") ++ enumerated numbers)
+
+-- the beginning of the line of a book without a sight
+abbrev pub sightless_book : ℕ → List ℕ
+sightless_book book = codes "note: book " ++ (decimal book ++ codes " has no sight in ")
 
 -- the line of a book that has blocks and no sight
 abbrev pub no_sight_note : NoSight → List ℕ
 no_sight_note note =
-    codes "note: book " ++ (decimal note.book ++ (codes " has no sight in " ++ (decimal note.blocks ++ (codes " blocks (no word 33"
-    ++ (words_seen (numbers_in note.words measured) ++ codes ")\n")))))
+    sightless_book note.book ++ (decimal note.blocks ++ (codes " blocks (no word 33" ++ (words_seen (numbers_in note.words measured) ++ codes ")\n")))
 
--- the line of points that have more than one best height: the lowest and the highest are farthest apart at the named one
+-- the beginning of the line of points that have more than one best height
+abbrev pub loose_points : ℕ → List ℕ
+loose_points points = codes "note: " ++ (decimal points ++ codes " points have more than one best height, up to ")
+
+-- the line of these points: the lowest and the highest height are farthest apart at the named one
 abbrev pub many_heights_note : ManyHeights → List ℕ
-many_heights_note note =
-    codes "note: " ++ (decimal note.points ++ (codes " points have more than one best height, up to " ++ (metres note.apart ++ (codes " m apart at " ++ (note.name ++ codes "\n")))))
+many_heights_note note = loose_points note.points ++ (metres note.apart ++ (codes " m apart at " ++ (note.name ++ codes "\n")))

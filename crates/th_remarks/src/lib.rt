@@ -10,7 +10,9 @@ mod words;
 
 // Points with more than one best height.
 mod heights;
+mod gaps;
 
-pub use heights::{ManyHeights, many_heights};
+pub use gaps::many_heights;
+pub use heights::ManyHeights;
 pub use sights::{NoSight, SightWatch};
 pub use words::{MEASURED, MEASURED_WORDS};

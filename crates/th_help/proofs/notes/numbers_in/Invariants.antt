@@ -5,6 +5,6 @@ use Rattle.th_help.proofs.notes.numbers_in.Given as goal
 
 abbrev pub invariant-loop-place : goal.invariant-loop-place
 invariant-loop-place l = record {
-  chosen : l.numbers ≡ numbers_in (take l.place l.words) measured;
-  few : length l.numbers ≤ l.place;
+  chosen : l.numbers.items ≡ numbers_in (take l.place l.words) measured;
+  few : length l.numbers.items ≤ l.place;
 }

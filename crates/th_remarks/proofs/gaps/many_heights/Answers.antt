@@ -1,12 +1,13 @@
-use Rattle.std.proofs.Common.{arith, ◌≡◌, ◌⊎◌, inl, inr, ℕ, List, ◌+◌, ◌<◌, ◌∙◌, length, ap, sym, Bool, true, false, ℤ, pos, ◌≤ℤ◌, ◌<ℤ◌, to_z, of_z, w64}
+use Rattle.std.proofs.Common.{unsigned_abs, ◌*◌, arith, ◌≡◌, ◌⊎◌, inl, inr, ℕ, List, ◌+◌, ◌<◌, ◌∙◌, length, ap, sym, Bool, true, false, ℤ, pos, ◌≤ℤ◌, ◌<ℤ◌, to_z, of_z, w64}
 use Rattle.std.proofs.lemmas.Int.{ints}
 use Rattle.std.specs.Int.{is_positive}
 use Rattle.th_entries.specs.Below.{count_below}
+use Rattle.th_network.specs.Limits.{height_limit}
 use Rattle.th_remarks.specs.Heights.{gap_at}
 use Rattle.th_remarks.proofs.BelowLemmas.{count-le, count_next, split}
 use Rattle.th_remarks.proofs.GapLemmas.{below_next, equal, named, not_above, weaken}
-use Rattle.th_remarks.proofs.heights.many_heights.Goals as goal
-use Rattle.th_remarks.proofs.heights.many_heights.Goals.{then-gap-gt0, else-gap-gt0, then-gap-apart, else-gap-apart}
+use Rattle.th_remarks.proofs.gaps.many_heights.Goals as goal
+use Rattle.th_remarks.proofs.gaps.many_heights.Goals.{then-gap-gt0, else-gap-gt0, then-gap-apart, else-gap-apart}
 
 pub overflow_add-points : goal.overflow_add-points
 overflow_add-points c =
@@ -17,6 +18,7 @@ overflow_add-points c =
 pub loop-k-preserved : goal.loop-k-preserved
 loop-k-preserved c = record {
   points = points;
+  small = small;
   positive = positive;
   at = at;
   widest = widest;
@@ -33,7 +35,7 @@ loop-k-preserved c = record {
     test place = is_positive (gap_at low high place)
 
     gap : to_z w64 (of_z w64 c.gap_at-gap.result) ≡ gap_at low high c.loop-k.k
-    gap = omega (arith, ints, c.gap_at-gap.type_inv) ∙ c.gap_at-gap.ensures
+    gap = omega (arith, ints, c.gap_at-gap.type_inv) ∙ c.gap_at-gap.ensures.gap
 
     points : c.if-gap-gt0.points ≡ count_below test (c.loop-k.k + 1)
     points = elim c.if-gap-gt0.branch [
@@ -44,6 +46,12 @@ loop-k-preserved c = record {
     -- below the place that comes next, or there
     last : (other : ℕ) → other < c.loop-k.k + 1 → (other < c.loop-k.k) ⊎ (other ≡ c.loop-k.k)
     last other within = split other c.loop-k.k within
+
+    small : unsigned_abs (to_z w64 c.if-gap-apart.apart-bits) < 2 * height_limit
+    small = elim c.if-gap-apart.branch [
+      | then-gap-apart w ↦ rw (w.apart-is, gap, ← c.gap_at-gap.ensures.gap) c.gap_at-gap.ensures.small
+      | else-gap-apart w ↦ rw w.apart-is c.loop-k.invariant.small
+    ]
 
     positive : pos 0 ≤ℤ to_z w64 c.if-gap-apart.apart-bits
     positive = elim c.if-gap-apart.branch [
