@@ -1,5 +1,5 @@
 -- What is noted of books that were read one after the other.
-use Rattle.std.proofs.Common.{◌≡◌, ◌∙◌, ◌+◌, ℕ, List, [], ◌∷◌, ◌++◌, IfSome, Ok, Err, ap, append-nil, append_assoc, subst, sym}
+use Rattle.std.proofs.Common.{◌≡◌, ◌∙◌, ◌+◌, ℕ, List, [], ◌∷◌, ◌++◌, Ok, Err, ap, append-nil, append_assoc, sym}
 use Rattle.std.specs.Prelude.{OnOk, Option, Result, option_to_list}
 use Rattle.th_book.specs.Observed.{Observed}
 use Rattle.th_entries.specs.Reviews.{parsed_of}
@@ -7,7 +7,7 @@ use Rattle.th_entries.specs.Several.{numbered}
 use Rattle.th_remarks.specs.Sights.{no_sight_in}
 use Rattle.th_remarks.specs.declared.sights.NoSight.{NoSight}
 use Rattle.th_runs.specs.Inside.Readers.{HasReadBooks, IsNotedNext}
-use Rattle.th_runs.specs.Noted.{AreSightless, sightless}
+use Rattle.th_runs.specs.Noted.{AreNone, AreNotesOfList, AreSightless, sightless}
 use Rattle.th_runs.specs.Reviewed.{AreTold}
 use Rattle.th_runs.specs.declared.notes.Notes.{Notes}
 
@@ -41,4 +41,21 @@ sightless_of_all tolds old new read none = record {
   texts = read.texts;
   told = read.told;
   noted = read.noted ∙ ap (λ (own : List NoSight). own ++ sightless (numbered 1 read.texts)) none;
+}
+
+-- what holds anyway holds of a good answer
+pub always : {X E Q : Type 0} (result : Result X E) → Q → OnOk result Q
+always (Ok x) holds = holds
+always (Err e) holds = tt
+
+-- one book was read
+pub list_noted : (told : Option (List ℕ)) (old new : Notes) → AreNone old → IsNotedNext 1 told old new → AreNotesOfList told new
+list_noted told old new none next = record {
+  books = record {
+    texts = next.text ∷ [];
+    told = (next.is_told, tt);
+    noted = next.noted ∙ ap (λ (own : List NoSight). own ++ option_to_list (no_sight_in 1 (parsed_of next.text))) none.books
+        ∙ sym (append-nil (option_to_list (no_sight_in 1 (parsed_of next.text))));
+  };
+  heights = next.heights ∙ none.heights;
 }

@@ -5,6 +5,7 @@ use Rattle.th_runs.specs.declared.refusals.Output.{Output}
 use Rattle.th_runs.specs.declared.refusals.Output.TheVariants as output
 use Rattle.th_runs.specs.Reads.{outputs_place, refused}
 use Rattle.th_runs.specs.Writes.{AreWritten, Texts}
+use Rattle.th_runs.proofs.NoteLemmas.{always, list_noted}
 use Rattle.th_runs.proofs.RunLemmas.{begun_of, list_refused, outcome_begun, written_within}
 use Rattle.th_runs.proofs.SourceLemmas.{read_before}
 use Rattle.th_runs.proofs.listing.run_list_with_notes.Goals as goal
@@ -24,3 +25,6 @@ pub returns-clause-book : goal.returns-clause-book
 returns-clause-book g c =
     read_before _ (input.Book 1) (refused c.write_outs.result) outputs_place (outputs_place + 1) _ _
     (written_within c.write_outs.result (begun_of (c.new.result.0 ∷ []) c.write_outs.result c.write_outs.ensures.named)) (omega arith) c.in_ok-observations.ensures.book
+
+pub returns-clause-noted : goal.returns-clause-noted
+returns-clause-noted g c = always c.write_outs.result (list_noted _ _ _ c.requires.none c.in_ok-observations.ensures.read)
