@@ -1,0 +1,5 @@
+pub mod Joins
+pub mod Groupings
+pub mod Distances
+pub mod Heights
+pub mod Bends

@@ -1,0 +1,9 @@
+pub mod Scales
+pub mod Groups
+pub mod Lines
+pub mod Curves
+pub mod Points
+pub mod Gaps
+pub mod Names
+pub mod Pictures
+pub mod Laws
