@@ -1,0 +1,2 @@
+pub mod Strips
+pub mod Laws
