@@ -7,7 +7,7 @@ BOOK ?= examples/building_site.gsi
 LOG := build.log
 
 .PHONY: help try run refuse list toolchain build built calls check test gate examples statuses killed files completions documents \
-	made-up edits guides reserved compare office mutated each-byte planted memory attacks attacks-of-today \
+	made-up edits unused alike guides reserved compare office mutated each-byte planted memory attacks attacks-of-today \
 	hostile bench install uninstall clean
 
 help:
@@ -27,6 +27,8 @@ help:
 	@echo 'make documents test the pages: commands, links, sizes, and docs/THEOREM.md against the definitions'
 	@echo 'make made-up   fail where product code creates an allocation failure itself, but in the listed places'
 	@echo 'make edits     fail where an edit of must-fail/ or attacks/ no longer fits the code'
+	@echo 'make unused    fail where nothing uses a lemma or a definition'
+	@echo 'make alike     fail where two places of the program share twelve lines of code or more'
 	@echo 'make guides    run the tests of the solver with guides that are no help (some minutes)'
 	@echo 'make reserved  run the built program with little room to reserve memory, on small and on full inputs'
 	@echo 'make compare   compare the built program with the second reader on mutated books (BOOKS=$(BOOKS) SEED=$(SEED))'
@@ -73,7 +75,7 @@ calls:
 	@cd crates/tests_memory && rt run < /dev/null > ../../$(LOG) 2>&1 || { tail -n 40 ../../$(LOG); exit 1; }
 
 # What runs the built program or only reads the repository, several at a time: each works in folders of its own.
-SCRIPTS := examples statuses killed files completions documents made-up edits reserved compare office mutated planted memory
+SCRIPTS := examples statuses killed files completions documents made-up edits unused alike reserved compare office mutated planted memory
 AT_ONCE ?= $(shell nproc)
 SIDE_BY_SIDE = $(MAKE) --no-print-directory --jobs=$(AT_ONCE) --output-sync=target
 
@@ -118,6 +120,12 @@ made-up:
 
 edits:
 	@tests/edits
+
+unused:
+	@tests/unused
+
+alike:
+	@tests/alike
 
 guides:
 	@tests/bad_guides/run
