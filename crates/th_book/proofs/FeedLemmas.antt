@@ -1,7 +1,7 @@
 -- A book that comes in pieces gives what the pieces joined give.
 use Rattle.std.proofs.Common.{◌≡◌, ◌<◌, ◌≤◌, ℕ, suc, ◌+◌, Bool, true, false, cond, List, [], ◌∷◌, ◌++◌, length, map, take, drop, None, Result, Err, refl, sym, ap, ◌∙◌, subst, arith, append_assoc, length-append, zero-add}
 use Rattle.std.specs.Prelude.{nat_lt, is_none}
-use Rattle.std.proofs.lemmas.Bool.{le-ltb, lt-ltb}
+use Rattle.std.proofs.lemmas.Bool.{le-ltb}
 use Rattle.std.proofs.lemmas.List.{take-append-drop}
 use Rattle.gsi_block.specs.Blocks.{block_at}
 use Rattle.gsi_block.specs.Lines.{lines_of}
@@ -9,7 +9,7 @@ use Rattle.gsi_block.specs.Pieces.{LineState, cut_line, cut_lines, lines_due}
 use Rattle.th_book.specs.Observed.{Observed}
 use Rattle.th_book.specs.Books.{answer_of, book_answer, lines_answer, too_long}
 use Rattle.th_book.specs.Limits.{max_book}
-use Rattle.th_book.specs.Due.{BookState, IsRefused, IsTaken, IsWanting, due}
+use Rattle.th_book.specs.Due.{BookState, IsRefused, IsWanting, due}
 use Rattle.th_book.specs.Feeds.{FeedState, IsWantingIn, IsWithin, feed_due}
 use Rattle.th_book.specs.Inside.Feeds.{AreTaken, IsGiven}
 use Rattle.th_book.specs.declared.faults.BookFault.{BookFault}
@@ -38,10 +38,6 @@ new_feed_counted book lines none cut later =
     as_many : (lines : List (List ℕ)) → length (cut_lines lines) ≡ length lines
     as_many [] = refl
     as_many (line ∷ lines) = ap suc (as_many lines)
-
--- a line that was taken was given, and so was one with a fault
-pub given_taken : (old new : BookState) (line : List ℕ) → IsTaken old new line → IsGiven old new line
-given_taken old new line taken = record { keeps = taken.keeps; counted = omega (arith, taken.lines) }
 
 pub given_refused : (old new : BookState) (line : List ℕ) (fault : BookFault) → IsRefused old new line fault → IsGiven old new line
 given_refused old new line fault refused = record {
@@ -139,12 +135,6 @@ IsTaking-wanting_in old_book old_lines book after lines new piece rest fault is 
   full = wanting.full;
   kind = wanting.kind;
 }
-
--- a book that is too long stays so
-pub fed_long : (old new : FeedState) (piece : List ℕ) → max_book < old.bytes + length piece → max_book < new.bytes → (later : List ℕ) → feed_due new later ≡ feed_due old (piece ++ later)
-fed_long old new piece was is later =
-    ap (λ long. cond long (Err too_long) (due new.book (lines_due new.lines later))) (lt-ltb max_book (new.bytes + length later) (omega (arith, is)))
-    ∙ ap (λ long. cond long (Err too_long) (due old.book (lines_due old.lines (piece ++ later)))) (sym (lt-ltb max_book (old.bytes + length (piece ++ later)) (omega (arith, was, length-append piece later))))
 
 -- a piece that was taken keeps what is due
 pub fed_short : (old new : FeedState) (piece : List ℕ) → new.bytes ≡ old.bytes + length piece → AreTaken old.book old.lines new.book new.lines piece → (later : List ℕ) → feed_due new later ≡ feed_due old (piece ++ later)

@@ -11,15 +11,6 @@ use Rattle.th_book.specs.Setups.{IsHeight, IsRunning, StandsAt}
 use Rattle.th_book.specs.declared.setups.Setup.{Setup}
 use Rattle.th_book.specs.Indexes.{reflector_height, instrument_height}
 
--- the last place below a bound lies below it
-pub last_below-lt : (test : ℕ → Bool) (bound place : ℕ) → last_below test bound ≡ Some place → place < bound
-last_below-lt test zero place h = cc
-last_below-lt test (suc bound) place h = go (test bound) h (last_below-lt test bound place)
-  where
-    go : (passes : Bool) → cond passes (Some bound) (last_below test bound) ≡ Some place → (last_below test bound ≡ Some place → place < bound) → place < suc bound
-    go true e below = let same : bound ≡ place = cc in omega arith
-    go false e below = let before : place < bound = below e in omega arith
-
 -- no place is the last where none passes
 pub last_below-none : (test : ℕ → Bool) (bound : ℕ) → ((k : ℕ) → k < bound → test k ≡ false) → last_below test bound ≡ None
 last_below-none test zero fails = refl

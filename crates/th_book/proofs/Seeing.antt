@@ -1,10 +1,9 @@
 -- What a witness sees while a book is read.
-use Rattle.std.proofs.Common.{◌≡◌, ◌<◌, ◌≤◌, ℕ, zero, suc, ◌+◌, Bool, true, false, cond, List, [], ◌∷◌, ◌++◌, map, length, take, drop, append-nil, append_assoc, length-append, length-drop, Option, Some, None, Result, Ok, Err, refl, sym, ap, ◌∙◌, subst, arith}
+use Rattle.std.proofs.Common.{◌≡◌, ◌<◌, ◌≤◌, ℕ, zero, suc, ◌+◌, Bool, true, false, cond, List, [], ◌∷◌, ◌++◌, map, length, take, drop, append-nil, append_assoc, length-drop, Option, Some, None, Result, Ok, Err, refl, sym, ap, ◌∙◌, subst, arith}
 use Rattle.std.specs.Prelude.{nat_lt}
 use Rattle.std.specs.Result.{OnOk}
-use Rattle.std.proofs.lemmas.Bool.{lt-ltb, ltb-false}
+use Rattle.std.proofs.lemmas.Bool.{ltb-false}
 use Rattle.std.proofs.lemmas.List.{take-append-drop}
-use Rattle.std.proofs.lemmas.Option.{none-some}
 use Rattle.gsi_word.specs.Words.{parts_of, result_map}
 use Rattle.gsi_word.specs.declared.words.Word.{Word}
 use Rattle.gsi_block.specs.Blocks.{block_at, block_with}
@@ -25,7 +24,6 @@ use Rattle.th_book.specs.Inside.Witnesses.{AreSeen, IsSeenNext}
 use Rattle.th_book.specs.declared.setups.Setup.{Setup}
 use Rattle.th_book.specs.declared.steps.Step.{Step}
 use Rattle.th_book.specs.declared.faults.BookFault.{BookFault}
-use Rattle.th_book.proofs.FeedLemmas.{fed_long}
 use Rattle.th_book.proofs.Holding.{after-taken}
 use Rattle.th_book.proofs.Keeping.{Keeps-more}
 use Rattle.th_book.proofs.Reading.{length-lines_of}
@@ -125,11 +123,6 @@ seen_blank has_seen state line before after blank sees = λ start number parsed 
   sees start number parsed place (record { here = here; blank = is ∙ blank }) seen,
 )
 
--- a book with a fault is none of these lines
-pub seen_faulty : {S W : Type 0} → (has_seen : S → ℕ → List ParsedLine → ℕ → W → Type 0) (state new : BookState) (line : List ℕ) (fault : BookFault) (before after : W) → state.fault ≡ Some fault → IsSeenNext has_seen state new line before after
-seen_faulty has_seen state new line fault before after found = λ start number parsed place here is keeps seen.
-    absurd (none-some fault (sym keeps.faultless ∙ found))
-
 -- and no line of theirs is refused
 pub seen_refused : {S W : Type 0} → (has_seen : S → ℕ → List ParsedLine → ℕ → W → Type 0) (state new : BookState) (line : List ℕ) (fault : BookFault) (before after : W) → IsRefused state new line fault → IsSeenNext has_seen state new line before after
 seen_refused has_seen state new line fault before after refused = λ start number parsed place here is keeps seen.
@@ -180,16 +173,6 @@ seen_more has_seen old_book old_lines piece first book new lines after rest line
 pub seen_then : {S W : Type 0} → (has_seen : S → ℕ → List ParsedLine → ℕ → W → Type 0) (old_book : BookState) (old_lines : LineState) (piece : List ℕ) (first : W) (book new : BookState) (lines after : LineState) (rest last : List ℕ) (before own : W) → AreSeen has_seen old_book old_lines piece first book lines rest before → AreSeen has_seen book lines rest before new after last own → AreSeen has_seen old_book old_lines piece first new after last own
 seen_then has_seen old_book old_lines piece first book new lines after rest last before own are more = λ start number parsed later none short was.
     more start number parsed later none short (are start number parsed later none short was)
-
--- nothing is seen of a book that is too long
-pub seeing_long : {S W : Type 0} → (has_seen : S → ℕ → List ParsedLine → ℕ → W → Type 0) (old new : FeedState) (piece : List ℕ) (witness : W) → max_book < old.bytes + length piece → max_book < new.bytes → (start : S) (number : ℕ) (text later : List ℕ) → IsSeeing has_seen start number text (piece ++ later) old witness → IsSeeing has_seen start number text later new witness
-seeing_long has_seen old new piece witness was is start number text later seeing = record {
-  due = fed_long old new piece was is later ∙ seeing.due;
-  seen = λ faultless. absurd (not_ok faultless.0 (sym (ap (λ long. cond long (Err too_long) (due old.book (lines_due old.lines (piece ++ later)))) (lt-ltb max_book (old.bytes + length (piece ++ later)) (omega (arith, was, length-append piece later)))) ∙ seeing.due ∙ faultless.1));
-}
-  where
-    not_ok : (observations : List Observed) → cond true (Err too_long) (due old.book (lines_due old.lines (piece ++ later))) ≡ Ok observations → ⊥
-    not_ok observations e = cc
 
 -- the lines of a piece are seen
 pub seeing_more : {S W : Type 0} → (has_seen : S → ℕ → List ParsedLine → ℕ → W → Type 0) (old new : FeedState) (piece : List ℕ) (before after : W) → ((later : List ℕ) → feed_due new later ≡ feed_due old (piece ++ later)) → AreSeen has_seen old.book old.lines piece before new.book new.lines [] after → (start : S) (number : ℕ) (text later : List ℕ) → IsSeeing has_seen start number text (piece ++ later) old before → IsSeeing has_seen start number text later new after

@@ -1,21 +1,46 @@
 -- What a flow shows of each group with the same observations.
-use Rattle.std.proofs.Common.{◌≡◌, ℕ, ◌+◌, ◌<◌, ◌≤◌, Bool, true, false, List, map, None, All, Contains, refl, sym, ap, subst}
+use Rattle.std.proofs.Common.{◌≡◌, ◌≢◌, ℕ, ◌+◌, ◌<◌, ◌≤◌, Bool, true, false, List, map, None, All, Contains, eqb, if◌then◌else◌, refl, sym, ap, subst}
 use Rattle.th_book.specs.Observed.{Observed}
 use Rattle.th_network.specs.Networks.{Survey}
 use Rattle.th_network.specs.Walks.{Anchored}
 use Rattle.th_cuts.specs.Cuts.{Weighted, drain, on_side}
 use Rattle.th_cuts.specs.Drains.{IsLeastDrain}
+use Rattle.th_reliability.specs.Blames.{IsBlame}
 use Rattle.th_reliability.specs.Blunders.{weight_in}
-use Rattle.th_reliability.specs.Effects.{IsEffect}
+use Rattle.th_reliability.specs.Effects.{HasBlame, IsEffect}
 use Rattle.th_reliability.specs.Inside.Effects.{IsLeastDrained, Moves, of_less}
 use Rattle.th_reliability.specs.Inside.Graphs.{IsGraphOf}
+use Rattle.th_reliability.specs.Inside.Sides.{names_beyond}
 use Rattle.th_reliability.specs.Inside.Targets.{AreAtVertex, AreTargets}
+use Rattle.th_reliability.specs.Moves.{IsLeastSet}
+use Rattle.th_reliability.specs.SharedMistakes.{IsSharedMistake}
 use Rattle.th_reliability.specs.declared.effects.Effect.{Effect}
-use Rattle.th_reliability.specs.declared.mistakes.SharedMistake.TheVariants.{Shows, Ties}
+use Rattle.th_reliability.specs.declared.mistakes.SharedMistake.{SharedMistake}
+use Rattle.th_reliability.specs.declared.mistakes.SharedMistake.TheVariants.{Drags, Shows, Ties, Unchecked}
 use Rattle.th_reliability.proofs.BoundLemmas.{WeighSome}
 use Rattle.th_reliability.proofs.EntryLemmas.{drained_least, just_set, just_word, less_set, less_word, more_least, shows}
 
+-- none of these words is that of a mistake that shows
+less_unshown : (value weight : ℕ) → of_less value weight ≢ Shows
+less_unshown value weight = by (eqb value weight)
+  where
+    by : (b : Bool) → (if b then Unchecked else Drags) ≢ Shows
+    by true is = cc
+    by false is = cc
+
+tie_unshown : Ties ≢ Shows
+tie_unshown is = cc
+
 module _ (survey : Survey) (group : Observed → Bool) (marks : List Bool) (marked : marks ≡ map group survey.observations) where
+  -- a word and a least set make an effect
+  pub moved_effect : (mistake : SharedMistake) (side : List Bool) (effect : Effect) → IsSharedMistake survey group mistake → mistake ≢ Shows → IsLeastSet survey group (names_beyond survey (on_side side)) → Moves survey marks mistake side effect → IsEffect survey group effect
+  moved_effect mistake side effect word unshown least moves = record {
+    word = subst (IsSharedMistake survey group) (sym moves.word) word;
+    blame = subst (λ (m : SharedMistake). HasBlame survey group m effect.blame) (sym moves.word) (subst (HasBlame survey group mistake) (sym moves.blame.1) (
+      unshown,
+      (names_beyond survey (on_side side), least, subst (λ (own : List Bool). IsBlame survey own (names_beyond survey (on_side side)) moves.blame.0) marked moves.blame.2),
+    ));
+  }
 
   module _ (start weight : ℕ) (at : AreAtVertex survey group start) (rooms targets : List ℕ) (are : AreTargets survey group start rooms targets) (graph : Weighted) (is : IsGraphOf survey graph) (weighs : weight ≡ weight_in survey.observations survey.weights group) where
     pub less_effect : (value : ℕ) (side : List Bool) (effect : Effect) → IsLeastDrain graph.edges rooms start value side → value < weight + weight → Moves survey marks (of_less value weight) side effect → IsEffect survey group effect

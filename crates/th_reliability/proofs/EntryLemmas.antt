@@ -1,14 +1,16 @@
 -- What a mistake does that a group with an end at one vertex shares, by what the sets with that vertex drain.
 use Rattle.std.proofs.Common.{◌≡◌, ◌⊎◌, ℕ, ◌+◌, ◌<◌, ◌≤◌, inl, inr, Bool, true, false, not, List, [], ◌∷◌, get_or, map, Option, Some, None, All, Contains, eqb, ltb, if◌then◌else◌, refl, sym, ap, ◌∙◌, subst, arith}
-use Rattle.std.proofs.lemmas.Bool.{cases_Bool, eqb-false, eqb-true, ltb-false, ltb-true}
+use Rattle.std.proofs.lemmas.Bool.{cases_Bool, eqb-false, eqb-true, false≢true, ltb-false, ltb-true}
 use Rattle.std.proofs.lemmas.List.Elements.{All-contains, All-head, All-tail}
 use Rattle.std.proofs.lemmas.List.Sums.{sum_by-cons}
 use Rattle.th_book.specs.Observed.{Observed}
 use Rattle.th_tables.specs.Rows.{weight_of}
 use Rattle.th_network.specs.Networks.{Survey}
 use Rattle.th_network.specs.Walks.{Anchored}
-use Rattle.th_cuts.specs.Cuts.{Weighted, crosses as edge_crosses, drain, on_side}
+use Rattle.th_cuts.specs.declared.edges.Edge.{Edge}
+use Rattle.th_cuts.specs.Cuts.{Weighted, crosses as edge_crosses, cut_weight, drain, on_side}
 use Rattle.th_cuts.specs.Drains.{IsLeastDrain}
+use Rattle.th_cuts.proofs.CutTreeLemmas.{mirrored}
 use Rattle.th_reliability.specs.Blunders.{weight_in}
 use Rattle.th_reliability.specs.Cuts.{IsFreeSet, crosses}
 use Rattle.th_reliability.specs.Blames.{IsBlame}
@@ -18,7 +20,7 @@ use Rattle.th_reliability.specs.declared.effects.Effect.{Effect}
 use Rattle.th_reliability.specs.Edges.{edge_of, vertices_in}
 use Rattle.th_reliability.specs.Groups.{own_cut, rest_cut}
 use Rattle.th_reliability.specs.Inside.Graphs.{IsGraphOf}
-use Rattle.th_reliability.specs.Inside.Targets.{AreAtVertex, AreTargets, far_vertex, vertex}
+use Rattle.th_reliability.specs.Inside.Targets.{AreAtVertex, AreTargets, IsAtVertex, far_vertex, group_room, room_of, vertex}
 use Rattle.th_reliability.specs.Inside.Effects.{IsLeastDrained, of_less}
 use Rattle.th_reliability.specs.Inside.Sides.{names_beyond}
 use Rattle.th_reliability.specs.Moves.{IsLeastSet}
@@ -31,6 +33,57 @@ use Rattle.th_reliability.proofs.SideLemmas.{beyond_crosses, beyond_free}
 use Rattle.th_reliability.proofs.VertexLemmas.{crosses_same, ends_agree}
 
 module _ (survey : Survey) (group : Observed → Bool) (start : ℕ) where
+  -- a side crosses what a set of names crosses, and an observation of the group has an end at the vertex
+  record Sees (inside : List ℕ → Bool) (side : ℕ → Bool) (o : Observed) : Type 0 where
+    crossing : edge_crosses side (edge_of survey.observations survey.benchmarks survey.weights o) ≡ crosses inside o
+    at : group o ≡ true → IsAtVertex survey start o
+
+  -- ---- what a set drains, beside what it cuts of the group and of the others
+  one_drained : (g c t : Bool) (w : ℕ) → (g ≡ true → c ≡ not t) → ((if c then w else 0) + (if g then (if t then w + w else 0) else 0)) + (if g then (if c then w else 0) else 0) ≡ (if g then 0 else (if c then w else 0)) + ((if g then w else 0) + (if g then w else 0))
+  one_drained true true true w is = absurd (false≢true (sym (is refl)))
+  one_drained true true false w is = omega arith
+  one_drained true false true w is = omega arith
+  one_drained true false false w is = absurd (false≢true (is refl))
+  one_drained false true t w is = omega arith
+  one_drained false false t w is = omega arith
+
+  -- of an observation with an end on the side, the other end is there just where it does not cross
+  from_on : (s t : Bool) → s ≡ true → (if s then (if t then false else true) else t) ≡ not t
+  from_on true true on = refl
+  from_on true false on = refl
+  from_on false t on = absurd (false≢true on)
+
+  to_on : (s t : Bool) → t ≡ true → (if s then (if t then false else true) else t) ≡ not s
+  to_on true true on = refl
+  to_on false true on = refl
+  to_on s false on = absurd (false≢true on)
+
+  seen : (inside : List ℕ → Bool) (side : ℕ → Bool) (o : Observed) → side start ≡ true → Sees inside side o → group o ≡ true → crosses inside o ≡ not (side (far_vertex survey start o))
+  seen inside side o on sees own = sym sees.crossing ∙ by (eqb (vertex survey o.station) start) refl (sees.at own)
+    where
+      by : (b : Bool) → eqb (vertex survey o.station) start ≡ b → IsAtVertex survey start o → edge_crosses side (edge_of survey.observations survey.benchmarks survey.weights o) ≡ not (side (if b then vertex survey o.target else vertex survey o.station))
+      by true e at = from_on (side (vertex survey o.station)) (side (vertex survey o.target)) (ap side (eqb-true (vertex survey o.station) start e) ∙ on)
+      by false e (inl at) = let differs = eqb-false (vertex survey o.station) start e in absurd (omega arith)
+      by false e (inr at) = to_on (side (vertex survey o.station)) (side (vertex survey o.target)) (ap side at ∙ on)
+
+  drained : (inside : List ℕ → Bool) (side : ℕ → Bool) (observations : List Observed) → side start ≡ true → All (Sees inside side) observations → (cut_weight side (map (edge_of survey.observations survey.benchmarks survey.weights) observations) + group_room survey group start side observations) + own_cut observations survey.weights group inside ≡ rest_cut observations survey.weights group inside + (weight_in observations survey.weights group + weight_in observations survey.weights group)
+  drained inside side [] on h = refl
+  drained inside side (o ∷ observations) on h =
+      let here = All-head (Sees inside side) o observations h in
+      let more = drained inside side observations on (All-tail (Sees inside side) o observations h) in
+      let w = weight_of survey.weights o.station o.target in
+      let one = one_drained (group o) (crosses inside o) (side (far_vertex survey start o)) w (seen inside side o on here) in
+      let first = ap (λ (c : Bool). if c then w else 0) here.crossing in
+      let a = sum_by-cons (λ (e : Edge). if edge_crosses side e then e.weight else 0) (edge_of survey.observations survey.benchmarks survey.weights o) (map (edge_of survey.observations survey.benchmarks survey.weights) observations) in
+      let b = sum_by-cons (λ (x : Observed). if group x then room_of survey start side x else 0) o observations in
+      let d = sum_by-cons (λ (x : Observed). if group x then (if crosses inside x then weight_of survey.weights x.station x.target else 0) else 0) o observations in
+      let e = sum_by-cons (λ (x : Observed). if group x then 0 else (if crosses inside x then weight_of survey.weights x.station x.target else 0)) o observations in
+      let f = sum_by-cons (λ (x : Observed). if group x then weight_of survey.weights x.station x.target else 0) o observations in
+      omega arith
+
+  -- ---- sides and sets
+  mirror : (side : ℕ → Bool) (o : Observed) → edge_crosses (λ v. not (side v)) (edge_of survey.observations survey.benchmarks survey.weights o) ≡ edge_crosses side (edge_of survey.observations survey.benchmarks survey.weights o)
+  mirror side o = mirrored (side (vertex survey o.station)) (side (vertex survey o.target))
 
   module _ (at : AreAtVertex survey group start) where
     -- each free set has a side with the vertex

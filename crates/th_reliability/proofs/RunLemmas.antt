@@ -1,8 +1,9 @@
 -- Observations in the order of books and lines, and what the sights among them come to.
-use Rattle.std.proofs.Common.{◌≡◌, ◌<◌, ◌+◌, ◌-◌, [], ℕ, zero, suc, true, List, get_or, if◌then◌else◌, length, subst, sum_by, take, sym, ap, ◌∙◌, arith}
+use Rattle.std.proofs.Common.{◌≡◌, ◌<◌, ◌≤◌, ◌+◌, ◌-◌, [], ℕ, zero, suc, pos, Bool, true, false, List, get_or, if◌then◌else◌, length, subst, sum_by, take, sym, ap, ◌∙◌, arith}
 use Rattle.std.specs.List.Sorted.{IsPartitionedBy}
 use Rattle.std.proofs.lemmas.Bool.Decides.{nat_tests}
 use Rattle.std.proofs.lemmas.List.{take_all}
+use Rattle.std.proofs.lemmas.List.Sums.{sum_by_more}
 use Rattle.th_book.specs.Observed.{Observed}
 use Rattle.th_reliability.specs.Sights.{in_sights}
 use Rattle.th_reliability.specs.declared.sights.Sights.{Sights}
@@ -35,6 +36,20 @@ module _ (observations : List Observed) (sights : Sights) (value : Observed → 
   -- what the sights among the first observations come to
   abbrev pub sum_to : ℕ → ℕ
   sum_to n = sum_by (λ (o : Observed). if in_sights sights o then value o else 0) (take n observations)
+
+  nowhere : Observed
+  nowhere = record { station = []; target = []; difference = pos 0; book = 0; line = 0 }
+
+  none_from : (n m : ℕ) → n + m ≤ length observations → ((k : ℕ) (d : Observed) → n ≤ k → k < n + m → in_sights sights (get_or observations k d) ≡ false) → sum_to (n + m) ≡ sum_to n
+  none_from n zero within none = let here : n + zero ≡ n = omega arith in ap sum_to here
+  none_from n (suc m) within none =
+      let next : n + suc m ≡ n + m + 1 = omega arith in
+      let o : Observed = get_or observations (n + m) nowhere in
+      let more : sum_to (n + m + 1) ≡ sum_to (n + m) + (if in_sights sights o then value o else 0) =
+      sum_by_more (λ (o : Observed). if in_sights sights o then value o else 0) observations (n + m) nowhere (omega arith) in
+      let nothing : (if in_sights sights o then value o else 0) ≡ 0 = ap (λ (b : Bool). if b then value o else 0) (none (n + m) nowhere (omega arith) (omega arith)) in
+      let before : sum_to (n + m) ≡ sum_to n = none_from n m (omega arith) (λ k d from to. none k d from (omega arith)) in
+      ap sum_to next ∙ omega (arith, more, nothing, before)
 
   module _ (start end : ℕ) (run : HoldsSights observations sights (start, end)) where
     -- the sights come to nothing before their run

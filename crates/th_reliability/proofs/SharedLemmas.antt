@@ -1,10 +1,16 @@
 -- What a mistake that a group shares does, by the least value of the others' cut less its own.
-use Rattle.std.proofs.Common.{◌≡◌, ℕ, ◌+◌, ◌≤◌, Bool, true, false, List, [], eqb, ltb, if◌then◌else◌, refl, sym, arith}
+use Rattle.std.proofs.Common.{◌≡◌, ◌⊎◌, ℕ, suc, ◌+◌, ◌<◌, ◌≤◌, inl, inr, Bool, true, false, List, [], ◌∷◌, Contains, eqb, ltb, if◌then◌else◌, refl, sym, ap, ◌∙◌, arith}
 use Rattle.std.proofs.lemmas.Bool.{eqb-false, eqb-true, ltb-false, ltb-true}
+use Rattle.std.proofs.lemmas.List.Elements.{All-contains}
+use Rattle.std.proofs.lemmas.List.Sums.{sum_by-cons}
 use Rattle.th_book.specs.Observed.{Observed}
-use Rattle.th_network.specs.Networks.{Survey}
+use Rattle.th_tables.specs.Rows.{weight_of}
+use Rattle.th_points.specs.Points.{points}
+use Rattle.th_points.proofs.PlaceLemmas.{ends_contained}
+use Rattle.th_network.specs.Networks.{Survey, points_of}
 use Rattle.th_reliability.specs.Blunders.{weight_in}
-use Rattle.th_reliability.specs.Groups.{IsGroupControl}
+use Rattle.th_reliability.specs.Cuts.{crosses, differ}
+use Rattle.th_reliability.specs.Groups.{IsGroupControl, own_cut}
 use Rattle.th_reliability.specs.SharedMistakes.{IsFreeWithPoint, IsOutweighed, IsSharedMistake, own, rest, shared_mistake_of}
 use Rattle.th_reliability.specs.declared.mistakes.SharedMistake.{SharedMistake}
 use Rattle.th_reliability.specs.declared.mistakes.SharedMistake.TheVariants.{Drags, Shows, Ties, Unchecked}
@@ -36,6 +42,43 @@ decided survey group value weight is bound reached = by (ltb weight value) (eqb 
         let there = reached (omega arith) in
         let weighs = there.2 in
         ((there.0, record { is = there.1; less = omega arith }), λ inside alone. let less = bound inside alone.is.is in let whole = alone.whole in let none = alone.none in absurd (omega arith))
+
+-- ---- ends inside
+-- an end of an observation is inside
+abbrev pub HasEnd : List Observed → (List ℕ → Bool) → Type 0
+HasEnd observations inside = (o : Observed) × Contains observations o × ((inside o.station ≡ true) ⊎ (inside o.target ≡ true))
+
+more_ends : (o : Observed) (observations : List Observed) (inside : List ℕ → Bool) → HasEnd observations inside → HasEnd (o ∷ observations) inside
+more_ends o observations inside (found, (k, within, at), end) = (found, (suc k, omega arith, at), end)
+
+-- whatever is cut of a group has an end inside
+pub own_end : (survey : Survey) (group : Observed → Bool) (inside : List ℕ → Bool) (observations : List Observed) → 0 < own_cut observations survey.weights group inside → HasEnd observations inside
+own_end survey group inside [] some = absurd (omega arith)
+own_end survey group inside (o ∷ observations) some = by (inside o.station) (inside o.target) refl refl (λ none. more_ends o observations inside (own_end survey group inside observations none))
+  where
+    w : ℕ
+    w = weight_of survey.weights o.station o.target
+
+    zero_term : (g : Bool) → (if g then (if false then w else 0) else 0) ≡ 0
+    zero_term true = refl
+    zero_term false = refl
+
+    by : (s t : Bool) → inside o.station ≡ s → inside o.target ≡ t → (0 < own_cut observations survey.weights group inside → HasEnd (o ∷ observations) inside) → HasEnd (o ∷ observations) inside
+    by true t e f more = (o, (0, omega arith, refl), inl e)
+    by false true e f more = (o, (0, omega arith, refl), inr f)
+    by false false e f more =
+        let first = sum_by-cons (λ (x : Observed). if group x then (if crosses inside x then weight_of survey.weights x.station x.target else 0) else 0) o observations in
+        let crossing : crosses inside o ≡ false = ap (λ (s : Bool). differ s (inside o.target)) e ∙ ap (differ false) f in
+        let none : (if group o then (if crosses inside o then w else 0) else 0) ≡ 0 = ap (λ (c : Bool). if group o then (if c then w else 0) else 0) crossing ∙ zero_term (group o) in
+        more (omega arith)
+
+pub end_listed : (survey : Survey) (inside : List ℕ → Bool) → HasEnd survey.observations inside → (name : List ℕ) × Contains (points_of survey) name × (inside name ≡ true)
+end_listed survey inside (o, has, end) =
+    let listed = All-contains (λ o. Contains (points survey.observations survey.benchmarks) o.station × Contains (points survey.observations survey.benchmarks) o.target) survey.observations o (ends_contained survey.observations survey.benchmarks) has in
+    elim end [
+      | inl start ↦ (o.station, listed.0, start)
+      | inr finish ↦ (o.target, listed.1, finish)
+    ]
 
 -- ---- the control decides what a shared mistake does, and it does one thing
 pub decided_by_control : (survey : Survey) (group : Observed → Bool) (control : ℕ) → IsGroupControl survey.observations survey.benchmarks survey.weights group control → IsSharedMistake survey group (shared_mistake_of control (weight_in survey.observations survey.weights group))
