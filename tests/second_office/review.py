@@ -20,6 +20,8 @@ SLOPE_DISTANCE = b"31"
 MEASUREMENT_INDEXES = (SLOPE_DISTANCE, b"83")  # what a book without a sight may have
 MOST_LISTED = 1_000  # notes of a kind
 MOST_COMPARED = 200_000  # setups and sights whose names are compared
+FORMULA_BYTES = b"=+-@"
+TWIN_LIMIT = 5_000_000  # 0.05 m
 
 
 class BookCount(NamedTuple):
@@ -198,6 +200,74 @@ def sighted_once(network: Network) -> List[str]:
     return limited(notes, "points sighted once")
 
 
+def parts_of(network: Network) -> List[Set[bytes]]:
+    """The sets of points that observations join, in any number of steps."""
+    parts: List[Set[bytes]] = []
+    for own in network.observations:
+        joined = {own.station, own.target}.union(*(part for part in parts if own.station in part or own.target in part))
+        parts = [part for part in parts if own.station not in part and own.target not in part] + [joined]
+    return parts
+
+
+def hanging_parts(network: Network) -> List[str]:
+    benchmarks = [name for name in network.points if name in network.benchmarks]
+    notes = {}
+    for part in parts_of(network):
+        own = [name.decode("ascii") for name in benchmarks if name in part]
+        if len(own) == 1:
+            notes[own[0]] = f"a part of the network hangs on {own[0]} alone: nothing checks its height"
+        elif len(own) == 2:
+            notes[own[0]] = f"a part of the network hangs on {own[0]} and {own[1]}: nothing says which is wrong"
+    return limited([notes[name.decode("ascii")] for name in benchmarks if name.decode("ascii") in notes], "parts with one or two benchmarks")
+
+
+def formulas(network: Network) -> List[str]:
+    return limited([f"{name.decode('ascii')} reads as a formula in a spreadsheet" for name in network.points if name[0] in FORMULA_BYTES],
+                   "names that read as formulas")
+
+
+def differ_once(one: bytes, other: bytes) -> bool:
+    """Whether one character is changed, added or dropped, or two neighbours are exchanged."""
+    places = range(len(one) + 1)
+    dropped = {one[:k] + one[k + 1:] for k in places[:-1]}
+    added = {one[:k] + bytes([byte]) + one[k:] for k in places for byte in other}
+    changed = {one[:k] + bytes([byte]) + one[k + 1:] for k in places[:-1] for byte in other}
+    exchanged = {one[:k] + one[k + 1:k + 2] + one[k:k + 1] + one[k + 2:] for k in places[:-2]}
+    return one != other and other in dropped | added | changed | exchanged
+
+
+def uses_of(network: Network) -> List[bytes]:
+    """Each target, and a station once for the observations of a book that follow one another."""
+    uses = []
+    before: Optional[Tuple[int, bytes]] = None
+    for own in network.observations:
+        if before != (own.book, own.station):
+            uses.append(own.station)
+        uses.append(own.target)
+        before = (own.book, own.station)
+    return uses
+
+
+def twins(network: Network, heights: Heights) -> List[str]:
+    often = Counter(uses_of(network))
+    stations = {own.station for own in network.observations}
+    joined = {frozenset((own.station, own.target)) for own in network.observations}
+    places = {}
+    for own in network.observations:
+        for name in (own.station, own.target):
+            places.setdefault(name, f"book {own.book} line {own.line}")
+    notes = []
+    for k, later in enumerate(network.points):
+        for earlier in network.points[:k]:
+            apart = abs(heights[later] - heights[earlier])
+            once = [name for name in (later, earlier) if often[name] == 1]
+            if (apart < TWIN_LIMIT and once and {later, earlier} & stations and frozenset((later, earlier)) not in joined
+                    and differ_once(later, earlier)):
+                name, other = (later, earlier) if once[0] == later else (earlier, later)
+                notes.append(f"{name.decode('ascii')} ({places[name]}) is within {metres(apart)} m of {other.decode('ascii')}")
+    return limited(notes, "points that may be others")
+
+
 def other_spellings(books: List[bytes]) -> List[str]:
     first: Dict[bytes, bytes] = {}
     noted = set()
@@ -220,8 +290,8 @@ def review_of(network: Network, low: Heights, high: Heights, limit: int, books: 
     counts = [count_of(book) for book in books]
     entries = [entry for number, book in enumerate(books, start=1) for entry in entries_of(number, book)]
     notes = (without_sight(counts, books) + repeated_books(network, len(books)) + lookalikes(books) + other_heights(books) + directions(books)
-             + unused_weights(network, weights)
-             + unseen_benchmarks(network) + sighted_once(network) + other_spellings(books))
+             + unused_weights(network, weights) + unseen_benchmarks(network) + hanging_parts(network) + sighted_once(network)
+             + twins(network, low) + other_spellings(books) + formulas(network))
     benchmarks = benchmarks_of(network)
     review = Review(network, low, high, limit, strengths_of(network), controls_of(network), entries, counts, notes, [], [], benchmarks, [])
     places = [{place} for place in range(len(network.observations))]

@@ -78,9 +78,11 @@ POINT                           HEIGHT  SIGHTS    WEIGHT  STRENGTH   MOVES  BLAM
 A                         100.00000000       2         2         0       2       0  0
 X                          50.00000000       0         0         0       -       -
 
-notes                                  2
+notes                                  4
 weights record 2: C to B was never observed, but B to C was
 benchmarks record 3: X was never observed
+a part of the network hangs on A alone: nothing checks its height
+C is sighted once (book 1 line 5)
 ";
 
 /// The arguments that review the book with three sights.

@@ -75,8 +75,7 @@ BK      LINE  WORD  STATION                         LENGTH  SIGHTS    WEIGHT   M
 
 POINT                           HEIGHT  SIGHTS    WEIGHT  STRENGTH   MOVES  BLAMES
 
-notes                                  1
-book 1: no sight in 0 blocks
+notes                                  0
 ",
     ],
 };
@@ -121,8 +120,7 @@ BK      LINE  WORD  STATION                         LENGTH  SIGHTS    WEIGHT   M
 POINT                           HEIGHT  SIGHTS    WEIGHT  STRENGTH   MOVES  BLAMES
 A                         100.00000000       0         0         -       -       -
 
-notes                                  2
-book 1: no sight in 0 blocks
+notes                                  1
 benchmarks record 2: A was never observed
 ",
     ],
@@ -190,8 +188,9 @@ A                         100.00000000       2         2         2       -      
 B                         102.00000000       2         2         2       -       -
 X                           5.00000000       0         0         0       -       -
 
-notes                                  1
+notes                                  2
 benchmarks record 4: X was never observed
+a part of the network hangs on A and B: nothing says which is wrong
 ",
     ],
 };
@@ -248,9 +247,10 @@ BK      LINE  WORD  STATION                         LENGTH  SIGHTS    WEIGHT   M
 POINT                           HEIGHT  SIGHTS    WEIGHT  STRENGTH   MOVES  BLAMES
 A                         100.00000000       1         1         -       1       0  0
 
-notes                                  2
-book 2: no sight in 0 blocks
+notes                                  3
 weights record 2: B to A was never observed, but A to B was
+a part of the network hangs on A alone: nothing checks its height
+B is sighted once (book 1 line 2)
 ",
 ];
 
@@ -265,7 +265,7 @@ const CALLS: [(Device, u8); 9] = [
     (Device::Observations, 9),
     (Device::Entries, 10),
     (Device::ReviewedBenchmarks, 7),
-    (Device::Review, 99),
+    (Device::Review, 103),
 ];
 
 /// The outputs, in the order in which they are written.

@@ -1,7 +1,6 @@
 -- The notes of a review on a survey, on its tables and on its books.
 use Rattle.std.specs.Prelude.{ℕ, ℤ, ◌-◌, ◌==◌, ◌&&◌, not, ◌++◌, Bool, List, Option, Some, None, if◌then◌else◌, map, option_map, sum, take}
-use Rattle.std.specs.List.{enumerate_from, filter_map, flat_map, list_any}
-use Rattle.gsi_word.specs.Names.{same_pair}
+use Rattle.std.specs.List.{enumerate_from, filter_map, flat_map}
 use Rattle.th_book.specs.Observed.{Observed}
 use Rattle.th_tables.specs.Rows.{BenchmarkRows, WeightRows}
 use Rattle.th_network.specs.Networks.{Survey, points_of}
@@ -14,8 +13,9 @@ use Rattle.th_notes.specs.Books.{counts_of_books}
 use Rattle.th_notes.specs.Limited.{limited, rest_note}
 use Rattle.th_notes.specs.Names.{formula_notes}
 use Rattle.th_notes.specs.Parts.{hanging_notes}
+use Rattle.th_notes.specs.Twins.{twin_notes}
 use Rattle.th_notes.specs.Points.{once_notes}
-use Rattle.th_notes.specs.Seen.{was_seen}
+use Rattle.th_notes.specs.Seen.{was_observed, was_seen}
 use Rattle.th_notes.specs.Repeats.{by_book, first_same, observations_in}
 use Rattle.th_notes.specs.declared.notes.LineKind.{LineKind}
 use Rattle.th_notes.specs.declared.notes.LineKind.TheVariants.{Lookalike, OtherHeight, Direction}
@@ -62,10 +62,6 @@ line_notes kind reviews =
     take max_listed (flat_map (λ book. book_lines kind book.0 (lines_of kind book.1)) (enumerate_from 1 reviews))
     ++ rest_note (Lines kind) (count_of_lines kind reviews)
 
--- whether an observation runs from the first of two points to the second
-abbrev pub was_observed : List Observed → List ℕ × List ℕ → Bool
-was_observed observations ends = list_any (λ o. same_pair (o.station, o.target) ends) observations
-
 -- the note on a row of the weights, unless its pair was `observed`; it says if the pair was observed the other way round (`turned`)
 abbrev pub pair_note : ℕ → List ℕ × List ℕ → Bool → Bool → Option Note
 pair_note row (station, target) observed turned =
@@ -98,9 +94,9 @@ abbrev pub spelling_notes : Listed Spelling → List Note
 spelling_notes spellings =
     map (λ spelling. Respelled spelling.book spelling.line spelling.name) spellings.first.items ++ rest_note Spellings spellings.count
 
--- all notes of a review: on the books, then on the weights, the benchmarks and the names
-abbrev pub notes_of : Survey → List BookReview → Listed Spelling → List Note
-notes_of survey reviews spellings =
+-- all notes of a review, given a height of each point: on the books, then on the weights, the benchmarks, the points and the names
+abbrev pub notes_of : Survey → (List ℕ → ℤ) → List BookReview → Listed Spelling → List Note
+notes_of survey heights reviews spellings =
     sight_notes reviews
     ++ same_notes survey.observations (counts_of_books reviews)
     ++ line_notes Lookalike reviews
@@ -110,5 +106,6 @@ notes_of survey reviews spellings =
     ++ benchmark_notes survey.observations survey.benchmarks
     ++ hanging_notes survey
     ++ once_notes survey.observations survey.benchmarks
+    ++ twin_notes survey heights
     ++ spelling_notes spellings
     ++ formula_notes (points_of survey)

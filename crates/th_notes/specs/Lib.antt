@@ -5,6 +5,7 @@ pub mod Limited
 pub mod Seen
 pub mod Parts
 pub mod Uses
+pub mod Twins
 pub mod Points
 pub mod Names
 pub mod Findings

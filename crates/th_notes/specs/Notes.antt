@@ -1,15 +1,17 @@
 -- The texts of a review's notes.
-use Rattle.std.specs.Prelude.{ℕ, Bool, true, false, List, [], ◌++◌, codes, decimal, length}
+use Rattle.std.specs.Prelude.{ℕ, pos, Bool, true, false, List, [], ◌++◌, codes, decimal, length}
 use Rattle.std.specs.List.{flat_map}
+use Rattle.th_units.specs.Metres.{metres}
 use Rattle.th_report.specs.Columns.{line_end}
 use Rattle.th_report.specs.Reports.{label_line}
 use Rattle.th_entries.specs.declared.reviews.WordsSeen.{WordsSeen}
 use Rattle.th_notes.specs.declared.notes.LineKind.{LineKind}
 use Rattle.th_notes.specs.declared.notes.LineKind.TheVariants.{Lookalike, OtherHeight, Direction}
 use Rattle.th_notes.specs.declared.notes.Kind.{Kind}
-use Rattle.th_notes.specs.declared.notes.Kind.TheVariants.{Lines, Weights, Benchmarks, Hanging, Once, Spellings, Formulas}
+use Rattle.th_notes.specs.declared.notes.Kind.TheVariants.{Lines, Weights, Benchmarks, Hanging, Once, Twins, Spellings, Formulas}
+use Rattle.th_notes.specs.declared.notes.Pair.{Pair}
 use Rattle.th_notes.specs.declared.notes.Note.{Note}
-use Rattle.th_notes.specs.declared.notes.Note.TheVariants.{NoSight, SameObservations, Line, UnusedWeight, TurnedWeight, UnseenBenchmark, OneBenchmark, TwoBenchmarks, SightedOnce, Respelled, Formula, More}
+use Rattle.th_notes.specs.declared.notes.Note.TheVariants.{NoSight, SameObservations, Line, UnusedWeight, TurnedWeight, UnseenBenchmark, OneBenchmark, TwoBenchmarks, SightedOnce, Twin, Respelled, Formula, More}
 
 -- a line of a book
 unfoldable pub book_place : ℕ → ℕ → List ℕ
@@ -93,6 +95,18 @@ two_text name other = hanging_text name ++ second_text other
 unfoldable pub once_text : ℕ → ℕ → List ℕ → List ℕ
 once_text book line name = name ++ codes " is sighted once (" ++ book_place book line ++ codes ")"
 
+-- another point is near
+unfoldable pub within_text : List ℕ
+within_text = codes ") is within "
+
+-- how near another point is
+unfoldable pub near_text : ℕ → List ℕ
+near_text apart = within_text ++ metres (pos apart) ++ codes " m of "
+
+-- a point that may be another one
+unfoldable pub twin_text : ℕ → ℕ → Pair → List ℕ
+twin_text book line pair = pair.name ++ codes " (" ++ book_place book line ++ near_text pair.apart ++ pair.other
+
 -- a name that is spelled in another way than before
 unfoldable pub respelled_text : ℕ → ℕ → List ℕ → List ℕ
 respelled_text book line name = name_place book line name ++ codes " is spelled in another way than before"
@@ -110,6 +124,7 @@ kind_text Weights = codes "weights records never observed"
 kind_text Benchmarks = codes "benchmarks records never observed"
 kind_text Hanging = codes "parts with one or two benchmarks"
 kind_text Once = codes "points sighted once"
+kind_text Twins = codes "points that may be others"
 kind_text Spellings = codes "names spelled in another way than before"
 kind_text Formulas = codes "names that read as formulas"
 
@@ -128,6 +143,7 @@ note_text (UnseenBenchmark row name) = unseen_text row name
 note_text (OneBenchmark name) = one_text name
 note_text (TwoBenchmarks name other) = two_text name other
 note_text (SightedOnce book line name) = once_text book line name
+note_text (Twin book line pair) = twin_text book line pair
 note_text (Respelled book line name) = respelled_text book line name
 note_text (Formula name) = formula_text name
 note_text (More kind count) = more_text kind count

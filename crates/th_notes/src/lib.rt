@@ -21,13 +21,18 @@ mod parts;
 // How often names are used.
 mod uses;
 
+// Names that differ in one character, and how points are sighted.
+mod differences;
+mod sightings;
+
 // What is noted of points, and of their names.
 mod names;
 mod points;
+mod twins;
 
 // All notes of a review.
 mod findings;
 
 pub use findings::notes_of;
 pub use lines::write_notes;
-pub use notes::{Kind, LineKind, Note};
+pub use notes::{Kind, LineKind, Note, Pair};

@@ -1,14 +1,16 @@
 //! The lines of notes.
-ghost use Rattle.std.specs.Prelude.{◌≡◌, ◌++◌, OnOk, decimal};
+ghost use Rattle.std.specs.Prelude.{pos, ◌≡◌, ◌++◌, OnOk, decimal};
 ghost use Rattle.std.specs.List.{flat_map};
-ghost use Rattle.th_notes.specs.Notes.{benchmark_text, book_place, doubt_text, formula_text, hanging_text, in_benchmarks, in_weights, kind_text, line_text, more_text, name_place, no_sight_text, note_line, note_lines, note_text, odd_text, once_text, one_text, pair_text, respelled_text, same_text, second_text, turned_text, two_text, unseen_text, unused_text, words_text};
+ghost use Rattle.th_units.specs.Metres.{metres};
+ghost use Rattle.th_notes.specs.Notes.{benchmark_text, book_place, doubt_text, formula_text, hanging_text, in_benchmarks, in_weights, kind_text, line_text, more_text, near_text, name_place, no_sight_text, note_line, note_lines, note_text, odd_text, once_text, one_text, pair_text, respelled_text, same_text, second_text, turned_text, twin_text, two_text, unseen_text, unused_text, within_text, words_text};
 
-use crate::notes::{Kind, LineKind, Note};
+use crate::notes::{Kind, LineKind, Note, Pair};
 use gsi_word::Name;
 use itoa::Buffer;
 use std::alloc::AllocError;
 use th_entries::WordsSeen;
 use th_report::{Page, write_count};
+use th_units::metre_text;
 
 /// Writes how many notes there are, and a line for each.
 #[tactic(auto, unfolding(crate::specs::Notes::note_lines))]
@@ -64,6 +66,7 @@ fn write_text(page: &mut Page, note: &Note) -> Result<(), AllocError>
         Note::OneBenchmark { name } => write_one(page, name),
         Note::TwoBenchmarks { name, other } => write_two(page, name, other),
         Note::SightedOnce { book, line, name } => write_once(page, *book, *line, name),
+        Note::Twin { book, line, pair } => write_twin(page, *book, *line, pair),
         Note::Respelled { book, line, name } => write_respelled(page, *book, *line, name),
         Note::Formula { name } => write_formula(page, name),
         Note::More { kind, count } => write_more(page, *kind, *count),
@@ -304,6 +307,43 @@ fn write_once(page: &mut Page, book: u32, line: u32, name: &Name) -> Result<(), 
     page.add(b")")
 }
 
+/// Writes the note of a point that may be another one.
+#[tactic(auto, unfolding(crate::specs::Notes::twin_text))]
+fn write_twin(page: &mut Page, book: u32, line: u32, pair: &Pair) -> Result<(), AllocError>
+    ensures { OnOk result (page.new ≡ page.old ++ twin_text book line pair.now) }
+{
+    write_name(page, &pair.name)?;
+    page.add(b" (")?;
+    write_place(page, book, line)?;
+    write_near(page, pair.apart)?;
+    write_name(page, &pair.other)
+}
+
+/// Writes how near another point is.
+#[tactic(auto, unfolding(crate::specs::Notes::near_text))]
+fn write_near(page: &mut Page, apart: u32) -> Result<(), AllocError>
+    ensures { OnOk result (page.new ≡ page.old ++ near_text apart) }
+{
+    write_within(page)?;
+    write_metres(page, apart)?;
+    page.add(b" m of ")
+}
+
+/// Writes that another point is near.
+#[tactic(auto, unfolding(crate::specs::Notes::within_text))]
+fn write_within(page: &mut Page) -> Result<(), AllocError>
+    ensures { OnOk result (page.new ≡ page.old ++ within_text) }
+{
+    page.add(b") is within ")
+}
+
+/// Writes a length in metres.
+fn write_metres(page: &mut Page, units: u32) -> Result<(), AllocError>
+    ensures { OnOk result (page.new ≡ page.old ++ metres (pos units)) }
+{
+    page.add(metre_text(i64::from(units)).as_bytes())
+}
+
 /// Writes the note of a name that is spelled in another way than before.
 #[tactic(auto, unfolding(crate::specs::Notes::respelled_text))]
 fn write_respelled(page: &mut Page, book: u32, line: u32, name: &Name) -> Result<(), AllocError>
@@ -347,6 +387,7 @@ fn write_kind(page: &mut Page, kind: Kind) -> Result<(), AllocError>
         Kind::Benchmarks => page.add(b"benchmarks records never observed"),
         Kind::Hanging => page.add(b"parts with one or two benchmarks"),
         Kind::Once => page.add(b"points sighted once"),
+        Kind::Twins => page.add(b"points that may be others"),
         Kind::Spellings => page.add(b"names spelled in another way than before"),
         Kind::Formulas => page.add(b"names that read as formulas"),
     }

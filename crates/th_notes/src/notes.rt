@@ -21,8 +21,18 @@ pub enum Kind {
     Benchmarks,
     Hanging,
     Once,
+    Twins,
     Spellings,
     Formulas,
+}
+
+/// A point that is used once, and another one that it may be. Their heights are so far apart, in units of
+/// 10 nm.
+#[derive(Clone, Copy, Debug)]
+pub struct Pair {
+    pub name: Name,
+    pub other: Name,
+    pub apart: u32,
 }
 
 /// What a review notes. Books, lines and the records of a table count from 1. A table's first
@@ -77,6 +87,12 @@ pub enum Note {
         book: u32,
         line: u32,
         name: Name,
+    },
+    /// A point may be another one. This line is the first on which it is used.
+    Twin {
+        book: u32,
+        line: u32,
+        pair: Pair,
     },
     /// A name is spelled in another way than before.
     Respelled {

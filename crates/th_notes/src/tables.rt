@@ -1,8 +1,8 @@
 //! The notes of the tables of benchmarks and of weights.
 ghost use Rattle.std.specs.Prelude.{◌≡◌, ◌<◌, ◌+◌, ◌^◌, ◌++◌, ℕ, ℤ, List, IfOk, OnOk, Some, length, slice_get};
-ghost use Rattle.th_notes.specs.Findings.{benchmark_notes, name_note, pair_note, was_observed, weight_notes};
+ghost use Rattle.th_notes.specs.Findings.{benchmark_notes, name_note, pair_note, weight_notes};
 ghost use Rattle.th_notes.specs.Inside.Sets.{has_name, has_pair};
-ghost use Rattle.th_notes.specs.Seen.{was_seen};
+ghost use Rattle.th_notes.specs.Seen.{was_observed, was_seen};
 
 use crate::limited::add_limited;
 use crate::notes::{Kind, Note};
@@ -15,7 +15,7 @@ use th_tables::{Benchmarks, Weights};
 
 /// The pairs of a station and a target that were observed, in order: each costs the logarithm of their
 /// number, whatever the names are.
-type Pairs = BTreeSet<(Name, Name)>;
+pub(crate) type Pairs = BTreeSet<(Name, Name)>;
 
 /// The names of points that were observed, likewise.
 pub(crate) type Names = BTreeSet<Name>;
@@ -98,7 +98,7 @@ pub(crate) fn add_weight_notes(
 }
 
 /// The pairs of a station and a target that were observed.
-fn pairs_of(alloc: Global, observations: &[Observation]) -> Result<Pairs, AllocError>
+pub(crate) fn pairs_of(alloc: Global, observations: &[Observation]) -> Result<Pairs, AllocError>
     ensures { IfOk result (λ pairs. (ends : List ℕ × List ℕ)
         → has_pair pairs ends ≡ was_observed observations.now ends) }
 {

@@ -2,6 +2,7 @@
 ghost use Rattle.std.specs.Prelude.{◌≡◌, ◌&&◌, ◌||◌, ◌++◌, ◌∷◌, [], ℕ, List, IfOk, OnOk};
 ghost use Rattle.gsi_word.specs.Names.{same_name};
 ghost use Rattle.th_notes.specs.Inside.Sets.{has_name};
+ghost use Rattle.th_notes.specs.Uses.{goes_on};
 
 use gsi_word::Name;
 use std::alloc::{AllocError, Global};
@@ -16,7 +17,7 @@ pub(crate) struct UsedNames {
 }
 
 impl UsedNames {
-    ghost use Rattle.th_notes.specs.Uses.{AreUsed, all_ends};
+    ghost use Rattle.th_notes.specs.Uses.{AreUsed, all_ends, is_used_once, uses_at, uses_of};
 
     /// The ends of observations.
     pub fn of_ends(alloc: Global, observations: &[Observation]) -> Result<UsedNames, AllocError>
@@ -29,6 +30,43 @@ impl UsedNames {
             used.take(target)?;
         }
         Ok(used)
+    }
+
+    /// The stations of setups, and the targets of observations.
+    pub fn of_sights(alloc: Global, observations: &[Observation]) -> Result<UsedNames, AllocError>
+        ensures { IfOk result (AreUsed (uses_of observations.now)) }
+    {
+        let mut used = UsedNames::new(alloc);
+        let mut before = None;
+        for o in observations {
+            used.take_sight(&before, o)?;
+            before = Some(*o);
+        }
+        Ok(used)
+    }
+
+    /// Takes what an observation uses after the one before it.
+    fn take_sight(
+        &mut self,
+        before: &Option<Observation>,
+        o: &Observation,
+    ) -> Result<(), AllocError>
+        ensures { OnOk result ((names : List (List ℕ)) → AreUsed names self.old
+            → AreUsed (names ++ uses_at before.now o.now) self.new) }
+    {
+        let (station, target) = o.ends();
+        if !goes_on(before, o) {
+            self.take(station)?;
+        }
+        self.take(target)
+    }
+
+    /// Whether a name is used once.
+    pub fn has_once(&self, name: &Name) -> bool
+        ensures { (names : List (List ℕ)) → AreUsed names self.now
+            → result ≡ is_used_once names name.now }
+    {
+        self.names.contains(name) && !self.again.contains(name)
     }
 
     /// No names yet.
@@ -62,4 +100,14 @@ fn add_if(names: &mut BTreeSet<Name>, known: bool, name: Name) -> Result<(), All
         names.insert(name)?;
     }
     Ok(())
+}
+
+/// Whether an observation goes on from the one before it: from the same station in the same book.
+fn goes_on(before: &Option<Observation>, o: &Observation) -> bool
+    ensures { result ≡ goes_on before.now o.now }
+{
+    match before {
+        Some(before) => before.book == o.book && before.station == o.station,
+        None => false,
+    }
 }

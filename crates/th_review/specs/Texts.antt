@@ -66,4 +66,4 @@ pub record AreReviewTexts (survey : Survey) (low high : List ℕ → ℤ) (found
       (observation_rows survey low found.controls found.blames)
       (entry_rows survey (entries_of books) found.effects)
       (benchmark_rows survey found.benchmarks)
-      (counts_of_books books) (notes_of survey books spellings) limit
+      (counts_of_books books) (notes_of survey low books spellings) limit

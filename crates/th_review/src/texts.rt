@@ -89,7 +89,7 @@ pub fn review_texts(
     let observations = observation_rows(alloc, network, low, &findings.controls, &findings.blames)?;
     let entries = entry_rows(alloc, network, reviews, &findings.effects)?;
     let benchmarks = benchmark_rows(alloc, network, &findings.benchmarks)?;
-    let notes = notes_of(alloc, network, reviews, spellings)?;
+    let notes = notes_of(alloc, network, low, reviews, spellings)?;
     let review = review_text(
         alloc,
         network,

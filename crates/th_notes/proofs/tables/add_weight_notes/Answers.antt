@@ -6,7 +6,8 @@ use Rattle.std.specs.List.{enumerate_from, filter_map}
 use Rattle.th_book.specs.Observed.{Observed}
 use Rattle.th_entries.specs.Listed.{IsListed}
 use Rattle.th_tables.specs.Rows.{WeightRows}
-use Rattle.th_notes.specs.Findings.{pair_note, was_observed, weight_note}
+use Rattle.th_notes.specs.Findings.{pair_note, weight_note}
+use Rattle.th_notes.specs.Seen.{was_observed}
 use Rattle.th_notes.specs.Inside.Sets.{has_pair}
 use Rattle.th_notes.proofs.FindingLemmas.{all_chosen, none_chosen, one_chosen}
 use Rattle.th_notes.specs.declared.notes.Note.{Note}

@@ -4,7 +4,7 @@ use Rattle.std.proofs.lemmas.List.{take_all}
 use Rattle.std.proofs.lemmas.List.Folds.{list_any_more}
 use Rattle.gsi_word.specs.Names.{same_pair}
 use Rattle.th_book.specs.Observed.{Observed}
-use Rattle.th_notes.specs.Findings.{was_observed}
+use Rattle.th_notes.specs.Seen.{was_observed}
 use Rattle.th_notes.specs.Inside.Sets.{has_pair}
 use Rattle.th_notes.proofs.FindingLemmas.{one_more_pair}
 use Rattle.th_notes.proofs.tables.pairs_of.Goals as goal

@@ -1,5 +1,5 @@
 use Rattle.std.proofs.Common.{◌≡◌, ℕ, List, take}
-use Rattle.th_notes.specs.Findings.{was_observed}
+use Rattle.th_notes.specs.Seen.{was_observed}
 use Rattle.th_notes.specs.Inside.Sets.{has_pair}
 use Rattle.th_notes.proofs.tables.pairs_of.Given as goal
 
