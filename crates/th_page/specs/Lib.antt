@@ -1,0 +1,5 @@
+pub mod Fixed
+pub mod Fronts
+pub mod Figures
+pub mod Sections
+pub mod Pages

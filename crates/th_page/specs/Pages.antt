@@ -1,0 +1,63 @@
+-- The page.
+use Rattle.std.specs.Prelude.{ℕ, ℤ, List, ◌++◌, length, map}
+use Rattle.std.specs.List.{flat_map}
+use Rattle.th_explanations.specs.declared.rows.Row.{Row}
+use Rattle.th_html.specs.declared.rows.BenchmarkRow.{BenchmarkRow}
+use Rattle.th_picture.specs.declared.sights.Sight.{Sight}
+use Rattle.th_html.specs.declared.rows.EntryRow.{EntryRow}
+use Rattle.th_html.specs.declared.rows.PointRow.{PointRow}
+use Rattle.th_page.specs.Figures.{picture_figure, strip_figure}
+use Rattle.th_page.specs.Fronts.{book_item, facts_text, lamps_text}
+use Rattle.th_page.specs.Sections.{explanation_section, note_section, number_sections, sight_sections}
+use Rattle.th_page.specs.declared.contents.Shown.{Shown}
+use Rattle.th_page.specs.Fixed.{body_text, foot_text, head_text, places_text, style_text}
+
+-- what a page shows, as lists: the names of the books, a row for each point, sight, entry, benchmark and explanation, notes,
+-- the least cost, and the limit of blunders
+pub record ShownRows : Type 0 where
+  pub books : List (List ℕ)
+  pub points : List PointRow
+  pub sights : List Sight
+  pub entries : List EntryRow
+  pub benchmarks : List BenchmarkRow
+  pub explanations : List Row
+  pub notes : List (List ℕ)
+  pub cost : ℕ
+  pub limit : ℤ
+
+abbrev pub shown_by : Shown → ShownRows
+shown_by shown = record {
+  books = map (λ book. book.now) shown.books.now;
+  points = shown.points.now;
+  sights = shown.sights.now;
+  entries = shown.entries.now;
+  benchmarks = shown.benchmarks.now;
+  explanations = shown.explanations.now;
+  notes = map (λ note. note.now) shown.notes.now;
+  cost = shown.cost;
+  limit = shown.limit;
+}
+
+-- the head, and the books
+unfoldable pub head_part : List (List ℕ) → List ℕ
+head_part books = head_text ++ style_text ++ body_text ++ flat_map book_item books ++ places_text
+
+-- the facts, the lamps and the figures
+unfoldable pub front_part : ShownRows → List ℕ
+front_part shown =
+    facts_text shown.points (length shown.sights) (length shown.entries) shown.cost shown.limit
+    ++ lamps_text shown.sights shown.benchmarks shown.entries shown.limit
+    ++ picture_figure shown.points shown.sights shown.limit
+    ++ strip_figure shown.sights shown.limit
+
+-- the sections
+unfoldable pub table_part : ShownRows → List ℕ
+table_part shown =
+    explanation_section shown.explanations
+    ++ sight_sections shown.points shown.sights shown.limit
+    ++ number_sections shown.benchmarks shown.entries
+    ++ note_section shown.notes
+
+-- the text of the page
+unfoldable pub page_text : ShownRows → List ℕ
+page_text shown = head_part shown.books ++ front_part shown ++ table_part shown ++ foot_text

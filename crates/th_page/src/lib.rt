@@ -1,0 +1,21 @@
+//! One page to hand on: a text of HTML with pictures, which has no script and loads nothing.
+//!
+//! `page_text` makes it from what a review and explanations found. `specs/Pages.antt` defines it. Out
+//! of memory is the only failure.
+#![tactic(auto)]
+
+// What a page shows, and the texts that every page has.
+mod contents;
+mod fixed;
+
+// The parts of a page, from the first to the last.
+mod facts;
+mod figures;
+mod lamps;
+mod sections;
+mod weak;
+// The whole.
+mod pages;
+
+pub use contents::Shown;
+pub use pages::page_text;
