@@ -195,6 +195,93 @@ a part of the network hangs on A and B: nothing says which is wrong
     ],
 };
 
+/// A book whose notes are of six kinds: `K01` was to be `KO1`.
+const ODD: Row = Row {
+    texts: (
+        b"110001+0000000A 84..10+00000000 87..10+00001300 88..10+00001500\n110002+00000KO1 31..00+00000000 33..00+00000000\n110003+00000KO1 33..00+00002345 88..10+00001510\n110004+00000K01 84..10+00000000 87..10+00001300 88..10+00001500\n110005+0000000A 33..00-00000410\n110006+000000=B 33..00+00001000\n",
+        A_AT_100,
+        b"",
+    ),
+    written: [
+        b"point,height,low,high,strength
+A,100.00000000,100.00000000,100.00000000,
+KO1,100.20000000,100.20000000,102.55500000,2
+K01,100.21000000,100.21000000,100.21000000,1
+=B,101.41000000,101.41000000,101.41000000,1
+",
+        b"number,book,line,from,to,difference,weight,residual,control,mistake,moves,blames,blamed
+1,1,2,A,KO1,0.20000000,1,0.00000000,1,ties,1,1,2
+2,1,3,A,KO1,2.55500000,1,2.35500000,1,ties,1,1,1
+3,1,5,K01,A,-0.21000000,1,0.00000000,0,unchecked,2,0,
+4,1,6,K01,=B,1.20000000,1,0.00000000,0,unchecked,1,0,
+",
+        b"book,line,word,station,length,sights,weight,mistake,moves,blames,blamed
+1,1,87,A,1.30000000,2,2,unchecked,1,0,
+1,1,88,A,1.50000000,1,1,ties,1,1,2
+1,3,88,A,1.51000000,1,1,ties,1,1,1
+1,4,87,K01,1.30000000,2,2,unchecked,1,0,
+1,4,88,K01,1.50000000,2,2,unchecked,1,0,
+",
+        b"point,height,sights,weight,strength,mistake,moves,blames,blamed
+A,100.00000000,3,3,,unchecked,3,0,
+",
+        b"HEIGHT NETWORK REVIEW
+points                                 4
+benchmarks                             1
+observations                           4
+loops                                  1
+unchecked                              2
+hidden                                 0
+ties                                   2
+entries                                5
+weak entries                           5
+weak benchmark                         1
+weakest point                          1
+
+BK     LINES    BLOCKS    SETUPS    SIGHTS
+ 1         6         6         2         4
+
+largest                                4
+blunder limit                 0.02000000
+   NO  BK      LINE  FROM              TO                  WT              RESIDUAL   CONTROL
+    2   1         3  A                 KO1                  1            2.35500000         1  *
+    1   1         2  A                 KO1                  1            0.00000000         1
+    3   1         5  K01               A                    1            0.00000000         0
+    4   1         6  K01               =B                   1            0.00000000         0
+
+POINT                           HEIGHT              HIGH-LOW  STRENGTH  WITHSTANDS
+A                         100.00000000            0.00000000         -           -
+KO1                       100.20000000            2.35500000         2           0  =
+K01                       100.21000000            0.00000000         1           0  1
+=B                        101.41000000            0.00000000         1           0  1
+
+   NO  BK      LINE  FROM              TO                  WT              RESIDUAL   CONTROL   MOVES  BLAMES
+    1   1         2  A                 KO1                  1            0.00000000         1       1       1  =
+    2   1         3  A                 KO1                  1            2.35500000         1       1       1  =
+    3   1         5  K01               A                    1            0.00000000         0       2       0  0
+    4   1         6  K01               =B                   1            0.00000000         0       1       0  0
+
+BK      LINE  WORD  STATION                         LENGTH  SIGHTS    WEIGHT   MOVES  BLAMES
+ 1         1    87  A                           1.30000000       2         2       1       0  0
+ 1         1    88  A                           1.50000000       1         1       1       1  =
+ 1         3    88  A                           1.51000000       1         1       1       1  =
+ 1         4    87  K01                         1.30000000       2         2       1       0  0
+ 1         4    88  K01                         1.50000000       2         2       1       0  0
+
+POINT                           HEIGHT  SIGHTS    WEIGHT  STRENGTH   MOVES  BLAMES
+A                         100.00000000       3         3         -       3       0  0
+
+notes                                  6
+book 1 line 3: another instrument height than its setup
+book 1 line 2: words 31 and 33 are both zero
+a part of the network hangs on A alone: nothing checks its height
+=B is sighted once (book 1 line 6)
+K01 (book 1 line 5) is within 0.01000000 m of KO1
+=B reads as a formula in a spreadsheet
+",
+    ],
+};
+
 /// A book of one sight and an empty one, over the weight of a pair that was observed the other way round.
 const ONE_SIGHT_WRITTEN: Written = [
     b"point,height,low,high,strength
@@ -344,6 +431,7 @@ fn networks_with_little_in_them_are_reviewed(rt: HostRuntime) {
     try_row(&rt, &NOTHING);
     try_row(&rt, &ALONE);
     try_row(&rt, &BENCHMARKS_ALONE);
+    try_row(&rt, &ODD);
 }
 
 /// Reviews two books, the second of them empty, where one call fails; what is answered, and the sinks.
