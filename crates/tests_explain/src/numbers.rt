@@ -2,8 +2,10 @@
 //! were changed by hand.
 use std::alloc::Global;
 use std::process::Abort;
+use th_blunders::Fit;
 use th_book::read_book;
-use th_explain::{Freed, Number, explanations};
+use th_circulation::best_heights;
+use th_explain::{Freed, Number, Sieve, explanations};
 use th_network::Network;
 use th_reliability::Sights;
 use th_tables::{read_benchmarks, read_weights};
@@ -60,7 +62,12 @@ fn explained(rt: &impl Abort, alloc: Global, number: &Number, limit: u64) -> Opt
         rt,
         "a network",
     );
-    let found = explanations(alloc, &network, &[*number], limit, None).expect(rt, "memory");
+    let best = best_heights(alloc, &network).expect(rt, "memory");
+    let fit = Fit::of(alloc, &network, best.low()).expect(rt, "memory");
+    let mut sieve = Sieve::of(alloc, &network, &best, &fit).expect(rt, "memory");
+    let found = explanations(alloc, &best, &mut sieve, &[*number], limit, None).expect(
+        rt, "memory",
+    );
     match found.first() {
         Some(own) => *own,
         None => None,

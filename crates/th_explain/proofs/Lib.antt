@@ -5,6 +5,7 @@ pub mod Sums
 pub mod TiltLemmas
 pub mod SlopeLemmas
 pub mod ReroutedLemmas
+pub mod PriceLemmas
 pub mod NetLemmas
 pub mod ExplainLemmas
 pub mod ReachLemmas

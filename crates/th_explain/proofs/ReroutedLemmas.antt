@@ -38,7 +38,7 @@ use Rattle.th_explain.proofs.SlopeLemmas.{both_above, both_below}
 use Rattle.th_explain.proofs.Tilts.{above, bounds_balanced, none_carried, summed-cons, summed-times}
 
 -- ---- one flow changes
-minus_times : (a b c : ℤ) → (a -ℤ b) *ℤ c ≡ a *ℤ c -ℤ b *ℤ c
+pub minus_times : (a b c : ℤ) → (a -ℤ b) *ℤ c ≡ a *ℤ c -ℤ b *ℤ c
 minus_times a b c =
     let p = *ℤ_comm (a -ℤ b) c in
     let q = times-minus c a b in
@@ -221,10 +221,10 @@ bounds_closed survey number cost flows lost start at amount x heights is closed 
 
 -- ---- the best flows
 -- heights that are above the benchmarks by a potential of the vertices
-abbrev lifted : Survey → (ℕ → ℤ) → List ℕ → ℤ
+abbrev pub lifted : Survey → (ℕ → ℤ) → List ℕ → ℤ
 lifted survey potential name = base survey.benchmarks name +ℤ (potential (vertex_of survey.observations survey.benchmarks name) -ℤ potential 0)
 
-lifted_kept : (survey : Survey) (potential : ℕ → ℤ) → IsHeights survey.benchmarks (lifted survey potential)
+pub lifted_kept : (survey : Survey) (potential : ℕ → ℤ) → IsHeights survey.benchmarks (lifted survey potential)
 lifted_kept survey potential name height listed =
     let bottom = ap potential (fixed_vertex survey.observations survey.benchmarks name height listed) in
     let given : base survey.benchmarks name ≡ height = ap (λ (found : Option ℤ). unwrap_or found (pos 0)) listed in

@@ -377,6 +377,32 @@ ends_are_exact survey number low high lowest highest = record {
   greatest = highest.greatest;
 }
 
+-- two changes that cost as little as a flat one, where it falls at the first and rises at the second
+pub shown_is_exact : (survey : Survey) (number : Number) (low flat high : Sloped) → IsSloped survey number low → IsSloped survey number flat → IsSloped survey number high → low.slope <ℤ pos 0 → flat.slope ≡ pos 0 → pos 0 <ℤ high.slope → low.cost ≡ flat.cost → high.cost ≡ flat.cost → IsExact survey number (record { left = low.cost; low = low.change; high = high.change })
+shown_is_exact survey number low flat high at_low at_flat at_high falls none rises low_least high_least = ends_are_exact survey number low high lowest highest
+  where
+    freed : IsFreed survey number flat.cost
+    freed = flat_is_freed survey number flat at_flat none
+
+    freed_low : IsFreed survey number low.cost
+    freed_low = subst (IsFreed survey number) (sym low_least) freed
+
+    freed_high : IsFreed survey number high.cost
+    freed_high = subst (IsFreed survey number) (sym high_least) freed
+
+    lowest : IsLowest survey number low
+    lowest = record {
+      freed = freed_low;
+      proposed = proposed_of survey number low.change low.cost freed_low at_low.reached;
+      least = λ x proposed. not_more low.change x (λ less. let more = left_of_more survey number low.change x low.cost low.cost low.slope at_low falls less (costs_of survey number x low.cost freed_low proposed) in omega arith);
+    }
+
+    highest : IsHighest survey number high
+    highest = record {
+      proposed = proposed_of survey number high.change high.cost freed_high at_high.reached;
+      greatest = λ x proposed. not_more x high.change (λ more. let above = right_of_more survey number high.change x high.cost high.cost high.slope at_high rises more (costs_of survey number x high.cost freed_high proposed) in omega arith);
+    }
+
 -- ---- slopes of best heights
 pub slope_of_best : (survey : Survey) (number : Number) (x : ℤ) (best : Best) → IsBest (tilted number x survey) best → IsSlopedAt survey number x (cost_of (tilted number x survey) (at_points_of (tilted number x survey) best.low)) (net number survey best.flows)
 slope_of_best survey number x best own =

@@ -2,7 +2,7 @@
 ghost use Rattle.std.specs.Prelude.{◌≡◌, ◌<◌, ◌<ℤ◌, [], ◌∷◌, ◌++◌, pos, IfErr, IfOk, OnOk};
 ghost use Rattle.std.specs.List.{AllZip};
 ghost use Rattle.th_circulation.specs.Best.{IsBest};
-ghost use Rattle.th_explain.specs.Explained.{IsExplainedOrMore, IsExplainedOrNone};
+ghost use Rattle.th_explain.specs.Explained.{IsExact, IsExplainedOrMore, IsExplainedOrNone};
 ghost use Rattle.th_explain.specs.Freed.{cost_of};
 ghost use Rattle.th_explain.specs.Inside.Brackets.{AreRound, IsRoundOrNone, is_explanation};
 ghost use Rattle.th_explain.specs.Reach.{reach_of};
@@ -16,8 +16,7 @@ use crate::sieve::Sieve;
 use crate::slopes::{Sloped, slope_as_given, slope_at};
 use crate::tilting::reach_of;
 use std::alloc::{AllocError, Global};
-use th_blunders::Fit;
-use th_circulation::{BestHeights, best_heights};
+use th_circulation::BestHeights;
 use th_network::{NetFault, Network};
 
 /// What is left if a number is freed, where the number explains what does not fit: even the mildest
@@ -56,56 +55,53 @@ pub fn explanation(
 }
 
 /// What is left if each of some numbers is freed, where it explains what does not fit; in their order.
+/// `best` are the best heights of the sieve's network.
 /// The limit is in units of 10 nm. Numbers that leave more than `most`, in units of 10 nm times weight,
 /// may be missing, if it is given. The only fault is `NoMemory`.
 ///
-/// It adjusts the network once. Of nearly all numbers that explain nothing, or too little, short ways by
-/// which what flows through them can be sent back show it; each other number is solved, which takes some
-/// 10 adjustments.
+/// Of nearly all numbers that explain nothing, or too little, short ways by which what flows through them
+/// can be sent back show it. Each other number is freed along shortest ways. If they are too many, it is solved,
+/// which takes some 10 adjustments.
 pub fn explanations(
     alloc: Global,
-    network: &Network,
+    best: &BestHeights,
+    sieve: &mut Sieve<'_>,
     numbers: &[Number],
     limit: u64,
     most: Option<u128>,
 ) -> Result<Vec<Option<Freed>>, NetFault>
+    requires best { IsBest sieve.old.network.now best.now }
+    requires cost { sieve.old.cost ≡ cost_of sieve.old.network.now (at_points_of sieve.old.network.now best.now.low) }
     ensures each { IfOk result (λ found.
-        AllZip (IsExplainedOrMore network.now limit most) numbers.now found.items) }
+        AllZip (IsExplainedOrMore sieve.old.network.now limit most) numbers.now found.items) }
     ensures refused { IfErr result (λ fault. fault ≡ NoMemory) }
+    ensures network { sieve.new.network.now ≡ sieve.old.network.now }
+    ensures cost { sieve.new.cost ≡ sieve.old.cost }
 {
-    let best = best_heights(alloc, network)?;
-    let fit = Fit::of(alloc, network, best.low())?;
-    let mut sieve = Sieve::of(alloc, network, &best, &fit)?;
     let mut found = Vec::with_capacity(alloc, numbers.len())?;
     for number in numbers {
-        let own = sifted(
-            alloc, network, &best, fit.cost, &mut sieve, number, limit, most,
-        )?;
+        let own = sifted(alloc, best, sieve, number, limit, most)?;
         add(&mut found, own)?;
     }
     Ok(found)
 }
 
 /// What is left if a number is freed, where it explains what does not fit: solved only if the sieve does
-/// not show that it explains nothing.
+/// not show it.
 fn sifted(
     alloc: Global,
-    network: &Network,
     best: &BestHeights,
-    cost: u128,
     sieve: &mut Sieve<'_>,
     number: &Number,
     limit: u64,
     most: Option<u128>,
 ) -> Result<Option<Freed>, NetFault>
-    requires best { IsBest network.now best.now }
-    requires cost { cost ≡ cost_of network.now (at_points_of network.now best.now.low) }
-    requires network { sieve.old.rerouted.network.now ≡ network.now }
-    requires same_cost { sieve.old.rerouted.cost ≡ cost }
-    ensures found { IfOk result (IsExplainedOrMore network.now limit most number.now) }
+    requires best { IsBest sieve.old.network.now best.now }
+    requires cost { sieve.old.cost ≡ cost_of sieve.old.network.now (at_points_of sieve.old.network.now best.now.low) }
+    ensures found { IfOk result (IsExplainedOrMore sieve.old.network.now limit most number.now) }
     ensures refused { IfErr result (λ fault. fault ≡ NoMemory) }
-    ensures network { sieve.new.rerouted.network.now ≡ network.now }
-    ensures same_cost { sieve.new.rerouted.cost ≡ cost }
+    ensures network { sieve.new.network.now ≡ sieve.old.network.now }
+    ensures cost { sieve.new.cost ≡ sieve.old.cost }
 {
     if sieve.is_costly_beyond(number, limit) {
         return Ok(None);
@@ -115,7 +111,11 @@ fn sifted(
     {
         return Ok(None);
     }
-    explanation(alloc, network, best, cost, number, limit)
+    if let Some(freed) = sieve.freed(number) {
+        let reach = reach_of(number, sieve.network);
+        return Ok(if_explains(sieve.network, number, freed, limit, reach));
+    }
+    explanation(alloc, sieve.network, best, sieve.cost, number, limit)
 }
 
 /// Adds what was found of one more number.
@@ -162,10 +162,25 @@ fn explained_between(
     ensures refused { IfErr result (λ fault. fault ≡ NoMemory) }
 {
     let freed = freed_between(alloc, network, number, left, right)?;
+    Ok(if_explains(network, number, freed, limit, reach))
+}
+
+/// What is left if a number is freed, where the number explains what does not fit.
+fn if_explains(
+    network: &Network,
+    number: &Number,
+    freed: Freed,
+    limit: u64,
+    reach: u64,
+) -> Option<Freed>
+    requires exact { IsExact network.now number.now freed }
+    requires reach { reach ≡ reach_of number.now network.now.observations }
+    ensures { IsExplainedOrNone network.now limit number.now result }
+{
     if is_explanation(limit, reach, &freed) {
-        Ok(Some(freed))
+        Some(freed)
     } else {
-        Ok(None)
+        None
     }
 }
 

@@ -2,10 +2,11 @@
 //!
 //! What a survey costs as one number grows is convex. So from two changes, one where the cost falls
 //! and one where it rises, the least cost is found between them, and how far it reaches.
-ghost use Rattle.std.specs.Prelude.{◌≡◌, ◌≤◌, ◌+ℤ◌, ◌<ℤ◌, pos, IfErr, IfOk, unsigned_abs};
+ghost use Rattle.std.specs.Prelude.{◌≡◌, ◌≤◌, ◌+ℤ◌, ◌<ℤ◌, pos, IfErr, IfOk, IfSome, unsigned_abs};
 ghost use Rattle.th_book.specs.Observed.{largest_difference};
 ghost use Rattle.th_explain.specs.Explained.{IsExact, mildest};
 ghost use Rattle.th_explain.specs.Inside.Brackets.{AreRound, IsAbove, IsBelow, IsHighest, IsLowest, IsNearest};
+ghost use Rattle.th_explain.specs.Slopes.{IsSloped};
 ghost use Rattle.th_network.specs.declared.faults.NetFault.TheVariants.{NoMemory};
 
 use crate::numbers::Number;
@@ -63,6 +64,29 @@ pub(crate) fn freed_between(
         }
     }
     Ok(nearest(&left, &right))
+}
+
+/// What is left if a number is freed, from two changes that cost as little as one where the cost neither falls
+/// nor rises, if it falls at the first and rises at the second.
+pub(crate) fn freed_at(
+    network: &Network,
+    number: &Number,
+    low: &Sloped,
+    flat: &Sloped,
+    high: &Sloped,
+) -> Option<Freed>
+    requires low { IsSloped network.now number.now low.now }
+    requires flat { IsSloped network.now number.now flat.now }
+    requires high { IsSloped network.now number.now high.now }
+    ensures exact { IfSome result (IsExact network.now number.now) }
+{
+    if low.slope >= 0 || high.slope <= 0 || flat.slope != 0 {
+        return None;
+    }
+    if low.cost != flat.cost || high.cost != flat.cost {
+        return None;
+    }
+    Some(from_to(low, high))
 }
 
 /// What is left where no change is between the two: the lesser cost.

@@ -32,4 +32,5 @@ pub use explaining::{explanation, explanations};
 pub use freed::Freed;
 pub use mended::{blunder_count, blunders_left};
 pub use numbers::Number;
-pub use reaching::least_in_reach;
+pub use reaching::{least_in_reach, least_left};
+pub use sieve::Sieve;

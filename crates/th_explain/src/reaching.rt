@@ -10,11 +10,35 @@ ghost use Rattle.th_network.specs.declared.faults.NetFault.TheVariants.{NoMemory
 
 use crate::freed::freed_between;
 use crate::numbers::Number;
+use crate::sieve::Sieve;
 use crate::slopes::{Sloped, slope_as_given, slope_at};
 use crate::tilting::reach_of;
 use std::alloc::Global;
 use th_circulation::BestHeights;
 use th_network::{NetFault, Network};
+
+/// What the network of a sieve costs at least over all changes of a number that are within reach of what a
+/// book can say, in units of 10 nm times weight. `best` are its best heights. The only fault is `NoMemory`.
+pub fn least_left(
+    alloc: Global,
+    best: &BestHeights,
+    sieve: &mut Sieve<'_>,
+    number: &Number,
+) -> Result<u128, NetFault>
+    requires best { IsBest sieve.old.network.now best.now }
+    requires cost { sieve.old.cost ≡ cost_of sieve.old.network.now (at_points_of sieve.old.network.now best.now.low) }
+    ensures least { IfOk result (IsLeastInReach sieve.old.network.now number.now) }
+    ensures refused { IfErr result (λ fault. fault ≡ NoMemory) }
+    ensures network { sieve.new.network.now ≡ sieve.old.network.now }
+    ensures cost { sieve.new.cost ≡ sieve.old.cost }
+{
+    if let Some(freed) = sieve.freed(number)
+        && freed.low.unsigned_abs() <= reach_of(number, sieve.network)
+    {
+        return Ok(freed.left);
+    }
+    least_in_reach(alloc, sieve.network, best, sieve.cost, number)
+}
 
 /// What a network costs at least over all changes of a number that are within reach of what a book can
 /// say.

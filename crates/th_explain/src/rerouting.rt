@@ -6,14 +6,16 @@
 ghost use Rattle.std.specs.Prelude.{◌≡◌, ◌<◌, ◌≤◌, ◌+◌, ◌*◌, ◌+ℤ◌, ◌-ℤ◌, ◌*ℤ◌, ◌≤ℤ◌, ◌<ℤ◌, IfOk, IfSome, length, pos, slice_index, slice_index_or, true, unsigned_abs};
 ghost use Rattle.th_book.specs.Observed.{Observed};
 ghost use Rattle.th_circulation.specs.Best.{IsBest};
-ghost use Rattle.th_explain.specs.Freed.{cost_of};
-ghost use Rattle.th_explain.specs.Inside.Rerouted.{HoldsNumber, IsCostlyBeyond, IsNext, IsRerouted, IsSteep, LeavesMore};
+ghost use Rattle.th_explain.specs.Freed.{Costs, cost_of};
+ghost use Rattle.th_explain.specs.Inside.Rerouted.{HoldsNumber, IsCostlyBeyond, IsNext, IsRerouted, IsSteep, LeavesMore, priced};
+ghost use Rattle.th_explain.specs.Slopes.{IsSloped};
 ghost use Rattle.th_network.specs.Links.{link_of};
 ghost use Rattle.th_network.specs.Networks.{at_points_of, weights_of};
 ghost use Rattle.th_tables.specs.Limits.{max_weight};
 
 use crate::nets::net_in;
 use crate::numbers::Number;
+use crate::slopes::Sloped;
 use std::alloc::{AllocError, Global};
 use th_circulation::BestHeights;
 use th_network::{Link, Network};
@@ -179,6 +181,61 @@ impl<'a> Rerouted<'a> {
         Some(net_in(self.network, number, &self.flows, run))
     }
 
+    /// What the network costs if a number grows by so much, and how steeply that rises, if the flows show
+    /// that these heights of the vertices are best then.
+    pub fn sloped(
+        &self,
+        number: &Number,
+        run: (usize, usize),
+        change: i64,
+        heights: &[i64],
+    ) -> Option<Sloped>
+        requires { HoldsNumber self.now.network.now.observations number.now run }
+        ensures { IfSome result (IsSloped self.now.network.now number.now) }
+    {
+        if self.start != self.at {
+            return None;
+        }
+        let cost = self.cost_at(number, change, heights)?;
+        let slope = net_in(self.network, number, &self.flows, run);
+        let shown = shown_cost(self.cost, self.lost, change, slope)?;
+        let size = signed(cost)?;
+        if shown != size {
+            return None;
+        }
+        Some(Sloped {
+            change,
+            cost,
+            slope,
+        })
+    }
+
+    /// What the network costs if a number grows by so much, at these heights of the vertices.
+    fn cost_at(&self, number: &Number, change: i64, heights: &[i64]) -> Option<u128>
+        ensures { IfSome result (Costs self.now.network.now number.now change) }
+    {
+        let mut total = 0u128;
+        for i in 0..self.flows.len() {
+            total = total.checked_add(self.price(number, change, heights, i)?)?;
+        }
+        Some(total)
+    }
+
+    /// What the observation at a place costs then.
+    fn price(&self, number: &Number, change: i64, heights: &[i64], place: usize) -> Option<u128>
+        requires { place < length self.now.flows.items }
+        ensures { IfSome result (λ price. (o : Observed)
+            → slice_index_or self.now.network.now.observations place o ≡ o
+            → price ≡ priced self.now.network.now number.now change heights.now o) }
+    {
+        let observations = self.network.observations();
+        let touch = number.touch(&observations[place]);
+        let residual = residual_at(&self.link(place), change, touch, heights)?;
+        let weight = u128::from(self.network.weight(place));
+        let price = weight.checked_mul(u128::from(residual.unsigned_abs()))?;
+        Some(price)
+    }
+
     /// Whether the flows show that no change of a number beyond a limit makes the network cost less.
     pub fn is_costly_beyond(
         &self,
@@ -217,6 +274,48 @@ impl<'a> Rerouted<'a> {
         }
         is_far_above(self.cost, self.lost, most)
     }
+}
+
+/// What flows show that a network costs at least if a number changes: what it costs as given, less what is
+/// lost, and what flows through the number for each unit.
+fn shown_cost(given: u128, lost: i64, change: i64, slope: i64) -> Option<i128>
+    ensures { IfSome result (λ cost. cost ≡ pos given -ℤ lost +ℤ change *ℤ slope) }
+{
+    let given = signed(given)?;
+    let rise = i128::from(change).checked_mul(i128::from(slope))?;
+    let shown = given.checked_sub(i128::from(lost))?.checked_add(rise)?;
+    Some(shown)
+}
+
+/// A cost as a number with a sign, if it is small enough.
+fn signed(cost: u128) -> Option<i128>
+    ensures { IfSome result (λ signed. signed ≡ pos cost) }
+{
+    if cost >= 1 << 126 {
+        return None;
+    }
+    Some(cost as i128)
+}
+
+/// The residual of a link at these heights of the vertices, if its difference grows by a change times what it is
+/// touched.
+fn residual_at(link: &Link, change: i64, touch: i64, heights: &[i64]) -> Option<i64>
+    ensures { IfSome result (λ residual. residual ≡ link.now.diff +ℤ change *ℤ touch
+        -ℤ (slice_index_or heights.now link.now.head (pos 0) -ℤ slice_index_or heights.now link.now.tail (pos 0))) }
+{
+    let low = level(heights, link.tail)?;
+    let high = level(heights, link.head)?;
+    let difference = link.diff.checked_add(change.checked_mul(touch)?)?;
+    let residual = difference.checked_sub(high.checked_sub(low)?)?;
+    Some(residual)
+}
+
+/// The height of a vertex, if there is one.
+fn level(heights: &[i64], vertex: u32) -> Option<i64>
+    ensures { IfSome result (λ level. level ≡ slice_index_or heights.now vertex (pos 0)) }
+{
+    let level = heights.get(vertex as usize)?;
+    Some(*level)
 }
 
 /// Whether a cost is above another by more than what is lost.

@@ -1,13 +1,13 @@
 //! The rows of all numbers, and how many were looked at.
 ghost use Rattle.std.specs.Prelude.{◌≡◌, ◌≤◌, ◌++◌, ℕ, All, Option, IfErr, IfOk, OnOk, length, option_to_list, true};
-ghost use Rattle.std.specs.List.{flat_map};
+ghost use Rattle.std.specs.List.{AllZip, flat_map};
 ghost use Rattle.th_circulation.specs.Best.{IsBest};
 ghost use Rattle.th_explain.specs.Freed.{cost_of};
 ghost use Rattle.th_limits.specs.Limits.{max_books};
 ghost use Rattle.th_network.specs.Networks.{at_points_of};
 ghost use Rattle.th_network.specs.declared.faults.NetFault.TheVariants.{NoMemory};
 ghost use Rattle.th_numbers.specs.Explanations.{AreExplained, IsEnough, all_rows, summary_with};
-ghost use Rattle.th_numbers.specs.Inside.Leading.{AreLeading};
+ghost use Rattle.th_numbers.specs.Inside.Leading.{AreLeading, IsFreedOrMore, IsTighter};
 ghost use Rattle.th_numbers.specs.Lists.{in_order, listed_in};
 
 use crate::books::books_of;
@@ -15,12 +15,12 @@ use crate::candidates::Candidate;
 use crate::kinds::Kinds;
 use crate::listing::{Listing, listing_of};
 use crate::readings::book_rows;
-use crate::rows::rows_or_more;
+use crate::rows::{freed_or_more, rows_or_more};
 use std::alloc::{AllocError, Global};
 use th_blunders::{Fit, is_blunder};
 use th_circulation::{BestHeights, best_heights};
 use th_entries::BookReview;
-use th_explain::blunder_count;
+use th_explain::{Freed, Sieve, blunder_count};
 use th_explanations::{Row, Summary, ranked};
 use th_network::{NetFault, Network};
 use th_review::entries_of;
@@ -28,8 +28,8 @@ use th_review::entries_of;
 /// The most rows.
 const MOST_ROWS: usize = 20;
 
-/// Of so many sights that do not fit, 20 are expected to be rows.
-const EXPECTED_ROWS: usize = 30;
+/// So many of the sights that fit least are freed before all other numbers.
+const FIRST_FREED: usize = 40;
 
 /// What was looked at, and the rows of the numbers that explain most.
 #[derive(Drop)]
@@ -40,8 +40,8 @@ pub struct Explanations {
 
 /// Which numbers of a network, and of the books with these reviews, explain what does not fit.
 ///
-/// The limit of blunders is in units of 10 nm. The only fault is `NoMemory`. The network is adjusted a few
-/// times, and some 10 to 20 times more for each number that explains as much as what is printed.
+/// The limit of blunders is in units of 10 nm. The only fault is `NoMemory`. The network is adjusted once for
+/// itself, and once for each row and each book.
 pub fn explanations_of(
     alloc: Global,
     network: &Network,
@@ -65,11 +65,13 @@ pub fn explanations_of(
     let all = in_order(alloc, listing)?;
     let candidates = all.as_slice();
     let read = book_rows(alloc, network, &kinds, fit.cost, books, limit)?;
+    let mut sieve = Sieve::of(alloc, network, &best, &fit)?;
     let rows = printed_rows(
         alloc,
         network,
         &best,
         &fit,
+        &mut sieve,
         candidates,
         read.as_slice(),
         limit,
@@ -83,25 +85,31 @@ fn printed_rows(
     network: &Network,
     best: &BestHeights,
     fit: &Fit,
+    sieve: &mut Sieve<'_>,
     candidates: &[Candidate],
     read: &[Option<Row>],
     limit: i64,
 ) -> Result<Vec<Row>, NetFault>
     requires best { IsBest network.now best.now }
     requires cost { fit.now.cost ≡ cost_of network.now (at_points_of network.now best.now.low) }
+    requires sieve { sieve.old.network.now ≡ network.now }
+    requires same_cost { sieve.old.cost ≡ fit.now.cost }
     ensures rows { IfOk result (λ rows. (most : Option ℕ)
         × IsEnough most rows.items × AreLeading network.now fit.now.cost limit candidates.now read.now most rows.items) }
     ensures refused { IfErr result (λ fault. fault ≡ NoMemory) }
 {
-    let most = most_expected(alloc, network, fit, limit)?;
+    let expected = most_expected(alloc, best, fit, sieve, limit)?;
+    let found = freed_or_more(alloc, best, sieve, candidates, limit, expected)?;
+    let most = lesser(expected, least_printed(alloc, candidates, &found)?);
     let first = leading_rows(
-        alloc, network, best, fit.cost, candidates, read, limit, most,
+        alloc, network, best, fit.cost, sieve, candidates, &found, read, limit, most,
     )?;
     if is_enough(most, first.as_slice()) {
         return Ok(first);
     }
+    let all = freed_or_more(alloc, best, sieve, candidates, limit, None)?;
     let rows = leading_rows(
-        alloc, network, best, fit.cost, candidates, read, limit, None,
+        alloc, network, best, fit.cost, sieve, candidates, &all, read, limit, None,
     )?;
     Ok(rows)
 }
@@ -113,21 +121,30 @@ fn leading_rows(
     network: &Network,
     best: &BestHeights,
     cost: u128,
+    sieve: &mut Sieve<'_>,
     candidates: &[Candidate],
+    found: &[Option<Freed>],
     read: &[Option<Row>],
     limit: i64,
     most: Option<u128>,
 ) -> Result<Vec<Row>, NetFault>
     requires best { IsBest network.now best.now }
     requires cost { cost ≡ cost_of network.now (at_points_of network.now best.now.low) }
+    requires sieve { sieve.old.network.now ≡ network.now }
+    requires same_cost { sieve.old.cost ≡ cost }
+    requires found { AllZip (IsFreedOrMore network.now limit most) candidates.now found.now }
     ensures rows { IfOk result (λ rows.
         AreLeading network.now cost limit candidates.now read.now most rows.items) }
     ensures refused { IfErr result (λ fault. fault ≡ NoMemory) }
+    ensures sieve { sieve.new.network.now ≡ network.now }
+    ensures same_cost { sieve.new.cost ≡ cost }
 {
-    let own = rows_or_more(alloc, network, best, cost, candidates, limit, most)?;
-    let found = all_rows(alloc, own.as_slice(), read)?;
-    let rows = ranked(alloc, found.as_slice())?;
-    Ok(rows)
+    let own = rows_or_more(
+        alloc, network, best, cost, sieve, candidates, found, limit, most,
+    )?;
+    let rows = all_rows(alloc, own.as_slice(), read)?;
+    let leading = ranked(alloc, rows.as_slice())?;
+    Ok(leading)
 }
 
 /// Whether rows are as many as there may be, none of which leaves more than `most`, if it is given.
@@ -152,30 +169,82 @@ fn leave_at_most(rows: &[Row], most: u128) -> bool
     true
 }
 
-/// What the last row is expected to leave at most, if there are many sights that do not fit. Each of
-/// these would explain at least its residual times its weight. Nothing is promised: it is checked when
-/// there are rows.
+/// What the last row leaves at most, if so many sights do not fit that those that fit least are rows. Nothing is
+/// promised: it is checked when there are rows.
 fn most_expected(
+    alloc: Global,
+    best: &BestHeights,
+    fit: &Fit,
+    sieve: &mut Sieve<'_>,
+    limit: i64,
+) -> Result<Option<u128>, NetFault>
+    requires best { IsBest sieve.old.network.now best.now }
+    requires cost { sieve.old.cost ≡ cost_of sieve.old.network.now (at_points_of sieve.old.network.now best.now.low) }
+    ensures refused { IfErr result (λ fault. fault ≡ NoMemory) }
+    ensures sieve { sieve.new.network.now ≡ sieve.old.network.now }
+    ensures same_cost { sieve.new.cost ≡ sieve.old.cost }
+{
+    let first = first_freed(alloc, sieve.network, fit, limit)?;
+    if first.len() < MOST_ROWS {
+        return Ok(None);
+    }
+    let found = freed_or_more(alloc, best, sieve, &first, limit, None)?;
+    Ok(least_printed(alloc, &first, &found)?)
+}
+
+/// The sights that fit least, by residual times weight.
+fn first_freed(
     alloc: Global,
     network: &Network,
     fit: &Fit,
     limit: i64,
-) -> Result<Option<u128>, AllocError> {
-    let mut gains = Vec::with_capacity(alloc, fit.residuals.len())?;
+) -> Result<Vec<Candidate>, AllocError> {
+    let mut gains = Vec::new(alloc);
     for (i, residual) in fit.residuals.iter().enumerate() {
         if is_blunder(*residual, limit)
             && let Some(weight) = network.weights().get(i)
         {
-            gains.push(u128::from(residual.unsigned_abs()).saturating_mul(u128::from(*weight)))?;
+            let gain = u128::from(residual.unsigned_abs()).saturating_mul(u128::from(*weight));
+            gains.push((gain, i))?;
         }
     }
     gains.sort_unstable();
-    let Some(place) = gains.len().checked_sub(EXPECTED_ROWS) else {
-        return Ok(None);
-    };
-    match gains.get(place) {
-        Some(gain) => Ok(fit.cost.checked_sub(*gain)),
-        None => Ok(None),
+    let mut first = Vec::with_capacity(alloc, FIRST_FREED)?;
+    for (_, i) in gains.iter().rev().take(FIRST_FREED) {
+        if let Some(o) = network.observations().get(*i) {
+            first.push(Candidate::Sight(*o))?;
+        }
+    }
+    Ok(first)
+}
+
+/// What the last row that is printed leaves at most, if so many numbers explain what does not fit: changes that
+/// were forgotten may be no rows. Nothing is promised: it is checked when there are rows.
+fn least_printed(
+    alloc: Global,
+    candidates: &[Candidate],
+    found: &[Option<Freed>],
+) -> Result<Option<u128>, AllocError> {
+    let mut left = Vec::new(alloc);
+    for (candidate, own) in candidates.iter().zip(found) {
+        if let Some(freed) = own
+            && candidate.whole().is_none()
+        {
+            left.push(freed.left)?;
+        }
+    }
+    left.sort_unstable();
+    Ok(left.get(MOST_ROWS - 1).copied())
+}
+
+/// The lesser of two, if there are two.
+fn lesser(most: Option<u128>, other: Option<u128>) -> Option<u128>
+    ensures { IsTighter most result }
+{
+    match (most, other) {
+        (Some(most), Some(other)) => Some(most.min(other)),
+        (Some(most), None) => Some(most),
+        (None, other) => other,
     }
 }
 

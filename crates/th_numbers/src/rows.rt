@@ -3,23 +3,55 @@ ghost use Rattle.std.specs.Prelude.{◌≡◌, ◌≤◌, ◌↔◌, ◌++◌, �
 ghost use Rattle.std.specs.List.{AllZip};
 ghost use Rattle.th_book.specs.Observed.{largest_difference};
 ghost use Rattle.th_circulation.specs.Best.{IsBest};
-ghost use Rattle.th_explain.specs.Explained.{Explains, IsExplainedOrMore};
+ghost use Rattle.th_explain.specs.Explained.{Explains, IsMore};
 ghost use Rattle.th_explain.specs.Freed.{cost_of};
 ghost use Rattle.th_network.specs.Networks.{at_points_of};
 ghost use Rattle.th_network.specs.declared.faults.NetFault.TheVariants.{NoMemory};
 ghost use Rattle.th_numbers.specs.Candidates.{number_of};
+ghost use Rattle.th_numbers.specs.Inside.Leading.{IsFreedOrMore};
 ghost use Rattle.th_numbers.specs.Rows.{IsRowOrMore, IsRowOrNone, LeavesNoMore, limit_size, mildest_change, row_of, row_with, values_of};
 
 use crate::candidates::{Candidate, Label, sight_count};
 use std::alloc::{AllocError, Global};
 use th_circulation::BestHeights;
 use th_explain::laws::{freed_is_one, mistake_explains};
-use th_explain::{Freed, Number, blunders_left, explanations, least_in_reach};
+use th_explain::{Freed, Number, Sieve, blunders_left, explanations, least_left};
 use th_explanations::{Row, Values};
 use th_network::{NetFault, Network};
 
-/// For each number its row, where it explains what does not fit. Those that leave more than `most` may be
-/// missing, if it is given.
+/// What is left if each of some numbers is freed, where it explains what does not fit. Those that leave more
+/// than `most` may be missing, if it is given. The limit of blunders is in units of 10 nm. The only fault is
+/// `NoMemory`.
+pub(crate) fn freed_or_more(
+    alloc: Global,
+    best: &BestHeights,
+    sieve: &mut Sieve<'_>,
+    candidates: &[Candidate],
+    limit: i64,
+    most: Option<u128>,
+) -> Result<Vec<Option<Freed>>, NetFault>
+    requires best { IsBest sieve.old.network.now best.now }
+    requires cost { sieve.old.cost ≡ cost_of sieve.old.network.now (at_points_of sieve.old.network.now best.now.low) }
+    ensures found { IfOk result (λ found.
+        AllZip (IsFreedOrMore sieve.old.network.now limit most) candidates.now found.items) }
+    ensures refused { IfErr result (λ fault. fault ≡ NoMemory) }
+    ensures sieve { sieve.new.network.now ≡ sieve.old.network.now }
+    ensures same_cost { sieve.new.cost ≡ sieve.old.cost }
+{
+    let numbers = numbers_of(alloc, candidates)?;
+    let found = explanations(
+        alloc,
+        best,
+        sieve,
+        numbers.as_slice(),
+        limit_size(limit),
+        most,
+    )?;
+    Ok(found)
+}
+
+/// For each number its row, where it explains what does not fit, given what is left if it is freed. Those
+/// that leave more than `most` may be missing, if it is given.
 ///
 /// `best` are the best heights of the network, and `cost` is what they cost. The limit of blunders is in
 /// units of 10 nm. The only fault is `NoMemory`.
@@ -28,19 +60,23 @@ pub(crate) fn rows_or_more(
     network: &Network,
     best: &BestHeights,
     cost: u128,
+    sieve: &mut Sieve<'_>,
     candidates: &[Candidate],
+    found: &[Option<Freed>],
     limit: i64,
     most: Option<u128>,
 ) -> Result<Vec<Option<Row>>, NetFault>
     requires best { IsBest network.now best.now }
     requires cost { cost ≡ cost_of network.now (at_points_of network.now best.now.low) }
+    requires sieve { sieve.old.network.now ≡ network.now }
+    requires same_cost { sieve.old.cost ≡ cost }
+    requires found { AllZip (IsFreedOrMore network.now limit most) candidates.now found.now }
     ensures rows { IfOk result (λ rows.
         AllZip (IsRowOrMore network.now cost limit most) candidates.now rows.items) }
     ensures refused { IfErr result (λ fault. fault ≡ NoMemory) }
+    ensures sieve { sieve.new.network.now ≡ network.now }
+    ensures same_cost { sieve.new.cost ≡ cost }
 {
-    let numbers = numbers_of(alloc, candidates)?;
-    let all = explanations(alloc, network, numbers.as_slice(), limit_size(limit), most)?;
-    let found = all.as_slice();
     let mut rows = Vec::with_capacity(alloc, candidates.len())?;
     for k in 0..candidates.len() {
         let row = row_or_more(
@@ -48,6 +84,7 @@ pub(crate) fn rows_or_more(
             network,
             best,
             cost,
+            sieve,
             &candidates[k],
             &found[k],
             limit,
@@ -76,12 +113,14 @@ pub(crate) fn add_found(rows: &mut Vec<Option<Row>>, found: Option<Row>) -> Resu
     rows.extend_from_slice(&[found])
 }
 
-/// The row of a number, given what is left if it is freed, where it explains what does not fit.
+/// The row of a number, given what is left if it is freed, where it explains what does not fit and leaves
+/// no more than `most`.
 fn row_or_more(
     alloc: Global,
     network: &Network,
     best: &BestHeights,
     cost: u128,
+    sieve: &mut Sieve<'_>,
     candidate: &Candidate,
     found: &Option<Freed>,
     limit: i64,
@@ -89,16 +128,34 @@ fn row_or_more(
 ) -> Result<Option<Row>, NetFault>
     requires best { IsBest network.now best.now }
     requires cost { cost ≡ cost_of network.now (at_points_of network.now best.now.low) }
-    requires found { IsExplainedOrMore network.now (limit_size limit) most (number_of candidate.now) found.now }
+    requires sieve { sieve.old.network.now ≡ network.now }
+    requires same_cost { sieve.old.cost ≡ cost }
+    requires found { IsFreedOrMore network.now limit most candidate.now found.now }
     ensures row { IfOk result (IsRowOrMore network.now cost limit most candidate.now) }
     ensures refused { IfErr result (λ fault. fault ≡ NoMemory) }
+    ensures sieve { sieve.new.network.now ≡ network.now }
+    ensures same_cost { sieve.new.cost ≡ cost }
 {
+    freed_is_one();
     match found {
         Some(freed) => {
-            let row = row_if_leading(alloc, network, best, cost, candidate, freed, limit)?;
+            if is_more(most, freed.left) {
+                return Ok(None);
+            }
+            let row = row_if_leading(alloc, network, best, cost, sieve, candidate, freed, limit)?;
             Ok(row)
         }
         None => Ok(None),
+    }
+}
+
+/// Whether more is left than this, if it is given.
+fn is_more(most: Option<u128>, left: u128) -> bool
+    ensures { result ≡ true → IsMore most left }
+{
+    match most {
+        Some(most) => left > most,
+        None => false,
     }
 }
 
@@ -108,19 +165,24 @@ fn row_if_leading(
     network: &Network,
     best: &BestHeights,
     cost: u128,
+    sieve: &mut Sieve<'_>,
     candidate: &Candidate,
     freed: &Freed,
     limit: i64,
 ) -> Result<Option<Row>, NetFault>
     requires best { IsBest network.now best.now }
     requires cost { cost ≡ cost_of network.now (at_points_of network.now best.now.low) }
+    requires sieve { sieve.old.network.now ≡ network.now }
+    requires same_cost { sieve.old.cost ≡ cost }
     requires explains { Explains network.now (limit_size limit) (number_of candidate.now) freed.now }
     ensures row { IfOk result (IsRowOrNone network.now cost limit candidate.now) }
     ensures refused { IfErr result (λ fault. fault ≡ NoMemory) }
+    ensures sieve { sieve.new.network.now ≡ network.now }
+    ensures same_cost { sieve.new.cost ≡ cost }
 {
     freed_is_one();
     mistake_explains();
-    let leads = leaves_no_more(alloc, network, best, cost, &candidate.whole(), freed.left)?;
+    let leads = leaves_no_more(alloc, best, sieve, &candidate.whole(), freed.left)?;
     if !leads {
         return Ok(None);
     }
@@ -133,19 +195,20 @@ fn row_if_leading(
 /// one.
 fn leaves_no_more(
     alloc: Global,
-    network: &Network,
     best: &BestHeights,
-    cost: u128,
+    sieve: &mut Sieve<'_>,
     whole: &Option<Number>,
     left: u128,
 ) -> Result<bool, NetFault>
-    requires best { IsBest network.now best.now }
-    requires cost { cost ≡ cost_of network.now (at_points_of network.now best.now.low) }
-    ensures least { IfOk result (λ least. (least ≡ true) ↔ LeavesNoMore network.now whole.now left) }
+    requires best { IsBest sieve.old.network.now best.now }
+    requires cost { sieve.old.cost ≡ cost_of sieve.old.network.now (at_points_of sieve.old.network.now best.now.low) }
+    ensures least { IfOk result (λ least. (least ≡ true) ↔ LeavesNoMore sieve.old.network.now whole.now left) }
     ensures refused { IfErr result (λ fault. fault ≡ NoMemory) }
+    ensures sieve { sieve.new.network.now ≡ sieve.old.network.now }
+    ensures same_cost { sieve.new.cost ≡ sieve.old.cost }
 {
     match whole {
-        Some(whole) => Ok(left <= least_in_reach(alloc, network, best, cost, whole)?),
+        Some(whole) => Ok(left <= least_left(alloc, best, sieve, whole)?),
         None => Ok(true),
     }
 }

@@ -33,7 +33,7 @@ pub(crate) struct Ground<'a> {
 impl Ground<'_> {
     /// The sides from among which those of a vertex are.
     #[inline]
-    fn sides(&self, vertex: u32) -> Option<&[Side]> {
+    pub fn sides(&self, vertex: u32) -> Option<&[Side]> {
         if vertex != self.spare {
             return self.sides.of(vertex);
         }
@@ -58,7 +58,7 @@ impl Ground<'_> {
 
     /// Where a side of a vertex leads, if it is the vertex's own and has room.
     #[inline]
-    fn other(&self, way: Way, vertex: u32, side: &Side) -> Option<u32> {
+    pub fn other(&self, way: Way, vertex: u32, side: &Side) -> Option<u32> {
         let is_spare = vertex == self.spare;
         if self.ends.has(side.arc) != is_spare {
             return None;

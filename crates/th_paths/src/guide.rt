@@ -1,5 +1,6 @@
 use crate::balls::Ground;
 use crate::groups::{End, Ends, Group};
+use crate::lifting::Lifting;
 use crate::links::Link;
 use crate::searches::Search;
 use crate::sides::{Side, Sides};
@@ -8,6 +9,11 @@ use th_tree::{ResidualArc, push_if_room};
 
 /// How many walks a proposal has at most.
 const MOST_WALKS: usize = 64;
+
+/// How many walks free a number at most, and how many arcs they have at least room for.
+const MOST_FREEING: usize = 4_096;
+
+const LEAST_ARCS: usize = 16_384;
 
 /// Each link of a path counts as much more as this part of a good path's length. The flows of a tree
 /// that ties all points have no length, and a search would wander over all of them.
@@ -54,6 +60,18 @@ impl Sum {
     }
 }
 
+/// Flows without net through a number, those before and behind, and how far the number changes for them.
+#[derive(Clone, Copy)]
+pub struct Freeing {
+    /// So many walks leave some of what flows through the number; with one more nothing is left, and with
+    /// two more some flows the other way.
+    pub before: usize,
+    /// The size of the change at which the flows before and without net are best, and that for those without
+    /// net and behind.
+    pub near: u64,
+    pub far: u64,
+}
+
 /// What proposes walks. Nothing is promised of the proposals.
 #[derive(Drop)]
 pub struct Guide {
@@ -63,6 +81,12 @@ pub struct Guide {
     /// The sides of the ends that a number has, the shortest first, if they are few.
     own: Vec<Side>,
     search: Search,
+    lifting: Lifting,
+    /// The heights of the vertices at which the flows are best; and those at which the flows before and behind
+    /// a number that is freed are.
+    heights: Vec<i64>,
+    near: Vec<i64>,
+    far: Vec<i64>,
     /// The vertex from which ends are parted, and the one that they have.
     base: u32,
     spare: u32,
@@ -80,10 +104,14 @@ impl Guide {
             ends: Ends::new(alloc, links)?,
             own: Vec::with_capacity(alloc, MOST_OWN)?,
             search: Search::new(alloc, all)?,
+            lifting: Lifting::new(alloc, all, links)?,
+            heights: vec![in alloc; 0i64; all]?,
+            near: vec![in alloc; 0i64; all]?,
+            far: vec![in alloc; 0i64; all]?,
             base: 0,
             spare: vertices,
-            walks: Vec::with_capacity(alloc, MOST_WALKS)?,
-            arcs: Vec::with_capacity(alloc, all.saturating_mul(4))?,
+            walks: Vec::with_capacity(alloc, MOST_FREEING)?,
+            arcs: Vec::with_capacity(alloc, LEAST_ARCS.max(all.saturating_mul(MOST_WALKS)))?,
         })
     }
 
@@ -94,7 +122,14 @@ impl Guide {
         }
     }
 
-    /// Begins with the links that were set.
+    /// Sets the height of a vertex.
+    pub fn set_height(&mut self, vertex: u32, height: i64) {
+        if let Some(row) = self.heights.get_mut(vertex as usize) {
+            *row = height;
+        }
+    }
+
+    /// Begins with the links and heights that were set.
     pub fn start(&mut self) -> Option<()> {
         self.sides.list(&self.links)
     }
@@ -123,9 +158,35 @@ impl Guide {
         found.and(undone)
     }
 
-    /// The walks of the last proposal.
-    pub fn walks(&self) -> &[Walk] {
-        &self.walks
+    /// Proposes walks that free a number, along shortest paths.
+    pub fn free(&mut self, group: Group, base: u32, need: i64) -> Option<Freeing> {
+        self.begin(group, base)?;
+        copy(&mut self.lifting.heights, &self.heights);
+        let height = *self.heights.get(base as usize)?;
+        *self.lifting.heights.get_mut(self.spare as usize)? = height;
+        let found = self.send_all(need);
+        let undone = self.undo();
+        undone.and(found)
+    }
+
+    /// The walks of the last proposal from a place up to another, without the second.
+    pub fn walks(&self, start: usize, end: usize) -> &[Walk] {
+        self.walks.get(start..end).unwrap_or(&[])
+    }
+
+    /// How many walks the last proposal has.
+    pub fn count(&self) -> usize {
+        self.walks.len()
+    }
+
+    /// The heights of the vertices at which the flows before the number is freed are best.
+    pub fn near(&self) -> &[i64] {
+        &self.near
+    }
+
+    /// Those at which the flows behind are best.
+    pub fn far(&self) -> &[i64] {
+        &self.far
     }
 
     /// The vertex of the number for which walks were proposed last. All of them begin and end there.
@@ -208,13 +269,68 @@ impl Guide {
         None
     }
 
-    /// Finds a path from the base to the spare vertex, or back.
-    fn find(&mut self, need: i64, good: u64, far: u64) -> Option<()> {
-        let (from, to) = if need > 0 {
+    /// Sends back all that flows through the number along shortest paths, and at last some more.
+    fn send_all(&mut self, need: i64) -> Option<Freeing> {
+        let mut left = need.unsigned_abs();
+        let mut near = 0u64;
+        for _ in 0..MOST_FREEING {
+            near = near.checked_add(self.find_shortest(need)?)?;
+            let room = self.room()?;
+            if room >= left {
+                return self.turn(need, left, room, near);
+            }
+            self.send(room)?;
+            left -= room;
+        }
+        None
+    }
+
+    /// Sends the rest back along a path that has room for it, and then some more.
+    fn turn(&mut self, need: i64, left: u64, room: u64, near: u64) -> Option<Freeing> {
+        let before = self.walks.len();
+        copy(&mut self.near, &self.lifting.heights);
+        self.send(left)?;
+        let mut far = near;
+        let mut more = room.checked_sub(left)?;
+        if more == 0 {
+            far = far.checked_add(self.find_shortest(need)?)?;
+            more = self.room()?;
+        }
+        copy(&mut self.far, &self.lifting.heights);
+        self.send(more)?;
+        Some(Freeing { before, near, far })
+    }
+
+    /// Finds a shortest path from the base to the spare vertex, or back. Returns how much longer it is than the
+    /// one before.
+    fn find_shortest(&mut self, need: i64) -> Option<u64> {
+        let (from, to) = self.course(need);
+        let ground = Ground {
+            links: &self.links,
+            sides: &self.sides,
+            ends: &self.ends,
+            base: self.base,
+            spare: self.spare,
+            own: &self.own,
+            toll: 0,
+        };
+        let more = self.lifting.run(ground, from, to)?;
+        copy_path(&mut self.search.path, &self.lifting.path)?;
+        Some(more)
+    }
+
+    /// From where to where what flows through the number is sent back.
+    fn course(&self, need: i64) -> (u32, u32) {
+        if need > 0 {
             (self.base, self.spare)
         } else {
             (self.spare, self.base)
-        };
+        }
+    }
+
+    /// Finds a path from the base to the spare vertex, or back.
+    fn find(&mut self, need: i64, good: u64, far: u64) -> Option<()> {
+        let (from, to) = self.course(need);
         let ground = Ground {
             links: &self.links,
             sides: &self.sides,
@@ -270,4 +386,20 @@ impl Guide {
         }
         Some(())
     }
+}
+
+/// Copies heights into a row that is as long.
+fn copy(row: &mut [i64], heights: &[i64]) {
+    for (own, height) in row.iter_mut().zip(heights) {
+        *own = *height;
+    }
+}
+
+/// Copies a path.
+fn copy_path(path: &mut Vec<ResidualArc>, other: &[ResidualArc]) -> Option<()> {
+    path.clear();
+    for arc in other {
+        push_if_room(path, *arc)?;
+    }
+    Some(())
 }

@@ -6,6 +6,9 @@
 //! is sent back, and more, that the rest shows it. Whoever takes a proposal checks it: a wrong one
 //! costs time, and nothing else.
 //!
+//! If a number is to be freed altogether, the guide proposes walks that send back just what flows through
+//! it, along shortest paths, and the heights at which the flows before and behind are best.
+//!
 //! The lengths of links are the sizes of their residuals at heights at which the flows are best: what
 //! a unit costs that is sent along an arc with room. No arithmetic wraps. Where a number leaves its
 //! range, or a row has no such place, a call answers `None`. `Guide::new` makes all rows.
@@ -21,10 +24,13 @@ mod balls;
 mod heaps;
 mod searches;
 
+// Shortest paths, and the heights at which flow along them is best.
+mod lifting;
+
 // Walks, and how much is sent along them.
 mod guide;
 
 pub use groups::{End, Group};
-pub use guide::{Guide, Walk};
+pub use guide::{Freeing, Guide, Walk};
 pub use links::Link;
 pub use th_tree::ResidualArc;

@@ -10,6 +10,8 @@ pub struct Link {
     pub weight: u32,
     /// What flows along it now.
     pub flow: i64,
+    /// How far its head is to be above its tail.
+    pub difference: i64,
     /// What a unit costs that is sent where the link has room.
     pub length: u64,
 }
@@ -21,6 +23,7 @@ impl Link {
         head: 0,
         weight: 0,
         flow: 0,
+        difference: 0,
         length: 0,
     };
 

@@ -1,14 +1,17 @@
 -- Flows of a survey that are sent other ways, and what they then show.
-use Rattle.std.specs.Prelude.{◌≡◌, ℕ, ◌<◌, ◌≤◌, ℤ, pos, ◌+ℤ◌, ◌-ℤ◌, ◌*ℤ◌, ◌≤ℤ◌, List, length, slice_index, slice_index_or, unsigned_abs, zip}
+use Rattle.std.specs.Prelude.{◌≡◌, ℕ, ◌*◌, ◌<◌, ◌≤◌, ℤ, pos, ◌+ℤ◌, ◌-ℤ◌, ◌*ℤ◌, ◌≤ℤ◌, List, length, slice_index, slice_index_or, unsigned_abs, zip}
 use Rattle.th_book.specs.Observed.{Observed}
 use Rattle.th_network.specs.Circulation.{total_by}
-use Rattle.th_network.specs.Links.{link_difference}
+use Rattle.th_network.specs.Heights.{residual}
+use Rattle.th_network.specs.Links.{base, link_difference}
 use Rattle.th_network.specs.Networks.{AreOfObservations, Survey, weights_of}
 use Rattle.th_network.specs.Vertices.{vertex_of}
 use Rattle.th_tables.specs.Limits.{max_weight}
+use Rattle.th_tables.specs.Rows.{weight_of}
 use Rattle.th_explain.specs.declared.numbers.Number.{Number}
 use Rattle.th_explain.specs.Flows.{value}
 use Rattle.th_explain.specs.Freed.{Keeps, cost_of}
+use Rattle.th_explain.specs.Inside.Tilted.{tilted_observation}
 use Rattle.th_explain.specs.Numbers.{changed, touch}
 
 -- the sum of the flows times f
@@ -41,6 +44,14 @@ pub record HoldsNumber (observations : List Observed) (number : Number) (run : �
   pub within : run.1 ≤ length observations
   pub below : (k : ℕ) (d : Observed) → k < run.0 → touch number (slice_index_or observations k d) ≡ pos 0
   pub above : (k : ℕ) (d : Observed) → run.1 ≤ k → k < length observations → touch number (slice_index_or observations k d) ≡ pos 0
+
+-- heights that are above those of the benchmarks by what these of the vertices are above vertex 0
+abbrev pub heights_over : Survey → List ℤ → List ℕ → ℤ
+heights_over survey levels name = base survey.benchmarks name +ℤ (slice_index_or levels (vertex_of survey.observations survey.benchmarks name) (pos 0) -ℤ slice_index_or levels 0 (pos 0))
+
+-- what an observation costs at these heights, if a number grows by so much
+abbrev pub priced : Survey → Number → ℤ → List ℤ → Observed → ℕ
+priced survey number x levels o = weight_of survey.weights o.station o.target * unsigned_abs (residual (tilted_observation number x o) (heights_over survey levels))
 
 -- for each unit that the number grows, the survey costs at least the slope more
 abbrev pub IsSteep : Survey → Number → ℕ → ℤ → Type 0

@@ -1,11 +1,16 @@
+use Rattle.std.proofs.Common.{◌∙◌, subst}
+use Rattle.th_network.specs.Networks.{Survey}
 use Rattle.th_explain.specs.Explained.{IsExplainedOrMore}
 use Rattle.th_explain.proofs.ExplainLemmas.{all_zip_next}
 use Rattle.th_explain.proofs.explaining.explanations.Goals as goal
 
 pub loop-number-preserved : goal.loop-number-preserved
-loop-number-preserved c = record {
-  found = all_zip_next (IsExplainedOrMore c.args.network.now c.args.limit c.args.most) c.args.numbers.now c.loop-number.found.items c.add.new.found.items c.loop-number.number-index c.number-item.result c.in_ok-own.own
-      c.loop-number-test.true c.number-item.is c.in_ok-add.ensures c.loop-number.invariant.found c.in_ok-own.ensures.found;
-  network = c.in_ok-own.ensures.network;
-  same_cost = c.in_ok-own.ensures.same_cost;
-}
+loop-number-preserved c =
+    let survey = c.args.sieve.now.network.now in
+    record {
+      found = all_zip_next (IsExplainedOrMore survey c.args.limit c.args.most) c.args.numbers.now c.loop-number.found.items c.add.new.found.items c.loop-number.number-index c.number-item.result c.in_ok-own.own
+          c.loop-number-test.true c.number-item.is c.in_ok-add.ensures c.loop-number.invariant.found
+          (subst (λ (own : Survey). IsExplainedOrMore own c.args.limit c.args.most c.number-item.result c.in_ok-own.own) c.loop-number.invariant.network c.in_ok-own.ensures.found);
+      network = c.in_ok-own.ensures.network ∙ c.loop-number.invariant.network;
+      same_cost = c.in_ok-own.ensures.cost ∙ c.loop-number.invariant.same_cost;
+    }

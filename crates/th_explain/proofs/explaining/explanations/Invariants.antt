@@ -5,7 +5,7 @@ use Rattle.th_explain.proofs.explaining.explanations.Given as goal
 
 abbrev pub invariant-loop-number : goal.invariant-loop-number
 invariant-loop-number l = record {
-  found : AllZip (IsExplainedOrMore l.network l.limit l.most) (take l.number-index l.numbers) l.found.items;
-  network : l.sieve.rerouted.network.now ≡ l.network;
-  same_cost : l.sieve.rerouted.cost ≡ l.fit.cost;
+  found : AllZip (IsExplainedOrMore l.fn.sieve.network.now l.limit l.most) (take l.number-index l.numbers) l.found.items;
+  network : l.sieve.network.now ≡ l.fn.sieve.network.now;
+  same_cost : l.sieve.cost ≡ l.fn.sieve.cost;
 }

@@ -11,5 +11,5 @@ pub returns-clause-rows : goal.returns-clause-rows
 returns-clause-rows c = (
   c.in_ok-own.own.items,
   subst (λ (limit : ℤ). AllZip (IsRowOrMore c.args.network.now c.args.cost limit c.args.most) c.args.candidates.now c.in_ok-own.own.items) (to_z-of_z w64 c.args.limit c.ranges.limit) c.in_ok-own.ensures.rows,
-  c.in_ok-rows.ensures ∙ ap ranked (c.as_slice-2.ensures.value ∙ c.in_ok-found.ensures ∙ ap (λ (own : List (Option Row)). all_rows own c.args.read.now) c.as_slice.ensures.value),
+  c.in_ok-leading.ensures ∙ ap ranked (c.as_slice-2.ensures.value ∙ c.in_ok-rows.ensures ∙ ap (λ (own : List (Option Row)). all_rows own c.args.read.now) c.as_slice.ensures.value),
 )

@@ -3,7 +3,7 @@ use Rattle.std.proofs.lemmas.Int.{to_z-of_z}
 use Rattle.th_explain.specs.Mended.{LeavesBlunders}
 use Rattle.th_explain.specs.declared.numbers.Number.{Number}
 use Rattle.th_explain.proofs.TiltLemmas.{reach_small}
-use Rattle.th_network.specs.Networks.{at_points_of}
+use Rattle.th_network.specs.Networks.{Survey, at_points_of}
 use Rattle.th_numbers.specs.Candidates.{number_of}
 use Rattle.th_numbers.specs.Rows.{IsRow, LeavesNoMore, mildest_change}
 use Rattle.th_numbers.proofs.rows.row_if_leading.Goals as goal
@@ -32,7 +32,7 @@ returns-clause-row c =
       freed = c.args.freed.now;
       passes = record {
         explains = c.requires.explains;
-        leads = subst (λ (own : Option Number). LeavesNoMore survey own c.args.freed.now.left) c.whole.ensures (c.in_ok-leads.ensures.least.0 leads);
+        leads = subst (λ (own : Option Number). LeavesNoMore survey own c.args.freed.now.left) c.whole.ensures (subst (λ (own : Survey). LeavesNoMore own c.whole.result c.args.freed.now.left) c.requires.sieve (c.in_ok-leads.ensures.least.0 leads));
       };
       blunders = subst (λ (number : Number). LeavesBlunders survey number (mildest_change c.args.freed.now) c.args.limit count) c.number-number.ensures
           (subst (λ (change : ℤ). LeavesBlunders survey c.number-number.result change c.args.limit count) mildest
