@@ -7,7 +7,7 @@ BOOK ?= examples/building_site.gsi
 LOG := build.log
 
 .PHONY: help try run refuse list toolchain build built calls check test gate examples statuses killed files completions documents \
-	made-up edits unused alike guides reserved compare office mutated each-byte planted memory attacks attacks-of-today \
+	made-up edits unused alike guides reserved compare office mutated each-byte pages planted memory attacks attacks-of-today \
 	hostile bench install uninstall clean
 
 help:
@@ -35,6 +35,7 @@ help:
 	@echo 'make office    compare the built program with the second office on random projects (PROJECTS=$(PROJECTS) SEED=$(SEED))'
 	@echo 'make mutated   the same on mutated books, tables and certificates (INPUTS=$(INPUTS) SEED=$(SEED)); a million take hours'
 	@echo 'make each-byte the same on each beginning and each changed byte of a book, a table and two certificates (some minutes)'
+	@echo 'make pages     compare pages, which no command writes yet, with those of the second office (PAGES=$(PAGES) SEED=$(SEED))'
 	@echo 'make planted   plant wrong numbers in surveys, and compare what comes of them with explain and review (every one in EVERY=$(EVERY))'
 	@echo 'make memory    run the built program, and the calls that `make calls` builds, with each allocation refused in turn'
 	@echo 'make attacks   try the edits of attacks/, more mistakes that the prover must refuse (hours)'
@@ -152,6 +153,10 @@ mutated: built
 
 each-byte: built
 	@python3 tests/second_office/compare_mutated.py --program $(PROGRAM) --each-byte
+
+PAGES ?= 200
+pages: toolchain
+	@python3 tests/second_office/compare_page.py --projects $(PAGES) --seed $(SEED)
 
 EVERY ?= 10
 planted: built

@@ -1,0 +1,325 @@
+//! The rows that a page shows, read from a text. Its lines are:
+//!
+//! - `limit UNITS`, `cost UNITS`, `book HEX`, `note HEX`;
+//! - `point HEX LOW HIGH STRENGTH`;
+//! - `observations HEX`, the bytes of the next book;
+//! - `sight WEIGHT RESIDUAL CONTROL MISTAKE FROM LOW TO LOW`, one for each observation of the books in order,
+//!   with places among the points from 0;
+//! - `entry BOOK LINE WORD HEX SIGN DIGITS UNIT SIGHTS WEIGHT MISTAKE`;
+//! - `benchmark HEX HEIGHT SIGHTS WEIGHT MISTAKE`;
+//! - `explanation NUMBER KIND BOOK LINE HEX HEX GIVEN LOW HIGH LEFT BLUNDERS`.
+//!
+//! `-` is a value that is missing. Lengths are in units of 10 nm.
+use crate::words::{
+    bytes_of, cost, keyed_in, length, name, number, optional, optional_name, place,
+};
+use anyhow::{Context, Result, bail};
+use std::alloc::Global;
+use th_book::{Observation, read_book};
+use th_entries::{Entry, HeightKind};
+use th_explanations::{Kind, Row, Values};
+use th_html::{BenchmarkRow, EntryRow, Mistake, PointRow, SightRow};
+use th_picture::{End, Sight};
+
+/// What a page shows.
+#[derive(Drop)]
+pub struct Rows {
+    observations: Vec<Observation>,
+    read: u32,
+    pub books: Vec<Vec<u8>>,
+    pub points: Vec<PointRow>,
+    pub sights: Vec<Sight>,
+    pub entries: Vec<EntryRow>,
+    pub benchmarks: Vec<BenchmarkRow>,
+    pub explanations: Vec<Row>,
+    pub notes: Vec<Vec<u8>>,
+    pub cost: u128,
+    pub limit: i64,
+}
+
+impl Rows {
+    /// The rows of a text.
+    pub fn read(alloc: Global, text: &str) -> Result<Rows> {
+        let mut rows = Rows {
+            observations: Vec::new(alloc),
+            read: 0,
+            books: Vec::new(alloc),
+            points: Vec::new(alloc),
+            sights: Vec::new(alloc),
+            entries: Vec::new(alloc),
+            benchmarks: Vec::new(alloc),
+            explanations: Vec::new(alloc),
+            notes: Vec::new(alloc),
+            cost: 0,
+            limit: 0,
+        };
+        for line in text.lines() {
+            let words: Vec<&str> = line.split_whitespace().collect(alloc)?;
+            rows.add(alloc, &words)?;
+        }
+        Ok(rows)
+    }
+
+    /// Adds a row.
+    fn add(&mut self, alloc: Global, words: &[&str]) -> Result<()> {
+        match words {
+            ["limit", units] => self.set_limit(units),
+            ["cost", units] => self.set_cost(units),
+            ["book", text] => self.add_book(alloc, text),
+            ["note", text] => self.add_note(alloc, text),
+            ["observations", book] => self.read_book(alloc, &bytes_of(alloc, book)?),
+            ["point", rest @ ..] => self.add_point(alloc, rest),
+            ["sight", rest @ ..] => self.add_sight(rest),
+            ["entry", rest @ ..] => self.add_entry(alloc, rest),
+            ["benchmark", rest @ ..] => self.add_benchmark(alloc, rest),
+            ["explanation", rest @ ..] => add_explanation(alloc, &mut self.explanations, rest),
+            _ => bail!("an unknown row"),
+        }
+    }
+
+    /// Sets the limit of blunders.
+    fn set_limit(&mut self, units: &str) -> Result<()> {
+        self.limit = length(units)?;
+        Ok(())
+    }
+
+    /// Sets the least cost.
+    fn set_cost(&mut self, units: &str) -> Result<()> {
+        self.cost = cost(units)?;
+        Ok(())
+    }
+
+    /// Adds the name of a book.
+    fn add_book(&mut self, alloc: Global, text: &str) -> Result<()> {
+        let name = bytes_of(alloc, text)?;
+        self.books.push(name)?;
+        Ok(())
+    }
+
+    /// Adds a note.
+    fn add_note(&mut self, alloc: Global, text: &str) -> Result<()> {
+        let note = bytes_of(alloc, text)?;
+        self.notes.push(note)?;
+        Ok(())
+    }
+
+    /// Adds a point.
+    fn add_point(&mut self, alloc: Global, words: &[&str]) -> Result<()> {
+        let row = point_of(alloc, words)?;
+        self.points.push(row)?;
+        Ok(())
+    }
+
+    /// Adds an entry.
+    fn add_entry(&mut self, alloc: Global, words: &[&str]) -> Result<()> {
+        let row = entry_of(alloc, words)?;
+        self.entries.push(row)?;
+        Ok(())
+    }
+
+    /// Adds a benchmark.
+    fn add_benchmark(&mut self, alloc: Global, words: &[&str]) -> Result<()> {
+        let row = benchmark_of(alloc, words)?;
+        self.benchmarks.push(row)?;
+        Ok(())
+    }
+
+    /// Adds the observations of a book.
+    fn read_book(&mut self, alloc: Global, bytes: &[u8]) -> Result<()> {
+        self.read = self.read.checked_add(1).context("too many books")?;
+        let observations = read_book(alloc, self.read, bytes)
+            .ok()
+            .context("a bad book")?;
+        self.observations.extend_from_slice(&observations)?;
+        Ok(())
+    }
+
+    /// Adds the sight of the next observation.
+    fn add_sight(&mut self, words: &[&str]) -> Result<()> {
+        let k = self.sights.len();
+        let observation = *self.observations.get(k).context("too many sights")?;
+        self.sights.push(sight_of(k, &observation, words)?)?;
+        Ok(())
+    }
+}
+
+/// A point.
+fn point_of(alloc: Global, words: &[&str]) -> Result<PointRow> {
+    let [own, low, high, strength] = words else {
+        bail!("a point")
+    };
+    Ok(PointRow {
+        name: name(alloc, own)?,
+        low: length(low)?,
+        high: length(high)?,
+        strength: optional(strength)?,
+    })
+}
+
+/// The sight of observation `k`, from 0.
+fn sight_of(k: usize, observation: &Observation, words: &[&str]) -> Result<Sight> {
+    let [
+        weight,
+        residual,
+        control,
+        mistake,
+        from,
+        from_low,
+        to,
+        to_low,
+    ] = words
+    else {
+        bail!("a sight")
+    };
+    let weight = number(weight)?;
+    let control = optional(control)?;
+    Ok(Sight {
+        row: SightRow {
+            number: u32::try_from(k)
+                .ok()
+                .and_then(|k| k.checked_add(1))
+                .context("many sights")?,
+            observation: *observation,
+            weight,
+            residual: length(residual)?,
+            control,
+            mistake: mistake_of(mistake)?,
+        },
+        from: End {
+            place: place(from)?,
+            low: length(from_low)?,
+        },
+        to: End {
+            place: place(to)?,
+            low: length(to_low)?,
+        },
+    })
+}
+
+/// What a mistake would do.
+fn mistake_of(word: &str) -> Result<Mistake> {
+    match word {
+        "shows" => Ok(Mistake::Shows),
+        "ties" => Ok(Mistake::Ties),
+        "hides" => Ok(Mistake::Hides),
+        "drags" => Ok(Mistake::Drags),
+        "unchecked" => Ok(Mistake::Unchecked),
+        _ => bail!("no mistake"),
+    }
+}
+
+/// An entry.
+fn entry_of(alloc: Global, words: &[&str]) -> Result<EntryRow> {
+    let [
+        book,
+        line,
+        word,
+        station,
+        sign,
+        digits,
+        unit,
+        sights,
+        weight,
+        mistake,
+    ] = words
+    else {
+        bail!("an entry")
+    };
+    let line = number(line)?;
+    let kind = if *word == "87" {
+        HeightKind::Reflector
+    } else {
+        HeightKind::Instrument
+    };
+    Ok(EntryRow {
+        entry: Entry {
+            book: number(book)?,
+            line,
+            kind,
+            station: name(alloc, station)?,
+            length: keyed_in(sign, digits, unit)?,
+            sights: number(sights)?,
+            last: line,
+        },
+        weight: number(weight)?,
+        mistake: mistake_of(mistake)?,
+    })
+}
+
+/// A benchmark.
+fn benchmark_of(alloc: Global, words: &[&str]) -> Result<BenchmarkRow> {
+    let [own, height, sights, weight, mistake] = words else {
+        bail!("a benchmark")
+    };
+    Ok(BenchmarkRow {
+        name: name(alloc, own)?,
+        height: length(height)?,
+        sights: number(sights)?,
+        weight: number(weight)?,
+        mistake: if *mistake == "-" {
+            None
+        } else {
+            Some(mistake_of(mistake)?)
+        },
+    })
+}
+
+/// Adds an explanation.
+fn add_explanation(alloc: Global, rows: &mut Vec<Row>, words: &[&str]) -> Result<()> {
+    let [
+        own,
+        kind,
+        book,
+        line,
+        from,
+        to,
+        given,
+        low,
+        high,
+        left,
+        blunders,
+    ] = words
+    else {
+        bail!("an explanation")
+    };
+    rows.push(Row {
+        number: number(own)?,
+        kind: kind_of(kind)?,
+        book: optional(book)?,
+        line: optional(line)?,
+        from: optional_name(alloc, from)?,
+        to: optional_name(alloc, to)?,
+        sights: 0,
+        values: values_of(given, low, high)?,
+        explains: 0,
+        left: cost(left)?,
+        blunders: number(blunders)?,
+    })?;
+    Ok(())
+}
+
+/// The values of a number.
+fn values_of(given: &str, low: &str, high: &str) -> Result<Option<Values>> {
+    if given == "-" {
+        return Ok(None);
+    }
+    Ok(Some(Values {
+        given: length(given)?,
+        low: length(low)?,
+        high: length(high)?,
+    }))
+}
+
+/// A kind of number.
+fn kind_of(word: &str) -> Result<Kind> {
+    match word {
+        "instrument" => Ok(Kind::Instrument),
+        "reflector" => Ok(Kind::Reflector),
+        "instrument_since" => Ok(Kind::InstrumentSince),
+        "reflector_since" => Ok(Kind::ReflectorSince),
+        "sight" => Ok(Kind::Sight),
+        "benchmark" => Ok(Kind::Benchmark),
+        "book" => Ok(Kind::Book),
+        _ => bail!("no kind"),
+    }
+}

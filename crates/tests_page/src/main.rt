@@ -1,0 +1,50 @@
+//! Prints the page of the rows on standard input. `tests/second_office/compare_page.py` runs it on
+//! random projects, and compares the page with its own. `lines` says what they are.
+#![tactic(auto)]
+
+mod lines;
+mod words;
+
+use anyhow::Result;
+use lines::Rows;
+use std::alloc::Global;
+use std::io::{self, Write};
+use th_page::{Shown, page_text};
+
+fn main(rt: HostRuntime) -> Result<()> {
+    let text = io::read_to_string(rt.alloc(), rt.reader())?;
+    let rows = Rows::read(rt.alloc(), text.as_str())?;
+    let page = page_of(rt.alloc(), &rows)?;
+    io::writer(&rt).write_all(&page)?;
+    Ok(())
+}
+
+/// The page of rows.
+fn page_of(alloc: Global, rows: &Rows) -> Result<Vec<u8>> {
+    let books = lent(alloc, &rows.books)?;
+    let notes = lent(alloc, &rows.notes)?;
+    let page = page_text(
+        alloc,
+        &Shown {
+            books: &books,
+            points: &rows.points,
+            sights: &rows.sights,
+            entries: &rows.entries,
+            benchmarks: &rows.benchmarks,
+            explanations: &rows.explanations,
+            notes: &notes,
+            cost: rows.cost,
+            limit: rows.limit,
+        },
+    )?;
+    Ok(page)
+}
+
+/// The texts, lent.
+fn lent<'a>(alloc: Global, texts: &'a [Vec<u8>]) -> Result<Vec<&'a [u8]>> {
+    let mut all = Vec::with_capacity(alloc, texts.len())?;
+    for text in texts {
+        all.push(text.as_slice())?;
+    }
+    Ok(all)
+}
