@@ -1,5 +1,5 @@
 -- When a number does not explain what does not fit.
-use Rattle.std.proofs.Common.{◌≡◌, ℕ, Option, None, Some, Bool, true, false, ◌<◌, ◌≤◌, ◌⊎◌, ◌&&◌, inl, inr, ℤ, pos, ◌-ℤ◌, ◌≤ℤ◌, ◌<ℤ◌, List, [], ◌∷◌, ◌++◌, ◌+◌, ap, get_or, if◌then◌else◌, int_lt, length, nat_lt, take, unsigned_abs, refl, sym, subst, ◌∙◌, arith}
+use Rattle.std.proofs.Common.{◌≡◌, ℕ, Option, None, Bool, true, false, ◌<◌, ◌≤◌, ◌⊎◌, ◌&&◌, inl, inr, ℤ, pos, ◌-ℤ◌, ◌≤ℤ◌, ◌<ℤ◌, List, [], ◌∷◌, ◌++◌, ◌+◌, ap, get_or, if◌then◌else◌, int_lt, length, nat_lt, take, unsigned_abs, refl, sym, subst, ◌∙◌, arith}
 use Rattle.std.specs.List.{AllZip}
 use Rattle.std.proofs.lemmas.List.{take_more}
 use Rattle.std.proofs.lemmas.Int.{ints}
@@ -9,10 +9,10 @@ use Rattle.th_circulation.specs.Best.{Best, IsBest}
 use Rattle.th_explain.specs.declared.freed.Freed.{Freed}
 use Rattle.th_explain.specs.declared.numbers.Number.{Number}
 use Rattle.th_explain.specs.declared.slopes.Sloped.{Sloped}
-use Rattle.th_explain.specs.Explained.{Explains, IsExact, IsExplainedOrMore, IsExplainedOrNone, IsNone, mildest}
+use Rattle.th_explain.specs.Explained.{Explains, IsExact, IsExplainedOrMore, IsNone, mildest}
 use Rattle.th_explain.specs.Freed.{Costs, IsProposed, cost_of}
 use Rattle.th_explain.specs.Inside.Brackets.{AreRound, is_explanation}
-use Rattle.th_explain.specs.Inside.Rerouted.{IsCostlyBeyond, LeavesMore}
+use Rattle.th_explain.specs.Inside.Rerouted.{IsCostlyBeyond}
 use Rattle.th_explain.specs.Reach.{reach_of}
 use Rattle.th_explain.specs.Slopes.{IsSloped}
 use Rattle.th_explain.proofs.SlopeLemmas.{costs_of, flat_is_freed, freed_costs, left_of, left_of_more, proposed_of, right_of, right_of_more, slope_of_given}
@@ -169,16 +169,6 @@ none_if survey limit number freed exact fails other explains =
 -- ---- numbers that leave more
 pub or_more : (survey : Survey) (limit : ℕ) (most : Option ℕ) (number : Number) → IsNone survey limit number → IsExplainedOrMore survey limit most number None
 or_more survey limit most number none freed explains = absurd (none freed explains)
-
-pub explained_or_more : (survey : Survey) (limit : ℕ) (most : Option ℕ) (number : Number) (found : Option Freed) → IsExplainedOrNone survey limit number found → IsExplainedOrMore survey limit most number found
-explained_or_more survey limit most number None none = or_more survey limit most number none
-explained_or_more survey limit most number (Some freed) explains = explains
-
-pub more_if_left : (survey : Survey) (limit most : ℕ) (number : Number) → LeavesMore survey number most → IsExplainedOrMore survey limit (Some most) number None
-more_if_left survey limit most number more freed explains =
-    let (x, (heights, kept, costs)) = explains.exact.left.reached in
-    let above = more x heights kept in
-    omega (arith, costs)
 
 -- ---- one number more
 all_zip_push : {A B : Type 0} (R : A → B → Type 0) (xs : List A) (ys : List B) (x : A) (y : B) → AllZip R xs ys → R x y → AllZip R (xs ++ x ∷ []) (ys ++ y ∷ [])

@@ -144,14 +144,6 @@ one_around entries o start end order within before behind least = record {
       (subst (λ (j : ℕ). precedes (get_or entries (k - 1) d) (get_or entries j d) ≡ true) there (order (k - 1) d (omega (arith, there, here))));
 }
 
-pub all_around : (entries : List Entry) (o : Observed) → AreAround entries o (0, length entries)
-all_around entries o = record {
-  ordered = omega arith;
-  within = omega arith;
-  below = λ k d less. absurd (omega (arith, less));
-  above = λ k d past here. absurd (omega (arith, past, here));
-}
-
 -- ---- forgotten changes
 pub not_forgotten : (observations : List Observed) (kind : HeightKind) (o : Observed) (entry : Entry) → is_used kind o entry ≡ false → forgotten_at observations kind o entry ≡ []
 not_forgotten observations kind o entry e = by (is_kind entry.kind kind) (in_sights (sights_of entry) o) e

@@ -1,5 +1,5 @@
 -- The parts of a network, by labels of its points.
-use Rattle.std.proofs.Common.{◌≡◌, ℕ, Bool, true, false, not, cond, ◌||◌, ◌==◌, ◌+◌, ◌<◌, ◌≤◌, ◌⊎◌, inl, inr, ℤ, Option, Some, None, List, [], ◌∷◌, All, Contains, is_some, bytes_eq, get_or, if◌then◌else◌, length, map, option_map, slice_get, refl, sym, ap, ◌∙◌, subst, arith}
+use Rattle.std.proofs.Common.{◌≡◌, ℕ, Bool, true, false, not, cond, ◌||◌, ◌==◌, ◌+◌, ◌<◌, ◌⊎◌, inl, inr, ℤ, Option, Some, None, List, [], ◌∷◌, All, Contains, is_some, bytes_eq, get_or, if◌then◌else◌, length, map, option_map, slice_get, refl, sym, ap, ◌∙◌, subst, arith}
 use Rattle.std.proofs.lemmas.Bool.{cases_lt}
 use Rattle.std.proofs.lemmas.Cmp.{nat_list_eq_equiv}
 use Rattle.std.proofs.lemmas.List.{get_or-map, length-map}
@@ -144,13 +144,6 @@ joined_map survey i pair old new at parts is =
     let to = get_or old pair.0 0 in
     joined_next survey i pair old new at parts (ap length is ∙ length-map old (relabelled from to))
     (λ v below. ap (λ (own : List ℕ). get_or own v 0) is ∙ get_or-map (relabelled from to) old v 0 0 below)
-
-pub all_joined : (survey : Survey) (i : ℕ) (labels : List ℕ) → length survey.observations ≤ i → AreParts survey i labels → AreParts survey (length survey.observations) labels
-all_joined survey i labels past parts = record {
-  each = parts.each;
-  joined = λ k o below at. parts.joined k o (omega arith) at;
-  walked = parts.walked;
-}
 
 -- ---- all observations: points that a walk joins have one label
 along : (survey : Survey) (labels : List ℕ) → AreParts survey (length survey.observations) labels → (chain : List Observed) (a b : List ℕ) → All (Contains survey.observations) chain → Leads chain a b → label_of survey labels a ≡ label_of survey labels b

@@ -3,16 +3,15 @@ use Rattle.std.proofs.Common.{◌≡◌, ◌≢◌, ◌<◌, ◌+◌, ◌++◌, 
 use Rattle.std.specs.Borrow.{Bor}
 use Rattle.std.specs.Prelude.{option_map, slice_get}
 use Rattle.std.proofs.lemmas.Bool.{cases_lt}
-use Rattle.std.proofs.lemmas.List.{length-map}
-use Rattle.std.proofs.lemmas.Option.{slice_get-get_or, slice_get-map, slice_get_within}
+use Rattle.std.proofs.lemmas.Option.{slice_get-get_or, slice_get-map}
 use Rattle.std.specs.List.{Contains}
 use Rattle.std.proofs.lemmas.List.Elements.{Contains-push_cases}
-use Rattle.th_devices.specs.Spots.{Spot, file, output as standard}
+use Rattle.th_devices.specs.Spots.{Spot, file}
 use Rattle.th_plans.specs.Asked.{Files}
 use Rattle.th_plans.specs.declared.plans.Plan.{Plan}
 use Rattle.th_program.specs.Done.{IsInputOf, IsOutputOf}
 use Rattle.th_program.proofs.OutputLemmas.{spot_among, spots_more}
-use Rattle.th_program.specs.Inside.Stops.{AreKept, IsApart, IsStop, IsStopOf}
+use Rattle.th_program.specs.Inside.Stops.{AreKept, IsStop, IsStopOf}
 use Rattle.th_program.specs.Outputs.{ending_of, spot_at, spots_of}
 use Rattle.th_program.specs.Owed.{HasName}
 use Rattle.th_program.specs.declared.overwrites.Stop.{Stop}
@@ -27,10 +26,6 @@ names_of names = map (λ (name : Bor (List ℕ)). name.now) names
 pub at_place : (names : List (Bor (List ℕ))) (i : ℕ) (none : Bor (List ℕ)) → i < length names → slice_get (names_of names) i ≡ Some (get_or names i none).now
 at_place names i none within =
     slice_get-map (λ (name : Bor (List ℕ)). name.now) names i ∙ ap (option_map (λ (name : Bor (List ℕ)). name.now)) (slice_get-get_or names i none within)
-
-pub place_within : (names : List (Bor (List ℕ))) (place : ℕ) (name : List ℕ) → slice_get (names_of names) place ≡ Some name → place < length names
-place_within names place name at =
-    subst (λ (n : ℕ). place < n) (length-map names (λ (own : Bor (List ℕ)). own.now)) (slice_get_within (names_of names) place name at)
 
 -- one more book that the output would not change
 pub no_more : (tells : Bool) (names : List (Bor (List ℕ))) (i : ℕ) (none : Bor (List ℕ)) (output : List ℕ) → i < length names
@@ -49,19 +44,6 @@ no_more tells names i none output within before here telling place name below at
 -- the one spot of one
 only : (spot own : Spot) → Contains (spot ∷ []) own → spot ≡ own
 only spot own has = elim (Contains-push_cases [] spot own has) [ inl none ↦ absurd (omega (arith, none.1)) | inr is ↦ is ]
-
--- standard output is no input
-pub standard_kept : (tells : Bool) (from : Files) → AreKept tells from (standard ∷ [])
-standard_kept tells from telling which name read has =
-    let bad : standard ≡ file name = only standard (file name) has in
-    cc bad
-
--- neither is a file that is none
-pub file_kept : (tells : Bool) (from : Files) (name : List ℕ) → IsApart tells from name → AreKept tells from (file name ∷ [])
-file_kept tells from name apart telling which own read has =
-    let is : file name ≡ file own = only (file name) (file own) has in
-    let same : name ≡ own = cc in
-    apart telling which own read same
 
 -- one more output that is no input
 pub kept_more : (tells : Bool) (from : Files) (prefix : List ℕ) (outputs : List Output) (i : ℕ) (d : Output) → i < length outputs

@@ -1,6 +1,6 @@
 -- What the refusal of a run over a folder comes to.
-use Rattle.std.proofs.Common.{None, Some, Ok, Err, IfErr, is_some, length}
-use Rattle.std.specs.Prelude.{OnOk, Option, Result}
+use Rattle.std.proofs.Common.{Some, Ok, Err, IfErr, is_some, length}
+use Rattle.std.specs.Prelude.{Option, Result}
 use Rattle.th_network.specs.Networks.{Survey}
 use Rattle.th_plans.specs.Asked.{Files}
 use Rattle.th_program.specs.Done.{IsRefusedFor, IsWrite}
@@ -9,11 +9,6 @@ use Rattle.th_runs.specs.Reads.{IsNamed, Run, refused}
 use Rattle.th_runs.specs.Writes.{IsWritten, UnlessWrite}
 use Rattle.th_runs.specs.declared.refusals.Refusal.{Refusal}
 use Rattle.th_runs.specs.declared.refusals.Refusal.TheVariants as refusal
-
--- what a run has once its outputs are begun it has where it is done
-pub on-done : {X : Type 0} (result : Result X Refusal) (HasLeft : Option Refusal → Type 0) → (IsWritten result → HasLeft (refused result)) → OnOk result (HasLeft None)
-on-done (Ok x) HasLeft left = left tt
-on-done (Err own) HasLeft left = tt
 
 -- the refusal of a run over the named files
 pub refused-for : {X Y : Type 0} (run : Run) (from : Files) (survey_of : Y → Survey) (owed_at : Option Refusal → Owed Y) (HasLeft : Option Refusal → Type 0)
