@@ -33,6 +33,9 @@ mod twins;
 // All notes of a review.
 mod findings;
 
+// Laws of the definitions.
+pub mod laws;
+
 pub use findings::notes_of;
 pub use lines::write_notes;
 pub use notes::{Kind, LineKind, Note, Pair};
