@@ -1,4 +1,4 @@
-use Rattle.std.proofs.Common.{ℤ, List, Option, of_z, subst, sym, to_z, w64, arith}
+use Rattle.std.proofs.Common.{ℤ, List, of_z, subst, sym, to_z, w64, arith}
 use Rattle.std.proofs.lemmas.Int.{to_z-of_z}
 use Rattle.std.proofs.lemmas.List.{take_all}
 use Rattle.std.proofs.lemmas.Slice.Zip.{AllZip-long}
