@@ -87,7 +87,7 @@ def large_page(rng: Random, count: int, sights: int) -> Tuple[Page, List[bytes]]
         if number % 3 == 1:
             station = rng.randrange(count)
             writer.setup(points[station].name)
-        target = (station + rng.choice((1, 1, 2, 3))) % count
+        target = (station + rng.choice((1, 1, 2, 3) if count > 3 else (1,))) % count
         difference = rng.randrange(-3_000, 3_000) * MILLIMETRE
         writer.sight(points[target].name, difference)
         residual = rng.choice((0, 0, 0, 1, rng.randrange(-(10**5), 10**5), rng.randrange(-(10**rng.randrange(1, 13)), 10**9)))
