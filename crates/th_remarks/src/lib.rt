@@ -9,8 +9,8 @@ mod sights;
 mod words;
 
 // Points with more than one best height.
-mod heights;
 mod gaps;
+mod heights;
 
 pub use gaps::many_heights;
 pub use heights::ManyHeights;
