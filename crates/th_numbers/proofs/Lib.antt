@@ -2,6 +2,7 @@ mod WalkLemmas
 mod PartLemmas
 mod RowLemmas
 mod ListLemmas
+mod CountLemmas
 mod KindLemmas
 mod OrderLemmas
 mod PrintedLemmas

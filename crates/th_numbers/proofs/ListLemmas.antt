@@ -1,6 +1,5 @@
 -- Lists that grow by what is made of one item after another.
-use Rattle.std.proofs.Common.{◌≡◌, ◌<◌, ◌≤◌, ◌+◌, ◌&&◌, ℕ, Bool, true, false, List, ◌++◌, drop, get_or, length, nat_le, nat_lt, refl, sym, ap, ◌∙◌, append_assoc, arith}
-use Rattle.std.proofs.lemmas.Bool.{false≢true, le-leb, leb-true}
+use Rattle.std.proofs.Common.{◌≡◌, ◌<◌, ◌+◌, ℕ, List, ◌++◌, drop, get_or, length, sym, ap, ◌∙◌, append_assoc}
 use Rattle.std.specs.List.{flat_map}
 use Rattle.th_numbers.specs.Lists.{Listed}
 use Rattle.th_numbers.specs.declared.candidates.Candidate.{Candidate}
@@ -19,18 +18,3 @@ listed a b c d = record { entered = a; changes = b; sights = c; benchmarks = d }
 pub listed_same : (a b c d a' b' c' d' : List Candidate) → a ≡ a' → b ≡ b' → c ≡ c' → d ≡ d' → listed a b c d ≡ listed a' b' c' d'
 listed_same a b c d a' b' c' d' e f g h =
     ap (λ x. listed x b c d) e ∙ ap (λ x. listed a' x c d) f ∙ ap (λ x. listed a' b' x d) g ∙ ap (λ x. listed a' b' c' x) h
-
--- two or more, and not all
-pub part_then : (b n c m : ℕ) → 2 ≤ b → b ≡ c → n ≡ m → nat_lt b n ≡ (nat_le 2 c && nat_lt c m)
-part_then b n c m two e f = by (nat_le 2 c) refl
-  where
-    by : (x : Bool) → nat_le 2 c ≡ x → nat_lt b n ≡ (x && nat_lt c m)
-    by true h = ap (λ v. nat_lt v n) e ∙ ap (nat_lt c) f
-    by false h = absurd (false≢true (sym h ∙ le-leb 2 c (omega (arith, two, e))))
-
-pub part_else : (b c : ℕ) (y : Bool) → ¬ (2 ≤ b) → b ≡ c → nat_le 2 b ≡ (nat_le 2 c && y)
-part_else b c y less e = ap (nat_le 2) e ∙ by (nat_le 2 c) refl
-  where
-    by : (x : Bool) → nat_le 2 c ≡ x → x ≡ (x && y)
-    by true h = absurd (less (omega (arith, e, leb-true 2 c h)))
-    by false h = refl

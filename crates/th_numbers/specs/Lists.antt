@@ -8,6 +8,7 @@ use Rattle.th_entries.specs.declared.entries.HeightKind.TheVariants as height
 use Rattle.th_entries.specs.declared.reviews.BookReview.{BookReview}
 use Rattle.th_network.specs.Networks.{Survey}
 use Rattle.th_reliability.specs.Sights.{in_sights}
+use Rattle.th_reliability.specs.declared.sights.Sights.{Sights}
 use Rattle.th_review.specs.Entries.{sights_of}
 use Rattle.th_numbers.specs.Candidates.{count_in, sights_since}
 use Rattle.th_numbers.specs.declared.listing.Listing.{Listing}
@@ -33,11 +34,13 @@ entered_at observations kind entry = if is_kind entry.kind kind && is_shared obs
 abbrev pub entered : List Observed → HeightKind → List Entry → List Candidate
 entered observations kind entries = flat_map (entered_at observations kind) entries
 
+-- some sights are two or more, and fewer than others
+abbrev pub is_part_of : List Observed → Sights → Sights → Bool
+is_part_of observations part whole = nat_le 2 (count_in observations part) && nat_lt (count_in observations part) (count_in observations whole)
+
 -- the sights of an entry from the line of an observation on are two or more, and not all
 abbrev pub is_part : List Observed → Observed → Entry → Bool
-is_part observations o entry =
-    nat_le 2 (count_in observations (sights_since entry o.line))
-    && nat_lt (count_in observations (sights_since entry o.line)) (count_in observations (sights_of entry))
+is_part observations o entry = is_part_of observations (sights_since entry o.line) (sights_of entry)
 
 -- a change of an entry may have been forgotten before one of its sights, if this is so
 abbrev pub is_forgotten : List Observed → Observed → Entry → Bool

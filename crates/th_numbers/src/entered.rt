@@ -1,13 +1,14 @@
 //! The numbers of entries: entered heights with several sights, and changes that were forgotten.
-ghost use Rattle.std.specs.Prelude.{◌≡◌, ◌++◌, OnOk};
-ghost use Rattle.th_numbers.specs.Lists.{entered, entered_at, forgotten, forgotten_at, is_forgotten, is_part, is_shared};
+ghost use Rattle.std.specs.Prelude.{◌≡◌, ◌<◌, ◌≤◌, ◌++◌, OnOk, true};
+ghost use Rattle.th_numbers.specs.Candidates.{count_in};
+ghost use Rattle.th_numbers.specs.Lists.{entered, entered_at, forgotten, forgotten_at, is_forgotten, is_part, is_part_of, is_shared};
 
 use crate::candidates::{Candidate, count_in, sights_since};
 use crate::kinds::{Kinds, is_kind};
 use std::alloc::AllocError;
 use th_book::Observation;
 use th_entries::{Entry, HeightKind};
-use th_reliability::Runs;
+use th_reliability::{Runs, Sights};
 use th_review::sights_of;
 
 /// Adds the entries of a kind that have two or more sights.
@@ -111,7 +112,68 @@ fn is_forgotten(runs: &Runs<'_>, o: &Observation, entry: &Entry) -> bool
 fn is_part(runs: &Runs<'_>, o: &Observation, entry: &Entry) -> bool
     ensures { result ≡ is_part runs.now.observations.now o.now entry.now }
 {
-    let behind = count_in(runs, &sights_since(entry, o.line));
-    let all = count_in(runs, &sights_of(entry));
+    let since = sights_since(entry, o.line);
+    let whole = sights_of(entry);
+    is_part_of(runs, &since, &whole)
+}
+
+/// Whether some sights are two or more, and fewer than others.
+fn is_part_of(runs: &Runs<'_>, part: &Sights, whole: &Sights) -> bool
+    ensures { result ≡ is_part_of runs.now.observations.now part.now whole.now }
+{
+    if is_shown_part(runs, part, whole) {
+        return true;
+    }
+    let behind = count_in(runs, part);
+    let all = count_in(runs, whole);
     2 <= behind && behind < all
+}
+
+/// Whether the first of the sights show that they are two or more, and fewer than others. So an entry of many sights
+/// need not be counted for each change of it.
+fn is_shown_part(runs: &Runs<'_>, part: &Sights, whole: &Sights) -> bool
+    ensures two { result ≡ true → 2 ≤ count_in runs.now.observations.now part.now }
+    ensures fewer { result ≡ true
+        → count_in runs.now.observations.now part.now < count_in runs.now.observations.now whole.now }
+{
+    let observations = runs.observations;
+    let (place, _) = runs.run_of(whole);
+    let (next, _) = runs.run_of(part);
+    if !has_other(observations, part, whole, place) {
+        return false;
+    }
+    has_two(observations, part, next)
+}
+
+/// Whether the observation at a place and the one behind it are among some sights.
+fn has_two(observations: &[Observation], sights: &Sights, place: usize) -> bool
+    ensures { result ≡ true → 2 ≤ count_in observations.now sights.now }
+{
+    if place >= observations.len() {
+        return false;
+    }
+    let next = place + 1;
+    if next >= observations.len() {
+        return false;
+    }
+    if !sights.hold(&observations[place]) {
+        return false;
+    }
+    sights.hold(&observations[next])
+}
+
+/// Whether some sights are a part of the whole, and the observation at a place is of the whole alone.
+fn has_other(observations: &[Observation], part: &Sights, whole: &Sights, place: usize) -> bool
+    ensures { result ≡ true → count_in observations.now part.now < count_in observations.now whole.now }
+{
+    if part.book != whole.book || part.first < whole.first || part.last > whole.last {
+        return false;
+    }
+    if place >= observations.len() {
+        return false;
+    }
+    if part.hold(&observations[place]) {
+        return false;
+    }
+    whole.hold(&observations[place])
 }
