@@ -31,7 +31,6 @@ one_term f (x ∷ xs) (suc k) d within others =
     omega arith
 
 module _ (survey : Survey) (group : Observed → Bool) (place : ℕ) (o : Observed) (only : IsOnly survey.observations group place) (at : slice_get survey.observations place ≡ Some o) where
-
   -- the group's own cut is the weight of the observation where it crosses, and else nothing
   pub own_is : (inside : List ℕ → Bool) → own survey group inside ≡ (if crosses inside o then weight_of survey.weights o.station o.target else 0)
   own_is inside =
