@@ -111,21 +111,28 @@ class Answer(NamedTuple):
 
 
 class Series(NamedTuple):
-    """A command line, what it has to print, and a file that it has to write."""
+    """A command line, what it has to print, a file that it has to write, and its notes on standard error."""
 
     title: str
     words: List[str]
     printed: bytes
     file: Optional[Tuple[str, bytes]]
+    noted: bytes = b""
 
 
 SERIES = (
     Series("list of a misread sight", ["list", "misread.gsi"], MISREAD_LIST, None),
     Series("list of a triangle", ["list", "triangle.gsi"], TRIANGLE_LIST, None),
+    Series("list of a book without sights", ["list", "heights.gsi"], b"number,from,to,difference\n", None,
+           b"note: book 1 has no sight in 2 blocks (no word 33; it has words 31 and 83)\n"),
     Series("adjustment of a misread sight", ["adjust"] + TABLES + ["--out", "own", "misread.gsi"], b"",
            ("own.heights.csv", MISREAD_HEIGHTS)),
     Series("adjustment of a triangle", ["adjust"] + TABLES + ["--out", "own", "triangle.gsi"], b"",
            ("own.heights.csv", TRIANGLE_HEIGHTS)),
+    Series("adjustment of a triangle and a book without sights",
+           ["adjust"] + TABLES + ["--out", "own", "triangle.gsi", "heights.gsi"], b"",
+           ("own.heights.csv", TRIANGLE_HEIGHTS),
+           b"note: book 2 has no sight in 2 blocks (no word 33; it has words 31 and 83)\n"),
     Series("review of a misread sight", ["review"] + TABLES + ["--out", "own", "misread.gsi"], b"",
            ("own.observations.csv", MISREAD_MISTAKES)),
     Series("review of a triangle", ["review"] + TABLES + ["--out", "own", "triangle.gsi"], b"",
@@ -183,7 +190,7 @@ def wants_memory(answer: Answer) -> bool:
 
 
 def check_right(series: Series, answer: Answer) -> None:
-    if answer[:3] != (0, series.printed, b""):
+    if answer[:3] != (0, series.printed, series.noted):
         raise Wrong(f"{series.title}: {answer[:3]}")
     if series.file is not None and answer.files.get(series.file[0]) != series.file[1]:
         raise Wrong(f"{series.title}: {answer.files}")

@@ -21,7 +21,7 @@ from explain import csv_text, explanation_of, people_text
 from network import Heights, Network, NetworkFault, Sight, best_flows, cost_of, highest_heights, lowest_heights, make_network
 import review as reviews
 from tables import TableFault, read_benchmarks, read_weights, reader
-from texts import gsi_text, heights_text, report_text
+from texts import gsi_text, heights_text, metres, report_text
 
 UNITS_IN_MICROMETRE = 100
 DEFAULT_BLUNDER = 20_000
@@ -117,6 +117,18 @@ def files_of(answer: Adjusted, limit: int) -> Dict[str, bytes]:
     }
 
 
+def notes_of(books: List[bytes], answer: Adjusted, limit: int) -> bytes:
+    """The lines on standard error at status 0: of books without a sight, and of heights that are not unique."""
+    lines = [reader.note_of(number, book) for number, book in enumerate(books, start=1)]
+    gaps = {name: answer.high[name] - answer.low[name] for name in answer.network.points}
+    widest = max(gaps.values(), default=0)
+    if widest > limit:
+        loose = sum(gap > 0 for gap in gaps.values())
+        first = next(name for name, gap in gaps.items() if gap == widest).decode("ascii")
+        lines.append(f"note: {loose} points have more than one best height, up to {metres(widest)} m apart at {first}\n".encode("ascii"))
+    return b"".join(lines)
+
+
 def refused(fault: Refused) -> Answer:
     return Answer(2, b"", f"{fault}\n".encode("ascii"), {})
 
@@ -126,7 +138,8 @@ def adjust(inputs: Inputs, limit: int) -> Answer:
         network, _ = read_inputs(inputs, None)
     except Refused as fault:
         return refused(fault)
-    return Answer(0, b"", b"", files_of(adjusted(network), limit))
+    answer = adjusted(network)
+    return Answer(0, b"", notes_of(inputs.books, answer, limit), files_of(answer, limit))
 
 
 def review(inputs: Inputs, limit: int) -> Answer:

@@ -65,6 +65,10 @@ class BookFault(Exception):
         return f"book 1 line {self.line}: {self.kind} {self.words}\n"
 
 
+# Words that tell of what a book has in place of sights, in ascending order.
+NOTED_NUMBERS = (b"22", b"31", b"32", b"83") + tuple(b"33%d" % digit for digit in range(10))
+
+
 class Word(NamedTuple):
     """A word, in the parts that have a meaning. Positions are the page's, from 1."""
 
@@ -363,10 +367,31 @@ def list_of(observations: List[Observation]) -> bytes:
     return b"".join(records)
 
 
+# Notes
+
+
+def number_of(word: Word) -> bytes:
+    """The number of a word: two digits where position 3 is a dot, or else three."""
+    position_3 = word.information[0:1]
+    return word.index if position_3 == DOT else word.index + position_3
+
+
+def note_of(number: int, book: bytes) -> bytes:
+    """The line of a book with this number and without a fault, if it has blocks and no sight."""
+    blocks = [read_block(line) for line in split_into_lines(book) if not is_blank(line)]
+    if not blocks or any(is_sight(words) for words in blocks):
+        return b""
+    there = {number_of(word) for words in blocks for word in words}
+    told = [own.decode("ascii") for own in NOTED_NUMBERS if own in there]
+    joined = " and ".join(([", ".join(told[:-1])] if told[1:] else []) + told[-1:])
+    words = f"; it has word{'s' if told[1:] else ''} {joined}" if told else ""
+    return f"note: book {number} has no sight in {len(blocks)} blocks (no word 33{words})\n".encode("ascii")
+
+
 def answer(book: bytes) -> Answer:
     """What the page says that a program gives for a book that can be read."""
     try:
-        return Answer(list_of(read_book(book)), b"", 0)
+        return Answer(list_of(read_book(book)), note_of(1, book), 0)
     except BookFault as fault:
         return Answer(b"", fault.text().encode("ascii"), 2)
 

@@ -17,6 +17,8 @@ mod commands;
 #[cfg(test)]
 mod heights;
 #[cfg(test)]
+mod notes;
+#[cfg(test)]
 mod overwrites;
 #[cfg(test)]
 mod refusals;

@@ -50,7 +50,7 @@ Exit status: 0 the list was printed, 2 the book was refused, 3 a bad command lin
 4 out of memory, 5 the book could not be read or the list not written";
 
 /// What the help of `adjust` ends with.
-const AFTER_ADJUST: &str = "It prints nothing and writes four files:
+const AFTER_ADJUST: &str = "It prints nothing but notes on standard error, and writes four files:
   PREFIX.heights.csv      each point's height, with the lowest and the highest best height
   PREFIX.certificate.csv  heights and flows that show that no heights cost less, for 'check'
   PREFIX.report.txt       points, residuals, blunders and opposites, in columns

@@ -10,7 +10,8 @@ use Rattle.th_runs.specs.declared.refusals.Input.{Input}
 
 kept_told : {F : Type 0} (tells : Bool) (held : F → Told) (has_failed : F → Spot → Bool) (failing : F → Failing) (old new : F) (asked : Plan) (status : ℕ) → tells ≡ true
     → IsRun tells held has_failed failing old new asked status → (which : Input) (name : List ℕ) → IsInputOf asked which name → held new (file name) ≡ held old (file name)
-kept_told tells held has_failed failing old new asked status telling (inl (keeps, inl (done, others))) which name read = others (file name) (keeps telling which name read)
+kept_told tells held has_failed failing old new asked status telling (inl (keeps, inl run)) which name read =
+    run.others (file name) (file-apart name) (keeps telling which name read)
 kept_told tells held has_failed failing old new asked status telling (inl (keeps, inr (own, run))) which name read =
     run.others (file name) (file-apart name) (keeps telling which name read)
 kept_told tells held has_failed failing old new asked status telling (inr (inl (is, (written, changed, other, would, begun)))) which name read =

@@ -12,3 +12,4 @@ pub mod InputLemmas
 pub mod OverwriteLemmas
 pub mod HeadlineLemmas
 pub mod PlaceLemmas
+mod NoteLemmas

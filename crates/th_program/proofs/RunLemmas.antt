@@ -1,15 +1,19 @@
 -- What a run leaves after its refusal was reported.
-use Rattle.std.proofs.Common.{◌≡◌, ◌≢◌, Bool, Some, map, refl}
-use Rattle.th_devices.specs.Spots.{Spot, errors}
+use Rattle.std.proofs.Common.{◌≡◌, ◌≢◌, ◌∙◌, ℕ, Bool, true, List, None, Some, get_or, map, refl}
+use Rattle.std.proofs.lemmas.List.Elements.{All-from_recursion}
+use Rattle.std.specs.List.{AllByRecursion, Contains}
+use Rattle.th_booking.specs.declared.conversions.Conversion.{Conversion}
+use Rattle.th_booking.specs.declared.conversions.Conversion.TheVariants.{Differences, Heights}
+use Rattle.th_devices.specs.Spots.{Spot, errors, file, input, is_file, output}
 use Rattle.th_plans.specs.Plans.{files}
 use Rattle.th_plans.specs.declared.plans.Plan.{Plan}
 use Rattle.th_plans.specs.declared.plans.Plan.TheVariants as plan
 use Rattle.th_program.proofs.OutputLemmas.{all_files, printed_after}
 use Rattle.th_program.proofs.RefusalLemmas.{refused-for-map}
-use Rattle.th_program.specs.Done.{IsRefused}
+use Rattle.th_program.specs.Done.{IsBooked, IsDone, IsListed, IsOutputOf, IsRefused}
 use Rattle.th_program.specs.Failing.{Failing}
 use Rattle.th_program.specs.Owed.{Told, survey_owed}
-use Rattle.th_program.specs.Outputs.{ending_of}
+use Rattle.th_program.specs.Outputs.{ending_of, spots_of}
 use Rattle.th_runs.specs.Adjusted.{adjusting}
 use Rattle.th_runs.specs.Reviewed.{reviewing}
 use Rattle.th_runs.specs.declared.refusals.Refusal.{Refusal}
@@ -29,3 +33,74 @@ refused-after tells failing before after later (plan.Explain inputs limit table)
 refused-after tells failing before after later (plan.Check inputs certificate) own same is = is
 refused-after tells failing before after later (plan.Book table) own same is = is
 refused-after tells failing before after later (plan.BookOfHeights book) own same is = is
+
+-- standard output is not standard error
+output_apart : output ≢ errors
+output_apart = λ e. cc e
+
+listed-after : (tells : Bool) (before after later : Told) (book : Spot) → ((spot : Spot) → spot ≢ errors → later spot ≡ after spot)
+    → IsListed tells before after book → IsListed tells before later book
+listed-after tells before after later book same is = record {
+  observations = is.observations;
+  given = is.given;
+  listed = λ tell. same output output_apart ∙ is.listed tell;
+}
+
+booked-after : (tells : Bool) (before after later : Told) (conversion : Conversion) (name : List ℕ) → ((spot : Spot) → spot ≢ errors → later spot ≡ after spot)
+    → IsBooked tells before after conversion name → IsBooked tells before later conversion name
+booked-after tells before after later conversion name same is = record {
+  book = is.book;
+  given = is.given;
+  booked = λ tell. same output output_apart ∙ is.booked tell;
+}
+
+-- nor does it change what was done
+pub done-after : (tells : Bool) (before after later : Told) (asked : Plan) (status : ℕ) → ((spot : Spot) → spot ≢ errors → later spot ≡ after spot)
+    → IsDone tells before after asked status → IsDone tells before later asked status
+done-after tells before after later plan.Standard status same is = (is.0, listed-after tells before after later input same is.1)
+done-after tells before after later (plan.List book) status same is = (is.0, listed-after tells before after later (file book.now) same is.1)
+done-after tells before after later (plan.Adjust inputs limit prefix) status same is =
+    (is.0, printed_after tells before after later (files inputs) prefix.now adjusting.outputs _ (all_files prefix.now (map ending_of adjusting.outputs) refl) same None is.1)
+done-after tells before after later (plan.Review inputs limit prefix) status same is =
+    (is.0, printed_after tells before after later (files inputs) prefix.now reviewing.outputs _ (all_files prefix.now (map ending_of reviewing.outputs) refl) same None is.1)
+done-after tells before after later (plan.Explain inputs limit table) status same is = (
+  is.0,
+  record {
+    survey = is.1.survey;
+    text = is.1.text;
+    given = is.1.given;
+    network = is.1.network;
+    explained = is.1.explained;
+    printed = λ tell. same output output_apart ∙ is.1.printed tell;
+  },
+)
+done-after tells before after later (plan.Check inputs certificate) status same (verdict, of_verdict, is) = (
+  verdict,
+  of_verdict,
+  record {
+    claim = is.claim;
+    given = is.given;
+    network = is.network;
+    answered = is.answered;
+    line = λ tell. same output output_apart ∙ is.line tell;
+    right = is.right;
+  },
+)
+done-after tells before after later (plan.Book table) status same is = (is.0, booked-after tells before after later Differences table.now same is.1)
+done-after tells before after later (plan.BookOfHeights book) status same is = (is.0, booked-after tells before after later Heights book.now same is.1)
+
+-- no plan writes its outputs to standard error
+none_among : (spots : List Spot) → AllByRecursion (λ spot. is_file spot ≡ true) spots → Contains spots errors → ⊥
+none_among spots files (place, within, is) =
+    let there : is_file (get_or spots place errors) ≡ true = All-from_recursion (λ spot. is_file spot ≡ true) spots files place errors within in
+    cc
+
+pub errors_apart : (asked : Plan) → IsOutputOf asked errors → ⊥
+errors_apart (plan.Adjust inputs limit prefix) is = none_among (spots_of prefix.now adjusting.outputs) (all_files prefix.now (map ending_of adjusting.outputs) refl) is
+errors_apart (plan.Review inputs limit prefix) is = none_among (spots_of prefix.now reviewing.outputs) (all_files prefix.now (map ending_of reviewing.outputs) refl) is
+errors_apart plan.Standard is = cc
+errors_apart (plan.List book) is = cc
+errors_apart (plan.Explain inputs limit table) is = cc
+errors_apart (plan.Check inputs certificate) is = cc
+errors_apart (plan.Book table) is = cc
+errors_apart (plan.BookOfHeights book) is = cc

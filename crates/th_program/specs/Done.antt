@@ -24,10 +24,12 @@ use Rattle.th_runs.specs.Checked.{IsRight, checking, verdict_line, verdict_on}
 use Rattle.th_runs.specs.Explained.{AreOfExplanation, explaining}
 use Rattle.th_runs.specs.Inputs.{Claim, IsOwed, MakesNetwork, Meets, MeetsRefusal, Owed}
 use Rattle.th_runs.specs.Listed.{IsOfList}
+use Rattle.th_runs.specs.Noted.{AreNone}
 use Rattle.th_runs.specs.Reads.{IsNamed, Run}
 use Rattle.th_runs.specs.Refusals.{input_text, status_of, status_of_verdict}
 use Rattle.th_runs.specs.Reviewed.{AreOfReview, reviewing}
 use Rattle.th_runs.specs.Writes.{Texts, UnlessWrite}
+use Rattle.th_runs.specs.declared.notes.Notes.{Notes}
 use Rattle.th_runs.specs.declared.refusals.Input.{Input}
 use Rattle.th_runs.specs.declared.refusals.Input.TheVariants as source
 use Rattle.th_runs.specs.declared.explaining.Form.{Form}
@@ -38,6 +40,7 @@ use Rattle.th_runs.specs.declared.refusals.Refusal.{Refusal}
 use Rattle.th_runs.specs.declared.refusals.Refusal.TheVariants as refusal
 use Rattle.th_program.specs.Failing.{Failing, HasCause, IsInClaim, IsInFiles}
 use Rattle.th_program.specs.Helped.{refused_lines}
+use Rattle.th_program.specs.Noted.{AreNotesOf, notes_lines}
 use Rattle.th_program.specs.Outputs.{AreLeft, spots_of}
 use Rattle.th_program.specs.Owed.{HasName, Told, book_owed, claim_owed, converted_owed, survey_owed}
 
@@ -237,11 +240,20 @@ pub record IsRefusedRun {F : Type 0} (tells : Bool) (held : F → Told) (has_fai
   pub untouched : UnlessWrite own ((spot : Spot) → spot ≢ errors → held new spot ≡ held old spot)
   pub others : (spot : Spot) → spot ≢ errors → (IsOutputOf asked spot → ⊥) → held new spot ≡ held old spot
 
--- a plan was carried out: it was done, and no spot changed but those of its outputs, or it was refused
+-- A plan was done, and these are its notes: unless standard error failed, just their lines are there. Without a note it is unchanged. No other spot changed but those
+-- of the plan's outputs.
+pub record IsDoneRun {F : Type 0} (tells : Bool) (held : F → Told) (has_failed : F → Spot → Bool) (old new : F) (asked : Plan) (status : ℕ) : Type 0 where
+  pub done : IsDone tells (held old) (held new) asked status
+  pub notes : Notes
+  pub of_plan : AreNotesOf (held old) asked notes
+  pub silent : AreNone notes → held new errors ≡ held old errors
+  pub noted : (AreNone notes → ⊥) → has_failed new errors ≡ false → Holds tells (held new) errors (notes_lines notes)
+  pub others : (spot : Spot) → spot ≢ errors → (IsOutputOf asked spot → ⊥) → held new spot ≡ held old spot
+
+-- a plan was carried out: it was done, or it was refused
 abbrev pub IsCarriedOut : {F : Type 0} → Bool → (F → Told) → (F → Spot → Bool) → (F → Failing) → F → F → Plan → ℕ → Type 0
 IsCarriedOut tells held has_failed failing old new asked status =
-    (IsDone tells (held old) (held new) asked status × ((spot : Spot) → (IsOutputOf asked spot → ⊥) → held new spot ≡ held old spot))
-    ⊎ ((own : Refusal) × IsRefusedRun tells held has_failed failing old new asked status own)
+    IsDoneRun tells held has_failed old new asked status ⊎ ((own : Refusal) × IsRefusedRun tells held has_failed failing old new asked status own)
 
 -- a plan was not begun: this line is on standard error, unless that failed, and nothing else changed
 pub record IsNotBegun {F : Type 0} (tells : Bool) (held : F → Told) (has_failed : F → Spot → Bool) (old new : F) (line : List ℕ) : Type 0 where

@@ -1,8 +1,11 @@
 //! Adjusting the network of files of a folder.
-ghost use Rattle.std.specs.Prelude.{◌≡◌, IfErr, None, OnOk};
+ghost use Rattle.std.specs.Prelude.{◌≡◌, ◌≤◌, IfErr, None, OnOk, length};
+ghost use Rattle.th_plans.specs.Limits.{max_books};
 ghost use Rattle.th_program.specs.Done.{IsAdjustOutput, IsAdjusted, IsRefusedAdjust};
 ghost use Rattle.th_program.specs.Failing.{failing_of};
 ghost use Rattle.th_plans.specs.Plans.{files};
+ghost use Rattle.th_program.specs.Noted.{AreNotesOfFiles};
+ghost use Rattle.th_runs.specs.Noted.{AreNone};
 ghost use Rattle.th_runs.specs.Writes.{UnlessWrite};
 
 use crate::opening::sources_of;
@@ -10,9 +13,10 @@ use crate::outputs::{place_sinks, sinks_of};
 use std::alloc::Global;
 use th_folders::Folder;
 use th_plans::{Inputs, Limit};
-use th_runs::{ADJUSTED, Refusal, run_adjust};
+use th_runs::{ADJUSTED, Notes, Refusal, run_adjust_with_notes};
 
-/// Adjusts the network of the named files, and writes four files whose names begin with the prefix.
+/// Adjusts the network of the named files, writes four files whose names begin with the prefix, and adds
+/// its notes.
 /// That they are none of the inputs, the caller has made sure.
 ///
 /// If a write fails, no file changes. If a file cannot take its name, those before it, in the order
@@ -23,7 +27,12 @@ pub(crate) fn adjust<F: Folder>(
     inputs: &Inputs<'_>,
     limit: Limit,
     prefix: &str,
+    notes: &mut Notes,
 ) -> Result<(), Refusal>
+    requires none { AreNone notes.old }
+    ensures noted { OnOk result
+        (AreNotesOfFiles (F.held folder.old) (files inputs.now) limit notes.new) }
+    ensures few { OnOk result (length notes.new.books.items ≤ max_books) }
     ensures adjusted { OnOk result (IsAdjusted F.tells (F.held folder.old) (F.held folder.new)
         (files inputs.now) limit prefix.now None) }
     ensures refused { IfErr result (IsRefusedAdjust F.tells
@@ -35,13 +44,14 @@ pub(crate) fn adjust<F: Folder>(
 {
     let mut sources = sources_of(alloc, folder, inputs)?;
     let mut outs = sinks_of(alloc, folder, prefix, &ADJUSTED)?;
-    let answer = run_adjust(
+    let answer = run_adjust_with_notes(
         alloc,
         sources.books.as_mut_slice(),
         &mut sources.benchmarks,
         &mut sources.weights,
         limit.get(),
         outs.as_mut_slice(),
+        notes,
     );
     place_sinks(folder, outs, &ADJUSTED, prefix, answer)
 }

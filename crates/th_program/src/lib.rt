@@ -1,9 +1,9 @@
 //! The program, over any folder: what it reads, what it writes, and the status that it ends with.
 //!
 //! A contract speaks of the folder before and after a run. On success the outputs hold the texts
-//! that the inputs give. A refusal names the first fault of the inputs, and has a status and a line
-//! on standard error. Before outputs are begun it changes nothing else. A command whose outputs
-//! would overwrite one of its inputs is not begun.
+//! that the inputs give, and standard error the notes of a list or an adjustment. A refusal names the
+//! first fault of the inputs, and has a status and a line on standard error. Before outputs are begun
+//! it changes nothing else. A command whose outputs would overwrite one of its inputs is not begun.
 #![tactic(auto)]
 
 // The sources of a run, and the sinks of its outputs.
@@ -21,6 +21,7 @@ mod reviewing;
 // The program: a refusal is reported, a plan that overwrites no input is run, arguments become a plan.
 mod arguments;
 mod helping;
+mod noting;
 mod overwrites;
 mod plans;
 mod refusals;

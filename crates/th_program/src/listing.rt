@@ -4,15 +4,24 @@ ghost use Rattle.th_folders.specs.Folders.{spot_of_origin};
 ghost use Rattle.th_devices.specs.Spots.{output};
 ghost use Rattle.th_program.specs.Done.{IsListed, IsRefusedList};
 ghost use Rattle.th_program.specs.Failing.{failing_of};
+ghost use Rattle.th_runs.specs.Noted.{AreNone, AreNotesOfList};
 ghost use Rattle.th_runs.specs.Writes.{UnlessWrite};
 
 use crate::outputs::{close_sinks, sinks_of};
 use std::alloc::Global;
 use th_folders::{Folder, Origin};
-use th_runs::{LISTED, Refusal, run_list};
+use th_runs::{LISTED, Notes, Refusal, run_list_with_notes};
 
-/// Lists the book there on standard output.
-pub fn list<F: Folder>(alloc: Global, folder: &mut F, book: Origin<'_>) -> Result<(), Refusal>
+/// Lists the book there on standard output, and adds its notes.
+pub fn list<F: Folder>(
+    alloc: Global,
+    folder: &mut F,
+    book: Origin<'_>,
+    notes: &mut Notes,
+) -> Result<(), Refusal>
+    requires none { AreNone notes.old }
+    ensures noted { OnOk result (AreNotesOfList
+        (F.held folder.old (spot_of_origin book.entry)) notes.new) }
     ensures listed { OnOk result (IsListed F.tells (F.held folder.old) (F.held folder.new)
         (spot_of_origin book.entry)) }
     ensures refused { IfErr result (IsRefusedList
@@ -23,7 +32,7 @@ pub fn list<F: Folder>(alloc: Global, folder: &mut F, book: Origin<'_>) -> Resul
 {
     let mut book = folder.source(alloc, book)?;
     let mut outs = sinks_of(alloc, folder, "", &LISTED)?;
-    let answer = run_list(alloc, &mut book, outs.as_mut_slice());
+    let answer = run_list_with_notes(alloc, &mut book, outs.as_mut_slice(), notes);
     close_sinks(folder, outs);
     answer
 }

@@ -1,7 +1,10 @@
 //! Running a plan.
-ghost use Rattle.std.specs.Prelude.{◌≡◌, IfErr, IfOk};
+ghost use Rattle.std.specs.Prelude.{◌≡◌, ◌≤◌, IfErr, IfOk, OnOk, length};
+ghost use Rattle.th_plans.specs.Limits.{max_books};
 ghost use Rattle.th_program.specs.Done.{IsCarriedOut, IsDone, IsOutputOf, IsRefused, IsRun};
 ghost use Rattle.th_program.specs.Failing.{failing_of};
+ghost use Rattle.th_program.specs.Noted.{AreNotesOf};
+ghost use Rattle.th_runs.specs.Noted.{AreNone};
 ghost use Rattle.th_runs.specs.Writes.{UnlessWrite};
 
 use crate::adjusting::adjust;
@@ -9,6 +12,7 @@ use crate::booking::make_book;
 use crate::checking::check;
 use crate::explaining::{explain, form_of};
 use crate::listing::list;
+use crate::noting::tell_notes;
 use crate::overwrites::{Stop, keep_inputs};
 use crate::refusals::{refuse, refuse_memory, refuse_overwrite};
 use crate::reviewing::review;
@@ -16,7 +20,7 @@ use std::alloc::Global;
 use th_booking::Conversion;
 use th_folders::{Folder, Origin};
 use th_plans::Plan;
-use th_runs::{DONE, Refusal, status_of_verdict};
+use th_runs::{DONE, Notes, Refusal, status_of_verdict};
 
 /// Runs a plan, and returns the exit status. A refusal has its lines on standard error. A plan whose
 /// outputs would overwrite an input is refused before anything is read or written.
@@ -38,14 +42,27 @@ fn run_apart<F: Folder>(alloc: Global, folder: &mut F, plan: &Plan<'_>) -> u8
         (failing_of F.reading_may_fail F.writing_may_fail)
         folder.old folder.new plan.now result }
 {
-    match carry_out(alloc, folder, plan) {
-        Ok(status) => status,
+    let mut notes = Notes::new(alloc);
+    match carry_out(alloc, folder, plan, &mut notes) {
+        Ok(status) => {
+            tell_notes(folder, &notes);
+            status
+        }
         Err(refusal) => refuse(folder, plan, &refusal),
     }
 }
 
-/// Runs a plan, and returns the exit status, or why it was refused.
-fn carry_out<F: Folder>(alloc: Global, folder: &mut F, plan: &Plan<'_>) -> Result<u8, Refusal>
+/// Runs a plan, and returns the exit status, or why it was refused. A list and an adjustment add their
+/// notes.
+fn carry_out<F: Folder>(
+    alloc: Global,
+    folder: &mut F,
+    plan: &Plan<'_>,
+    notes: &mut Notes,
+) -> Result<u8, Refusal>
+    requires none { AreNone notes.old }
+    ensures noted { OnOk result (AreNotesOf (F.held folder.old) plan.now notes.new) }
+    ensures few { OnOk result (length notes.new.books.items ≤ max_books) }
     ensures done { IfOk result (IsDone F.tells (F.held folder.old) (F.held folder.new) plan.now) }
     ensures refused { IfErr result (IsRefused F.tells
         (failing_of F.reading_may_fail F.writing_may_fail folder.old)
@@ -55,13 +72,13 @@ fn carry_out<F: Folder>(alloc: Global, folder: &mut F, plan: &Plan<'_>) -> Resul
         → F.held folder.new spot ≡ F.held folder.old spot }
 {
     match plan {
-        Plan::Standard => list(alloc, folder, Origin::Input)?,
-        Plan::List { book } => list(alloc, folder, Origin::File(*book))?,
+        Plan::Standard => list(alloc, folder, Origin::Input, notes)?,
+        Plan::List { book } => list(alloc, folder, Origin::File(*book), notes)?,
         Plan::Adjust {
             inputs,
             limit,
             prefix,
-        } => adjust(alloc, folder, inputs, *limit, *prefix)?,
+        } => adjust(alloc, folder, inputs, *limit, *prefix, notes)?,
         Plan::Review {
             inputs,
             limit,

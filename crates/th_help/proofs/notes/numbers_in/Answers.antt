@@ -1,4 +1,4 @@
-use Rattle.std.proofs.Common.{◌≡◌, ◌<◌, ◌∙◌, ◌++◌, ◌∷◌, [], ℕ, List, true, false, ap, append-nil, arith, get_or, length, length-append, refl, sym}
+use Rattle.std.proofs.Common.{◌∙◌, ◌++◌, ◌∷◌, [], ℕ, List, true, false, ap, append-nil, arith, get_or, length, length-append, sym}
 use Rattle.th_remarks.specs.Words.{measured}
 use Rattle.th_help.proofs.NumberLemmas.{chosen}
 use Rattle.th_help.proofs.notes.numbers_in.Goals as goal

@@ -1,4 +1,4 @@
-use Rattle.std.proofs.Common.{to_z, of_z, w64, arith, ◌≡◌, ◌∙◌, ◌++◌, true, ap, drop, length, map, refl, rules, subst, sym, take}
+use Rattle.std.proofs.Common.{to_z, of_z, w64, arith, ◌≡◌, ◌∙◌, ◌++◌, ◌≤◌, true, ap, drop, length, map, refl, rules, subst, sym, take}
 use Rattle.std.proofs.lemmas.List.{length-map}
 use Rattle.std.specs.List.{AllByRecursion}
 use Rattle.std.specs.Prelude.{IfErr}
@@ -6,7 +6,9 @@ use Rattle.th_devices.specs.Spots.{is_file}
 use Rattle.th_network.specs.Networks.{Survey}
 use Rattle.th_plans.specs.Plans.{files}
 use Rattle.th_program.proofs.CauseLemmas.{files_caused, given_caused, output_caused, run_caused}
-use Rattle.th_program.proofs.OpenedLemmas.{named-opened, opened-are-ready, survey-opened}
+use Rattle.th_plans.specs.Limits.{max_books}
+use Rattle.th_program.proofs.NoteLemmas.{few_noted, noted_files, noted_given}
+use Rattle.th_program.proofs.OpenedLemmas.{named-opened, opened-are-ready, survey-opened, tells-opened}
 use Rattle.th_program.proofs.OutputLemmas.{all_apart, all_files, lent, made_ready, none_among, not_among, of_map, spots_after}
 use Rattle.th_program.proofs.PlaceLemmas.{apart_map, finished_given, others_given, printed_given, refused_given, untouched_given}
 use Rattle.th_program.specs.Done.{IsAdjusted}
@@ -20,19 +22,19 @@ use Rattle.th_runs.specs.Reads.{refused}
 use Rattle.th_runs.specs.Writes.{Texts, UnlessWrite}
 use Rattle.th_program.proofs.adjusting.adjust.Goals as goal
 
-pub run_adjust-answer-requires-clause-ready : goal.run_adjust-answer-requires-clause-ready
-run_adjust-answer-requires-clause-ready g c =
+pub run_adjust_with_notes-answer-requires-clause-ready : goal.run_adjust_with_notes-answer-requires-clause-ready
+run_adjust_with_notes-answer-requires-clause-ready g c =
     rw c.as_mut_slice.ensures.value
     (opened-are-ready g.F.In.Source.state _ _ _ _ _ _ c.in_ok-sources.ensures.opened c.in_ok-sources.ensures.few_books)
 
-pub run_adjust-answer-requires-clause-outs : goal.run_adjust-answer-requires-clause-outs
-run_adjust-answer-requires-clause-outs g c =
+pub run_adjust_with_notes-answer-requires-clause-outs : goal.run_adjust_with_notes-answer-requires-clause-outs
+run_adjust_with_notes-answer-requires-clause-outs g c =
     rw c.as_mut_slice-2.ensures.value
     (made_ready g.F.Out.Sink.state g.F.Folder.tells (g.F.Folder.writing_may_fail c.sources_of.new.folder) c.args.prefix.now adjusting.outputs _ c.in_ok-outs.ensures.made)
 
 pub place_sinks-requires-clause-files : goal.place_sinks-requires-clause-files
 place_sinks-requires-clause-files g c =
-    let run = c.run_adjust-answer in
+    let run = c.run_adjust_with_notes-answer in
     let prefix = c.args.prefix.now in
     let unopened : c.sources_of.new.folder ≡ c.args.folder.now = c.sources_of.ensures.same in
     let made : AreMade g.F.Out.Sink.state g.F.Folder.tells (g.F.Folder.writing_may_fail c.args.folder.now) (spots_of prefix adjusting.outputs) c.as_mut_slice-2.result.now =
@@ -45,14 +47,14 @@ place_sinks-requires-clause-files g c =
 
 pub place_sinks-requires-clause-finished : goal.place_sinks-requires-clause-finished
 place_sinks-requires-clause-finished g c =
-    let run = c.run_adjust-answer in
+    let run = c.run_adjust_with_notes-answer in
     let back : take c.in_ok-outs.outs.len (run.new.outs ++ drop (length run.new.outs) c.in_ok-outs.outs.items) ≡ run.new.outs =
     lent c.in_ok-outs.outs.items run.new.outs c.in_ok-outs.outs.len (omega (arith, c.as_mut_slice-2.ensures.len, run.auto.outs)) in
     rw back (finished_given g.F.Out.Sink.state _ _ _ run.new.outs run.result run.ensures.outcome.written)
 
 pub place_sinks-requires-clause-as_many : goal.place_sinks-requires-clause-as_many
 place_sinks-requires-clause-as_many g c =
-    let run = c.run_adjust-answer in
+    let run = c.run_adjust_with_notes-answer in
     let prefix = c.args.prefix.now in
     let unopened : c.sources_of.new.folder ≡ c.args.folder.now = c.sources_of.ensures.same in
     let made : AreMade g.F.Out.Sink.state g.F.Folder.tells (g.F.Folder.writing_may_fail c.args.folder.now) (spots_of prefix adjusting.outputs) c.as_mut_slice-2.result.now =
@@ -64,7 +66,7 @@ place_sinks-requires-clause-as_many g c =
 
 pub returns-clause-adjusted : goal.returns-clause-adjusted
 returns-clause-adjusted g c =
-    let run = c.run_adjust-answer in
+    let run = c.run_adjust_with_notes-answer in
     let from = files c.args.inputs.now in
     let told = g.F.Folder.held c.args.folder.now in
     let prefix = c.args.prefix.now in
@@ -85,7 +87,7 @@ returns-clause-adjusted g c =
 
 pub returns-clause-refused : goal.returns-clause-refused
 returns-clause-refused g c =
-    let run = c.run_adjust-answer in
+    let run = c.run_adjust_with_notes-answer in
     let from = files c.args.inputs.now in
     let told = g.F.Folder.held c.args.folder.now in
     let prefix = c.args.prefix.now in
@@ -121,7 +123,7 @@ returns-clause-refused g c =
 
 pub returns-clause-untouched : goal.returns-clause-untouched
 returns-clause-untouched g c =
-    let run = c.run_adjust-answer in
+    let run = c.run_adjust_with_notes-answer in
     let back : take c.in_ok-outs.outs.len (run.new.outs ++ drop (length run.new.outs) c.in_ok-outs.outs.items) ≡ run.new.outs =
     lent c.in_ok-outs.outs.items run.new.outs c.in_ok-outs.outs.len (omega (arith, c.as_mut_slice-2.ensures.len, run.auto.outs)) in
     let same : c.sinks_of.new.folder ≡ c.args.folder.now = c.sinks_of.ensures.same ∙ c.sources_of.ensures.same in
@@ -130,7 +132,7 @@ returns-clause-untouched g c =
 
 pub returns-clause-others : goal.returns-clause-others
 returns-clause-others g c =
-    let run = c.run_adjust-answer in
+    let run = c.run_adjust_with_notes-answer in
     let prefix = c.args.prefix.now in
     let unopened : c.sources_of.new.folder ≡ c.args.folder.now = c.sources_of.ensures.same in
     let made : AreMade g.F.Out.Sink.state g.F.Folder.tells (g.F.Folder.writing_may_fail c.args.folder.now) (spots_of prefix adjusting.outputs) c.as_mut_slice-2.result.now =
@@ -142,3 +144,23 @@ returns-clause-others g c =
     λ spot none. others_given g.F.Folder.tells g.F.Folder.held g.F.Folder.has_failed g.F.Folder.writing_may_fail (map g.F.Out.Sink.state run.new.outs) adjusting.outputs run.result c.place_sinks.result c.args.folder.now
     c.place_sinks.new.folder (rw (same, back) at c.place_sinks.ensures) spot
     (apart_map g.F.Out.Sink.state spot run.new.outs (none_among g.F.Out.Sink.state run.new.outs (spots_of prefix adjusting.outputs) spot there (not_among (spots_of prefix adjusting.outputs) spot none)))
+
+pub returns-clause-noted : goal.returns-clause-noted
+returns-clause-noted g c =
+    let run = c.run_adjust_with_notes-answer in
+    let from = files c.args.inputs.now in
+    let told = g.F.Folder.held c.args.folder.now in
+    let opened : AreOpened g.F.In.Source.state (g.F.Folder.reading_may_fail c.args.folder.now) told from c.as_mut_slice.result.now c.in_ok-sources.sources.benchmarks c.in_ok-sources.sources.weights =
+    rw c.as_mut_slice.ensures.value c.in_ok-sources.ensures.opened in
+    let owed = survey-opened g.F.In.Source.state (g.F.Folder.reading_may_fail c.args.folder.now) told from (refused run.result) _ _ _ _ _ _ opened run.ensures.sources in
+    let books = tells-opened g.F.In.Source.state (g.F.Folder.reading_may_fail c.args.folder.now) told _ _ opened.of_books in
+    let limit : to_z w64 (of_z w64 c.get.result) ≡ c.args.limit = search rules in
+    noted_given g.F.Folder.tells g.F.Folder.held g.F.Folder.has_failed g.F.Folder.writing_may_fail _ adjusting.outputs run.result c.place_sinks.result c.sinks_of.new.folder c.place_sinks.new.folder _ c.place_sinks.ensures
+    (noted_files told from c.args.limit _ _ _ run.result owed books (rw limit at run.ensures.noted))
+
+pub returns-clause-few : goal.returns-clause-few
+returns-clause-few g c =
+    let run = c.run_adjust_with_notes-answer in
+    let few : length c.as_mut_slice.result.now ≤ max_books = rw c.as_mut_slice.ensures.value c.in_ok-sources.ensures.few_books in
+    noted_given g.F.Folder.tells g.F.Folder.held g.F.Folder.has_failed g.F.Folder.writing_may_fail _ adjusting.outputs run.result c.place_sinks.result c.sinks_of.new.folder c.place_sinks.new.folder _ c.place_sinks.ensures
+    (few_noted g.F.In.Source.state _ _ _ _ run.result few run.ensures.noted)

@@ -1,7 +1,6 @@
-use Rattle.std.proofs.Common.{to_z, of_z, w64, ◌≡◌, ◌∙◌, [], List, ℕ, ap, rules, subst, sym, arith, map, ◌≢◌}
+use Rattle.std.proofs.Common.{to_z, of_z, w64, ◌≡◌, ◌∙◌, [], ap, rules, subst, sym, arith, map, ◌≢◌}
 use Rattle.std.specs.List.{AllByRecursion}
 use Rattle.std.specs.Prelude.{IfErr}
-use Rattle.th_devices.specs.Spots.{file}
 use Rattle.th_network.specs.Networks.{Survey}
 use Rattle.th_plans.specs.Plans.{files}
 use Rattle.th_program.proofs.ExplainedLemmas.{explained}

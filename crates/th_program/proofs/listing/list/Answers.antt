@@ -15,24 +15,24 @@ use Rattle.th_runs.specs.Reads.{refused}
 use Rattle.th_runs.specs.declared.refusals.Input.TheVariants as input
 use Rattle.th_program.proofs.listing.list.Goals as goal
 
-pub run_list-answer-requires-clause-outs : goal.run_list-answer-requires-clause-outs
-run_list-answer-requires-clause-outs g c =
+pub run_list_with_notes-answer-requires-clause-outs : goal.run_list_with_notes-answer-requires-clause-outs
+run_list_with_notes-answer-requires-clause-outs g c =
     rw c.as_mut_slice.ensures.value (made_ready g.F.Out.Sink.state g.F.Folder.tells (g.F.Folder.writing_may_fail c.source.new.self) [] listing _ c.in_ok-outs.ensures.made)
 
 pub close_sinks-requires : goal.close_sinks-requires
 close_sinks-requires g c =
-    let run = c.run_list-answer in
+    let run = c.run_list_with_notes-answer in
     let unopened : c.source.new.self ≡ c.args.folder.now = c.source.ensures.same in
     let made : AreMade g.F.Out.Sink.state g.F.Folder.tells (g.F.Folder.writing_may_fail c.args.folder.now) (spots_of [] listing) c.as_mut_slice.result.now =
     rw c.as_mut_slice.ensures.value (subst (λ folder. AreMade g.F.Out.Sink.state g.F.Folder.tells (g.F.Folder.writing_may_fail folder) (spots_of [] listing) c.in_ok-outs.outs.items) unopened c.in_ok-outs.ensures.made) in
-    let outs = lent c.in_ok-outs.outs.items c.run_list-answer.new.outs c.in_ok-outs.outs.len (omega (arith, c.as_mut_slice.ensures.len, c.run_list-answer.auto.outs)) in
+    let outs = lent c.in_ok-outs.outs.items c.run_list_with_notes-answer.new.outs c.in_ok-outs.outs.len (omega (arith, c.as_mut_slice.ensures.len, c.run_list_with_notes-answer.auto.outs)) in
     subst (λ sinks. AreApart (map (λ own. (g.F.Out.Sink.state own).spot) sinks)) (sym outs)
     (subst AreApart (sym (spots_after g.F.Out.Sink.state g.F.Folder.tells (g.F.Folder.writing_may_fail c.args.folder.now) (spots_of [] listing) _ _ _ run.result _ _ run.ensures.outcome made (λ own has. (listed_texts own, has)))) (tt, tt))
 
 pub returns-clause-listed : goal.returns-clause-listed
 returns-clause-listed g c =
-    let outs = lent c.in_ok-outs.outs.items c.run_list-answer.new.outs c.in_ok-outs.outs.len (omega (arith, c.as_mut_slice.ensures.len, c.run_list-answer.auto.outs)) in
-    let run = c.run_list-answer in
+    let outs = lent c.in_ok-outs.outs.items c.run_list_with_notes-answer.new.outs c.in_ok-outs.outs.len (omega (arith, c.as_mut_slice.ensures.len, c.run_list_with_notes-answer.auto.outs)) in
+    let run = c.run_list_with_notes-answer in
     let told = g.F.Folder.held c.args.folder.now in
     let owed = ap (owed_for_book 1) (given-there g.F.In.Source.state (g.F.Folder.reading_may_fail c.args.folder.now) told (input.Book 1) (refused run.result) _ _ _ c.in_ok-book.ensures.opened run.ensures.book.read.failed) in
     let unopened : c.source.new.self ≡ c.args.folder.now = c.source.ensures.same in
@@ -44,7 +44,7 @@ returns-clause-listed g c =
 
 pub returns-clause-refused : goal.returns-clause-refused
 returns-clause-refused g c =
-    let run = c.run_list-answer in
+    let run = c.run_list_with_notes-answer in
     let owed = ap (owed_for_book 1) (given-there g.F.In.Source.state (g.F.Folder.reading_may_fail c.args.folder.now) (g.F.Folder.held c.args.folder.now) (input.Book 1) (refused run.result) _ _ _
     c.in_ok-book.ensures.opened run.ensures.book.read.failed) in
     let failing = failing_of g.F.Folder.reading_may_fail g.F.Folder.writing_may_fail c.args.folder.now in
@@ -60,8 +60,8 @@ returns-clause-refused g c =
 
 pub returns-clause-others : goal.returns-clause-others
 returns-clause-others g c =
-    let outs = lent c.in_ok-outs.outs.items c.run_list-answer.new.outs c.in_ok-outs.outs.len (omega (arith, c.as_mut_slice.ensures.len, c.run_list-answer.auto.outs)) in
-    let run = c.run_list-answer in
+    let outs = lent c.in_ok-outs.outs.items c.run_list_with_notes-answer.new.outs c.in_ok-outs.outs.len (omega (arith, c.as_mut_slice.ensures.len, c.run_list_with_notes-answer.auto.outs)) in
+    let run = c.run_list_with_notes-answer in
     let unopened : c.source.new.self ≡ c.args.folder.now = c.source.ensures.same in
     let made : AreMade g.F.Out.Sink.state g.F.Folder.tells (g.F.Folder.writing_may_fail c.args.folder.now) (spots_of [] listing) c.as_mut_slice.result.now =
     rw c.as_mut_slice.ensures.value (subst (λ folder. AreMade g.F.Out.Sink.state g.F.Folder.tells (g.F.Folder.writing_may_fail folder) (spots_of [] listing) c.in_ok-outs.outs.items) unopened c.in_ok-outs.ensures.made) in
@@ -71,8 +71,8 @@ returns-clause-others g c =
 
 pub returns-clause-untouched : goal.returns-clause-untouched
 returns-clause-untouched g c =
-    let outs = lent c.in_ok-outs.outs.items c.run_list-answer.new.outs c.in_ok-outs.outs.len (omega (arith, c.as_mut_slice.ensures.len, c.run_list-answer.auto.outs)) in
-    let run = c.run_list-answer in
+    let outs = lent c.in_ok-outs.outs.items c.run_list_with_notes-answer.new.outs c.in_ok-outs.outs.len (omega (arith, c.as_mut_slice.ensures.len, c.run_list_with_notes-answer.auto.outs)) in
+    let run = c.run_list_with_notes-answer in
     let unopened : c.source.new.self ≡ c.args.folder.now = c.source.ensures.same in
     let made : AreMade g.F.Out.Sink.state g.F.Folder.tells (g.F.Folder.writing_may_fail c.args.folder.now) (spots_of [] listing) c.as_mut_slice.result.now =
     rw c.as_mut_slice.ensures.value (subst (λ folder. AreMade g.F.Out.Sink.state g.F.Folder.tells (g.F.Folder.writing_may_fail folder) (spots_of [] listing) c.in_ok-outs.outs.items) unopened c.in_ok-outs.ensures.made) in
@@ -81,3 +81,6 @@ returns-clause-untouched g c =
     (subst (AllByRecursion (λ own. IsUntouched (g.F.Out.Sink.state own))) (sym same) (made_untouched g.F.Out.Sink.state g.F.Folder.tells (g.F.Folder.writing_may_fail c.args.folder.now) (spots_of [] listing) _ made)))
     ∙ c.sinks_of.ensures.same ∙ c.source.ensures.same)
     run.ensures.outcome.untouched
+
+pub returns-clause-noted : goal.returns-clause-noted
+returns-clause-noted g c = rw c.in_ok-book.ensures.opened.tells at c.run_list_with_notes-answer.ensures.noted

@@ -20,3 +20,9 @@ returns-clause-others g c = λ spot none. elim c.match-plan.branch [
   | in-BookOfHeights+in_ok-make_book-in-BookOfHeights w ↦
       ap (λ own. g.F.Folder.held own spot) w.folder-is ∙ w.make_book-in-BookOfHeights.ensures.others spot (λ is. none (subst (λ own. IsOutputOf own spot) (sym w.in-BookOfHeights.is) is))
 ]
+
+pub returns-in_err-adjust-in-Adjust-clause-others : goal.returns-in_err-adjust-in-Adjust-clause-others
+returns-in_err-adjust-in-Adjust-clause-others g c = λ spot none. c.adjust.ensures.others spot (λ is. none (subst (λ own. IsOutputOf own spot) (sym c.in-Adjust.is) is))
+
+pub returns-in_err-review-in-Review-clause-others : goal.returns-in_err-review-in-Review-clause-others
+returns-in_err-review-in-Review-clause-others g c = λ spot none. c.review.ensures.others spot (λ is. none (subst (λ own. IsOutputOf own spot) (sym c.in-Review.is) is))
