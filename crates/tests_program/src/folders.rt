@@ -7,7 +7,7 @@ use th_program::run_words;
 pub const BOOK: &[u8] =
     b"110001+0000000A 84..10+00000000 85..10+00000000 86..10+00100000 88..10+00001500 \n110002+0000000B 33..00+00002345 87..10+00001300 \n";
 
-/// A sight there, and one back from a second setup, which is longer by 5 mm.
+/// A sight there, and one back from a second setup, which is longer by 10 mm.
 pub const THERE_AND_BACK: &[u8] =
     b"110001+0000000A 84..10+00000000 85..10+00000000 86..10+00100000 88..10+00001500 \n110002+0000000B 33..00+00002345 87..10+00001300 \n110003+0000000B 84..10+00000000 88..10+00001450 \n110004+0000000A 33..00-00002705 87..10+00001300 \n";
 
