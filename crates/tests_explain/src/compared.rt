@@ -1,14 +1,15 @@
-//! `explanations` and `least_left`, which solve no network for most numbers, beside `explanation` and
-//! `least_in_reach`, which solve some for each, on networks that look random.
+//! `explanations`, which solves no network for most numbers, beside `explanation`, which solves some for
+//! each, on networks that look random.
 ghost use Rattle.std.specs.Prelude.{◌<◌, ◌≤◌};
 
+use crate::finding::explained;
 use gsi_word::{Name, name_of};
 use std::alloc::Global;
 use std::process::Abort;
 use th_blunders::Fit;
 use th_book::read_book;
 use th_circulation::best_heights;
-use th_explain::{Number, Sieve, explanation, explanations, least_in_reach, least_left};
+use th_explain::{Number, explanation};
 use th_network::Network;
 use th_reliability::Sights;
 use th_tables::{read_benchmarks, read_weights};
@@ -156,14 +157,10 @@ fn compare(rt: &impl Abort, alloc: Global, sample: &Sample, limit: u64) -> usize
     );
     let best = best_heights(alloc, &network).expect(rt, "memory");
     let fit = Fit::of(alloc, &network, best.low()).expect(rt, "memory");
-    let mut sieve = Sieve::of(alloc, &network, &best, &fit).expect(rt, "memory");
-    let numbers = sample.numbers.as_slice();
-    let found = explanations(alloc, &best, &mut sieve, numbers, limit, None).expect(rt, "memory");
+    let found = explained(rt, alloc, &network, &sample.numbers, limit, None);
     assert_eq!(rt; found.len(), sample.numbers.len());
     let half = fit.cost / 2;
-    let few = explanations(alloc, &best, &mut sieve, numbers, limit, Some(half)).expect(
-        rt, "memory",
-    );
+    let few = explained(rt, alloc, &network, &sample.numbers, limit, Some(half));
     for (own, one) in few.iter().zip(&found) {
         let is_missing = own.is_none() && one.is_some_and(|freed| freed.left > half);
         assert!(rt; is_missing || own == one);
@@ -172,9 +169,6 @@ fn compare(rt: &impl Abort, alloc: Global, sample: &Sample, limit: u64) -> usize
     for (number, own) in sample.numbers.iter().zip(&found) {
         let one = explanation(alloc, &network, &best, fit.cost, number, limit).expect(rt, "memory");
         assert!(rt; *own == one, "{number:?}");
-        let least = least_in_reach(alloc, &network, &best, fit.cost, number).expect(rt, "memory");
-        let left = least_left(alloc, &best, &mut sieve, number).expect(rt, "memory");
-        assert_eq!(rt; left, least);
         if own.is_some() {
             explain = explain.saturating_add(1);
         }

@@ -8,6 +8,8 @@
 #[cfg(test)]
 mod compared;
 #[cfg(test)]
+mod finding;
+#[cfg(test)]
 mod numbers;
 #[cfg(test)]
 mod texts;

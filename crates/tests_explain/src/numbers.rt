@@ -1,11 +1,10 @@
 //! What is left where a number is freed, and what is proposed. Costs were made by adjusting books that
 //! were changed by hand.
+use crate::finding::explained;
 use std::alloc::Global;
 use std::process::Abort;
-use th_blunders::Fit;
 use th_book::read_book;
-use th_circulation::best_heights;
-use th_explain::{Freed, Number, Sieve, explanations};
+use th_explain::{Freed, Number};
 use th_network::Network;
 use th_reliability::Sights;
 use th_tables::{read_benchmarks, read_weights};
@@ -54,7 +53,7 @@ fn only(left: u128, change: i64) -> Option<Freed> {
 }
 
 /// What a number of the building site explains.
-fn explained(rt: &impl Abort, alloc: Global, number: &Number, limit: u64) -> Option<Freed> {
+fn explained_here(rt: &impl Abort, alloc: Global, number: &Number, limit: u64) -> Option<Freed> {
     let benchmarks = read_benchmarks(alloc, MARKS).expect(rt, "benchmarks");
     let weights = read_weights(alloc, b"").expect(rt, "weights");
     let observations = read_book(alloc, 1, BUILDING_SITE).expect(rt, "a book");
@@ -62,12 +61,7 @@ fn explained(rt: &impl Abort, alloc: Global, number: &Number, limit: u64) -> Opt
         rt,
         "a network",
     );
-    let best = best_heights(alloc, &network).expect(rt, "memory");
-    let fit = Fit::of(alloc, &network, best.low()).expect(rt, "memory");
-    let mut sieve = Sieve::of(alloc, &network, &best, &fit).expect(rt, "memory");
-    let found = explanations(alloc, &best, &mut sieve, &[*number], limit, None).expect(
-        rt, "memory",
-    );
+    let found = explained(rt, alloc, &network, &[*number], limit, None);
     match found.first() {
         Some(own) => *own,
         None => None,
@@ -79,8 +73,8 @@ fn wrong_instrument_height(rt: HostRuntime) {
     let alloc = rt.alloc();
     let instrument = Number::Added(lines(2, 6));
     let reflector = Number::Subtracted(lines(2, 6));
-    assert!(rt; explained(&rt, alloc, &instrument, LIMIT) == only(200_000, -9_900_000));
-    assert!(rt; explained(&rt, alloc, &reflector, LIMIT) == only(200_000, 9_900_000));
+    assert!(rt; explained_here(&rt, alloc, &instrument, LIMIT) == only(200_000, -9_900_000));
+    assert!(rt; explained_here(&rt, alloc, &reflector, LIMIT) == only(200_000, 9_900_000));
 }
 
 #[test]
@@ -88,8 +82,8 @@ fn marked_sights(rt: HostRuntime) {
     let alloc = rt.alloc();
     let eighth = Number::Added(lines(8, 8));
     let fifteenth = Number::Added(lines(15, 15));
-    assert!(rt; explained(&rt, alloc, &eighth, LIMIT) == only(10_100_000, -9_900_000));
-    assert!(rt; explained(&rt, alloc, &fifteenth, LIMIT) == only(10_100_000, -9_900_000));
+    assert!(rt; explained_here(&rt, alloc, &eighth, LIMIT) == only(10_100_000, -9_900_000));
+    assert!(rt; explained_here(&rt, alloc, &fifteenth, LIMIT) == only(10_100_000, -9_900_000));
 }
 
 #[test]
@@ -97,14 +91,14 @@ fn other_numbers(rt: HostRuntime) {
     let alloc = rt.alloc();
     let sight = Number::Added(lines(3, 3));
     let other = Number::Added(lines(7, 11));
-    assert!(rt; explained(&rt, alloc, &sight, LIMIT).is_none());
-    assert!(rt; explained(&rt, alloc, &other, LIMIT).is_none());
+    assert!(rt; explained_here(&rt, alloc, &sight, LIMIT).is_none());
+    assert!(rt; explained_here(&rt, alloc, &other, LIMIT).is_none());
 }
 
 #[test]
 fn limits(rt: HostRuntime) {
     let alloc = rt.alloc();
     let instrument = Number::Added(lines(2, 6));
-    assert!(rt; explained(&rt, alloc, &instrument, 9_899_999) == only(200_000, -9_900_000));
-    assert!(rt; explained(&rt, alloc, &instrument, 9_900_000).is_none());
+    assert!(rt; explained_here(&rt, alloc, &instrument, 9_899_999) == only(200_000, -9_900_000));
+    assert!(rt; explained_here(&rt, alloc, &instrument, 9_900_000).is_none());
 }
