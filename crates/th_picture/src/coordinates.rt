@@ -9,7 +9,7 @@ use std::alloc::AllocError;
 use th_html::write_number;
 use th_report::Page;
 
-/// Writes what stands before a point of a path, and its coordinates.
+/// Writes two coordinates behind a text.
 #[tactic(auto, unfolding(crate::specs::Lines::pair_text))]
 pub fn write_pair(page: &mut Page, before: &[u8], x: u64, y: u64) -> Result<(), AllocError>
     ensures { OnOk result (page.new ≡ page.old ++ pair_text before.now x y) }
