@@ -7,13 +7,13 @@ BOOK ?= examples/building_site.gsi
 LOG := build.log
 
 .PHONY: help try run refuse list toolchain build built calls check test gate examples statuses killed files completions documents \
-	made-up edits unused alike guides reserved compare office mutated each-byte pages planted memory attacks attacks-of-today \
+	made-up edits unused alike guides reserved compare office mutated each-byte pages page-seen page-tidy planted memory attacks attacks-of-today \
 	hostile bench install uninstall clean
 
 help:
 	@echo 'make try       adjust an example project and show its report in a minute or two, with nothing proved and no program kept'
 	@echo 'make run       prove and build the program, adjust an example project, show its report and check its certificate'
-	@echo 'make refuse    break one line of the checker in a copy, and show that the prover refuses it'
+	@echo 'make refuse    prove a function of the checker, break a line of it in a copy, and show that the prover refuses it: a minute or two'
 	@echo 'make list      prove and build the program, and list a book (BOOK=$(BOOK))'
 	@echo 'make build     prove and build the program: $(PROGRAM)'
 	@echo 'make check     while you work: prove what changed, then all of the below down to memory but the gate, guides and each-byte'
@@ -35,13 +35,15 @@ help:
 	@echo 'make office    compare the built program with the second office on random projects (PROJECTS=$(PROJECTS) SEED=$(SEED))'
 	@echo 'make mutated   the same on mutated books, tables and certificates (INPUTS=$(INPUTS) SEED=$(SEED)); a million take hours'
 	@echo 'make each-byte the same on each beginning and each changed byte of a book, a table and two certificates (some minutes)'
-	@echo 'make pages     compare pages, which no command writes yet, with those of the second office (PAGES=$(PAGES) SEED=$(SEED))'
+	@echo 'make pages     compare pages of rows that few surveys have with those of the second office (PAGES=$(PAGES) SEED=$(SEED))'
+	@echo 'make page-seen take pictures of pages in Chromium to be looked at, and measure the pages there: out/page_seen'
+	@echo 'make page-tidy read sample pages by tidy, where it is installed'
 	@echo 'make planted   plant wrong numbers in surveys, and compare what comes of them with explain and review (every one in EVERY=$(EVERY))'
 	@echo 'make memory    run the built program, and the calls that `make calls` builds, with each allocation refused in turn'
 	@echo 'make attacks   try the edits of attacks/, more mistakes that the prover must refuse (hours)'
 	@echo 'make attacks-of-today  try some of them, other ones each day (ATTACKS=$(ATTACKS))'
 	@echo 'make hostile   time and memory of books, tables, certificates and networks that are made to cost time'
-	@echo 'make bench     throughput and peak memory: listing, networks, certificates, settling beside other solvers, adjusting, reviewing, explaining'
+	@echo 'make bench     throughput and peak memory: listing, networks, certificates, settling beside other solvers, adjusting, reviewing, explaining, pages'
 	@echo 'make install   copy the built program, its manual page and completions below $(PREFIX); proves nothing'
 	@echo 'make uninstall remove them'
 	@echo 'make clean     remove what was built'
@@ -76,7 +78,7 @@ calls:
 	@cd crates/tests_memory && rt run < /dev/null > ../../$(LOG) 2>&1 || { tail -n 40 ../../$(LOG); exit 1; }
 
 # What runs the built program or only reads the repository, several at a time: each works in folders of its own.
-SCRIPTS := examples statuses killed files completions documents made-up edits unused alike reserved compare office mutated planted memory
+SCRIPTS := examples statuses killed files completions documents made-up edits unused alike reserved compare office mutated page-tidy planted memory
 AT_ONCE ?= $(shell nproc)
 SIDE_BY_SIDE = $(MAKE) --no-print-directory --jobs=$(AT_ONCE) --output-sync=target
 
@@ -158,6 +160,13 @@ PAGES ?= 200
 pages: toolchain
 	@python3 tests/second_office/compare_page.py --projects $(PAGES) --seed $(SEED)
 
+page-seen:
+	@command -v chromium > /dev/null || { echo 'this needs Chromium: its command chromium is not found'; exit 1; }
+	@tests/page_seen out/page_seen
+
+page-tidy:
+	@tests/page_tidy
+
 EVERY ?= 10
 planted: built
 	@tests/planted/explained.py --program $(PROGRAM) --share $(EVERY)
@@ -184,6 +193,7 @@ bench: build
 	@bench/adjust/run --program $(PROGRAM)
 	@bench/review/run --program $(PROGRAM)
 	@bench/explain/run --program $(PROGRAM)
+	@bench/page/run --program $(PROGRAM)
 	@$(MAKE) --no-print-directory hostile
 
 SHARE = $(DESTDIR)$(PREFIX)/share

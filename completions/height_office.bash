@@ -3,7 +3,7 @@ _height_office() {
     local word=${COMP_WORDS[COMP_CWORD]} before=${COMP_WORDS[COMP_CWORD - 1]} options=
     COMPREPLY=()
     if [ "$COMP_CWORD" = 1 ]; then
-        mapfile -t COMPREPLY < <(compgen -W 'list adjust review explain check book help --help --version' -- "$word")
+        mapfile -t COMPREPLY < <(compgen -W 'list adjust review explain page check book help --help --version' -- "$word")
         return
     fi
     case $before in
@@ -19,10 +19,10 @@ _height_office() {
     case ${COMP_WORDS[1]} in
         list) options='--help' ;;
         book) options='--heights --help' ;;
-        adjust | review) options='--benchmarks --weights --blunder --out --help' ;;
+        adjust | review | page) options='--benchmarks --weights --blunder --out --help' ;;
         explain) options='--benchmarks --weights --blunder --csv --help' ;;
         check) options='--benchmarks --weights --certificate --help' ;;
-        help) options='list adjust review explain check book' ;;
+        help) options='list adjust review explain page check book' ;;
     esac
     if [[ $word == -* || ${COMP_WORDS[1]} == help ]]; then
         mapfile -t COMPREPLY < <(compgen -W "$options" -- "$word")

@@ -1,16 +1,17 @@
 # Completion of height_office for fish.
-set -l commands list adjust review explain check book help
-set -l in_network '__fish_seen_subcommand_from adjust review'
-set -l in_limits '__fish_seen_subcommand_from adjust review explain'
-set -l in_inputs '__fish_seen_subcommand_from adjust review explain check'
+set -l commands list adjust review explain page check book help
+set -l in_network '__fish_seen_subcommand_from adjust review page'
+set -l in_limits '__fish_seen_subcommand_from adjust review explain page'
+set -l in_inputs '__fish_seen_subcommand_from adjust review explain page check'
 complete -c height_office -f -n "not __fish_seen_subcommand_from $commands" -a list -d 'Print the height differences of a book'
 complete -c height_office -f -n "not __fish_seen_subcommand_from $commands" -a adjust -d 'Adjust the network of books'
 complete -c height_office -f -n "not __fish_seen_subcommand_from $commands" -a review -d 'Report what a mistake would do'
 complete -c height_office -f -n "not __fish_seen_subcommand_from $commands" -a explain -d 'Print which one number would explain what does not fit'
+complete -c height_office -f -n "not __fish_seen_subcommand_from $commands" -a page -d 'Write a page to hand on'
 complete -c height_office -f -n "not __fish_seen_subcommand_from $commands" -a check -d 'Check a certificate'
 complete -c height_office -f -n "not __fish_seen_subcommand_from $commands" -a book -d 'Make a book of a table of differences, or of heights'
 complete -c height_office -f -n "not __fish_seen_subcommand_from $commands" -a help -d 'How to use a command'
-complete -c height_office -f -n '__fish_seen_subcommand_from help' -a 'list adjust review explain check book'
+complete -c height_office -f -n '__fish_seen_subcommand_from help' -a 'list adjust review explain page check book'
 complete -c height_office -s h -l help -d 'How to use the program'
 complete -c height_office -s V -l version -n "not __fish_seen_subcommand_from $commands" -d 'The version'
 complete -c height_office -l benchmarks -r -F -n $in_inputs -d 'The table of benchmarks'

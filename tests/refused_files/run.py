@@ -3,7 +3,7 @@
 
     run.py [--program PATH] [--pairs N]
 
-The program adjusts and reviews a project over outputs of another one. Of each run call 1 fails, then call 2, and so on
+The program adjusts, reviews and shows a project over outputs of another one. Of each run call 1 fails, then call 2, and so on
 until a run makes fewer calls: on inputs, outputs and the folder. Where a rename fails, the outputs before it are new and
 its own and later ones are as they were. Where another call fails and the run ends with status 5, no output changed, nor
 with status 3, where files cannot be compared. With status 0, after a failed close and for the folder, all are new. The lines on standard error name the device and the file, and no unfinished file is left, unless its removal was
@@ -30,6 +30,7 @@ OUTPUTS = {
     "adjust": {"heights.csv": "heights", "certificate.csv": "certificate", "report.txt": "report", "heights.gsi": "gsi"},
     "review": {"points.csv": "points", "observations.csv": "observations", "entries.csv": "entries",
                "benchmarks.csv": "reviewed benchmarks", "review.txt": "review"},
+    "page": {"html": "page"},
 }
 INPUTS = {"new.gsi": "book 1", "new.csv": "benchmarks"}
 
@@ -144,7 +145,7 @@ def look_at_order(command: str, calls: list) -> None:
 def start_together(program: str, folder: Path, texts: dict, pairs: int) -> None:
     mixed = 0
     for number in range(pairs):
-        command = ("adjust", "review")[number % 2]
+        command = list(OUTPUTS)[number % len(OUTPUTS)]
         runs = [subprocess.Popen(words_of(program, command, version), cwd=folder) for version in ("old", "new")]
         statuses = [run.wait() for run in runs]
         found = outputs_of(folder, command)

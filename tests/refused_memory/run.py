@@ -3,12 +3,11 @@
 
     run.py [--program PATH] [--calls PATH]
 
-The program lists, adjusts, reviews, explains and checks two projects, and makes a book of a table; of each run request 1 is refused,
-then request 2, and so on until a run asks for less: once that request alone, and once it and all behind it. A run that wants memory has to say `out
-of memory` and nothing else, to end with status 4 and to begin no file. Where the library makes up for a refusal, as
-of room that it only asks for ahead, the answer has to be the right one, all of it. The program `tests_memory` makes
-calls and makes them once more where they want memory: it has to say so, and the rest of what it prints may not
-change.
+The program lists, adjusts, reviews, explains and checks two projects, writes the page of one, and makes a book of a table; of each run
+request 1 is refused, then request 2, and so on until a run asks for less: once that request alone, and once it and all behind it. A run
+that wants memory has to say `out of memory` and nothing else, to end with status 4 and to begin no file. Where the library makes up for
+a refusal, as of room that it only asks for ahead, the answer has to be the right one, all of it. The program `tests_memory` makes calls
+and makes them once more where they want memory: it has to say so, and the rest of what it prints may not change.
 
 Requests are counted and refused by `refusing_allocator.c`, which is compiled with `cc` and stands before the C
 library's allocator. Prints for each run how many requests there are and what was answered. Status 0 only where all is
@@ -25,6 +24,11 @@ from pathlib import Path
 from typing import Dict, List, NamedTuple, Optional, Tuple
 
 HERE = Path(__file__).resolve().parent
+sys.path.insert(0, str(HERE.parent / "second_office"))
+
+import office
+from explain import csv_text
+
 CRATES = HERE.parents[1] / "crates"
 DEFAULT_PROGRAM = CRATES / "height_office" / "out" / "height_office"
 DEFAULT_CALLS = CRATES / "tests_memory" / "out" / "tests_memory"
@@ -98,6 +102,14 @@ CALLS = {f"{call} wants memory\n".encode("ascii")
          for call in ("Book::line", "BookFeed", "read_book", "read_benchmarks", "read_weights", "Network::build",
                       "settle")}
 TABLES = ["--benchmarks", "marks.csv", "--weights", "weights.csv"]
+LIMIT = 2_000_000
+
+
+def page_of(book: str) -> bytes:
+    """The page of a book, as the second office writes it."""
+    inputs = office.Inputs([INPUTS[book]], INPUTS["marks.csv"], INPUTS["weights.csv"])
+    explained = office.explain(inputs, LIMIT, csv_text)[0]
+    return office.page(office.review(inputs, LIMIT), explained, [book.encode()]).files[".html"]
 
 
 class Answer(NamedTuple):
@@ -139,6 +151,7 @@ SERIES = (
            ("own.observations.csv", TRIANGLE_MISTAKES)),
     Series("explanation of a misread sight", ["explain"] + TABLES + ["--csv", "misread.gsi"], MISREAD_EXPLAINED, None),
     Series("explanation of a triangle", ["explain"] + TABLES + ["triangle.gsi"], TRIANGLE_EXPLAINED, None),
+    Series("page of a triangle", ["page"] + TABLES + ["--out", "own", "triangle.gsi"], b"", ("own.html", page_of("triangle.gsi"))),
     Series("check of a misread sight", ["check"] + TABLES + ["--certificate", "misread.csv", "misread.gsi"], b"yes\n",
            None),
     Series("check of a triangle", ["check"] + TABLES + ["--certificate", "triangle.csv", "triangle.gsi"], b"yes\n",

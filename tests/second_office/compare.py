@@ -3,13 +3,13 @@
 
     compare.py [--program PATH] [--projects N] [--seed S] [--workers W]
 
-Each project is adjusted and reviewed by both. Standard output, standard error and status have to be the same, and so have the five
-files of the review, the heights file, the report, the GSI file, and all records of the certificate but the flows, byte by byte. Which
-of several best flows is written is open: the program's have to keep their weights, balance and be slack with the heights, and have
-the cost. Then the program checks its own certificate, and changed ones, with the second office's verdict, line and status. Where the
-program has `explain`, both forms of what it prints have to be the second office's, byte by byte; where it has not, that is said. Prints
-the seed, how many came out which way, and every difference, with the project saved in a folder that it names. Status 0 only without a
-difference; 2 where the comparison could not be made.
+Each project is adjusted and reviewed by both, and both write its page. Standard output, standard error and status have to be the
+same, and so have the five files of the review, the page, the heights file, the report, the GSI file, and all records of the
+certificate but the flows, byte by byte. For the page the books have names that would do harm if they were markup. Which of several
+best flows is written is open: the program's have to keep their weights, balance and be slack with the heights, and have the cost. Both
+forms of what `explain` prints have to be the second office's, byte by byte. Then the program checks its own certificate, and changed
+ones, with the second office's verdict, line and status. Prints the seed, how many came out which way, and every difference, with the
+project saved in a folder that it names. Status 0 only without a difference; 2 where the comparison could not be made.
 """
 
 import argparse
@@ -26,8 +26,10 @@ from typing import Dict, List, NamedTuple, Optional, Tuple
 
 import office
 from projects import Project, changed_certificate, random_project
-from runs import (DEFAULT_PROGRAM, ENDS, EXPLAIN_FORMS, REVIEW_ENDS, Files, compare_files, differ, explain_words, has_explain,
-                  network_words, outcome_of, saved, second_adjustment, second_explanations, second_review, written)
+from pages import HOSTILE
+from runs import (DEFAULT_PROGRAM, ENDS, EXPLAIN_FORMS, PAGE_END, REVIEW_ENDS, Files, compare_files, differ, differ_in_lines,
+                  explain_words, network_words, outcome_of, saved, saved_under, second_adjustment, second_explanations,
+                  second_review, written)
 
 DEFAULT_PROJECTS = 1_000
 DEFAULT_SEED = 20_240_607
@@ -62,20 +64,32 @@ def some_of(files: Dict[str, bytes], ends: Tuple[str, ...]) -> Dict[str, bytes]:
     return {end: text for end, text in files.items() if end in ends}
 
 
-def compare_review(program: Path, project: Project, files: Files) -> Tuple[str, List[str]]:
+def compare_review(program: Path, project: Project, files: Files, second: office.Answer) -> Tuple[str, List[str]]:
     own = run(program, files.folder, network_words("review", project, files))
-    second = second_review(project)
     differences = differ("review", own, (second.status, second.standard_output, second.standard_error))
     differences += compare_files(project, some_of(written(files.folder), REVIEW_ENDS), second)
     return outcome_of("review", second), differences
 
 
-def compare_explain(program: Path, project: Project, files: Files) -> Tuple[str, List[str]]:
+def compare_explain(program: Path, project: Project, files: Files, forms: List[office.Answer]) -> Tuple[str, List[str]]:
     differences = []
-    for form, second in zip(EXPLAIN_FORMS, second_explanations(project, *EXPLAIN_FORMS)):
+    for form, second in zip(EXPLAIN_FORMS, forms):
         own = run(program, files.folder, explain_words(project, files, form))
         differences += differ(f"explain, {form}", own, (second.status, second.standard_output, second.standard_error))
     return outcome_of("explain", second), differences
+
+
+def hostile_names(rng: Random, count: int) -> List[bytes]:
+    """Names of files for so many books. An argument has to be text."""
+    names = [name for name in HOSTILE if name.decode("utf-8", "ignore").encode("utf-8") == name]
+    return [b"%d" % number + rng.choice(names) for number in range(count)]
+
+
+def compare_page(program: Path, project: Project, files: Files, second: office.Answer, names: List[bytes]) -> Tuple[str, List[str]]:
+    own = run(program, files.folder, network_words("page", project, saved_under(names, project, files)))
+    differences = differ("page", own, (second.status, second.standard_output, second.standard_error))
+    differences += differ_in_lines("page", written(files.folder).get(PAGE_END, b""), second.files.get(PAGE_END, b""))
+    return outcome_of("page", second), differences
 
 
 def compare_check(program: Path, project: Project, files: Files, title: str, certificate: bytes) -> Tuple[str, List[str]]:
@@ -86,7 +100,7 @@ def compare_check(program: Path, project: Project, files: Files, title: str, cer
     return outcome_of("check", second), differences
 
 
-def compare_project(program: Path, explains: bool, folder: Path, seed: int, number: int) -> Comparison:
+def compare_project(program: Path, folder: Path, seed: int, number: int) -> Comparison:
     """Compares project `number`, which hangs on the seed and the number alone."""
     rng = Random(f"{seed} {number}")
     project = random_project(rng)
@@ -95,11 +109,11 @@ def compare_project(program: Path, explains: bool, folder: Path, seed: int, numb
     second = second_adjustment(project)
     differences = differ("adjust", own, (second.status, second.standard_output, second.standard_error))
     differences += compare_files(project, some_of(written(folder), ENDS), second)
-    outcome, found = compare_review(program, project, files)
-    outcomes = [outcome_of("adjust", second), outcome]
-    differences += found
-    if explains:
-        outcome, found = compare_explain(program, project, files)
+    outcomes = [outcome_of("adjust", second)]
+    reviewed, explained = second_review(project), second_explanations(project, *EXPLAIN_FORMS)
+    names = hostile_names(Random(f"names {seed} {number}"), len(project.inputs.books))
+    for outcome, found in (compare_review(program, project, files, reviewed), compare_explain(program, project, files, explained),
+                           compare_page(program, project, files, office.page(reviewed, explained[0], names), names)):
         outcomes.append(outcome)
         differences += found
     # Where a table was refused there is no certificate of one's own, but somebody else's is still checked.
@@ -115,10 +129,10 @@ def compare_project(program: Path, explains: bool, folder: Path, seed: int, numb
 # The report
 
 
-def compare_in(scratch: Path, program: Path, explains: bool, seed: int, number: int) -> Comparison:
+def compare_in(scratch: Path, program: Path, seed: int, number: int) -> Comparison:
     folder = scratch / f"project_{number:06}"
     folder.mkdir()
-    comparison = compare_project(program, explains, folder, seed, number)
+    comparison = compare_project(program, folder, seed, number)
     if not comparison.differences:
         shutil.rmtree(folder)
     return comparison
@@ -158,12 +172,9 @@ def main() -> int:
         return 2
     print(f"seed {chosen.seed}")
     program = chosen.program.resolve()
-    explains = has_explain(program)
-    if not explains:
-        print("the program has no command explain, which is not compared")
     scratch = Path(tempfile.mkdtemp(prefix="second_office_"))
     with ThreadPoolExecutor(max_workers=chosen.workers) as executor:
-        comparisons = executor.map(lambda number: compare_in(scratch, program, explains, chosen.seed, number), range(chosen.projects))
+        comparisons = executor.map(lambda number: compare_in(scratch, program, chosen.seed, number), range(chosen.projects))
         differing = report(comparisons)
     if not differing:
         shutil.rmtree(scratch)

@@ -5,8 +5,8 @@
     compare_mutated.py --each-byte [--program PATH] [--first K] [--workers W] [--minutes M]
 
 Each input is a small project with a mutated text, which the program lists, adjusts, reviews, checks or explains: one run
-an input. A program that has no `explain` reviews in its place. Standard output, standard error, status and files have to be the second office's (of the certificate all but
-the flows, which have to show the heights). Whatever the second office says, a status is 0 to 5, a run that is refused
+an input. Standard output, standard error, status and files have to be the second office's (of the certificate all but the flows,
+which have to show the heights). Whatever the second office says, a status is 0 to 5, a run that is refused
 prints nothing and begins no file, and no run takes more than a second of processor time. Input K of a seed is the
 same in every run, so a long series can be run in parts: inputs --first to --first + --inputs - 1, or as many as
 --minutes allow. Prints the seed, how many inputs came out which way, the longest run, and every difference, with the
@@ -30,7 +30,7 @@ from typing import Dict, Iterator, List, NamedTuple, Optional, Tuple
 
 import office
 from mutated import COUNT_OF_CHANGES, Case, changed_case, random_case
-from runs import (DEFAULT_PROGRAM, ENDS, REVIEW_ENDS, compare_files, differ, explain_words, has_explain, network_words,
+from runs import (DEFAULT_PROGRAM, ENDS, REVIEW_ENDS, compare_files, differ, explain_words, network_words,
                   outcome_of, saved, second_adjustment, second_explanations, second_review, written)
 
 DEFAULT_INPUTS = 1_000
@@ -131,15 +131,14 @@ def compare_case(program: str, case: Case) -> Tuple[str, float, List[str]]:
     return outcome_of(case.command, second), own.seconds, differences
 
 
-def case_of(seed: Optional[int], number: int, explains: bool) -> Case:
+def case_of(seed: Optional[int], number: int) -> Case:
     """The case of a number, of a seed or of --each-byte."""
-    case = changed_case(number) if seed is None else random_case(seed, number)
-    return case._replace(command="review") if case.command == "explain" and not explains else case
+    return changed_case(number) if seed is None else random_case(seed, number)
 
 
-def compare_inputs(task: Tuple[str, str, Optional[int], bool, range]) -> Tally:
+def compare_inputs(task: Tuple[str, str, Optional[int], range]) -> Tally:
     """Compares a row of inputs, in a folder of its own."""
-    scratch, program, seed, explains, numbers = task
+    scratch, program, seed, numbers = task
     folder = Path(scratch) / f"worker_{os.getpid()}"
     folder.mkdir(exist_ok=True)
     os.chdir(folder)
@@ -147,7 +146,7 @@ def compare_inputs(task: Tuple[str, str, Optional[int], bool, range]) -> Tally:
     slowest = 0.0
     differences = []
     for number in numbers:
-        case = case_of(seed, number, explains)
+        case = case_of(seed, number)
         outcome, seconds, found = compare_case(program, case)
         outcomes[outcome] += 1
         slowest = max(slowest, seconds)
@@ -210,8 +209,7 @@ def main() -> int:
     scratch = tempfile.mkdtemp(prefix="mutated_inputs_")
     program = str(chosen.program.resolve())
     last = chosen.first + chosen.inputs
-    explains = has_explain(Path(program))
-    tasks = ((scratch, program, chosen.seed, explains, range(start, min(last, start + INPUTS_AT_A_TIME)))
+    tasks = ((scratch, program, chosen.seed, range(start, min(last, start + INPUTS_AT_A_TIME)))
              for start in range(chosen.first, last, INPUTS_AT_A_TIME))
     end = None if chosen.minutes is None else time.monotonic() + 60 * chosen.minutes
     with Pool(chosen.workers) as pool:

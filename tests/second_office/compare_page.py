@@ -19,7 +19,7 @@ from typing import List, Tuple
 from page import Benchmark, Entry, Page, Point, Sight, page_text
 from pages import HOSTILE, page_of
 from projects import MILLIMETRE, BookWriter, random_project
-from runs import ROOT
+from runs import ROOT, second_explanations, second_review
 
 DEFAULT_PROJECTS = 200
 DEFAULT_SEED = 20_240_607
@@ -58,10 +58,11 @@ def write_case(folder: Path, seed: int, number: int) -> bool:
     """Writes the rows and the page of a project, if that has one."""
     rng = Random(f"{seed} {number}")
     project = random_project(rng)
-    names = [rng.choice(HOSTILE) for _ in project.inputs.books]
-    page = page_of(project, names, rng)
-    if page is None or not all(project.inputs.books):
+    reviewed, explained = second_review(project), second_explanations(project, "table")[0]
+    if reviewed.review is None or explained.explanation is None or not all(project.inputs.books):
         return False
+    page = page_of(reviewed.review, explained.explanation, [rng.choice(HOSTILE) for _ in project.inputs.books])
+    page.notes.extend(rng.sample(HOSTILE, rng.randrange(3)))
     (folder / f"project_{number}").write_text(rows_text(page, project.inputs.books))
     (folder / f"project_{number}.stdout").write_bytes(page_text(page))
     return True

@@ -5,6 +5,7 @@
     office.py review --benchmarks F [--weights F] [--blunder MICROMETRES] --out PREFIX BOOK...
     office.py check --benchmarks F [--weights F] --certificate F BOOK...
     office.py explain --benchmarks F [--weights F] [--blunder MICROMETRES] [--csv] BOOK...
+    office.py page --benchmarks F [--weights F] [--blunder MICROMETRES] --out PREFIX BOOK...
 
 Gives what the program gives: the same files, the same lines, the same statuses. It shares nothing with the program, so that where
 the two differ one of them, or the page, is at fault. Which of several best flows a certificate carries is left open: the program's
@@ -12,13 +13,16 @@ may differ from these.
 """
 
 import argparse
+import os
 import sys
 from pathlib import Path
 from typing import Dict, List, NamedTuple, Optional
 
 from certificates import CertificateFault, certificate_text, read_certificate, verdict_line
-from explain import csv_text, explanation_of, people_text
+from explain import Explanation, csv_text, explanation_of, people_text
 from network import Heights, Network, NetworkFault, Sight, best_flows, cost_of, highest_heights, lowest_heights, make_network
+from page import page_text
+from pages import page_of
 import review as reviews
 from tables import TableFault, read_benchmarks, read_weights, reader
 from texts import gsi_text, heights_text, metres, report_text
@@ -56,6 +60,7 @@ class Answer(NamedTuple):
     standard_error: bytes
     files: Dict[str, bytes]
     review: Optional[reviews.Review] = None
+    explanation: Optional[Explanation] = None
 
 
 # Inputs
@@ -169,7 +174,14 @@ def explain(inputs: Inputs, limit: int, *texts) -> List[Answer]:
     except Refused as fault:
         return [refused(fault) for _ in texts]
     explanation = explanation_of(network, adjusted(network).low, limit, inputs.books)
-    return [Answer(0, text(explanation), b"", {}) for text in texts]
+    return [Answer(0, text(explanation), b"", {}, explanation=explanation) for text in texts]
+
+
+def page(reviewed: Answer, explained: Answer, books: List[bytes]) -> Answer:
+    """The page of a project whose books have these names, given what `review` and `explain` find."""
+    if reviewed.review is None or explained.explanation is None:
+        return reviewed
+    return Answer(0, b"", b"", {".html": page_text(page_of(reviewed.review, explained.explanation, books))})
 
 
 # The command line
@@ -178,14 +190,14 @@ def explain(inputs: Inputs, limit: int, *texts) -> List[Answer]:
 def arguments(words: Optional[List[str]] = None) -> argparse.Namespace:
     parser = argparse.ArgumentParser(description="A second office, to be compared with the program.")
     commands = parser.add_subparsers(dest="command", required=True)
-    for name in ("adjust", "review", "check", "explain"):
+    for name in ("adjust", "review", "check", "explain", "page"):
         command = commands.add_parser(name)
         command.add_argument("--benchmarks", type=Path, required=True)
         command.add_argument("--weights", type=Path)
         command.add_argument("books", type=Path, nargs="+", metavar="BOOK")
-    for name in ("adjust", "review", "explain"):
+    for name in ("adjust", "review", "explain", "page"):
         commands.choices[name].add_argument("--blunder", type=int, default=DEFAULT_BLUNDER)
-    for name in ("adjust", "review"):
+    for name in ("adjust", "review", "page"):
         commands.choices[name].add_argument("--out", required=True)
     commands.choices["explain"].add_argument("--csv", action="store_const", const=csv_text, default=people_text)
     commands.choices["check"].add_argument("--certificate", type=Path, required=True)
@@ -198,10 +210,12 @@ def run(chosen: argparse.Namespace) -> Answer:
     inputs = Inputs(books, chosen.benchmarks.read_bytes(), weights)
     if chosen.command == "check":
         return check(inputs, chosen.certificate.read_bytes())
+    limit = UNITS_IN_MICROMETRE * chosen.blunder
     if chosen.command == "explain":
-        return explain(inputs, UNITS_IN_MICROMETRE * chosen.blunder, chosen.csv)[0]
-    command = review if chosen.command == "review" else adjust
-    return command(inputs, UNITS_IN_MICROMETRE * chosen.blunder)
+        return explain(inputs, limit, chosen.csv)[0]
+    if chosen.command == "page":
+        return page(review(inputs, limit), explain(inputs, limit, csv_text)[0], [os.fsencode(path) for path in chosen.books])
+    return adjust(inputs, limit) if chosen.command == "adjust" else review(inputs, limit)
 
 
 def main() -> int:

@@ -1,7 +1,7 @@
-"""The page: docs/page/README.md. Lengths are in units of 10 nm, coordinates in tenths of a pixel."""
+"""The page: section 10 of docs/FORMATS.md. Lengths are in units of 10 nm, coordinates in tenths of a pixel."""
 
 from pathlib import Path
-from typing import List, NamedTuple, Optional
+from typing import List, NamedTuple, Optional, Tuple
 
 LEFT, WIDTH = 900, 7000
 TOP, HEIGHT = 300, 3000
@@ -193,15 +193,31 @@ def ends(page: Page, sight: Sight) -> bytes:
     return b"%s %s to %s" % (place(sight.book, sight.line), escaped(page.points[sight.station].name), escaped(page.points[sight.target].name))
 
 
-def curve(page: Page, scale: Scale, sight: Sight) -> bytes:
+class Curve(NamedTuple):
+    """Where a sight is drawn: from (x, y) to (u, v), and the rise of its bend."""
+
+    x: int
+    y: int
+    u: int
+    v: int
+    bend: int
+
+    def middle(self) -> Tuple[int, int]:
+        return (self.x + self.u) // 2, (self.y + self.v) // 2 + self.bend
+
+
+def curve_of(page: Page, scale: Scale, sight: Sight) -> Curve:
     count, own, other = len(page.points), page.points[sight.station], page.points[sight.target]
     x, u = x_of(sight.station, count), x_of(sight.target, count)
-    y, v = y_of(scale, raised(own.low)), y_of(scale, moved(raised(other.low), sight.residual))
     flat = 32 * (sight.number % 3 + 1)
-    bend = x // flat - u // flat
+    return Curve(x, y_of(scale, raised(own.low)), u, y_of(scale, moved(raised(other.low), sight.residual)), x // flat - u // flat)
+
+
+def path(page: Page, scale: Scale, sight: Sight) -> bytes:
+    own = curve_of(page, scale, sight)
     return (b'<path class="%s" d="M%d %dQ%d %d %d %dT%d %d"><title>%s</title></path>\n'
-            % (sight.mistake[0].encode(), x, y, (3 * x + u) // 4, (3 * y + v) // 4 + bend, (x + u) // 2, (y + v) // 2 + bend, u, v,
-               title_of(page, sight)))
+            % (sight.mistake[0].encode(), own.x, own.y, (3 * own.x + own.u) // 4, (3 * own.y + own.v) // 4 + own.bend, *own.middle(),
+               own.u, own.v, title_of(page, sight)))
 
 
 def group_lines(page: Page, scale: Scale, group: str) -> bytes:
@@ -209,7 +225,7 @@ def group_lines(page: Page, scale: Scale, group: str) -> bytes:
     if len(sights) > MANY:
         return b""
     few = b" few" if len(sights) <= FEW else b""
-    return b'<g class="g%s%s">\n' % (group.encode(), few) + b"".join(curve(page, scale, sight) for sight in sights) + b"</g>\n"
+    return b'<g class="g%s%s">\n' % (group.encode(), few) + b"".join(path(page, scale, sight) for sight in sights) + b"</g>\n"
 
 
 def dot(page: Page, scale: Scale, k: int) -> bytes:
@@ -222,13 +238,19 @@ def dot(page: Page, scale: Scale, k: int) -> bytes:
     return play + b'<circle cx="%d" cy="%d" r="%d">%s</circle>\n' % (x, y, 38 if len(page.points) <= FEW else 20, title)
 
 
-def gap(page: Page, scale: Scale, sight: Sight, named: bool) -> bytes:
-    x = x_of(sight.target, len(page.points))
-    low = raised(page.points[sight.target].low)
-    y, v = y_of(scale, low), y_of(scale, moved(low, sight.residual))
-    side, anchor = (x + 60, b"start") if x < 4_400 else (x - 60, b"end")
-    text = b'<text x="%d" y="%d" text-anchor="%s">%s</text>' % (side, (v + y) // 2 + 40, anchor, place(sight.book, sight.line)) if named else b""
-    return b'<path class="gap" d="M%d %dV%d"/><path class="x" d="M%d %dl80 80m0-80l-80 80"/>%s\n' % (x, v, y, x - 40, v - 40, text)
+def named(place_of_sight: bytes, own: Curve) -> bytes:
+    """The place of a sight in the middle of its curve, above the names of points."""
+    x, y = own.middle()
+    side, anchor = (x + 100, b"start") if x < 4_400 else (x - 100, b"end")
+    return b'<text x="%d" y="%d" text-anchor="%s">%s</text>' % (side, min(3_300, y + 40), anchor, place_of_sight)
+
+
+def gap(page: Page, scale: Scale, sight: Sight, has_place: bool) -> bytes:
+    own = curve_of(page, scale, sight)
+    text = named(place(sight.book, sight.line), own) if has_place else b""
+    low = y_of(scale, raised(page.points[sight.target].low))
+    return (b'<path class="gap" d="M%d %dV%d"/><path class="x" d="M%d %dl80 80m0-80l-80 80"/>%s\n'
+            % (own.u, own.v, low, own.u - 40, own.v - 40, text))
 
 
 def gap_lines(page: Page, scale: Scale) -> bytes:

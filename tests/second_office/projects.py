@@ -12,6 +12,7 @@ from office import Inputs
 from tables import metres_in, reader
 
 NAMES = (b"A", b"B", b"C", b"D", b"BM1", b"BM2", b"KO 1", b"7", b"0", b"A,B", b'X"Y', b"SO 112/4")
+MEASURED_NUMBERS = (b"21.", b"22.", b"31.", b"32.", b"83.", b"310", b"329", b"330", b"331", b"335", b"339", b"340", b"830")
 LARGEST_LIMIT = 1_000_000_000
 DEFAULT_LIMIT = 20_000
 MILLIMETRE = 100_000
@@ -92,6 +93,12 @@ class BookWriter:
             words.append(self.height_word("88", self.instrument))
         self.add(words)
 
+    def measured(self, point: bytes) -> None:
+        """A block with some of what an instrument measures, and without word 33."""
+        words = [self.point_word(point)]
+        words += [number + b".00+" + b"0" * self.width for number in self.rng.sample(MEASURED_NUMBERS, self.rng.randint(0, 4))]
+        self.add(words)
+
     def text(self) -> bytes:
         return b"".join(self.lines)
 
@@ -109,6 +116,10 @@ def noise(rng: Random) -> int:
 def book_of(rng: Random, heights: dict) -> bytes:
     writer = BookWriter(rng)
     names = list(heights)
+    if rng.random() < 0.05:
+        for _ in range(rng.randint(1, 3)):
+            writer.measured(rng.choice(names))
+        return writer.text()
     for _ in range(rng.randint(0, 3)):
         station = rng.choice(names)
         writer.setup(station)

@@ -17,7 +17,6 @@ ANY_BLAME = Blame(0, 0, None)  # where the network is too large for all of its s
 FIRST_RECORD = 2  # the header is record 1
 MEASURED_INDEXES = (b"21", b"22", b"31", b"32")  # angles and distances
 SLOPE_DISTANCE = b"31"
-MEASUREMENT_INDEXES = (SLOPE_DISTANCE, b"83")  # what a book without a sight may have
 MOST_LISTED = 1_000  # notes of a kind
 MOST_COMPARED = 200_000  # setups and sights whose names are compared
 FORMULA_BYTES = b"=+-@"
@@ -102,16 +101,9 @@ def dotted_words(words: List[reader.Word], index: bytes) -> List[reader.Word]:
     return [word for word in words if word.index == index and word.information[0:1] == reader.DOT]
 
 
-def without_sight(counts: List[BookCount], books: List[bytes]) -> List[str]:
-    notes = []
-    for number, (count, book) in enumerate(zip(counts, books), start=1):
-        if count.blocks == 0 or count.sights != 0:
-            continue
-        seen = [index.decode("ascii") for index in MEASUREMENT_INDEXES
-                if any(dotted_words(words, index) for _, words in blocks_of(book))]
-        has = f"; it has word{'s' if len(seen) == 2 else ''} {' and '.join(seen)}" if seen else ""
-        notes.append(f"book {number}: no sight in {count.blocks} blocks (no word 33{has})")
-    return notes
+def without_sight(books: List[bytes]) -> List[str]:
+    noted = [reader.without_sight(number, book) for number, book in enumerate(books, start=1)]
+    return [note for note in noted if note]
 
 
 def repeated_books(network: Network, count: int) -> List[str]:
@@ -289,7 +281,7 @@ def other_spellings(books: List[bytes]) -> List[str]:
 def review_of(network: Network, low: Heights, high: Heights, limit: int, books: List[bytes], weights: Dict[Pair, int]) -> Review:
     counts = [count_of(book) for book in books]
     entries = [entry for number, book in enumerate(books, start=1) for entry in entries_of(number, book)]
-    notes = (without_sight(counts, books) + repeated_books(network, len(books)) + lookalikes(books) + other_heights(books) + directions(books)
+    notes = (without_sight(books) + repeated_books(network, len(books)) + lookalikes(books) + other_heights(books) + directions(books)
              + unused_weights(network, weights) + unseen_benchmarks(network) + hanging_parts(network) + sighted_once(network)
              + twins(network, low) + other_spellings(books) + formulas(network))
     benchmarks = benchmarks_of(network)

@@ -1,8 +1,9 @@
 """Runs of the program on a project, and how their answers are compared with the second office's."""
 
+import os
 import re
-import subprocess
 from contextlib import suppress
+from itertools import islice, zip_longest
 from pathlib import Path
 from typing import Dict, List, NamedTuple
 
@@ -16,6 +17,7 @@ DEFAULT_PROGRAM = ROOT / "crates" / "height_office" / "out" / "height_office"
 LONGEST_PRINTED_TEXT = 300
 ENDS = (".heights.csv", ".certificate.csv", ".report.txt", ".heights.gsi")
 REVIEW_ENDS = (".points.csv", ".observations.csv", ".entries.csv", ".benchmarks.csv", ".review.txt")
+PAGE_END = ".html"
 LINE_FEED = b"\n"
 # The forms of what `explain` prints: the option, and the second office's text.
 EXPLAIN_FORMS = {"text": ([], people_text), "table": (["--csv"], csv_text)}
@@ -44,8 +46,18 @@ def saved(project: Project, folder: Path) -> Files:
     return Files(folder, words)
 
 
+def saved_under(names: List[bytes], project: Project, files: Files) -> Files:
+    """The same project with books of these names, which may lead into other folders."""
+    for name, book in zip(names, project.inputs.books):
+        path = Path(os.fsdecode(os.fsencode(files.folder) + b"/" + name))
+        path.parent.mkdir(parents=True, exist_ok=True)
+        path.write_bytes(book)
+    words = files.words[:len(files.words) - len(names)]
+    return Files(files.folder, words + [os.fsdecode(name) for name in names])
+
+
 def network_words(command: str, project: Project, files: Files) -> List[str]:
-    """The words of `adjust` or `review`."""
+    """The words of `adjust`, `review` or `page`."""
     limit = [] if project.limit is None else ["--blunder", str(project.limit)]
     return [command, "--out", "own"] + limit + files.words
 
@@ -56,15 +68,9 @@ def explain_words(project: Project, files: Files, form: str) -> List[str]:
     return ["explain"] + limit + EXPLAIN_FORMS[form][0] + files.words
 
 
-def has_explain(program: Path) -> bool:
-    """Whether the help of a program lists the command."""
-    shown = subprocess.run([str(program), "--help"], stdout=subprocess.PIPE, stderr=subprocess.PIPE, check=False)
-    return b"explain" in shown.stdout + shown.stderr
-
-
 def written(folder: Path) -> Dict[str, bytes]:
     files = {}
-    for end in ENDS + REVIEW_ENDS:
+    for end in ENDS + REVIEW_ENDS + (PAGE_END,):
         with suppress(FileNotFoundError), open(f"{folder}/own{end}", "rb") as file:
             files[end] = file.read()
     return files
@@ -103,6 +109,13 @@ def differ(what: str, own: object, second: object) -> List[str]:
         return []
     show = [shortened(text) if isinstance(text, bytes) else repr(text) for text in (own, second)]
     return [f"{what}: program {show[0]}, second office {show[1]}"]
+
+
+def differ_in_lines(what: str, own: bytes, second: bytes) -> List[str]:
+    """The first line in which two texts differ."""
+    pairs = zip_longest(own.split(LINE_FEED), second.split(LINE_FEED), fillvalue=b"(no line)")
+    different = ((number, pair) for number, pair in enumerate(pairs, start=1) if pair[0] != pair[1])
+    return [difference for number, pair in islice(different, 1) for difference in differ(f"{what}, line {number}", *pair)]
 
 
 def without_flows(certificate: bytes) -> bytes:

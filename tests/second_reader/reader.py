@@ -376,16 +376,22 @@ def number_of(word: Word) -> bytes:
     return word.index if position_3 == DOT else word.index + position_3
 
 
-def note_of(number: int, book: bytes) -> bytes:
-    """The line of a book with this number and without a fault, if it has blocks and no sight."""
+def without_sight(number: int, book: bytes) -> Optional[str]:
+    """What is noted of a book with this number and without a fault, if it has blocks and no sight."""
     blocks = [read_block(line) for line in split_into_lines(book) if not is_blank(line)]
     if not blocks or any(is_sight(words) for words in blocks):
-        return b""
+        return None
     there = {number_of(word) for words in blocks for word in words}
     told = [own.decode("ascii") for own in NOTED_NUMBERS if own in there]
     joined = " and ".join(([", ".join(told[:-1])] if told[1:] else []) + told[-1:])
     words = f"; it has word{'s' if told[1:] else ''} {joined}" if told else ""
-    return f"note: book {number} has no sight in {len(blocks)} blocks (no word 33{words})\n".encode("ascii")
+    return f"book {number} has no sight in {len(blocks)} blocks (no word 33{words})"
+
+
+def note_of(number: int, book: bytes) -> bytes:
+    """The line of that note, if there is one."""
+    noted = without_sight(number, book)
+    return f"note: {noted}\n".encode("ascii") if noted else b""
 
 
 def answer(book: bytes) -> Answer:

@@ -2,13 +2,13 @@
 use std::alloc::Global;
 use std::process::Abort;
 use th_book::BookFeed;
-use th_entries::{BookReview, Listed, MAX_LISTED, SeenNames, Tally, WordsSeen};
+use th_entries::{BookReview, Listed, MAX_LISTED, NoSight, SeenNames, Tally};
 
-/// The lines of a book, whether a word 31 and a word 83 count in it, and the lines of directions alone
-/// and of other instrument heights.
+/// The lines of a book; how many blocks it has and which words in place of sights, if it has none; and the
+/// lines of directions alone and of other instrument heights.
 type Row = (
     &'static [&'static [u8]],
-    (bool, bool),
+    Option<(u32, &'static [u16])>,
     &'static [u32],
     &'static [u32],
 );
@@ -41,21 +41,49 @@ const LEVEL: &[&[u8]] = &[
     b"110003+0000BM12 32...8+00274400 332.08+00031031 ",
 ];
 
-const ODDITIES: [Row; 11] = [
-    (&[], (false, false), &[], &[]),
-    (EACH_SIGHT, (true, false), &[], &[]),
-    (HEIGHTS, (true, true), &[], &[]),
-    (LEVEL, (false, false), &[], &[]),
-    // words without a dot at position 3 do not count
+const ODDITIES: [Row; 14] = [
+    (&[], None, &[], &[]),
+    (&[b"", b"   "], None, &[], &[]),
+    (EACH_SIGHT, None, &[], &[]),
+    (HEIGHTS, Some((2, &[31, 83])), &[], &[]),
+    (LEVEL, Some((3, &[32, 331, 332])), &[], &[]),
+    // all words, in two blocks and not in order; words after a sight do not matter
+    (
+        &[
+            b"410001+00000001 339.08+00000001 338.08+00000001 337.08+00000001 336.08+00000001 335.08+00000001 22.324+09715570 ",
+            b"",
+            b"410002+00000002 330.08+00000001 331.08+00000001 332.08+00000001 333.08+00000001 334.08+00000001 339.08+00000001 83..10+00000001 32..00+00000001 31..00+00000001 ",
+        ],
+        Some((
+            2,
+            &[
+                22, 31, 32, 83, 330, 331, 332, 333, 334, 335, 336, 337, 338, 339,
+            ],
+        )),
+        &[],
+        &[],
+    ),
+    (
+        &[
+            b"410001+00000001 31..00+00001000 ",
+            SETUP,
+            b"110003+0000000B 33..00+00002345 ",
+            b"410004+00000001 83..10+00001000 ",
+        ],
+        None,
+        &[],
+        &[],
+    ),
+    // words with a digit at position 3 have other numbers
     (
         &[SETUP, b"110002+0000000B 311.00+00001000 831.00+00001000 "],
-        (false, false),
+        Some((2, &[])),
         &[],
         &[],
     ),
     (
         &[SETUP, b"110002+0000000B 83..10+00001000 "],
-        (false, true),
+        Some((2, &[83])),
         &[],
         &[],
     ),
@@ -73,14 +101,14 @@ const ODDITIES: [Row; 11] = [
             b"110009+0000000B 311.00+00000000 33..00+00000000 ",
             b"110010+0000000B 31..00+00000001 33..00+00000000 31..00+00000000 ",
         ],
-        (true, false),
+        None,
         &[2, 3, 10],
         &[],
     ),
     // a block without a height difference is no sight
     (
         &[SETUP, b"110002+0000000B 31..00+00000000 "],
-        (true, false),
+        Some((2, &[31])),
         &[],
         &[],
     ),
@@ -96,7 +124,7 @@ const ODDITIES: [Row; 11] = [
             b"110007+0000000B 33..00+00002345 ",
             b"110008+0000000B 33..00+00002345 88..10-00001520 ",
         ],
-        (false, false),
+        None,
         &[],
         &[2, 4, 8],
     ),
@@ -110,7 +138,7 @@ const ODDITIES: [Row; 11] = [
             b"110004+0000000B 33..00+00002345 88..10+00001520 ",
             b"110005+0000000B 33..00+00002345 88..10+00001500 ",
         ],
-        (false, false),
+        None,
         &[],
         &[6],
     ),
@@ -120,7 +148,7 @@ const ODDITIES: [Row; 11] = [
             SETUP,
             b"110002+0000000B 31..00+00000000 33..00+00000000 83..00+00000000 88..10+00001510 ",
         ],
-        (true, true),
+        None,
         &[2],
         &[2],
     ),
@@ -145,15 +173,24 @@ fn are_lines(rt: &impl Abort, listed: &Listed<u32>, wanted: &[u32]) {
     assert_eq!(rt; listed.count as usize, wanted.len());
 }
 
+/// The note of a book without sights has its number, 1, and this.
+fn is_noted(rt: &impl Abort, note: &Option<NoSight>, wanted: &Option<(u32, &[u16])>) {
+    match (note, wanted) {
+        (Some(note), Some((blocks, numbers))) => {
+            assert_eq!(rt; note.book, 1);
+            assert_eq!(rt; note.blocks, *blocks);
+            assert!(rt; note.numbers().as_slice() == *numbers);
+        }
+        (None, None) => {}
+        _ => panic!(rt; "only one of the two is a note"),
+    }
+}
+
 #[test]
 fn oddities(rt: HostRuntime) {
-    for (lines, (distances, heights), directions, changes) in &ODDITIES {
+    for (lines, no_sight, directions, changes) in &ODDITIES {
         let review = reviewed(&rt, rt.alloc(), lines);
-        let words = WordsSeen {
-            distances: *distances,
-            heights: *heights,
-        };
-        assert_eq!(&rt; review.words, words);
+        is_noted(&rt, &review.no_sight, no_sight);
         are_lines(&rt, &review.directions, directions);
         are_lines(&rt, &review.changes, changes);
     }

@@ -2,10 +2,11 @@
 use std::alloc::Global;
 use std::process::Abort;
 use th_book::BookFeed;
+use th_causes::{Explanations, explanations_of};
 use th_entries::{SeenNames, Tally};
 use th_explanations::{explanations_csv, explanations_text};
 use th_network::Network;
-use th_numbers::{Explanations, explanations_of};
+use th_progress::Silent;
 use th_tables::{read_benchmarks, read_weights};
 
 /// What explains the survey of some books, for a limit in units of 10 nm.
@@ -39,7 +40,7 @@ pub fn explained(
         rt,
         "a network",
     );
-    explanations_of(alloc, &network, &reviews, limit).expect(rt, "memory")
+    explanations_of(alloc, &network, &reviews, limit, &mut Silent).expect(rt, "memory")
 }
 
 /// Both texts are these.

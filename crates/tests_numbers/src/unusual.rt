@@ -86,7 +86,7 @@ fn many_wrong(rt: HostRuntime) {
 }
 
 /// Books, benchmarks, and the kinds of the rows.
-const ROWS: [(&[u8], &[u8], &[Kind]); 4] = [
+const ROWS: [(&[u8], &[u8], &[Kind]); 5] = [
     // No sights.
     (
         b"110001+0000000A 84..10+00000000 87..10+00000000 88..10+00000000\n",
@@ -112,6 +112,14 @@ const ROWS: [(&[u8], &[u8], &[Kind]); 4] = [
 ",
         b"point,height\nA,0.0\nB,1.5\nC,2.0\n",
         &[Kind::Benchmark, Kind::Sight, Kind::Sight],
+    ),
+    // Two benchmarks that contradict each other, and one that nobody observed.
+    (
+        b"110001+0000000A 84..10+00000000 87..10+00000000 88..10+00000000
+110002+0000000B 33..10+00001000
+",
+        b"point,height\nA,0.0\nB,1.5\nC,9.0\n",
+        &[Kind::Sight, Kind::Benchmark, Kind::Benchmark],
     ),
     // One pair, where one sight of five is wrong.
     (

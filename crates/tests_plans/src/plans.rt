@@ -3,7 +3,7 @@ use std::test::Fail;
 use th_plans::{Inputs, Limit, Plan, plan};
 
 /// Command lines, and the plans that they name.
-const PLANS: [(&str, &str); 41] = [
+const PLANS: [(&str, &str); 44] = [
     ("height_office", "standard"),
     ("height_office list k.gsi", "list k.gsi"),
     ("height_office list -", "list -"),
@@ -101,6 +101,19 @@ const PLANS: [(&str, &str); 41] = [
         "height_office explain 1 2 3 4 5 6 7 8 9 10 11 12 13 14 15 16 --benchmarks m",
         "explain 1 2 3 4 5 6 7 8 9 10 11 12 13 14 15 16 by m limit 2000000 as text",
     ),
+    // `page` takes what `adjust` takes.
+    (
+        "height_office page --benchmarks m --weights w --blunder 500 --out p a b",
+        "page a b by m w limit 50000 out p",
+    ),
+    (
+        "height_office page page --out=page --benchmarks page",
+        "page page by page limit 2000000 out page",
+    ),
+    (
+        "height_office page 1 2 3 4 5 6 7 8 9 10 11 12 13 14 15 16 --benchmarks m --out p",
+        "page 1 2 3 4 5 6 7 8 9 10 11 12 13 14 15 16 by m limit 2000000 out p",
+    ),
     (
         "height_office check --benchmarks m --certificate c a b",
         "check a b by m certificate c",
@@ -165,7 +178,7 @@ fn is_planned(rt: &(impl AllocGlobal + Abort), words: &str, wanted: &str) {
     }
 }
 
-/// The arguments of `adjust` and `review`, those of `explain`, and those of `check`, in any order.
+/// The arguments of `adjust`, `review` and `page`, those of `explain`, and those of `check`, in any order.
 const ADJUSTED: [&str; 5] = [
     "--benchmarks m",
     "--weights w",
@@ -191,6 +204,8 @@ fn options_stand_in_every_order(rt: HostRuntime) {
         is_planned(&rt, words.as_str(), "adjust a b by m w limit 50000 out p");
         let words = in_order(&rt, "height_office review", &ADJUSTED, order);
         is_planned(&rt, words.as_str(), "review a b by m w limit 50000 out p");
+        let words = in_order(&rt, "height_office page", &ADJUSTED, order);
+        is_planned(&rt, words.as_str(), "page a b by m w limit 50000 out p");
         let words = in_order(&rt, "height_office explain", &EXPLAINED, order);
         is_planned(
             &rt,
@@ -251,6 +266,11 @@ fn text_of(rt: &(impl AllocGlobal + Abort), plan: &Plan<'_>) -> String {
             let form = if *table { "table" } else { "text" };
             format!(in rt.alloc(); "explain {files} limit {limit} as {form}").expect(rt, "memory")
         }
+        Plan::Page {
+            inputs,
+            limit,
+            prefix,
+        } => options_text(rt, "page", inputs, *limit, *prefix),
         Plan::Check {
             inputs,
             certificate,

@@ -37,11 +37,17 @@ pub const REVIEWED: [&str; 5] = [
     "out.review.txt",
 ];
 
+/// The file that a page with the prefix `out` is.
+pub const PAGED: [&str; 1] = ["out.html"];
+
 /// No bytes.
 const NOTHING: &[u8] = b"";
 
 /// How many bytes a sink has room for where a test does not say.
 pub const ROOM: usize = 10_000;
+
+/// How many bytes a sink has room for that takes a page.
+pub const WIDE: usize = 20_000;
 
 /// A folder with both books, benchmarks and weights, and the first book on standard input. Each sink
 /// has this room.

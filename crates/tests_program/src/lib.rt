@@ -21,6 +21,8 @@ mod notes;
 #[cfg(test)]
 mod overwrites;
 #[cfg(test)]
+mod pages;
+#[cfg(test)]
 mod refusals;
 #[cfg(test)]
 mod reviews;

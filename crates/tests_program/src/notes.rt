@@ -1,5 +1,5 @@
 //! Notes of runs that are done.
-use crate::folders::{ROOM, project, put, run, same, shown};
+use crate::folders::{WIDE, project, put, run, same, shown};
 
 /// A book of a recording mask that writes heights of targets, and no word 33.
 const MASK: &[u8] =
@@ -9,7 +9,7 @@ const MASK: &[u8] =
 const NOTHING_LISTED: &[u8] = b"number,from,to,difference\n";
 
 /// Command lines that are done, and the notes of each.
-const NOTED: [(&str, &[u8]); 9] = [
+const NOTED: [(&str, &[u8]); 10] = [
     (
         "list mask.gsi",
         b"note: book 1 has no sight in 2 blocks (no word 33; it has words 22, 31 and 83)\n",
@@ -34,12 +34,13 @@ const NOTED: [(&str, &[u8]); 9] = [
     ("list back.gsi", b""),
     ("review --benchmarks heights --out out mask.gsi", b""),
     ("explain --benchmarks heights mask.gsi", b""),
+    ("page --benchmarks heights --out out mask.gsi", b""),
 ];
 
 #[test]
 fn a_list_and_an_adjustment_have_notes(rt: HostRuntime) {
     for (words, notes) in NOTED {
-        let mut folder = project(&rt, ROOM);
+        let mut folder = project(&rt, WIDE);
         put(&rt, &mut folder, "mask.gsi", MASK);
         put(&rt, &mut folder, "blank.gsi", b"\n   \n");
         put(&rt, &mut folder, "code.gsi", b"410001+0000000A\n");

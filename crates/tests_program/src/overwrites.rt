@@ -1,9 +1,15 @@
 //! Commands whose outputs would overwrite an input: they are refused, and nothing is read or written.
-use crate::folders::{ADJUSTED, BOOK, REVIEWED, ROOM, file, project, put, run, same, shown};
+use crate::folders::{
+    ADJUSTED, BOOK, PAGED, REVIEWED, ROOM, WIDE, file, project, put, run, same, shown,
+};
 use std::process::Abort;
 
 /// The commands, each with the outputs that it writes.
-const COMMANDS: [(&str, &[&str]); 2] = [("adjust", &ADJUSTED), ("review", &REVIEWED)];
+const COMMANDS: [(&str, &[&str]); 3] = [
+    ("adjust", &ADJUSTED),
+    ("review", &REVIEWED),
+    ("page", &PAGED),
+];
 
 /// The arguments behind a command and its prefix, up to an input and behind it, and how that input is
 /// reported. Other inputs are missing, so they are not read.
@@ -50,7 +56,7 @@ fn is_refused(
 
 #[test]
 fn an_input_beside_the_outputs_is_read(rt: HostRuntime) {
-    let mut folder = project(&rt, ROOM);
+    let mut folder = project(&rt, WIDE);
     put(&rt, &mut folder, "out.gsi", BOOK);
     for (command, outputs) in COMMANDS {
         let words = format!(in rt.alloc();

@@ -2,7 +2,7 @@
 ghost use Rattle.std.specs.Prelude.{◌≤◌};
 ghost use Rattle.th_devices.specs.Memory.{text_sink};
 ghost use Rattle.th_runs.specs.Adjusted.{adjusting};
-ghost use Rattle.th_runs.specs.Writes.{AreWritable};
+ghost use Rattle.th_run_parts.specs.Writes.{AreWritable};
 
 use crate::helpers::{
     AT_CERTIFICATE, AT_HEIGHTS, Sinks, Texts, add, adjust, adjust_books, adjust_into, are_same,

@@ -2,7 +2,7 @@
 ghost use Rattle.th_devices.specs.Memory.{text_sink};
 ghost use Rattle.th_runs.specs.Adjusted.{adjusting};
 ghost use Rattle.th_runs.specs.Checked.{checking};
-ghost use Rattle.th_runs.specs.Writes.{AreWritable};
+ghost use Rattle.th_run_parts.specs.Writes.{AreWritable};
 
 use crate::helpers::{
     AT_CERTIFICATE, AT_GSI, AT_HEIGHTS, AT_REPORT, Device, HELD_BEFORE, Sinks, are_left,

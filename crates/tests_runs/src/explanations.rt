@@ -1,7 +1,7 @@
 //! What a run that explains writes, and each of its reads and writes, refused in turn.
 ghost use Rattle.th_devices.specs.Memory.{text_sink};
 ghost use Rattle.th_runs.specs.Explained.{explaining};
-ghost use Rattle.th_runs.specs.Writes.{AreWritable};
+ghost use Rattle.th_run_parts.specs.Writes.{AreWritable};
 
 use crate::helpers::{
     Device, HELD_BEFORE, failing_sink, failing_sources, held_before, refusal_of, source,
@@ -9,6 +9,7 @@ use crate::helpers::{
 use crate::projects::{A_AT_100, LIMIT};
 use std::process::Abort;
 use th_devices::TextSink;
+use th_progress::Silent;
 use th_runs::{Form, Refusal, run_explain};
 
 /// What is printed of a book of one sight.
@@ -65,6 +66,7 @@ fn explain_where<R: AllocGlobal + Abort>(
         LIMIT,
         Form::Text,
         outs,
+        &mut Silent,
     )
 }
 
@@ -118,6 +120,7 @@ fn a_sight_is_explained(rt: HostRuntime) {
         LIMIT,
         Form::Table,
         &mut outs,
+        &mut Silent,
     );
     assert_eq!(rt; answer, Ok(()));
     assert!(rt; outs[0].bytes() == THREE_SIGHTS_TABLE);

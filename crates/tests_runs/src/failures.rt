@@ -1,7 +1,7 @@
 //! Inputs that are refused in the order in which they are read, and devices that fail.
 ghost use Rattle.std.specs.Prelude.{Option};
 ghost use Rattle.th_devices.specs.Memory.{text_source};
-ghost use Rattle.th_runs.specs.Reads.{AreRead, AreReady};
+ghost use Rattle.th_run_parts.specs.Reads.{AreRead, AreReady};
 
 use crate::devices::{refuse_in_adjustment, refuse_nothing};
 use crate::helpers::{

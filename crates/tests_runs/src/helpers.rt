@@ -2,8 +2,8 @@
 ghost use Rattle.std.specs.Prelude.{◌≡◌, ◌≤◌, All, length};
 ghost use Rattle.th_devices.specs.Memory.{text_sink, text_source};
 ghost use Rattle.th_runs.specs.Adjusted.{adjusting};
-ghost use Rattle.th_runs.specs.Reads.{AreRead, AreReady, refused};
-ghost use Rattle.th_runs.specs.Writes.{AreWritable};
+ghost use Rattle.th_run_parts.specs.Reads.{AreRead, AreReady, refused};
+ghost use Rattle.th_run_parts.specs.Writes.{AreWritable};
 
 use crate::projects::{A_AT_100, LIMIT, ONE_SIGHT};
 use std::process::Abort;
@@ -201,6 +201,7 @@ pub enum Device {
     ReviewedBenchmarks,
     Review,
     Explanations,
+    Page,
 }
 
 /// What a run answers where a device fails.
@@ -222,6 +223,7 @@ pub fn refusal_of(device: Device) -> Refusal {
         Device::ReviewedBenchmarks => Refusal::Write(Output::Benchmarks),
         Device::Review => Refusal::Write(Output::Review),
         Device::Explanations => Refusal::Write(Output::Explanations),
+        Device::Page => Refusal::Write(Output::Page),
     }
 }
 

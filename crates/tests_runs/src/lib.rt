@@ -21,6 +21,8 @@ mod helpers;
 #[cfg(test)]
 mod lists;
 #[cfg(test)]
+mod pages;
+#[cfg(test)]
 mod projects;
 #[cfg(test)]
 mod refusals;

@@ -12,7 +12,7 @@ use th_runs::{Input, Output, Refusal, status_of, status_of_verdict};
 use th_tables::{TableFault, TableKind};
 
 /// Refusals, their lines, and their statuses.
-const ROWS: [(Refusal, &[u8], u8); 21] = [
+const ROWS: [(Refusal, &[u8], u8); 22] = [
     (
         Refusal::Book(
             1,
@@ -102,6 +102,7 @@ const ROWS: [(Refusal, &[u8], u8); 21] = [
     (Refusal::Write(Output::Gsi), b"write failed: gsi", 5),
     (Refusal::Write(Output::Verdict), b"write failed: verdict", 5),
     (Refusal::Write(Output::Book), b"write failed: book", 5),
+    (Refusal::Write(Output::Page), b"write failed: page", 5),
     (Refusal::NoMemory, b"out of memory", 4),
 ];
 

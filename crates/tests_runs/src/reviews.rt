@@ -3,7 +3,7 @@
 ghost use Rattle.std.specs.Prelude.{◌≤◌};
 ghost use Rattle.th_devices.specs.Memory.{text_sink};
 ghost use Rattle.th_runs.specs.Reviewed.{reviewing};
-ghost use Rattle.th_runs.specs.Writes.{AreWritable};
+ghost use Rattle.th_run_parts.specs.Writes.{AreWritable};
 
 use crate::helpers::{
     Device, Texts, add, are_left, failing_sink, failing_sources, refusal_of, source,
@@ -80,9 +80,13 @@ notes                                  0
     ],
 };
 
-/// A benchmark, and no observation.
+/// A benchmark, and a book of a digital level, which has no observation.
 const ALONE: Row = Row {
-    texts: (b"", A_AT_100, b""),
+    texts: (
+        b"410001+00000002 \n110002+0000000A 32...8+00274800 331.08+00158231 \n110003+0000000B 32...8+00274400 332.08+00031031 \n",
+        A_AT_100,
+        b"",
+    ),
     written: [
         b"point,height,low,high,strength\nA,100.00000000,100.00000000,100.00000000,\n",
         NO_OBSERVATIONS,
@@ -104,7 +108,7 @@ weak benchmark                         0
 weakest point                          -
 
 BK     LINES    BLOCKS    SETUPS    SIGHTS
- 1         0         0         0         0
+ 1         3         3         0         0
 
 largest                                0
 blunder limit                 0.02000000
@@ -120,7 +124,8 @@ BK      LINE  WORD  STATION                         LENGTH  SIGHTS    WEIGHT   M
 POINT                           HEIGHT  SIGHTS    WEIGHT  STRENGTH   MOVES  BLAMES
 A                         100.00000000       0         0         -       -       -
 
-notes                                  1
+notes                                  2
+book 1 has no sight in 3 blocks (no word 33; it has words 32, 331 and 332)
 benchmarks record 2: A was never observed
 ",
     ],

@@ -11,13 +11,13 @@ use Rattle.th_conversions.specs.declared.faults.DifferenceFault.{DifferenceFault
 use Rattle.th_conversions.specs.declared.faults.DifferenceKind.{DifferenceKind}
 use Rattle.th_conversions.specs.declared.faults.DifferenceKind.TheVariants as difference_kind
 use Rattle.th_height_books.specs.Printed.{book_of_heights}
-use Rattle.th_runs.proofs.Fronts.{front_answer}
-use Rattle.th_runs.proofs.RunLemmas.{outcome_refused, unless_of}
-use Rattle.th_runs.specs.Outcomes.{Outcome}
-use Rattle.th_runs.specs.Reads.{outputs_place, place}
-use Rattle.th_runs.specs.Writes.{IsWritten}
-use Rattle.th_runs.specs.declared.refusals.Refusal.{Refusal}
-use Rattle.th_runs.specs.declared.refusals.Refusal.TheVariants as refusal
+use Rattle.th_run_parts.proofs.Fronts.{front_answer}
+use Rattle.th_run_parts.proofs.RunLemmas.{outcome_refused, unless_of}
+use Rattle.th_run_parts.specs.Outcomes.{Outcome}
+use Rattle.th_run_parts.specs.Reads.{outputs_place, place}
+use Rattle.th_run_parts.specs.Writes.{IsWritten}
+use Rattle.th_run_parts.specs.declared.refusals.Refusal.{Refusal}
+use Rattle.th_run_parts.specs.declared.refusals.Refusal.TheVariants as refusal
 use Rattle.th_booking.specs.Booked.{IsOfConversion, input_of}
 use Rattle.th_booking.specs.declared.conversions.Conversion.{Conversion}
 use Rattle.th_booking.specs.declared.conversions.Conversion.TheVariants.{Differences, Heights}

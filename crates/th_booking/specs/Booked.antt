@@ -6,15 +6,15 @@ use Rattle.th_booking.specs.declared.conversions.Conversion.TheVariants.{Differe
 use Rattle.th_conversions.specs.Books.{book_of_table}
 use Rattle.th_conversions.specs.declared.faults.DifferenceKind.TheVariants as difference_kind
 use Rattle.th_height_books.specs.Printed.{book_of_heights}
-use Rattle.th_runs.specs.Inputs.{Given, Owed, or_refused, owed_for}
-use Rattle.th_runs.specs.Reads.{IsOfBook}
-use Rattle.th_runs.specs.Writes.{Texts}
-use Rattle.th_runs.specs.declared.refusals.Input.{Input}
-use Rattle.th_runs.specs.declared.refusals.Input.TheVariants as input
-use Rattle.th_runs.specs.declared.refusals.Output.{Output}
-use Rattle.th_runs.specs.declared.refusals.Output.TheVariants as output
-use Rattle.th_runs.specs.declared.refusals.Refusal.{Refusal}
-use Rattle.th_runs.specs.declared.refusals.Refusal.TheVariants as refusal
+use Rattle.th_run_parts.specs.Inputs.{Given, Owed, or_refused, owed_for}
+use Rattle.th_run_parts.specs.Reads.{IsOfBook}
+use Rattle.th_run_parts.specs.Writes.{Texts}
+use Rattle.th_run_parts.specs.declared.refusals.Input.{Input}
+use Rattle.th_run_parts.specs.declared.refusals.Input.TheVariants as input
+use Rattle.th_run_parts.specs.declared.refusals.Output.{Output}
+use Rattle.th_run_parts.specs.declared.refusals.Output.TheVariants as output
+use Rattle.th_run_parts.specs.declared.refusals.Refusal.{Refusal}
+use Rattle.th_run_parts.specs.declared.refusals.Refusal.TheVariants as refusal
 
 -- what must be returned for a table of differences: its book, or its first fault
 abbrev pub owed_for_differences : Given → Owed (List ℕ)

@@ -2,16 +2,16 @@
 ghost use Rattle.std.specs.Prelude.{IfErr, Ok};
 ghost use Rattle.th_booking.specs.Booked.{IsOfBooking, booked, booking, converted, input_of};
 ghost use Rattle.th_devices.specs.Devices.{IsReady};
-ghost use Rattle.th_runs.specs.Inputs.{Meets, MeetsRefusal, given};
-ghost use Rattle.th_runs.specs.Outcomes.{Outcome};
-ghost use Rattle.th_runs.specs.Reads.{IsReadFor, refused};
-ghost use Rattle.th_runs.specs.Writes.{AreWritable, AreWritten};
+ghost use Rattle.th_run_parts.specs.Inputs.{Meets, MeetsRefusal, given};
+ghost use Rattle.th_run_parts.specs.Outcomes.{Outcome};
+ghost use Rattle.th_run_parts.specs.Reads.{IsReadFor, refused};
+ghost use Rattle.th_run_parts.specs.Writes.{AreWritable, AreWritten};
 
 use crate::conversions::Conversion;
 use crate::sources::book_from;
 use std::alloc::Global;
 use th_devices::{Sink, Source};
-use th_runs::{Output, OutputText, Refusal, write_outs};
+use th_run_parts::{Output, OutputText, Refusal, write_outs};
 
 /// What a run that makes a book writes.
 pub const BOOKED: [Output; 1] = [Output::Book];

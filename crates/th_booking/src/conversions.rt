@@ -2,7 +2,7 @@
 ghost use Rattle.std.specs.Prelude.{◌≡◌};
 ghost use Rattle.th_booking.specs.Booked.{input_of};
 
-use th_runs::Input;
+use th_run_parts::Input;
 
 /// What becomes a book.
 #[derive(Clone, Copy, Debug, PartialEq, Eq)]

@@ -2,8 +2,8 @@
 ghost use Rattle.std.specs.Prelude.{IfErr, IfOk, Ok};
 ghost use Rattle.th_booking.specs.Booked.{IsOfConversion, IsOfDifferences, converted, input_of, owed_for_differences, owed_for_heights};
 ghost use Rattle.th_devices.specs.Devices.{IsReady};
-ghost use Rattle.th_runs.specs.Inputs.{Meets, MeetsRefusal, given};
-ghost use Rattle.th_runs.specs.Reads.{IsOfBook, IsReadFor, refused};
+ghost use Rattle.th_run_parts.specs.Inputs.{Meets, MeetsRefusal, given};
+ghost use Rattle.th_run_parts.specs.Reads.{IsOfBook, IsReadFor, refused};
 
 use crate::conversions::Conversion;
 use std::alloc::Global;
@@ -11,7 +11,7 @@ use th_book::BookKind;
 use th_conversions::{DifferenceKind, book_of_table};
 use th_devices::Source;
 use th_height_books::book_of_heights;
-use th_runs::{Input, Refusal, read_text};
+use th_run_parts::{Input, Refusal, read_text};
 
 /// The book that a source gives, by this conversion.
 pub(crate) fn book_from<S: Source>(

@@ -20,8 +20,6 @@ pub mod Bounds
 pub mod ExtremeLemmas
 pub mod WeightLemmas
 pub mod CutLemmas
-pub mod QueueLemmas
-pub mod DistanceLemmas
 pub mod NearLemmas
 pub mod ResidualLemmas
 pub mod VertexNumbers

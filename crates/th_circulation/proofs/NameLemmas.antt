@@ -1,6 +1,6 @@
 -- From links back to observations: a flow of the links of observations is their circulation.
 use Rattle.std.proofs.lemmas.Int.{ints}
-use Rattle.std.proofs.Common.{◌≡◌, ℕ, Bool, true, false, ◌≤◌, ℤ, pos, ◌+ℤ◌, List, [], ◌∷◌, Option, Some, None, bytes_eq, eqb, map, zip, if◌then◌else◌, unsigned_abs, slice_get, refl, ap, sym, ◌∙◌, arith}
+use Rattle.std.proofs.Common.{◌≡◌, ℕ, Bool, true, false, ◌≤◌, ℤ, pos, ◌+ℤ◌, List, [], ◌∷◌, Option, Some, None, bytes_eq, eqb, map, zip, if◌then◌else◌, unsigned_abs, slice_get, refl, ap, sym, ◌∙◌, arith, ◌-ℤ◌, ◌*ℤ◌, ◌*◌, subst, unwrap_or}
 use Rattle.std.proofs.lemmas.Bool.{eq-eqb, eqb-true}
 use Rattle.std.proofs.lemmas.Slice.Eq.{bytes_eq-Decides}
 use Rattle.std.proofs.lemmas.Option.{slice_get-get_or}
@@ -11,17 +11,14 @@ use Rattle.th_tables.specs.Rows.{BenchmarkRows, WeightRows, height_of, weight_of
 use Rattle.th_points.specs.Points.{points}
 use Rattle.th_points.specs.Places.{place_of}
 use Rattle.th_network.specs.Vertices.{vertex_of}
-use Rattle.th_network.specs.Links.{link_of}
-use Rattle.th_network.specs.Circulation.{Circulation, arriving as arriving_at, leaving as leaving_at}
+use Rattle.th_network.specs.Links.{base, link_difference, link_of}
+use Rattle.th_network.specs.Circulation.{Circulation, Shows, arriving as arriving_at, leaving as leaving_at}
 use Rattle.th_network.specs.declared.links.Link.{Link}
 use Rattle.th_network.proofs.Balance.{total_by-cons, weaker}
 use Rattle.th_points.proofs.PointLemmas.{is_among, bytes_eq_same, EndsAmong, ends_are_points}
 use Rattle.th_network.proofs.NetworkLemmas.{vertices_apart}
 use Rattle.th_points.proofs.PlaceLemmas.{at_place_of}
-use Rattle.std.proofs.Common.{◌-ℤ◌, ◌*ℤ◌, ◌*◌, subst, unwrap_or}
 use Rattle.th_network.specs.Heights.{residual}
-use Rattle.th_network.specs.Circulation.{Shows}
-use Rattle.th_network.specs.Links.{base, link_difference}
 use Rattle.th_network.proofs.FreePoints.{fixed_vertex, free_vertex}
 use Rattle.th_circulation.specs.Inside.Flows.{IsFlow, ShowsLinks, arriving, leaving, residual as link_residual, residuals}
 use Rattle.th_circulation.specs.Inside.PointHeights.{point_height}

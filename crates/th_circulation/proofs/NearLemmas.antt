@@ -9,7 +9,8 @@ use Rattle.th_search.specs.declared.arcs.Arc.{Arc}
 use Rattle.th_search.specs.Walks.{IsArc}
 use Rattle.th_circulation.specs.Inside.Residuals.{turned}
 use Rattle.th_circulation.specs.Inside.Bounds.{farthest}
-use Rattle.th_circulation.specs.Inside.Distances.{AreTight, IsKept, KeepCosts, opposite}
+use Rattle.th_distances.specs.Distances.{AreTight, IsKept, KeepCosts}
+use Rattle.th_circulation.specs.Inside.Spans.{opposite}
 use Rattle.th_circulation.proofs.MisreadLemmas.{lt_z-false}
 use Rattle.th_network.specs.Limits.{max_points}
 use Rattle.th_search.specs.Limits.{max_cost, max_vertices}

@@ -6,7 +6,7 @@ use Rattle.std.specs.List.{AllZip, AllByRecursion}
 use lib.Signed.{lt_z}
 use Rattle.th_book.specs.Observed.{Observed}
 use Rattle.th_tables.specs.Rows.{BenchmarkRows, WeightRows, weight_of}
-use Rattle.th_network.specs.Links.{base, link_of}
+use Rattle.th_network.specs.Links.{base, largest_link_difference, link_of}
 use Rattle.th_points.specs.Points.{points}
 use Rattle.th_network.specs.Vertices.{vertex_of}
 use Rattle.th_network.specs.declared.links.Link.{Link}
@@ -15,13 +15,12 @@ use Rattle.th_search.specs.declared.arcs.Arc.{Arc}
 use Rattle.th_search.specs.Walks.{IsArc}
 use Rattle.th_circulation.specs.Inside.Cuts.{LeavesFull}
 use Rattle.th_circulation.specs.Inside.Residuals.{against, along, residual_arcs, residual_arcs_of, turned}
-use Rattle.th_circulation.specs.Inside.Distances.{IsKept}
+use Rattle.th_distances.specs.Distances.{IsKept}
 use Rattle.th_circulation.proofs.BestLemmas.{IsBounded}
 use Rattle.th_circulation.proofs.ExtremeLemmas.{bounds_of}
 use Rattle.th_circulation.proofs.Bounds.{KeepsAll}
 use Rattle.th_circulation.proofs.MisreadLemmas.{lt_z-false}
 use Rattle.th_circulation.proofs.NearLemmas.{EntersNot}
-use Rattle.th_network.specs.Links.{largest_link_difference}
 
 -- ---- what holds of a link's arcs, and of those after them
 both : (P : Arc → Type 0) (b c : Bool) (first second : Arc) (rest : List Arc) → (b ≡ true → P first) → (c ≡ true → P second) → AllByRecursion P rest → AllByRecursion P (((if b then first ∷ [] else []) ++ (if c then second ∷ [] else [])) ++ rest)

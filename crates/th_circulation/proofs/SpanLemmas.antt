@@ -14,10 +14,10 @@ use Rattle.th_search.specs.Potentials.{value_at}
 use Rattle.th_search.specs.Walks.{IsArc}
 use Rattle.th_circulation.specs.Extremes.{High, Low}
 use Rattle.th_circulation.specs.Settled.{AreShown}
-use Rattle.th_circulation.specs.Inside.Distances.{AreTight, IsKept, KeepCosts, opposite}
+use Rattle.th_distances.specs.Distances.{AreTight, IsKept, KeepCosts}
+use Rattle.th_circulation.specs.Inside.Spans.{AreAbove, AreBelow, opposite}
 use Rattle.th_circulation.specs.Inside.PointHeights.{ArePointHeights}
 use Rattle.th_circulation.specs.Inside.Residuals.{turned}
-use Rattle.th_circulation.specs.Inside.Spans.{AreAbove, AreBelow}
 use Rattle.th_circulation.proofs.BestLemmas.{best_is_shown, shown_is_best}
 use Rattle.th_circulation.proofs.ExtremeLemmas.{among_at, full_of_kept, kept_of_full}
 use Rattle.th_circulation.proofs.NameLemmas.{point_height_parts}

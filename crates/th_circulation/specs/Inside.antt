@@ -5,8 +5,6 @@ pub mod Cycles
 pub mod PointHeights
 pub mod Graphs
 pub mod Residuals
-pub mod Spreading
-pub mod Distances
 pub mod Spans
 pub mod Listings
 pub mod Proposals

@@ -1,6 +1,6 @@
 ghost use Rattle.std.specs.Prelude.{◌≡◌, ◌≤◌, ℕ, ◌-ℤ◌};
 ghost use Rattle.th_circulation.specs.Inside.Bounds.{farthest, height_bound, raised_bound};
-ghost use Rattle.th_circulation.specs.Inside.Graphs.{AreWithin};
+ghost use Rattle.th_distances.specs.Distances.{AreWithin};
 ghost use Rattle.th_search.specs.Potentials.{value_at};
 
 use crate::limits::MOST_HEIGHT;

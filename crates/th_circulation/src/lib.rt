@@ -28,10 +28,8 @@ mod settling;
 mod workspaces;
 
 // The lowest and the highest best heights.
-mod distances;
 mod residuals;
 mod spanning;
-mod spreading;
 
 // Both in one call.
 mod best;

@@ -1,4 +1,3 @@
-use th_network::MAX_POINTS;
 use th_search::MAX_COST;
 use th_tables::MAX_WEIGHT;
 
@@ -10,6 +9,3 @@ pub(crate) const MOST_ROOM: u32 = 2 * MAX_WEIGHT;
 
 /// The greatest size of a height within a phase: a quarter of the greatest cost of an arc.
 pub(crate) const MOST_HEIGHT: i64 = MAX_COST as i64 / 4;
-
-/// The size that no distance exceeds: an arc of the greatest cost for each vertex but one.
-pub(crate) const FARTHEST: i64 = MAX_POINTS as i64 * MAX_COST as i64;

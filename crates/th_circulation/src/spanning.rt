@@ -1,17 +1,16 @@
 ghost use Rattle.std.specs.Prelude.{◌≡◌, ℕ, IfOk, length};
 ghost use Rattle.th_circulation.specs.Inside.Bounds.{farthest, raised_bound};
-ghost use Rattle.th_circulation.specs.Inside.Distances.{AreTight, opposite};
-ghost use Rattle.th_circulation.specs.Inside.Graphs.{AreWithin};
-ghost use Rattle.th_circulation.specs.Inside.Spans.{AreAbove, AreBelow};
+ghost use Rattle.th_distances.specs.Distances.{AreTight, AreWithin};
+ghost use Rattle.th_circulation.specs.Inside.Spans.{AreAbove, AreBelow, opposite};
 ghost use Rattle.th_circulation.specs.Settled.{AreShown, AreSpans};
 ghost use Rattle.th_network.specs.Networks.{at_points_of, points_of, vertices_of};
 ghost use Rattle.th_search.specs.Potentials.{value_at};
 
-use crate::distances::TightArcs;
 use crate::heights::raise;
 use crate::point_heights::set_point_heights;
 use crate::residuals::{residual_arcs, turned};
 use std::alloc::{AllocError, Global};
+use th_distances::TightArcs;
 use th_network::{Network, Settled, Spans};
 use th_search::Arc;
 

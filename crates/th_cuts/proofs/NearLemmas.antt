@@ -1,18 +1,17 @@
 -- What a vertex alone weighs, and what flow to the vertices near another one shows of the cuts between the two.
-use Rattle.std.proofs.Common.{◌≡◌, ◌≢◌, ℕ, ◌+◌, ◌<◌, ◌≤◌, inl, inr, ℤ, Bool, true, false, not, List, [], ◌∷◌, eqb, ltb, if◌then◌else◌, length, sum_by, take, refl, ap, sym, ◌∙◌, subst, arith}
+use Rattle.std.proofs.Common.{◌≡◌, ◌≢◌, ℕ, ◌+◌, ◌<◌, ◌≤◌, inl, inr, Bool, true, false, not, List, [], ◌∷◌, eqb, ltb, if◌then◌else◌, length, sum_by, take, refl, ap, sym, ◌∙◌, subst, arith}
 use Rattle.std.specs.Prelude.{slice_set}
 use Rattle.std.proofs.lemmas.Bool.{cases_Bool, eq-eqb, eqb-false, eqb-true, ltb-false, ltb-true, ne_eqb}
 use Rattle.std.proofs.lemmas.List.{get_or-set_other, get_or-set_same, length-set}
 use Rattle.std.proofs.lemmas.List.Elements.{All-head, All-tail}
 use Rattle.std.proofs.lemmas.List.Sums.{sum_by-cons, sum_by_more, sum_by_more_le}
-use Rattle.th_cuts.specs.declared.edges.Edge.{Edge}
-use Rattle.th_cuts.specs.Cuts.{crosses, cut_weight, on_side, separates}
+use Rattle.th_graphs.specs.declared.edges.Edge.{Edge}
+use Rattle.th_graphs.specs.Cuts.{crosses, cut_weight, separates, weight_in}
+use Rattle.th_flows.specs.Drains.{IsLeastDrain, drain, on_side, room_at}
 use Rattle.th_cuts.specs.Inside.CutTrees.{AreLone, AreNear, IsSame, raised, with_edge}
-use Rattle.th_cuts.specs.Inside.Flows.{IsClosedSide, IsFlow, edge_at, room_at}
-use Rattle.th_cuts.specs.Inside.Merges.{AreAmong, weight_in}
+use Rattle.th_graphs.specs.Graphs.{AreAmong, edge_at}
 use Rattle.th_cuts.proofs.CutTreeLemmas.{apart_itself, least_both, other_side, separated, through}
-use Rattle.th_cuts.proofs.FlowLemmas.{value_full, value_most, weight_most}
-use Rattle.th_cuts.proofs.RoomLemmas.{room_in_least, room_in_none}
+use Rattle.th_flows.proofs.RoomLemmas.{room_in_least, room_in_none}
 
 pub same_through : (edges : List Edge) (weight u v w : ℕ) → IsSame edges weight u w → IsSame edges weight v w → IsSame edges weight u v
 same_through edges weight u v w one other = λ inside h. elim (through (inside u) (inside v) (inside w) h) [
@@ -21,14 +20,14 @@ same_through edges weight u v w one other = λ inside h. elim (through (inside u
 ]
 
 -- ---- a set that holds a source and not a vertex: where it weighs little, there is no room near the vertex in it
-pub near_least : (vertices : ℕ) (edges : List Edge) (source sink most value : ℕ) (rooms left : List ℕ) (flows : List ℤ) → IsFlow edges source rooms left value flows → AreNear vertices edges most sink rooms → value ≤ most → (inside : ℕ → Bool) → separates inside source sink ≡ true → value ≤ cut_weight inside edges
-near_least vertices edges source sink most value rooms left flows flow near few = least_both edges source sink value by
+pub near_least : (vertices : ℕ) (edges : List Edge) (source sink most value : ℕ) (rooms : List ℕ) → ((inside : ℕ → Bool) → inside source ≡ true → value ≤ drain edges rooms inside) → AreNear vertices edges most sink rooms → value ≤ most → (inside : ℕ → Bool) → separates inside source sink ≡ true → value ≤ cut_weight inside edges
+near_least vertices edges source sink most value rooms drains near few = least_both edges source sink value by
   where
     by : (inside : ℕ → Bool) → inside source ≡ true → inside sink ≡ false → value ≤ cut_weight inside edges
     by inside in_it out = elim (cases_Bool (ltb (cut_weight inside edges) most)) [
       | inl light ↦
           let none = room_in_none rooms inside (λ vertex on. empty vertex on (ltb-true (cut_weight inside edges) most light)) in
-          let drains = value_most edges source value rooms left flows inside flow in_it in
+          let all = drains inside in_it in
           omega arith
       | inr heavy ↦ let less = ltb-false (cut_weight inside edges) most heavy in omega arith
     ]
@@ -42,22 +41,22 @@ near_least vertices edges source sink most value rooms left flows flow near few 
           | inr none ↦ let zero = ltb-false 0 (room_at rooms vertex) none in omega arith
         ]
 
--- the side that a lesser flow leaves holds no such room, and so not the vertex
-pub near_out : (vertices : ℕ) (edges : List Edge) (source sink most value : ℕ) (rooms left : List ℕ) (flows : List ℤ) (side : List Bool) → IsFlow edges source rooms left value flows → AreNear vertices edges most sink rooms → value < most → IsClosedSide vertices edges source left flows side → on_side side sink ≡ false
-near_out vertices edges source sink most value rooms left flows side flow near less is = elim (cases_Bool (on_side side sink)) [
+-- a side that drains less holds no such room, and so not the vertex
+pub near_out : (vertices : ℕ) (edges : List Edge) (source sink most value : ℕ) (rooms : List ℕ) (side : List Bool) → IsLeastDrain edges rooms source value side → AreNear vertices edges most sink rooms → value < most → on_side side sink ≡ false
+near_out vertices edges source sink most value rooms side is near less = elim (cases_Bool (on_side side sink)) [
   | inl on ↦
       let room = room_in_least rooms (on_side side) sink on in
-      let all = value_full edges source value rooms left flows (on_side side) flow is.closed is.holds in
+      let all = is.drains in
       let here = near.here in
       absurd (omega arith)
   | inr off ↦ off
 ]
 
-pub near_weighs : (vertices : ℕ) (edges : List Edge) (source sink most value : ℕ) (rooms left : List ℕ) (flows : List ℤ) (side : List Bool) → IsFlow edges source rooms left value flows → AreNear vertices edges most sink rooms → value < most → IsClosedSide vertices edges source left flows side → cut_weight (on_side side) edges ≡ value
-near_weighs vertices edges source sink most value rooms left flows side flow near less is =
-    let out = near_out vertices edges source sink most value rooms left flows side flow near less is in
-    let most_of = near_least vertices edges source sink most value rooms left flows flow near (omega arith) (on_side side) (separated (on_side side) source sink is.holds out) in
-    let all = value_full edges source value rooms left flows (on_side side) flow is.closed is.holds in
+pub near_weighs : (vertices : ℕ) (edges : List Edge) (source sink most value : ℕ) (rooms : List ℕ) (side : List Bool) → IsLeastDrain edges rooms source value side → AreNear vertices edges most sink rooms → value < most → cut_weight (on_side side) edges ≡ value
+near_weighs vertices edges source sink most value rooms side is near less =
+    let out = near_out vertices edges source sink most value rooms side is near less in
+    let most_of = near_least vertices edges source sink most value rooms is.least near (omega arith) (on_side side) (separated (on_side side) source sink is.holds out) in
+    let all = is.drains in
     omega arith
 
 -- ---- sides that agree on the vertices have the same cut
@@ -144,6 +143,20 @@ lone_step edges k lone among tail_in head_in are vertex = by (eqb (edge_at edges
         let first = length-set lone edge.tail (room_at lone edge.tail + edge.weight) in
         let second = length-set (raised lone edge.tail edge.weight) edge.head (room_at (raised lone edge.tail edge.weight) edge.head + edge.weight) in
         lone_more edges k lone among tail_in head_in (eqb-false edge.tail edge.head e) are vertex (omega arith)
+
+-- a cut weighs at most what all edges weigh
+pub weight_most : (inside : ℕ → Bool) (edges : List Edge) → cut_weight inside edges ≤ sum_by (λ edge. edge.weight) edges
+weight_most inside [] = omega arith
+weight_most inside (edge ∷ edges) =
+    let rest = weight_most inside edges in
+    let one = part (crosses inside edge) edge.weight in
+    let more = sum_by-cons (λ (e : Edge). if crosses inside e then e.weight else 0) edge edges in
+    let all = sum_by-cons (λ (e : Edge). e.weight) edge edges in
+    omega arith
+  where
+    part : (b : Bool) (w : ℕ) → (if b then w else 0) ≤ w
+    part true w = omega arith
+    part false w = omega arith
 
 -- and with one more edge it is at most what all edges weigh
 pub lone_fits : (edges : List Edge) (k vertex : ℕ) → k < length edges → cut_weight (alone vertex) (take k edges) + (edge_at edges k).weight ≤ sum_by (λ edge. edge.weight) edges

@@ -1,11 +1,12 @@
 ghost use Rattle.std.specs.Prelude.{◌≡◌, ◌≢◌, ◌+◌, ◌-◌, ◌<◌, ◌≤◌, ◌⊎◌, ℕ, Bool, IfOk, length, slice_index_or, true};
-ghost use Rattle.th_cuts.specs.Cuts.{IsLeastCut, IsLeastSide, cut_weight, separates};
+ghost use Rattle.th_cuts.specs.Cuts.{IsLeastCut, IsLeastSide};
+ghost use Rattle.th_graphs.specs.Cuts.{cut_weight, separates};
 ghost use Rattle.th_cuts.specs.Inside.CutTrees.{AreBranches, AreLone, IsBranch, IsCut, IsGrown};
 
 use crate::cuts::{Cut, cut_between};
-use crate::graphs::Graph;
 use crate::near::{lone_weights, near_rooms};
 use std::alloc::{AllocError, Global};
+use th_graphs::Graph;
 use th_progress::{Progress, Work};
 
 /// A least cut between a vertex and one before it.

@@ -1,12 +1,12 @@
 ghost use Rattle.std.specs.Prelude.{◌≡◌, ◌≢◌, ◌<◌, ◌≤◌, ℕ, Bool, All, IfOk, sum_by};
 ghost use Rattle.th_limits.specs.Limits.{max_total_weight};
-ghost use Rattle.th_cuts.specs.Cuts.{IsLeastCut, IsLeastSide, cut_weight};
+ghost use Rattle.th_cuts.specs.Cuts.{IsLeastCut, IsLeastSide};
+ghost use Rattle.th_graphs.specs.Cuts.{cut_weight};
 
 use crate::branches::Branches;
-use crate::edges::Edge;
-use crate::graphs::Graph;
 use std::alloc::{AllocError, Global};
 use std::marker::Model;
+use th_graphs::{Edge, Graph};
 use th_progress::Progress;
 
 /// One least cut for each vertex but 0 (Gusfield 1990), from which the least cut between any two

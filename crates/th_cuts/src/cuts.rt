@@ -1,12 +1,10 @@
 ghost use Rattle.std.specs.Prelude.{◌≡◌, ◌≢◌, ◌<◌, ◌==◌, ℕ, IfOk, length, min, not};
-ghost use Rattle.th_cuts.specs.Cuts.{on_side};
+ghost use Rattle.th_flows.specs.Drains.{on_side, room_at};
 ghost use Rattle.th_cuts.specs.Inside.CutTrees.{AreLone, AreNear, IsCut, IsSame};
-ghost use Rattle.th_cuts.specs.Inside.Flows.{room_at};
 
-use crate::drains::fill;
-use crate::flows::{Drain, Flow};
-use crate::graphs::Graph;
 use std::alloc::{AllocError, Global};
+use th_flows::least_below;
+use th_graphs::Graph;
 
 /// A set of vertices, and the weight of the edges with exactly one end in it.
 #[derive(Debug, Drop)]
@@ -35,18 +33,8 @@ pub(crate) fn cut_between(
     requires near { AreNear graph.now.vertices graph.now.edges.items most sink rooms.now }
     ensures { IfOk result (IsCut graph.now.vertices graph.now.edges.items source sink) }
 {
-    let drain = Drain {
-        graph,
-        source,
-        rooms,
-        most,
-    };
-    let mut flow = Flow::none(alloc, &drain)?;
-    match fill(alloc, &mut flow, &[sink])? {
-        Some(side) => {
-            let value = flow.value;
-            Ok(Cut { value, side })
-        }
+    match least_below(alloc, graph, source, rooms, most, &[sink])? {
+        Some((value, side)) => Ok(Cut { value, side }),
         None => lone_cut(alloc, graph, lone, source, sink, most),
     }
 }

@@ -3,12 +3,11 @@
 ghost use Rattle.std.specs.Prelude.{◌≡◌, ◌<◌, ◌≤◌, ◌+◌, IfOk, length};
 ghost use Rattle.th_limits.specs.Limits.{max_total_weight};
 ghost use Rattle.th_cuts.specs.Inside.CutTrees.{AreBranches, AreLone, AreNear, AreTops, raised, with_edge};
-ghost use Rattle.th_cuts.specs.Inside.Flows.{room_at};
+ghost use Rattle.th_flows.specs.Drains.{room_at};
 
 use crate::branches::Branch;
-use crate::edges::Edge;
-use crate::graphs::Graph;
 use std::alloc::{AllocError, Global};
+use th_graphs::{Edge, Graph};
 
 /// For each vertex what its edges weigh.
 pub(crate) fn lone_weights(alloc: Global, graph: &Graph) -> Result<Vec<u32>, AllocError>
@@ -81,7 +80,7 @@ fn tops_of(
     ensures each { IfOk result (λ tops. length tops.items ≡ length branches.now + 1) }
     ensures tops { IfOk result (λ tops. AreTops graph.now.edges.items weight tops.items) }
 {
-    let mut tops = Vec::with_capacity(alloc, branches.len() + 1)?;
+    let mut tops = Vec::with_capacity(alloc, graph.vertices as usize)?;
     tops.push(0)?;
     for (number, branch) in branches.iter().enumerate() {
         let vertex = number as u32 + 1;

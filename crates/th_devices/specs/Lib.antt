@@ -4,3 +4,4 @@ pub mod Devices
 pub mod Files
 pub mod Memory
 pub mod Transfer
+pub mod Inside

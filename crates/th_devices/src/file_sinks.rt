@@ -5,6 +5,7 @@ ghost use Rattle.std.specs.Prelude.{◌≡◌, ◌<◌, ◌||◌, true, false, i
 ghost use Rattle.std.specs.Io.KnownBytes.{Keeps};
 ghost use Rattle.th_devices.specs.Devices.{IsBegun, IsFinish, IsMade, IsWrite, Takes, untold};
 ghost use Rattle.th_devices.specs.Files.{IsWhole, TakesBytes};
+ghost use Rattle.th_devices.specs.Inside.Opening.{Opens};
 ghost use Rattle.th_devices.specs.Limits.{call_limit};
 ghost use Rattle.th_devices.specs.Spots.{file};
 
@@ -129,9 +130,7 @@ impl<'a, R: Files> FileSink<'a, R> {
         }
         if self.way != Way::Straight {
             let renamed = fs::rename(self.files, self.unfinished.as_str(), self.name.as_str());
-            if let Err(error) = renamed {
-                return Err(self.reasons.failed(&error));
-            }
+            renamed.map_err(|error| self.reasons.failed(&error))?;
         }
         self.file = None;
         Ok(())
@@ -155,11 +154,7 @@ impl<'a, R: Files> FileSink<'a, R> {
 
     /// Opens what takes the bytes of the file.
     fn open(&mut self) -> io::Result<()>
-        ensures opened { OnOk result (self.new.opened ≡ true) }
-        ensures same { self.new ≡ record self.old {
-          opened = self.new.opened;
-          contents = self.new.contents;
-        } }
+        ensures { Opens self.old self.new result }
     {
         match fs::metadata(self.files, self.name.as_str()) {
             Ok(known) if known.is_file() => self.open_over(),
@@ -174,11 +169,7 @@ impl<'a, R: Files> FileSink<'a, R> {
     /// Opens a file that is to replace the one that has the name, which must be one that may be
     /// written. Its permissions are kept if both files have one owner: nobody else is to choose them.
     fn open_over(&mut self) -> io::Result<()>
-        ensures opened { OnOk result (self.new.opened ≡ true) }
-        ensures same { self.new ≡ record self.old {
-          opened = self.new.opened;
-          contents = self.new.contents;
-        } }
+        ensures { Opens self.old self.new result }
     {
         let name = self.name.as_str();
         OpenOptions::new().write(true).open(self.files, name)?;
@@ -194,11 +185,7 @@ impl<'a, R: Files> FileSink<'a, R> {
 
     /// Opens a file that is to get the permissions which the system gives a new file.
     fn open_ordinary(&mut self) -> io::Result<()>
-        ensures opened { OnOk result (self.new.opened ≡ true) }
-        ensures same { self.new ≡ record self.old {
-          opened = self.new.opened;
-          contents = self.new.contents;
-        } }
+        ensures { Opens self.old self.new result }
     {
         self.create(ORDINARY)?;
         if let Some(file) = &self.file {
@@ -210,11 +197,7 @@ impl<'a, R: Files> FileSink<'a, R> {
 
     /// Makes the file beside the named one, with these permissions less the umask.
     fn create(&mut self, mode: u32) -> io::Result<()>
-        ensures opened { OnOk result (self.new.opened ≡ true) }
-        ensures same { self.new ≡ record self.old {
-          opened = self.new.opened;
-          contents = self.new.contents;
-        } }
+        ensures { Opens self.old self.new result }
     {
         let file = OpenOptions::new()
             .write(true)
@@ -228,11 +211,7 @@ impl<'a, R: Files> FileSink<'a, R> {
 
     /// Opens the device or pipe of this name.
     fn open_straight(&mut self) -> io::Result<()>
-        ensures opened { OnOk result (self.new.opened ≡ true) }
-        ensures same { self.new ≡ record self.old {
-          opened = self.new.opened;
-          contents = self.new.contents;
-        } }
+        ensures { Opens self.old self.new result }
     {
         let device = OpenOptions::new()
             .write(true)
@@ -280,10 +259,7 @@ fn flush_opened<F: Write>(file: &mut Option<F>, reasons: &Reasons) -> Result<(),
     ensures bytes { Keeps (option_and_then F.contents file.old) (option_and_then F.contents file.new) }
 {
     match file {
-        Some(open) => match open.flush() {
-            Ok(()) => Ok(()),
-            Err(error) => Err(reasons.failed(&error)),
-        },
+        Some(open) => open.flush().map_err(|error| reasons.failed(&error)),
         None => Err(Failed),
     }
 }
@@ -293,10 +269,9 @@ fn keep_opened<F: OpenFile>(file: &Option<F>, mode: u32, reasons: &Reasons) -> R
     let Some(open) = file else {
         return Err(Failed);
     };
-    match permit(open, mode).and_then(|()| open.sync_all()) {
-        Ok(()) => Ok(()),
-        Err(error) => Err(reasons.failed(&error)),
-    }
+    permit(open, mode)
+        .and_then(|()| open.sync_all())
+        .map_err(|error| reasons.failed(&error))
 }
 
 /// Gives a file these permissions. That fails only if it has others afterwards: some file systems
@@ -319,10 +294,8 @@ impl<'a, R: Files> Sink for FileSink<'a, R> {
         ensures not_whole { self.new.whole ≡ false }
     {
         self.discard();
-        let answer = match self.open() {
-            Ok(()) => Ok(()),
-            Err(error) => Err(self.reasons.failed(&error)),
-        };
+        let opened = self.open();
+        let answer = opened.map_err(|error| self.reasons.failed(&error));
         if answer.is_err() {
             self.discard();
         }

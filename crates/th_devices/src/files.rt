@@ -70,14 +70,10 @@ fn read_opened<R: Files>(
     if let Some(open) = file {
         return read_some(open, into, reasons);
     }
-    match fs::open(files, name) {
-        Ok(mut open) => {
-            let answer = read_some(&mut open, into, reasons);
-            *file = Some(open);
-            answer
-        }
-        Err(error) => Err(reasons.failed(&error)),
-    }
+    let mut open = fs::open(files, name).map_err(|error| reasons.failed(&error))?;
+    let answer = read_some(&mut open, into, reasons);
+    *file = Some(open);
+    answer
 }
 
 impl<'a, R: Files> Source for FileSource<'a, R> {

@@ -1,6 +1,8 @@
 mod ListedLemmas
-mod OddityLemmas
+mod AnyLemmas
 mod BelowLemmas
+mod WatchLemmas
+mod NumberLemmas
 mod Uses
 mod Continued
 mod Candidates

@@ -1,3 +1,5 @@
+pub mod Counts
+pub mod Watches
 pub mod Oddities
 pub mod Running
 pub mod Seen

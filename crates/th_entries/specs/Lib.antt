@@ -3,6 +3,10 @@ pub mod Listed
 pub mod Below
 pub mod Entries
 pub mod Stations
+pub mod Counts
+pub mod Words
+pub mod Sights
+pub mod Watched
 pub mod Oddities
 pub mod Reviews
 pub mod Spellings

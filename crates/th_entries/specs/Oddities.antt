@@ -5,25 +5,14 @@ use Rattle.std.specs.Ordering.{int_eq}
 use Rattle.std.specs.Result.{result_ok}
 use Rattle.gsi_word.specs.Words.{Parts}
 use Rattle.gsi_word.specs.Values.{length_of}
-use Rattle.th_book.specs.Lines.{ParsedLine, counts_for, holds, is_sight, length_in}
+use Rattle.th_book.specs.Lines.{ParsedLine, counts_for, is_sight, length_in}
 use Rattle.th_book.specs.Places.{holds_from, last_below, setup_of, words_at}
 use Rattle.th_book.specs.Indexes.{height_difference, instrument_height}
-use Rattle.th_entries.specs.Below.{all_below, any_below}
-use Rattle.th_entries.specs.declared.reviews.WordsSeen.{WordsSeen}
+use Rattle.th_entries.specs.Below.{all_below}
 
--- the indexes of a slope distance, and of the height of a target
+-- the index of a slope distance
 abbrev pub slope_distance : ℕ
 slope_distance = 31
-
-abbrev pub target_height : ℕ
-target_height = 83
-
--- whether some block has a word 31 that counts, and whether one has a word 83
-abbrev pub words_of : List ParsedLine → WordsSeen
-words_of parsed = record {
-  distances = any_below (λ place. holds slope_distance (words_at parsed place)) (length parsed);
-  heights = any_below (λ place. holds target_height (words_at parsed place)) (length parsed);
-}
 
 -- a length that is there, and is zero
 abbrev pub is_zero : Option ℤ → Bool

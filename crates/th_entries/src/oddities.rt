@@ -1,44 +1,19 @@
 ghost use Rattle.std.specs.Prelude.{◌≡◌, ◌++◌, ℕ, List, OnOk, map};
 ghost use Rattle.std.specs.List.{list_any};
 ghost use Rattle.gsi_word.specs.Words.{parts_of};
-ghost use Rattle.th_book.specs.Lines.{counts_for, holds};
-ghost use Rattle.th_entries.specs.Inside.Oddities.{changes, line_if, points, with_words};
+ghost use Rattle.th_book.specs.Lines.{counts_for};
+ghost use Rattle.th_entries.specs.Inside.Oddities.{changes, line_if, points};
 ghost use Rattle.th_entries.specs.Listed.{IsListed};
 ghost use Rattle.th_entries.specs.Oddities.{differ, is_no_distance, is_zero};
 
 use crate::listed::Listed;
-use crate::reviews::WordsSeen;
 use gsi_word::{Word, length_of, two_digit};
 use std::alloc::AllocError;
 use th_book::{Entered, Setup};
 use th_units::Len;
 
-/// The indexes of a slope distance, and of the height of a target (Leica GSI Online manual, table of
-/// word indexes).
+/// The index of a slope distance (Leica GSI Online manual, table of word indexes).
 const SLOPE_DISTANCE: u8 = 31;
-
-const TARGET_HEIGHT: u8 = 83;
-
-impl WordsSeen {
-    /// Takes the words of a block.
-    pub(crate) fn block(&mut self, words: &[Word<'_>])
-        ensures { self.new ≡ with_words (map parts_of words.now) self.old }
-    {
-        self.distances = self.distances | holds(words, SLOPE_DISTANCE);
-        self.heights = self.heights | holds(words, TARGET_HEIGHT);
-    }
-}
-
-/// Whether a word of a block counts for an index.
-fn holds(words: &[Word<'_>], index: u8) -> bool
-    ensures { result ≡ holds index (map parts_of words.now) }
-{
-    let mut held = false;
-    for word in words {
-        held = held | counts_for(word, index);
-    }
-    held
-}
 
 /// Whether a word counts for an index.
 fn counts_for(word: &Word<'_>, index: u8) -> bool

@@ -1,29 +1,14 @@
+use crate::counts::BookCount;
 use crate::entries::Entry;
 use crate::listed::Listed;
-
-/// How many lines a book has, and how many of these are blocks, setups and sights.
-#[derive(Clone, Copy, Debug, PartialEq, Eq)]
-pub struct BookCount {
-    pub lines: u32,
-    pub blocks: u32,
-    pub setups: u32,
-    pub sights: u32,
-}
-
-/// Which words of measurements a book has, besides those of its sights.
-#[derive(Clone, Copy, Debug, PartialEq, Eq)]
-pub struct WordsSeen {
-    /// Whether a word 31 counts, a slope distance.
-    pub distances: bool,
-    /// Whether a word 83 counts, the height of a target.
-    pub heights: bool,
-}
+use crate::sights::NoSight;
 
 /// What a review reports of one book.
 #[derive(Drop)]
 pub struct BookReview {
     pub counts: BookCount,
-    pub words: WordsSeen,
+    /// If the book has blocks and no sight.
+    pub no_sight: Option<NoSight>,
     /// The entries by line, the reflector's before the instrument's within a line.
     pub entries: Vec<Entry>,
     /// The lines, from 1, that only look like a setup: blocks with a point number and an instrument

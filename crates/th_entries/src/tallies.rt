@@ -9,9 +9,10 @@ ghost use Rattle.th_entries.specs.Reviews.{is_measured};
 use crate::entries::Entry;
 use crate::listed::Listed;
 use crate::oddities::{changes_height, is_direction, list_if};
-use crate::reviews::{BookCount, BookReview, WordsSeen};
+use crate::reviews::BookReview;
 use crate::running::{Latest, enter};
 use crate::seen::{SeenNames, mention};
+use crate::sights::SightWatch;
 use gsi_word::{Name, Word, name_of};
 use std::alloc::{AllocError, Global};
 use th_book::laws::faultless_book_is_sound;
@@ -31,8 +32,7 @@ const HORIZONTAL_DISTANCE: u8 = 32;
 #[derive(Drop)]
 pub struct Tally {
     book: u32,
-    counts: BookCount,
-    words: WordsSeen,
+    watch: SightWatch,
     latest: Latest,
     entries: Vec<Entry>,
     lookalikes: Listed<u32>,
@@ -40,30 +40,6 @@ pub struct Tally {
     changes: Listed<u32>,
     names: SeenNames,
     failed: Option<AllocError>,
-}
-
-impl BookCount {
-    ghost use Rattle.th_entries.specs.Inside.Tallies.{with_block, with_line};
-
-    /// Counts one more line.
-    fn line(&mut self)
-        ensures { self.new ≡ with_line self.old }
-    {
-        self.lines = self.lines.saturating_add(1);
-    }
-
-    /// Counts a line that is a block, by what it enters.
-    fn block(&mut self, entered: &Entered)
-        ensures { self.new ≡ with_block entered.now self.old }
-    {
-        self.blocks = self.blocks.saturating_add(1);
-        if entered.station.is_some() {
-            self.setups = self.setups.saturating_add(1);
-        }
-        if entered.target.is_some() {
-            self.sights = self.sights.saturating_add(1);
-        }
-    }
 }
 
 impl Tally {
@@ -81,16 +57,7 @@ impl Tally {
     {
         Tally {
             book,
-            counts: BookCount {
-                lines: 0,
-                blocks: 0,
-                setups: 0,
-                sights: 0,
-            },
-            words: WordsSeen {
-                distances: false,
-                heights: false,
-            },
+            watch: SightWatch::new(),
             latest: Latest {
                 reflector: None,
                 instrument: None,
@@ -113,8 +80,8 @@ impl Tally {
             HasSeen names number parsed (length parsed) self → AddsBook number parsed names read.1) }
     {
         let Tally {
-            counts,
-            words,
+            book,
+            watch,
             mut entries,
             lookalikes,
             directions,
@@ -129,8 +96,8 @@ impl Tally {
         entries.retain(|entry| entry.sights > 0);
         entries.shrink_to_fit();
         let review = BookReview {
-            counts,
-            words,
+            counts: watch.counts,
+            no_sight: watch.note(book),
             entries,
             lookalikes,
             directions,
@@ -139,7 +106,7 @@ impl Tally {
         Ok((review, names))
     }
 
-    /// Takes the words of a block, which enter this in the running setup.
+    /// Takes the words of a block that the watch has seen, which enter this in the running setup.
     fn take(
         &mut self,
         running: &Option<Setup>,
@@ -149,9 +116,7 @@ impl Tally {
         ensures { OnOk result (entered.now ≡ entered_by (map parts_of words.now)
             → HasBlock running.now (map parts_of words.now) self.old self.new) }
     {
-        let line = self.counts.lines;
-        self.counts.block(entered);
-        self.words.block(words);
+        let line = self.watch.counts.lines;
         let looks = is_lookalike(words, entered, &station_of(running));
         list_if(&mut self.lookalikes, looks, line)?;
         list_if(&mut self.directions, is_direction(entered, words), line)?;
@@ -177,12 +142,12 @@ impl Witness for Tally {
     ghost has_seen = { HasSeen };
 
     fn blank(&mut self) {
-        self.counts.line();
+        self.watch.blank();
     }
 
     fn block(&mut self, running: &Option<Setup>, entered: &Entered, words: &[Word<'_>]) {
         faultless_book_is_sound();
-        self.counts.line();
+        self.watch.block(running, entered, words);
         if self.failed.is_none() {
             if let Err(error) = self.take(running, entered, words) {
                 self.failed = Some(error);

@@ -7,15 +7,16 @@ use Rattle.std.proofs.lemmas.Bool.{ltb-true, lt-ltb}
 use Rattle.th_network.specs.Networks.{Survey, at_points_of}
 use Rattle.th_circulation.specs.Best.{Best, IsBest}
 use Rattle.th_explain.specs.declared.freed.Freed.{Freed}
-use Rattle.th_explain.specs.declared.numbers.Number.{Number}
-use Rattle.th_explain.specs.declared.slopes.Sloped.{Sloped}
+use Rattle.th_changes.specs.declared.numbers.Number.{Number}
+use Rattle.th_changes.specs.declared.slopes.Sloped.{Sloped}
 use Rattle.th_explain.specs.Explained.{Explains, IsExact, IsExplainedOrMore, IsNone, mildest}
-use Rattle.th_explain.specs.Freed.{Costs, IsProposed, cost_of}
+use Rattle.th_changes.specs.Freed.{Costs, IsProposed, cost_of}
 use Rattle.th_explain.specs.Inside.Brackets.{AreRound, is_explanation}
-use Rattle.th_explain.specs.Inside.Rerouted.{IsCostlyBeyond}
-use Rattle.th_explain.specs.Reach.{reach_of}
-use Rattle.th_explain.specs.Slopes.{IsSloped}
-use Rattle.th_explain.proofs.SlopeLemmas.{costs_of, flat_is_freed, freed_costs, left_of, left_of_more, proposed_of, right_of, right_of_more, slope_of_given}
+use Rattle.th_changes.specs.Rerouted.{IsCostlyBeyond}
+use Rattle.th_changes.specs.Reach.{reach_of}
+use Rattle.th_changes.specs.Slopes.{IsSloped}
+use Rattle.th_explain.proofs.BracketLemmas.{flat_is_freed}
+use Rattle.th_changes.proofs.SlopeLemmas.{costs_of, freed_costs, left_of, left_of_more, proposed_of, right_of, right_of_more, slope_of_given}
 
 less_is : (x y : ℤ) → int_lt x y ≡ true → x <ℤ y
 less_is x y less = grind (arith, ints)

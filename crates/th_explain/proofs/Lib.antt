@@ -1,12 +1,4 @@
-pub mod Tilts
-pub mod Changes
-pub mod Bounds
-pub mod Sums
-pub mod TiltLemmas
-pub mod SlopeLemmas
-pub mod ReroutedLemmas
-pub mod PriceLemmas
-pub mod NetLemmas
+pub mod BracketLemmas
 pub mod ExplainLemmas
 pub mod ReachLemmas
 pub mod MendedLemmas

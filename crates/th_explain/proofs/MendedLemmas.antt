@@ -11,12 +11,12 @@ use Rattle.th_points.specs.Points.{distinct, ends, points}
 use Rattle.th_tables.specs.Rows.{BenchmarkRows}
 use Rattle.th_network.specs.Heights.{Least, cost, residual}
 use Rattle.th_network.specs.Networks.{Survey}
-use Rattle.th_explain.specs.declared.numbers.Number.{Number}
-use Rattle.th_explain.specs.Inside.Tilted.{tilted, tilted_observation}
+use Rattle.th_changes.specs.declared.numbers.Number.{Number}
+use Rattle.th_changes.specs.Tilted.{tilted, tilted_observation}
 use Rattle.th_explain.specs.Mended.{AreLowest, LeavesBlunders}
-use Rattle.th_explain.specs.Numbers.{changed, changed_observation, changed_row}
-use Rattle.th_explain.proofs.Changes.{keeps_lowered, keeps_raised, lowered, raised}
-use Rattle.th_explain.proofs.TiltLemmas.{cost_moved, points_tilted, residual_moved}
+use Rattle.th_changes.specs.Numbers.{changed, changed_observation, changed_row}
+use Rattle.th_changes.proofs.Changes.{keeps_lowered, keeps_raised, lowered, raised}
+use Rattle.th_changes.proofs.TiltLemmas.{cost_moved, points_tilted, residual_moved}
 
 raised_lowered : (number : Number) (x : ℤ) (heights : List ℕ → ℤ) → raised number x (lowered number x heights) ≡ heights
 raised_lowered number x heights = fun_ext (λ name. omega (arith, ints))

@@ -3,14 +3,14 @@ use Rattle.std.proofs.Common.{◌≡◌, ℕ, ◌≤◌, ◌⊎◌, inl, inr, �
 use Rattle.std.proofs.lemmas.Int.{ints}
 use Rattle.th_network.specs.Networks.{Survey}
 use Rattle.th_explain.specs.declared.freed.Freed.{Freed}
-use Rattle.th_explain.specs.declared.numbers.Number.{Number}
-use Rattle.th_explain.specs.declared.slopes.Sloped.{Sloped}
+use Rattle.th_changes.specs.declared.numbers.Number.{Number}
+use Rattle.th_changes.specs.declared.slopes.Sloped.{Sloped}
 use Rattle.th_explain.specs.Explained.{IsExact, IsLeastInReach}
-use Rattle.th_explain.specs.Freed.{Costs, cost_of}
-use Rattle.th_explain.specs.Numbers.{changed}
-use Rattle.th_explain.specs.Reach.{reach_of}
-use Rattle.th_explain.specs.Slopes.{IsSloped}
-use Rattle.th_explain.proofs.SlopeLemmas.{costs_of, freed_costs, left_of, left_of_more, right_of, right_of_more}
+use Rattle.th_changes.specs.Freed.{Costs, cost_of}
+use Rattle.th_changes.specs.Numbers.{changed}
+use Rattle.th_changes.specs.Reach.{reach_of}
+use Rattle.th_changes.specs.Slopes.{IsSloped}
+use Rattle.th_changes.proofs.SlopeLemmas.{costs_of, freed_costs, left_of, left_of_more, right_of, right_of_more}
 
 -- the cost at one change is least among all within reach on whose side it falls
 at_left : (survey : Survey) (number : Number) (own : Sloped) → IsSloped survey number own → unsigned_abs own.change ≤ reach_of number survey.observations → own.slope ≤ℤ pos 0

@@ -2,10 +2,10 @@
 use Rattle.std.specs.Prelude.{ℕ, ◌<◌, ◌≤◌, ℤ, pos, ◌≤ℤ◌, List, Option, None, Some, if◌then◌else◌, int_lt, unsigned_abs}
 use Rattle.th_network.specs.Networks.{Survey}
 use Rattle.th_explain.specs.declared.freed.Freed.{Freed}
-use Rattle.th_explain.specs.declared.numbers.Number.{Number}
-use Rattle.th_explain.specs.Freed.{Costs, IsFreed, IsProposed, Keeps, cost_of}
-use Rattle.th_explain.specs.Numbers.{changed}
-use Rattle.th_explain.specs.Reach.{reach_of}
+use Rattle.th_changes.specs.declared.numbers.Number.{Number}
+use Rattle.th_changes.specs.Freed.{Costs, IsFreed, IsProposed, Keeps, cost_of}
+use Rattle.th_changes.specs.Numbers.{changed}
+use Rattle.th_changes.specs.Reach.{reach_of}
 
 -- what is left if the number is freed, and the least and the greatest change that is proposed
 pub record IsExact (survey : Survey) (number : Number) (freed : Freed) : Type 0 where

@@ -1,4 +1,2 @@
 -- what private functions promise each other
-pub mod Tilted
 pub mod Brackets
-pub mod Rerouted

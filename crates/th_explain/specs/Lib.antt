@@ -1,10 +1,5 @@
-pub mod Numbers
-pub mod Freed
-pub mod Flows
 pub mod Ties
 pub mod Parted
-pub mod Slopes
-pub mod Reach
 pub mod Explained
 pub mod Mended
 pub mod Inside

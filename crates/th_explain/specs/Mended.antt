@@ -5,8 +5,8 @@ use Rattle.th_blunders.specs.Blunders.{is_blunder}
 use Rattle.th_blunders.specs.Residuals.{residuals}
 use Rattle.th_circulation.specs.Extremes.{Low}
 use Rattle.th_network.specs.Networks.{Survey}
-use Rattle.th_explain.specs.declared.numbers.Number.{Number}
-use Rattle.th_explain.specs.Numbers.{changed}
+use Rattle.th_changes.specs.declared.numbers.Number.{Number}
+use Rattle.th_changes.specs.Numbers.{changed}
 
 -- the heights are the lowest best ones of the survey
 abbrev pub AreLowest : Survey → (List ℕ → ℤ) → Type 0

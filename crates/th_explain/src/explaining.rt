@@ -3,21 +3,20 @@ ghost use Rattle.std.specs.Prelude.{◌≡◌, ◌<◌, ◌<ℤ◌, [], ◌∷�
 ghost use Rattle.std.specs.List.{AllZip};
 ghost use Rattle.th_circulation.specs.Best.{IsBest};
 ghost use Rattle.th_explain.specs.Explained.{IsExact, IsExplainedOrMore, IsExplainedOrNone};
-ghost use Rattle.th_explain.specs.Freed.{cost_of};
+ghost use Rattle.th_changes.specs.Freed.{cost_of};
 ghost use Rattle.th_explain.specs.Inside.Brackets.{AreRound, IsRoundOrNone, is_explanation};
-ghost use Rattle.th_explain.specs.Reach.{reach_of};
-ghost use Rattle.th_explain.specs.Slopes.{IsSloped};
+ghost use Rattle.th_changes.specs.Reach.{reach_of};
+ghost use Rattle.th_changes.specs.Slopes.{IsSloped};
 ghost use Rattle.th_network.specs.Networks.{at_points_of};
 ghost use Rattle.th_network.specs.declared.faults.NetFault.TheVariants.{NoMemory};
 
 use crate::freed::{Freed, freed_between, mildest};
-use crate::numbers::Number;
 use crate::sieve::Sieve;
-use crate::slopes::{Sloped, slope_as_given, slope_at};
-use crate::tilting::reach_of;
 use std::alloc::{AllocError, Global};
+use th_changes::{Number, Sloped, reach_of, slope_as_given, slope_at};
 use th_circulation::BestHeights;
 use th_network::{NetFault, Network};
+use th_progress::{Progress, Work};
 
 /// What is left if a number is freed, where the number explains what does not fit: even the mildest
 /// change that is proposed is above the limit, and all of them are within reach of what a book can say.
@@ -62,13 +61,14 @@ pub fn explanation(
 /// Of nearly all numbers that explain nothing, or too little, short ways by which what flows through them
 /// can be sent back show it. Each other number is freed along shortest ways. If they are too many, it is solved,
 /// which takes some 10 adjustments.
-pub fn explanations(
+pub fn explanations<P: Progress>(
     alloc: Global,
     best: &BestHeights,
     sieve: &mut Sieve<'_>,
     numbers: &[Number],
     limit: u64,
     most: Option<u128>,
+    progress: &mut P,
 ) -> Result<Vec<Option<Freed>>, NetFault>
     requires best { IsBest sieve.old.network.now best.now }
     requires cost { sieve.old.cost ≡ cost_of sieve.old.network.now (at_points_of sieve.old.network.now best.now.low) }
@@ -80,6 +80,7 @@ pub fn explanations(
 {
     let mut found = Vec::with_capacity(alloc, numbers.len())?;
     for number in numbers {
+        progress.show(Work::Numbers, found.len(), numbers.len());
         let own = sifted(alloc, best, sieve, number, limit, most)?;
         add(&mut found, own)?;
     }

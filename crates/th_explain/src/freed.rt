@@ -6,12 +6,11 @@ ghost use Rattle.std.specs.Prelude.{◌≡◌, ◌≤◌, ◌+ℤ◌, ◌<ℤ◌
 ghost use Rattle.th_book.specs.Observed.{largest_difference};
 ghost use Rattle.th_explain.specs.Explained.{IsExact, mildest};
 ghost use Rattle.th_explain.specs.Inside.Brackets.{AreRound, IsAbove, IsBelow, IsHighest, IsLowest, IsNearest};
-ghost use Rattle.th_explain.specs.Slopes.{IsSloped};
+ghost use Rattle.th_changes.specs.Slopes.{IsSloped};
 ghost use Rattle.th_network.specs.declared.faults.NetFault.TheVariants.{NoMemory};
 
-use crate::numbers::Number;
-use crate::slopes::{Sloped, slope_at};
 use std::alloc::Global;
+use th_changes::{Number, Sloped, slope_at};
 use th_network::{NetFault, Network};
 
 /// What is left if a number is freed, and the changes of it that are proposed. Lengths are in units

@@ -6,16 +6,7 @@
 //! are for.
 #![tactic(auto)]
 
-// The numbers.
-mod numbers;
-
-// Networks with a changed number, and what they cost.
-mod slopes;
-mod tilting;
-
 // What shows without solving a network that a number explains nothing: flows that are sent other ways.
-mod nets;
-mod rerouting;
 mod sieve;
 
 // What is left if a number is freed, and whether it explains what does not fit.
@@ -31,6 +22,6 @@ pub mod laws;
 pub use explaining::{explanation, explanations};
 pub use freed::Freed;
 pub use mended::{blunder_count, blunders_left};
-pub use numbers::Number;
 pub use reaching::{least_in_reach, least_left};
 pub use sieve::Sieve;
+pub use th_changes::Number;

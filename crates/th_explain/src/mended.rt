@@ -2,15 +2,14 @@
 ghost use Rattle.std.specs.Prelude.{◌≡◌, ◌≤◌, IfErr, IfOk, count_by, length, unsigned_abs};
 ghost use Rattle.th_blunders.specs.Blunders.{is_blunder};
 ghost use Rattle.th_explain.specs.Mended.{LeavesBlunders};
-ghost use Rattle.th_explain.specs.Reach.{reach_of};
+ghost use Rattle.th_changes.specs.Reach.{reach_of};
 ghost use Rattle.th_network.specs.Limits.{max_observations};
 ghost use Rattle.th_network.specs.declared.faults.NetFault.TheVariants.{NoMemory};
 
-use crate::numbers::Number;
-use crate::tilting::tilted;
 use std::alloc::Global;
 use th_blunders::{Fit, is_blunder};
 use th_book::Observation;
+use th_changes::{Number, tilted};
 use th_circulation::best_heights;
 use th_network::{NetFault, Network};
 

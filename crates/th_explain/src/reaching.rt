@@ -2,18 +2,16 @@
 ghost use Rattle.std.specs.Prelude.{◌≡◌, ◌<◌, ◌<ℤ◌, pos, IfErr, IfOk};
 ghost use Rattle.th_circulation.specs.Best.{IsBest};
 ghost use Rattle.th_explain.specs.Explained.{IsLeastInReach};
-ghost use Rattle.th_explain.specs.Freed.{cost_of};
-ghost use Rattle.th_explain.specs.Reach.{reach_of};
-ghost use Rattle.th_explain.specs.Slopes.{IsSloped};
+ghost use Rattle.th_changes.specs.Freed.{cost_of};
+ghost use Rattle.th_changes.specs.Reach.{reach_of};
+ghost use Rattle.th_changes.specs.Slopes.{IsSloped};
 ghost use Rattle.th_network.specs.Networks.{at_points_of};
 ghost use Rattle.th_network.specs.declared.faults.NetFault.TheVariants.{NoMemory};
 
 use crate::freed::freed_between;
-use crate::numbers::Number;
 use crate::sieve::Sieve;
-use crate::slopes::{Sloped, slope_as_given, slope_at};
-use crate::tilting::reach_of;
 use std::alloc::Global;
+use th_changes::{Number, Sloped, reach_of, slope_as_given, slope_at};
 use th_circulation::BestHeights;
 use th_network::{NetFault, Network};
 

@@ -2,17 +2,15 @@
 ghost use Rattle.std.specs.Prelude.{◌≡◌, IfOk, IfSome, true};
 ghost use Rattle.th_circulation.specs.Best.{IsBest};
 ghost use Rattle.th_explain.specs.Explained.{IsExact};
-ghost use Rattle.th_explain.specs.Freed.{cost_of};
-ghost use Rattle.th_explain.specs.Inside.Rerouted.{HoldsNumber, IsCostlyBeyond, LeavesMore};
+ghost use Rattle.th_changes.specs.Freed.{cost_of};
+ghost use Rattle.th_changes.specs.Rerouted.{HoldsNumber, IsCostlyBeyond, LeavesMore};
 ghost use Rattle.th_network.specs.Networks.{at_points_of};
 
 use crate::freed::{Freed, freed_at};
-use crate::nets::run_of;
-use crate::numbers::Number;
-use crate::rerouting::Rerouted;
 use gsi_word::Name;
 use std::alloc::{AllocError, Global};
 use th_blunders::Fit;
+use th_changes::{Number, Rerouted, run_of};
 use th_circulation::BestHeights;
 use th_network::Network;
 use th_paths::{End, Freeing, Group, Guide, Link};

@@ -1,13 +1,13 @@
 //! Notes of a run that was not refused, put on a line part by part.
 ghost use Rattle.std.specs.Prelude.{◌≡◌, ◌≤◌, ◌*◌, length};
-ghost use Rattle.th_help.specs.Notes.{enumerated, loose_points, many_heights_note, no_sight_note, numbers_in, sightless_book, words_seen};
+ghost use Rattle.th_entries.specs.Sights.{enumerated, no_sight_text, words_seen};
+ghost use Rattle.th_help.specs.Notes.{loose_points, many_heights_note, no_sight_note};
 ghost use Rattle.th_lines.specs.Lines.{HasRoom, IsPut};
-ghost use Rattle.th_remarks.specs.Words.{measured};
 
-use arrayvec::ArrayVec;
 use th_devices::{Failed, Sink};
+use th_entries::{NoSight, separator, words_lead};
 use th_lines::Line;
-use th_remarks::{MEASURED, MEASURED_WORDS, ManyHeights, NoSight};
+use th_remarks::ManyHeights;
 
 /// Puts the note of a book without a sight.
 #[tactic(auto, using(th_lines::proofs::LineLemmas::appended))]
@@ -15,36 +15,24 @@ pub fn put_no_sight<K: Sink>(line: &mut Line<K>, note: &NoSight) -> Result<(), F
     requires { HasRoom 40 line.old }
     ensures { IsPut 40 (no_sight_note note.now) line.old line.new result }
 {
-    put_book(line, note.book)?;
+    line.put("note: ")?;
+    put_text(line, note)?;
+    line.put("\n")
+}
+
+/// Puts the text of a book without a sight.
+#[tactic(auto, using(th_lines::proofs::LineLemmas::appended))]
+fn put_text<K: Sink>(line: &mut Line<K>, note: &NoSight) -> Result<(), Failed>
+    requires { HasRoom 38 line.old }
+    ensures { IsPut 38 (no_sight_text note.now) line.old line.new result }
+{
+    line.put("book ")?;
+    line.put_number(note.book)?;
+    line.put(" has no sight in ")?;
     line.put_number(note.blocks)?;
     line.put(" blocks (no word 33")?;
-    put_words(line, numbers_in(&note.words).as_slice())?;
-    line.put(")\n")
-}
-
-/// Puts which book has no sight.
-#[tactic(auto, using(th_lines::proofs::LineLemmas::appended))]
-fn put_book<K: Sink>(line: &mut Line<K>, book: u32) -> Result<(), Failed>
-    requires { HasRoom 4 line.old }
-    ensures { IsPut 4 (sightless_book book) line.old line.new result }
-{
-    line.put("note: book ")?;
-    line.put_number(book)?;
-    line.put(" has no sight in ")
-}
-
-/// The numbers of the words that a book has in place of sights.
-fn numbers_in(words: &[bool; MEASURED_WORDS]) -> ArrayVec<u16, MEASURED_WORDS>
-    ensures numbers { result.items ≡ numbers_in words.now measured }
-    ensures few { length result.items ≤ 14 }
-{
-    let mut numbers = ArrayVec::new();
-    for (place, has) in words.iter().enumerate() {
-        if *has {
-            numbers.push(MEASURED[place]);
-        }
-    }
-    numbers
+    put_words(line, note.numbers().as_slice())?;
+    line.put(")")
 }
 
 /// Puts which words a book has in place of sights.
@@ -54,14 +42,7 @@ fn put_words<K: Sink>(line: &mut Line<K>, numbers: &[u16]) -> Result<(), Failed>
     requires room { HasRoom 30 line.old }
     ensures { IsPut 30 (words_seen numbers.now) line.old line.new result }
 {
-    if numbers.is_empty() {
-        return Ok(());
-    }
-    line.put(if numbers.len() == 1 {
-        "; it has word "
-    } else {
-        "; it has words "
-    })?;
+    line.put(words_lead(numbers))?;
     put_numbers(line, numbers)
 }
 
@@ -75,11 +56,7 @@ fn put_numbers<K: Sink>(line: &mut Line<K>, numbers: &[u16]) -> Result<(), Faile
         return Ok(());
     };
     line.put_number(u32::from(*first))?;
-    match rest.len() {
-        0 => return Ok(()),
-        1 => line.put(" and ")?,
-        _ => line.put(", ")?,
-    }
+    line.put(separator(rest))?;
     put_numbers(line, rest)
 }
 

@@ -1,4 +1,1 @@
-pub mod FindingLemmas
-mod UseLemmas
-mod PartLemmas
-mod PartLaws
+mod LineLemmas

@@ -1,10 +1,10 @@
 -- The texts of a review's notes.
-use Rattle.std.specs.Prelude.{ℕ, pos, Bool, true, false, List, [], ◌++◌, codes, decimal, length}
+use Rattle.std.specs.Prelude.{ℕ, pos, List, ◌++◌, codes, decimal, length}
 use Rattle.std.specs.List.{flat_map}
 use Rattle.th_units.specs.Metres.{metres}
 use Rattle.th_report.specs.Columns.{line_end}
 use Rattle.th_report.specs.Reports.{label_line}
-use Rattle.th_entries.specs.declared.reviews.WordsSeen.{WordsSeen}
+use Rattle.th_entries.specs.Sights.{no_sight_text}
 use Rattle.th_notes.specs.declared.notes.LineKind.{LineKind}
 use Rattle.th_notes.specs.declared.notes.LineKind.TheVariants.{Lookalike, OtherHeight, Direction}
 use Rattle.th_notes.specs.declared.notes.Kind.{Kind}
@@ -35,18 +35,6 @@ pair_text row station target = in_weights ++ decimal row ++ codes ": " ++ statio
 -- a row of the table of benchmarks, with its name
 unfoldable pub benchmark_text : ℕ → List ℕ → List ℕ
 benchmark_text row name = in_benchmarks ++ decimal row ++ codes ": " ++ name
-
--- which words of measurements a book without a sight has
-abbrev pub words_text : Bool → Bool → List ℕ
-words_text true true = codes "; it has words 31 and 83"
-words_text true false = codes "; it has word 31"
-words_text false true = codes "; it has word 83"
-words_text false false = []
-
--- a book with blocks and without a sight
-unfoldable pub no_sight_text : ℕ → ℕ → WordsSeen → List ℕ
-no_sight_text book blocks words =
-    codes "book " ++ decimal book ++ codes ": no sight in " ++ decimal blocks ++ codes " blocks (no word 33" ++ words_text words.distances words.heights ++ codes ")"
 
 -- a book with the observations of an earlier one
 unfoldable pub same_text : ℕ → ℕ → List ℕ
@@ -134,7 +122,7 @@ more_text kind count = codes "and " ++ decimal count ++ codes " more: " ++ kind_
 
 -- the text of a note
 abbrev pub note_text : Note → List ℕ
-note_text (NoSight book blocks words) = no_sight_text book blocks words
+note_text (NoSight note) = no_sight_text note
 note_text (SameObservations book earlier) = same_text book earlier
 note_text (Line kind book line) = line_text kind book line
 note_text (UnusedWeight row station target) = unused_text row station target

@@ -1,14 +1,15 @@
 //! The lines of notes.
-ghost use Rattle.std.specs.Prelude.{pos, ◌≡◌, ◌++◌, OnOk, decimal};
+ghost use Rattle.std.specs.Prelude.{pos, ◌≡◌, ◌++◌, IfOk, OnOk, decimal};
 ghost use Rattle.std.specs.List.{flat_map};
 ghost use Rattle.th_units.specs.Metres.{metres};
-ghost use Rattle.th_notes.specs.Notes.{benchmark_text, book_place, doubt_text, formula_text, hanging_text, in_benchmarks, in_weights, kind_text, line_text, more_text, near_text, name_place, no_sight_text, note_line, note_lines, note_text, odd_text, once_text, one_text, pair_text, respelled_text, same_text, second_text, turned_text, twin_text, two_text, unseen_text, unused_text, within_text, words_text};
+ghost use Rattle.th_entries.specs.Sights.{enumerated, no_sight_text, words_seen};
+ghost use Rattle.th_notes.specs.Notes.{benchmark_text, book_place, doubt_text, formula_text, hanging_text, in_benchmarks, in_weights, kind_text, line_text, more_text, near_text, name_place, note_line, note_lines, note_text, odd_text, once_text, one_text, pair_text, respelled_text, same_text, second_text, turned_text, twin_text, two_text, unseen_text, unused_text, within_text};
 
 use crate::notes::{Kind, LineKind, Note, Pair};
 use gsi_word::Name;
 use itoa::Buffer;
-use std::alloc::AllocError;
-use th_entries::WordsSeen;
+use std::alloc::{AllocError, Global};
+use th_entries::{NoSight, separator, words_lead};
 use th_report::{Page, write_count};
 use th_units::metre_text;
 
@@ -19,6 +20,15 @@ pub fn write_notes(page: &mut Page, notes: &[Note]) -> Result<(), AllocError>
 {
     write_count(page, b"notes", notes.len())?;
     write_rows(page, notes)
+}
+
+/// The text of a note, without the end of its line.
+pub fn note_text(alloc: Global, note: &Note) -> Result<Vec<u8>, AllocError>
+    ensures { IfOk result (λ text. text.items ≡ note_text note.now) }
+{
+    let mut page = Page::new(alloc);
+    write_text(&mut page, note)?;
+    Ok(page.into_bytes())
 }
 
 /// Writes the line of each note.
@@ -45,11 +55,7 @@ fn write_text(page: &mut Page, note: &Note) -> Result<(), AllocError>
     ensures { OnOk result (page.new ≡ page.old ++ note_text note.now) }
 {
     match note {
-        Note::NoSight {
-            book,
-            blocks,
-            words,
-        } => write_no_sight(page, *book, *blocks, words),
+        Note::NoSight(note) => write_no_sight(page, note),
         Note::SameObservations { book, earlier } => write_same(page, *book, *earlier),
         Note::Line { kind, book, line } => write_line(page, *kind, *book, *line),
         Note::UnusedWeight {
@@ -158,35 +164,36 @@ fn write_benchmark(page: &mut Page, row: u64, name: &Name) -> Result<(), AllocEr
 }
 
 /// Writes the note of a book with blocks and without a sight.
-#[tactic(auto, unfolding(crate::specs::Notes::no_sight_text))]
-fn write_no_sight(
-    page: &mut Page,
-    book: u32,
-    blocks: u32,
-    words: &WordsSeen,
-) -> Result<(), AllocError>
-    ensures { OnOk result (page.new ≡ page.old ++ no_sight_text book blocks words.now) }
+fn write_no_sight(page: &mut Page, note: &NoSight) -> Result<(), AllocError>
+    ensures { OnOk result (page.new ≡ page.old ++ no_sight_text note.now) }
 {
     page.add(b"book ")?;
-    write_number(page, book)?;
-    page.add(b": no sight in ")?;
-    write_number(page, blocks)?;
+    write_number(page, note.book)?;
+    page.add(b" has no sight in ")?;
+    write_number(page, note.blocks)?;
     page.add(b" blocks (no word 33")?;
-    write_words(page, words)?;
+    write_words(page, note.numbers().as_slice())?;
     page.add(b")")
 }
 
-/// Writes which words of measurements a book has.
-fn write_words(page: &mut Page, words: &WordsSeen) -> Result<(), AllocError>
-    ensures { OnOk result (page.new
-        ≡ page.old ++ words_text words.now.distances words.now.heights) }
+/// Writes which words a book has in place of sights.
+fn write_words(page: &mut Page, numbers: &[u16]) -> Result<(), AllocError>
+    ensures { OnOk result (page.new ≡ page.old ++ words_seen numbers.now) }
 {
-    match (words.distances, words.heights) {
-        (true, true) => page.add(b"; it has words 31 and 83"),
-        (true, false) => page.add(b"; it has word 31"),
-        (false, true) => page.add(b"; it has word 83"),
-        (false, false) => page.add(b""),
-    }
+    page.add(words_lead(numbers).as_bytes())?;
+    write_numbers(page, numbers)
+}
+
+/// Writes some numbers one after the other.
+fn write_numbers(page: &mut Page, numbers: &[u16]) -> Result<(), AllocError>
+    ensures { OnOk result (page.new ≡ page.old ++ enumerated numbers.now) }
+{
+    let Some((first, rest)) = numbers.split_first() else {
+        return Ok(());
+    };
+    write_number(page, u32::from(*first))?;
+    page.add(separator(rest).as_bytes())?;
+    write_numbers(page, rest)
 }
 
 /// Writes the note of a book with the observations of an earlier one.

@@ -1,5 +1,5 @@
 use gsi_word::Name;
-use th_entries::WordsSeen;
+use th_entries::NoSight;
 
 /// The kinds of notes on a line of a book.
 #[derive(Clone, Copy, Debug)]
@@ -39,12 +39,8 @@ pub struct Pair {
 /// record is its header.
 #[derive(Clone, Copy, Debug)]
 pub enum Note {
-    /// A book has so many blocks, and none is a sight. It has these words of measurements.
-    NoSight {
-        book: u32,
-        blocks: u32,
-        words: WordsSeen,
-    },
+    /// A book has blocks and no sight.
+    NoSight(NoSight),
     /// A book has the same observations as an earlier one.
     SameObservations {
         book: u32,

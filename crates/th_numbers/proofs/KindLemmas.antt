@@ -12,11 +12,10 @@ use Rattle.th_entries.specs.declared.entries.HeightKind.{HeightKind}
 use Rattle.th_reliability.specs.Runs.{HoldsSights}
 use Rattle.th_reliability.specs.Sights.{in_sights}
 use Rattle.th_reliability.specs.declared.sights.Sights.{Sights}
-use Rattle.th_review.specs.Entries.{sights_of}
+use Rattle.th_review_rows.specs.Entries.{sights_of}
 use Rattle.th_numbers.specs.Inside.Kinds.{AreAround, FollowEachOther, is_ended, is_of, precedes}
-use Rattle.th_numbers.specs.Lists.{forgotten_at, is_kind, is_part}
+use Rattle.th_numbers.specs.Lists.{forgotten_at, is_kind, is_part, is_used}
 use Rattle.th_numbers.specs.declared.candidates.Candidate.TheVariants.{Since}
-use Rattle.th_numbers.specs.Readings.{is_used}
 
 -- ---- what passes is in a part of a list
 module _ {X : Type 0} (p : X → Bool) where

@@ -1,12 +1,6 @@
 mod WalkLemmas
 mod PartLemmas
-mod RowLemmas
 mod ListLemmas
 mod CountLemmas
-mod KindLemmas
-mod OrderLemmas
-mod PrintedLemmas
-mod RereadLemmas
-mod BookLemmas
-mod FindLemmas
+pub mod KindLemmas
 mod FewLemmas

@@ -6,16 +6,16 @@ use Rattle.th_book.specs.Observed.{Observed}
 use Rattle.th_entries.specs.declared.entries.Entry.{Entry}
 use Rattle.th_entries.specs.declared.entries.HeightKind.{HeightKind}
 use Rattle.th_entries.specs.declared.entries.HeightKind.TheVariants as height
-use Rattle.th_explain.specs.declared.numbers.Number.{Number}
-use Rattle.th_explain.specs.declared.numbers.Number.TheVariants as number
-use Rattle.th_explain.specs.Numbers.{touch}
+use Rattle.th_changes.specs.declared.numbers.Number.{Number}
+use Rattle.th_changes.specs.declared.numbers.Number.TheVariants as number
+use Rattle.th_changes.specs.Numbers.{touch}
 use Rattle.th_explanations.specs.declared.rows.Kind.{Kind}
 use Rattle.th_explanations.specs.declared.rows.Kind.TheVariants as kind
 use Rattle.th_network.specs.Links.{base}
 use Rattle.th_network.specs.Networks.{Survey}
 use Rattle.th_reliability.specs.Sights.{in_sights}
 use Rattle.th_reliability.specs.declared.sights.Sights.{Sights}
-use Rattle.th_review.specs.Entries.{sights_of}
+use Rattle.th_review_rows.specs.Entries.{sights_of}
 use Rattle.th_tables.specs.Rows.{BenchmarkRows}
 use Rattle.th_numbers.specs.declared.candidates.Candidate.{Candidate}
 use Rattle.th_numbers.specs.declared.candidates.Candidate.TheVariants.{Entered, Since, Sight, Benchmark}

@@ -1,4 +1,3 @@
 -- what private functions promise each other
 pub mod Parts
 pub mod Kinds
-pub mod Leading

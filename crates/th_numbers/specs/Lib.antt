@@ -1,8 +1,4 @@
 pub mod Candidates
 pub mod Lists
 pub mod Ties
-pub mod Rows
-pub mod Readings
-pub mod Explanations
-pub mod Printed
 pub mod Inside

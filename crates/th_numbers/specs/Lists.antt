@@ -9,7 +9,7 @@ use Rattle.th_entries.specs.declared.reviews.BookReview.{BookReview}
 use Rattle.th_network.specs.Networks.{Survey}
 use Rattle.th_reliability.specs.Sights.{in_sights}
 use Rattle.th_reliability.specs.declared.sights.Sights.{Sights}
-use Rattle.th_review.specs.Entries.{sights_of}
+use Rattle.th_review_rows.specs.Entries.{sights_of}
 use Rattle.th_numbers.specs.Candidates.{count_in, sights_since}
 use Rattle.th_numbers.specs.declared.listing.Listing.{Listing}
 use Rattle.th_numbers.specs.declared.books.SightedBook.{SightedBook}
@@ -22,6 +22,10 @@ abbrev pub is_kind : HeightKind → HeightKind → Bool
 is_kind height.Instrument height.Instrument = true
 is_kind height.Reflector height.Reflector = true
 is_kind kind other = false
+
+-- whether an observation is among the sights of an entry of a kind
+abbrev pub is_used : HeightKind → Observed → Entry → Bool
+is_used own o entry = is_kind entry.kind own && in_sights (sights_of entry) o
 
 -- an entry of two or more sights; an entry of one sight is that sight
 abbrev pub is_shared : List Observed → Entry → Bool

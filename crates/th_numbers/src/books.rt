@@ -14,10 +14,7 @@ pub struct SightedBook {
 }
 
 /// The books that have a sight, in order.
-pub(crate) fn books_of(
-    alloc: Global,
-    reviews: &[BookReview],
-) -> Result<Vec<SightedBook>, AllocError>
+pub fn books_of(alloc: Global, reviews: &[BookReview]) -> Result<Vec<SightedBook>, AllocError>
     requires { length reviews.now ≤ max_books }
     ensures { IfOk result (λ books. books.items ≡ books_of reviews.now) }
 {

@@ -13,7 +13,7 @@ use th_explain::Number;
 use th_explanations::Kind;
 use th_network::Network;
 use th_reliability::{Runs, Sights};
-use th_review::sights_of;
+use th_review_rows::sights_of;
 use th_tables::Benchmarks;
 
 /// A number of a survey that somebody read or typed, and that may be wrong. Lines and records count
@@ -32,7 +32,7 @@ pub enum Candidate {
 
 /// Which number it is, in the columns of a row.
 #[derive(Clone, Copy, Debug)]
-pub(crate) struct Label {
+pub struct Label {
     pub kind: Kind,
     pub book: Option<u32>,
     pub line: Option<u32>,
@@ -78,7 +78,7 @@ impl Candidate {
     }
 
     /// Which number it is.
-    pub(crate) fn label(&self) -> Label
+    pub fn label(&self) -> Label
         ensures { result ≡ label_of self.now }
     {
         match self {
@@ -179,7 +179,7 @@ fn height_of(benchmarks: &Benchmarks, name: &Name) -> i64
 }
 
 /// How many observations of a network a number touches.
-pub(crate) fn sight_count(network: &Network, number: &Number) -> u32
+pub fn sight_count(network: &Network, number: &Number) -> u32
     ensures count { result ≡ sight_count network.now number.now }
 {
     let mut count = 0;

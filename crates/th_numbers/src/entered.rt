@@ -9,7 +9,7 @@ use std::alloc::AllocError;
 use th_book::Observation;
 use th_entries::{Entry, HeightKind};
 use th_reliability::{Runs, Sights};
-use th_review::sights_of;
+use th_review_rows::sights_of;
 
 /// Adds the entries of a kind that have two or more sights.
 pub(crate) fn add_entered(

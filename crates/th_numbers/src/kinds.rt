@@ -4,8 +4,7 @@ ghost use Rattle.std.specs.List.{filter};
 ghost use Rattle.std.specs.List.Sorted.{IsPartitionPoint};
 ghost use Rattle.th_entries.specs.declared.entries.HeightKind.TheVariants as height;
 ghost use Rattle.th_numbers.specs.Inside.Kinds.{AreAround, FollowEachOther, is_ended, is_of, precedes};
-ghost use Rattle.th_numbers.specs.Lists.{is_kind};
-ghost use Rattle.th_numbers.specs.Readings.{is_used};
+ghost use Rattle.th_numbers.specs.Lists.{is_kind, is_used};
 
 use std::alloc::{AllocError, Global};
 use th_book::Observation;
@@ -21,7 +20,7 @@ struct Holders {
 
 /// The entries of a survey, and those of each kind.
 #[derive(Drop)]
-pub(crate) struct Kinds<'a> {
+pub struct Kinds<'a> {
     pub entries: &'a [Entry],
     instruments: Holders,
     reflectors: Holders,
@@ -101,7 +100,7 @@ fn of_kind(alloc: Global, entries: &[Entry], kind: HeightKind) -> Result<Vec<Ent
 }
 
 /// Whether a height is of a kind.
-pub(crate) fn is_kind(own: HeightKind, kind: HeightKind) -> bool
+pub fn is_kind(own: HeightKind, kind: HeightKind) -> bool
     ensures { result ≡ is_kind own kind }
 {
     match (own, kind) {

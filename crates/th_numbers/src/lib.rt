@@ -1,9 +1,8 @@
-//! The numbers of a survey that somebody read or typed, and the rows of those that explain what does
-//! not fit.
+//! The numbers of a survey that somebody read or typed.
 //!
-//! `candidates_of` lists the numbers in the order of rows that explain equally: entered heights, changes
-//! that were forgotten, sights and benchmarks. Books, which are read from mark to mark, come behind them.
-//! `explanations_of` makes the rows of a network, and counts what was looked at. `specs/` has the definitions.
+//! `listing_of` lists them in the order of rows that explain equally: entered heights, changes that were
+//! forgotten, sights and benchmarks. `books_of` lists the books, each of which may have been read from
+//! mark to mark. `specs/` has the definitions.
 #![tactic(auto)]
 
 // A number, and where it is.
@@ -18,15 +17,8 @@ mod entered;
 mod listing;
 mod ties;
 
-// The row of a number, or none; and that of a book that is read from mark to mark.
-mod readings;
-mod rows;
-
-// All rows.
-mod findings;
-
-// Laws of the definitions.
-pub mod laws;
-
-pub use candidates::Candidate;
-pub use findings::{Explanations, explanations_of};
+pub use books::{SightedBook, books_of};
+pub use candidates::{Candidate, Label, sight_count};
+pub use kinds::{Kinds, is_kind};
+pub use listing::{Listing, listing_of};
+pub use ties::TiedRow;

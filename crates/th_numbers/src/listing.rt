@@ -21,7 +21,7 @@ const FIRST_RECORD: u32 = 2;
 
 /// The numbers of a survey, by kind.
 #[derive(Drop)]
-pub(crate) struct Listing {
+pub struct Listing {
     pub entered: Vec<Candidate>,
     pub changes: Vec<Candidate>,
     pub sights: Vec<Candidate>,
@@ -29,7 +29,7 @@ pub(crate) struct Listing {
 }
 
 /// The numbers of a survey, whose books have these entries.
-pub(crate) fn listing_of(
+pub fn listing_of(
     alloc: Global,
     network: &Network,
     kinds: &Kinds<'_>,

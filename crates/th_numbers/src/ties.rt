@@ -6,16 +6,16 @@ ghost use Rattle.th_network.specs.Limits.{max_points};
 ghost use Rattle.th_network.specs.Networks.{points_of};
 ghost use Rattle.th_numbers.specs.Inside.Parts.{AreApart, AreParts, HasOther, relabelled};
 ghost use Rattle.th_numbers.specs.Ties.{AreTiedRows, IsTiedOn};
-ghost use Rattle.th_points.specs.Places.{place_of};
 
 use gsi_word::Name;
 use std::alloc::{AllocError, Global};
 use th_network::Network;
+use th_reliability::place_in;
 
 /// A row of the benchmarks' table, and whether a chain of observations leads from there to another
 /// benchmark.
 #[derive(Clone, Copy, Debug)]
-pub(crate) struct TiedRow {
+pub struct TiedRow {
     pub name: Name,
     pub tied: bool,
 }
@@ -62,18 +62,6 @@ fn has_other(network: &Network, parts: &[usize], place: usize) -> bool
         }
     }
     false
-}
-
-/// The place of a name among some, or how many there are.
-fn place_in(names: &[Name], name: &Name) -> usize
-    ensures { result ≡ place_of names.now name.now }
-{
-    for (place, other) in names.iter().enumerate() {
-        if *name == *other {
-            return place;
-        }
-    }
-    names.len()
 }
 
 /// A label for each point: two points have one label just where a chain of observations leads from one

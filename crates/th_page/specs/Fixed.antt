@@ -29,12 +29,12 @@ style_text =
     ++ codes "li,bdi,th{overflow-wrap:anywhere}\n"
     ++ codes ".lamps li{list-style:none;margin:.5em 0;padding:.3em 0 .3em .8em;border-left:.4em solid #d0021b}\n"
     ++ codes ".lamps .ok{border-left:.4em double #2a7d4f}\n"
-    ++ codes ".w{overflow-x:auto}\n"
+    ++ codes ".w,.col{overflow-x:auto}\n"
     ++ codes "table{border-collapse:collapse;font-variant-numeric:tabular-nums}\n"
     ++ codes "th,td{padding:.15em .7em .15em 0;text-align:right;white-space:nowrap;border-bottom:1px solid #ddd}\n"
     ++ codes "th{font:1em ui-monospace,Menlo,Consolas,monospace;text-align:left;white-space:pre}\n"
     ++ codes "thead th,thead td{color:#555;font:.85em system-ui,Helvetica,Arial,sans-serif;border-color:#111}\n"
-    ++ codes ".col{display:inline-block;vertical-align:top;margin:0 2em 1em 0;break-inside:avoid}\n"
+    ++ codes ".col{display:inline-block;box-sizing:border-box;max-width:100%;vertical-align:top;margin-bottom:1em;padding-right:2em;break-inside:avoid}\n"
     ++ codes "svg{display:block;width:100%}\n"
     ++ codes ".n{font:110px ui-monospace,Menlo,Consolas,monospace;fill:#444}\n"
     ++ codes ".e{text-anchor:end}\n"
@@ -71,7 +71,7 @@ style_text =
     ++ codes "footer{margin-top:2em;border-top:1px solid #111;color:#444;font-size:.85em}\n"
     ++ codes "@media screen{.col{content-visibility:auto;contain-intrinsic-size:auto 20em auto 36em}}\n"
     ++ codes "@media screen and (max-width:40em){.n{font-size:150px}.w svg{min-width:36em}}\n"
-    ++ codes "@media print{@page{size:A4;margin:15mm}body{padding:0;max-width:none;font-size:9.5pt}tr,figure,li,p{break-inside:avoid}h2,h2+p{break-after:avoid}}\n"
+    ++ codes "@media print{@page{size:A4;margin:15mm}body{padding:0;max-width:none;font-size:9pt}th{white-space:pre-wrap}tr,figure,footer,li,p{break-inside:avoid}h2,h2+p{break-after:avoid}}\n"
 
 -- what is between the style and the books
 unfoldable pub body_text : List ℕ

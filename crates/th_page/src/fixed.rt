@@ -32,12 +32,12 @@ figure{margin:1.4em 0 0}\n\
 li,bdi,th{overflow-wrap:anywhere}\n\
 .lamps li{list-style:none;margin:.5em 0;padding:.3em 0 .3em .8em;border-left:.4em solid #d0021b}\n\
 .lamps .ok{border-left:.4em double #2a7d4f}\n\
-.w{overflow-x:auto}\n\
+.w,.col{overflow-x:auto}\n\
 table{border-collapse:collapse;font-variant-numeric:tabular-nums}\n\
 th,td{padding:.15em .7em .15em 0;text-align:right;white-space:nowrap;border-bottom:1px solid #ddd}\n\
 th{font:1em ui-monospace,Menlo,Consolas,monospace;text-align:left;white-space:pre}\n\
 thead th,thead td{color:#555;font:.85em system-ui,Helvetica,Arial,sans-serif;border-color:#111}\n\
-.col{display:inline-block;vertical-align:top;margin:0 2em 1em 0;break-inside:avoid}\n\
+.col{display:inline-block;box-sizing:border-box;max-width:100%;vertical-align:top;margin-bottom:1em;padding-right:2em;break-inside:avoid}\n\
 svg{display:block;width:100%}\n\
 .n{font:110px ui-monospace,Menlo,Consolas,monospace;fill:#444}\n\
 .e{text-anchor:end}\n\
@@ -74,7 +74,7 @@ marker text{font:bold 110px ui-monospace,Menlo,Consolas,monospace;text-anchor:mi
 footer{margin-top:2em;border-top:1px solid #111;color:#444;font-size:.85em}\n\
 @media screen{.col{content-visibility:auto;contain-intrinsic-size:auto 20em auto 36em}}\n\
 @media screen and (max-width:40em){.n{font-size:150px}.w svg{min-width:36em}}\n\
-@media print{@page{size:A4;margin:15mm}body{padding:0;max-width:none;font-size:9.5pt}tr,figure,li,p{break-inside:avoid}h2,h2+p{break-after:avoid}}\n\
+@media print{@page{size:A4;margin:15mm}body{padding:0;max-width:none;font-size:9pt}th{white-space:pre-wrap}tr,figure,footer,li,p{break-inside:avoid}h2,h2+p{break-after:avoid}}\n\
 ";
 
 /// What is between the style and the books.

@@ -1,9 +1,10 @@
 use crate::groups::Ends;
 use crate::heaps::{Heap, Open};
 use crate::links::Link;
+use crate::reached::Reached;
 use crate::sides::{Side, Sides};
 use std::alloc::{AllocError, Global};
-use th_tree::{ResidualArc, push_if_room};
+use th_tree::ResidualArc;
 
 /// Which way flow goes in a ball.
 #[derive(Clone, Copy, PartialEq, Eq)]
@@ -12,6 +13,17 @@ pub(crate) enum Way {
     Out,
     /// To its centre.
     In,
+}
+
+impl Way {
+    /// The arc along which flow goes, where a search goes along another.
+    #[inline]
+    pub fn along(self, arc: ResidualArc) -> ResidualArc {
+        match self {
+            Way::Out => arc,
+            Way::In => arc.reversed(),
+        }
+    }
 }
 
 /// What a search goes by.
@@ -64,7 +76,7 @@ impl Ground<'_> {
             return None;
         }
         let link = self.links.get(side.arc.row())?;
-        if link.room(along(way, side.arc))? == 0 {
+        if link.room(way.along(side.arc))? == 0 {
             return None;
         }
         if self.ends.has(side.arc.reversed()) {
@@ -75,38 +87,13 @@ impl Ground<'_> {
     }
 }
 
-/// The arc along which flow goes, where a search goes along another.
-#[inline]
-fn along(way: Way, arc: ResidualArc) -> ResidualArc {
-    match way {
-        Way::Out => arc,
-        Way::In => arc.reversed(),
-    }
-}
-
-/// What is known of a vertex.
-#[derive(Clone, Copy)]
-struct Reached {
-    /// How far it is; the greatest number if it was not reached.
-    distance: u64,
-    /// The arc of the flow by which it was reached.
-    arc: ResidualArc,
-    /// The next of its sides to look at.
-    next: usize,
-}
-
-const NOT_REACHED: Reached = Reached {
-    distance: u64::MAX,
-    arc: ResidualArc::NONE,
-    next: 0,
-};
-
 /// The vertices that are reached from one of the ends of a search, the nearest first.
 #[derive(Drop)]
 pub(crate) struct Ball {
     way: Way,
-    rows: Vec<Reached>,
-    seen: Vec<u32>,
+    pub reached: Reached,
+    /// The next side of each vertex to look at.
+    next: Vec<usize>,
     heap: Heap,
 }
 
@@ -115,42 +102,22 @@ impl Ball {
     pub fn new(alloc: Global, way: Way, vertices: usize) -> Result<Ball, AllocError> {
         Ok(Ball {
             way,
-            rows: vec![in alloc; NOT_REACHED; vertices]?,
-            seen: Vec::with_capacity(alloc, vertices)?,
+            reached: Reached::new(alloc, vertices)?,
+            next: vec![in alloc; 0usize; vertices]?,
             heap: Heap::new(alloc, vertices)?,
         })
     }
 
     /// Forgets all that was reached.
     pub fn clear(&mut self) {
-        for vertex in &self.seen {
-            if let Some(row) = self.rows.get_mut(*vertex as usize) {
-                *row = NOT_REACHED;
-            }
-        }
-        self.seen.clear();
+        self.reached.clear();
         self.heap.clear();
     }
 
     /// How many vertices were reached.
     #[inline]
     pub fn count(&self) -> usize {
-        self.seen.len()
-    }
-
-    /// How far a vertex is, if it was reached.
-    #[inline]
-    pub fn distance(&self, vertex: u32) -> Option<u64> {
-        let row = self.rows.get(vertex as usize)?;
-        if row.distance == u64::MAX {
-            return None;
-        }
-        Some(row.distance)
-    }
-
-    /// The arc by which a vertex was reached.
-    pub fn arc(&self, vertex: u32) -> Option<ResidualArc> {
-        Some(self.rows.get(vertex as usize)?.arc)
+        self.reached.seen.len()
     }
 
     /// How far away the next vertex is.
@@ -168,16 +135,16 @@ impl Ball {
     pub fn grow(&mut self, ground: Ground) -> Option<Option<u32>> {
         let open = self.heap.top()?;
         self.heap.pop()?;
-        let row = *self.rows.get(open.vertex as usize)?;
-        let side = *ground.sides(open.vertex)?.get(row.next)?;
+        let next = *self.next.get(open.vertex as usize)?;
+        let side = *ground.sides(open.vertex)?.get(next)?;
         let mut reached = None;
         if let Some(other) = ground.other(self.way, open.vertex, &side)
-            && self.distance(other).is_none()
+            && self.reached.distance(other).is_none()
         {
-            self.reach(ground, other, open.distance, along(self.way, side.arc))?;
+            self.reach(ground, other, open.distance, self.way.along(side.arc))?;
             reached = Some(other);
         }
-        self.go_on(ground, open.vertex, row.next.checked_add(1)?)?;
+        self.go_on(ground, open.vertex, next.checked_add(1)?)?;
         Some(reached)
     }
 
@@ -188,10 +155,7 @@ impl Ball {
         distance: u64,
         arc: ResidualArc,
     ) -> Option<()> {
-        let row = self.rows.get_mut(vertex as usize)?;
-        row.distance = distance;
-        row.arc = arc;
-        push_if_room(&mut self.seen, vertex)?;
+        self.reached.reach(vertex, distance, arc)?;
         self.go_on(ground, vertex, 0)
     }
 
@@ -201,12 +165,11 @@ impl Ball {
         for place in from..sides.len() {
             let side = sides.get(place)?;
             if let Some(other) = ground.other(self.way, vertex, side)
-                && self.distance(other).is_none()
+                && self.reached.distance(other).is_none()
             {
-                let row = self.rows.get_mut(vertex as usize)?;
-                row.next = place;
+                *self.next.get_mut(vertex as usize)? = place;
                 let step = side.length.checked_add(ground.toll)?;
-                let distance = row.distance.checked_add(step)?;
+                let distance = self.reached.distance(vertex)?.checked_add(step)?;
                 return self.heap.push(Open { distance, vertex });
             }
         }

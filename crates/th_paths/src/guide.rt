@@ -2,6 +2,7 @@ use crate::balls::Ground;
 use crate::groups::{End, Ends, Group};
 use crate::lifting::Lifting;
 use crate::links::Link;
+use crate::neighbours::{Neighbours, Pair, Wanted};
 use crate::searches::Search;
 use crate::sides::{Side, Sides};
 use std::alloc::{AllocError, Global};
@@ -18,6 +19,8 @@ const LEAST_ARCS: usize = 16_384;
 /// Each link of a path counts as much more as this part of a good path's length. The flows of a tree
 /// that ties all points have no length, and a search would wander over all of them.
 const TOLL: u64 = 16;
+
+const FINE_TOLL: u64 = 128;
 
 /// How many ends a number has at most whose sides are listed. The sides of one with more are looked for among
 /// those of its vertex.
@@ -43,6 +46,13 @@ struct Sum {
 }
 
 impl Sum {
+    /// Adds what is sent along a path of this length.
+    fn add(&mut self, amount: u64, length: u64) -> Option<()> {
+        self.sent = self.sent.checked_add(amount)?;
+        self.cost = self.cost.checked_add(amount.checked_mul(length)?)?;
+        Some(())
+    }
+
     /// What is still missing: the cost above what a limit allows for all that is sent beyond the need.
     fn due(&self, limit: u64) -> Option<u64> {
         let allowed = limit.checked_mul(self.sent)?;
@@ -80,6 +90,7 @@ pub struct Guide {
     ends: Ends,
     /// The sides of the ends that a number has, the shortest first, if they are few.
     own: Vec<Side>,
+    neighbours: Neighbours,
     search: Search,
     lifting: Lifting,
     /// The heights of the vertices at which the flows are best; and those at which the flows before and behind
@@ -103,6 +114,7 @@ impl Guide {
             sides: Sides::new(alloc, vertices, links)?,
             ends: Ends::new(alloc, links)?,
             own: Vec::with_capacity(alloc, MOST_OWN)?,
+            neighbours: Neighbours::new(alloc, all)?,
             search: Search::new(alloc, all)?,
             lifting: Lifting::new(alloc, all, links)?,
             heights: vec![in alloc; 0i64; all]?,
@@ -153,9 +165,15 @@ impl Guide {
     /// more.
     pub fn propose_below(&mut self, group: Group, base: u32, need: i64, worth: u64) -> Option<()> {
         self.begin(group, base)?;
-        let found = self.gather_below(need, worth);
-        let undone = self.undo();
-        found.and(undone)
+        let found = self.gather_below(need, worth, TOLL);
+        self.undo()?;
+        if found.is_some() {
+            return found;
+        }
+        self.begin(group, base)?;
+        let found = self.gather_below(need, worth, FINE_TOLL);
+        self.undo()?;
+        found
     }
 
     /// Proposes walks that free a number, along shortest paths.
@@ -235,15 +253,16 @@ impl Guide {
             sent: 0,
             cost: 0,
         };
-        let good = limit / 2;
+        if self.go_over_neighbours(need, limit, &mut sum)? {
+            return Some(());
+        }
         for _ in 0..MOST_WALKS {
-            self.find(need, good, limit)?;
+            self.find(need, limit / 2, limit, TOLL)?;
             let length = self.length()?;
             let wanted = sum.wanted(limit, length)?;
             let amount = wanted.min(self.room()?);
             self.send(amount)?;
-            sum.sent = sum.sent.checked_add(amount)?;
-            sum.cost = sum.cost.checked_add(amount.checked_mul(length)?)?;
+            sum.add(amount, length)?;
             if sum.due(limit)? == 0 {
                 return Some(());
             }
@@ -251,12 +270,66 @@ impl Guide {
         None
     }
 
-    fn gather_below(&mut self, need: i64, worth: u64) -> Option<()> {
+    /// Sends flow back over the vertices at the other ends of the number's links. Returns whether nothing is
+    /// missing then.
+    fn go_over_neighbours(&mut self, need: i64, limit: u64, sum: &mut Sum) -> Option<bool> {
+        self.neighbours.begin(self.ends.group)?;
+        for _ in 0..MOST_FREEING / 2 {
+            let Some(pair) = self.next_pair(need, limit / 4) else {
+                return Some(false);
+            };
+            self.take(pair, need)?;
+            let length = self.length()?;
+            let Some(wanted) = sum.wanted(limit, length) else {
+                return Some(false);
+            };
+            let amount = wanted.min(self.room()?);
+            self.send(amount)?;
+            sum.add(amount, length)?;
+            if sum.due(limit)? == 0 {
+                return Some(true);
+            }
+        }
+        Some(false)
+    }
+
+    /// The next path over a neighbour.
+    fn next_pair(&mut self, need: i64, most: u64) -> Option<Pair> {
+        let ground = Ground {
+            links: &self.links,
+            sides: &self.sides,
+            ends: &self.ends,
+            base: self.base,
+            spare: self.spare,
+            own: &self.own,
+            toll: 0,
+        };
+        let wanted = Wanted {
+            is_back: need < 0,
+            most,
+        };
+        self.neighbours.next(ground, wanted)
+    }
+
+    /// Takes a path over a neighbour as the one to send flow along.
+    fn take(&mut self, pair: Pair, need: i64) -> Option<()> {
+        let path = &mut self.search.path;
+        path.clear();
+        if need > 0 {
+            push_if_room(path, pair.there)?;
+            push_if_room(path, pair.on)
+        } else {
+            push_if_room(path, pair.on.reversed())?;
+            push_if_room(path, pair.there.reversed())
+        }
+    }
+
+    fn gather_below(&mut self, need: i64, worth: u64, toll: u64) -> Option<()> {
         let mut left = need.unsigned_abs();
         let mut worth = worth;
         for _ in 0..MOST_WALKS {
             let far = worth.checked_div(left)?;
-            self.find(need, far - far / 4, far)?;
+            self.find(need, far - far / 4, far, toll)?;
             let length = self.length()?;
             let amount = left.min(self.room()?);
             self.send(amount)?;
@@ -329,7 +402,7 @@ impl Guide {
     }
 
     /// Finds a path from the base to the spare vertex, or back.
-    fn find(&mut self, need: i64, good: u64, far: u64) -> Option<()> {
+    fn find(&mut self, need: i64, good: u64, far: u64, toll: u64) -> Option<()> {
         let (from, to) = self.course(need);
         let ground = Ground {
             links: &self.links,
@@ -338,7 +411,7 @@ impl Guide {
             base: self.base,
             spare: self.spare,
             own: &self.own,
-            toll: good / TOLL,
+            toll: good.checked_div(toll)?,
         };
         self.search.run(ground, from, to, good, far)
     }

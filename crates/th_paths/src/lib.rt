@@ -22,9 +22,14 @@ mod sides;
 // A search from two ends until they meet.
 mod balls;
 mod heaps;
+mod reached;
 mod searches;
 
+// Paths over one vertex.
+mod neighbours;
+
 // Shortest paths, and the heights at which flow along them is best.
+mod fronts;
 mod lifting;
 
 // Walks, and how much is sent along them.

@@ -1,6 +1,7 @@
 use crate::balls::{Ball, Ground, Way};
+use crate::reached::{Course, trace};
 use std::alloc::{AllocError, Global};
-use th_tree::{ResidualArc, push_if_room};
+use th_tree::ResidualArc;
 
 /// A search for a short path, from both of its ends.
 #[derive(Drop)]
@@ -36,7 +37,18 @@ impl Search {
         self.out.begin(ground, from)?;
         self.into.begin(ground, to)?;
         let vertex = self.meet(ground, good, far)?;
-        self.trace(ground, vertex, from, to)
+        let course = Course {
+            from,
+            middle: vertex,
+            to,
+        };
+        trace(
+            &mut self.path,
+            ground,
+            &self.out.reached,
+            &self.into.reached,
+            course,
+        )
     }
 
     /// The vertex where the two balls meet.
@@ -74,35 +86,13 @@ impl Search {
         let Some(vertex) = grown else {
             return Some(None);
         };
-        let (Some(one), Some(two)) = (self.out.distance(vertex), self.into.distance(vertex)) else {
+        let (Some(one), Some(two)) = (
+            self.out.reached.distance(vertex),
+            self.into.reached.distance(vertex),
+        ) else {
             return Some(None);
         };
         let distance = one.checked_add(two)?;
         Some(Some(Meeting { vertex, distance }))
-    }
-
-    /// Lists the arcs of the path through a vertex.
-    fn trace(&mut self, ground: Ground, middle: u32, from: u32, to: u32) -> Option<()> {
-        self.path.clear();
-        let mut vertex = middle;
-        for _ in 0..self.path.capacity() {
-            if vertex == from {
-                break;
-            }
-            let arc = self.out.arc(vertex)?;
-            push_if_room(&mut self.path, arc)?;
-            vertex = ground.start(arc)?;
-        }
-        self.path.reverse();
-        let mut vertex = middle;
-        for _ in 0..self.path.capacity() {
-            if vertex == to {
-                break;
-            }
-            let arc = self.into.arc(vertex)?;
-            push_if_room(&mut self.path, arc)?;
-            vertex = ground.start(arc.reversed())?;
-        }
-        Some(())
     }
 }

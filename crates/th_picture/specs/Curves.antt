@@ -33,6 +33,14 @@ curve_text flat x y u v =
     pair_text (codes "M") x y ++ pair_text (codes "Q") ((3 * x + u) / 4) (bent ((3 * y + v) / 4) x u flat)
     ++ pair_text (codes " ") ((x + u) / 2) (bent ((y + v) / 2) x u flat) ++ pair_text (codes "T") u v
 
+-- the middle of the curve of a sight
+abbrev pub middle_x : Frame → Sight → ℕ
+middle_x frame sight = (end_x frame sight.from + end_x frame sight.to) / 2
+
+abbrev pub middle_y : Frame → Sight → ℕ
+middle_y frame sight =
+    bent ((end_y frame sight.from + target_y frame sight) / 2) (end_x frame sight.from) (end_x frame sight.to) (flatness sight.row.number)
+
 -- the curve of a sight
 abbrev pub sight_curve : Frame → Sight → List ℕ
 sight_curve frame sight =

@@ -1,7 +1,7 @@
 //! The sights in the picture.
 ghost use Rattle.std.specs.Prelude.{◌≡◌, ◌≤◌, ◌++◌, OnOk};
 ghost use Rattle.std.specs.List.{flat_map};
-ghost use Rattle.th_picture.specs.Curves.{bent, curve_text, drawn_group, few_text, flatness, group_lines, group_text, path_in, sight_curve, sight_path};
+ghost use Rattle.th_picture.specs.Curves.{bent, curve_text, drawn_group, few_text, flatness, group_lines, group_text, middle_x, middle_y, path_in, sight_curve, sight_path};
 
 use crate::coordinates::write_pair;
 use crate::groups::{FEW, GROUPS, MANY, group_count, is_in, mistake_letter};
@@ -143,6 +143,17 @@ fn write_sight_curve(page: &mut Page, frame: &Frame, sight: &Sight) -> Result<()
         frame.end_x(&sight.to),
         frame.target_y(sight),
     )
+}
+
+/// The middle of a sight's curve, from left to right and from above.
+pub(crate) fn middle_of(frame: &Frame, sight: &Sight) -> (u64, u64)
+    ensures x { result.0 ≡ middle_x frame.now sight.now }
+    ensures y { result.1 ≡ middle_y frame.now sight.now }
+{
+    let (x, u) = (frame.end_x(&sight.from), frame.end_x(&sight.to));
+    let half = (u64::from(frame.end_y(&sight.from)) + u64::from(frame.target_y(sight))) / 2;
+    let y = bent(half, x, u, flatness(sight.row.number));
+    ((u64::from(x) + u64::from(u)) / 2, y)
 }
 
 /// What a sight's bend divides by.

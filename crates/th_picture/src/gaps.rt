@@ -1,9 +1,10 @@
 //! The gaps of marked sights.
 ghost use Rattle.std.specs.Prelude.{◌≡◌, ◌++◌, OnOk};
 ghost use Rattle.std.specs.List.{flat_map};
-ghost use Rattle.th_picture.specs.Gaps.{gap_group, gap_lines, gap_name, gap_of, gap_shape, gap_text, gaps_of, name_at, name_if, name_open};
+ghost use Rattle.th_picture.specs.Gaps.{gap_group, gap_lines, gap_name, gap_of, gap_shape, gap_text, gaps_of, name_at, name_if, name_open, named};
 
 use crate::coordinates::write_pair;
+use crate::curves::middle_of;
 use crate::groups::{MANY, MARKED, group_count, is_in};
 use crate::scales::Frame;
 use crate::sights::Sight;
@@ -14,6 +15,9 @@ use th_report::Page;
 
 /// Up to so many marked sights have their places in the picture.
 const MOST_NAMED: u64 = 20;
+
+/// As far down a place is written: above the names of points.
+const LOWEST: u64 = 3_300;
 
 /// Writes the gaps of the marked sights, if these are drawn.
 pub(crate) fn write_gaps(
@@ -90,10 +94,17 @@ fn write_gap(page: &mut Page, frame: &Frame, count: u64, sight: &Sight) -> Resul
     let x = frame.end_x(&sight.to);
     let v = frame.target_y(sight);
     let y = frame.end_y(&sight.to);
-    let middle = (u64::from(v) + u64::from(y)) / 2 + 40;
     write_shape(page, x, v, y)?;
-    write_name_if(page, count, x, middle, &sight.row.observation)?;
+    write_named(page, frame, count, sight)?;
     page.add(b"\n")
+}
+
+/// Writes the place of a sight in the middle of its curve, if few are marked.
+fn write_named(page: &mut Page, frame: &Frame, count: u64, sight: &Sight) -> Result<(), AllocError>
+    ensures { OnOk result (page.new ≡ page.old ++ named frame.now count sight.now) }
+{
+    let (x, y) = middle_of(frame, sight);
+    write_name_if(page, count, x, (y + 40).min(LOWEST), &sight.row.observation)
 }
 
 /// Writes the line of a gap, and its cross.
@@ -118,11 +129,11 @@ fn write_shape(page: &mut Page, x: u32, v: u32, y: u32) -> Result<(), AllocError
     page.add(b"l80 80m0-80l-80 80\"/>")
 }
 
-/// Writes the place of a sight at its gap, if few are marked.
+/// Writes the place of a sight, if few are marked.
 fn write_name_if(
     page: &mut Page,
     count: u64,
-    x: u32,
+    x: u64,
     y: u64,
     o: &Observation,
 ) -> Result<(), AllocError>
@@ -135,9 +146,9 @@ fn write_name_if(
     }
 }
 
-/// Writes the place of a sight at its gap.
+/// Writes the place of a sight.
 #[tactic(auto, unfolding(crate::specs::Gaps::gap_name))]
-fn write_name(page: &mut Page, x: u32, y: u64, o: &Observation) -> Result<(), AllocError>
+fn write_name(page: &mut Page, x: u64, y: u64, o: &Observation) -> Result<(), AllocError>
     ensures { OnOk result (page.new ≡ page.old ++ gap_name x y o.now) }
 {
     write_name_at(page, x, y)?;
@@ -146,13 +157,13 @@ fn write_name(page: &mut Page, x: u32, y: u64, o: &Observation) -> Result<(), Al
 }
 
 /// Writes the beginning of a text at the inner side of x.
-fn write_name_at(page: &mut Page, x: u32, y: u64) -> Result<(), AllocError>
+fn write_name_at(page: &mut Page, x: u64, y: u64) -> Result<(), AllocError>
     ensures { OnOk result (page.new ≡ page.old ++ name_at x y) }
 {
     if x < 4_400 {
-        write_open(page, u64::from(x) + 60, y, b"start")
+        write_open(page, x + 100, y, b"start")
     } else {
-        write_open(page, u64::from(x.saturating_sub(60)), y, b"end")
+        write_open(page, x.saturating_sub(100), y, b"end")
     }
 }
 

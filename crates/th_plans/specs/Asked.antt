@@ -7,13 +7,13 @@ use Rattle.clap.specs.Words.{Row, Text, all_of, first_of, one_of}
 use Rattle.th_plans.specs.Limits.{max_blunder, max_books, units_in_micrometre}
 use Rattle.th_plans.specs.Prefixes.{names_files}
 
--- the names of the files that `adjust`, `review`, `explain` and `check` read: the books in order, the benchmarks, and the weights if a file of them is named
+-- the names of the files that `adjust`, `review`, `explain`, `page` and `check` read: the books in order, the benchmarks, and the weights if a file of them is named
 pub record Files : Type 0 where
   pub books : List Text
   pub benchmarks : Text
   pub weights : Option Text
 
--- what a command line requests: to list a book; to adjust or to review, with a limit of blunders
+-- what a command line requests: to list a book; to adjust, to review or to make a page, with a limit of blunders
 -- in units of 10 nm and the prefix of the outputs; to explain, with a limit and whether a table is printed; to check a certificate;
 -- or to make a book of a table of differences, or of a book with heights
 pub data Asked : Type 0 where
@@ -21,6 +21,7 @@ pub data Asked : Type 0 where
   adjust : Files → ℤ → Text → Asked
   review : Files → ℤ → Text → Asked
   explain : Files → ℤ → Bool → Asked
+  page : Files → ℤ → Text → Asked
   check : Files → Text → Asked
   book : Text → Asked
   book_of_heights : Text → Asked
@@ -56,7 +57,7 @@ limit_in rows = option_and_then limit_of (option_and_then number_in (one_of (cod
 abbrev pub prefix_in : List Row → Option Text
 prefix_in rows = option_and_then (λ prefix. if names_files prefix then Some prefix else None) (first_of (codes "out") rows)
 
--- the options of `adjust` and `review` in what `clap` found: the files, the limit of blunders, and the prefix
+-- the options of `adjust`, `review` and `page` in what `clap` found: the files, the limit of blunders, and the prefix
 abbrev pub options_in : List Row → Option (Files × ℤ × Text)
 options_in rows =
     option_and_then (λ files. option_and_then (λ limit. option_map (λ prefix. (files, limit, prefix)) (prefix_in rows)) (limit_in rows)) (files_in rows)
@@ -93,6 +94,9 @@ review_asked rows = option_map (λ own. review own.0 own.1 own.2) (options_in ro
 abbrev pub explain_asked : List Row → Option Asked
 explain_asked rows = option_and_then (λ files. option_map (λ limit. explain files limit (table_in rows)) (limit_in rows)) (files_in rows)
 
+abbrev pub page_asked : List Row → Option Asked
+page_asked rows = option_map (λ own. page own.0 own.1 own.2) (options_in rows)
+
 abbrev pub check_asked : List Row → Option Asked
 check_asked rows = option_and_then (λ files. option_map (check files) (first_of (codes "certificate") rows)) (files_in rows)
 
@@ -106,6 +110,7 @@ command_asked name rows =
     else if bytes_eq name (codes "adjust") then adjust_asked rows
     else if bytes_eq name (codes "review") then review_asked rows
     else if bytes_eq name (codes "explain") then explain_asked rows
+    else if bytes_eq name (codes "page") then page_asked rows
     else if bytes_eq name (codes "check") then check_asked rows
     else if bytes_eq name (codes "book") then book_asked rows
     else None

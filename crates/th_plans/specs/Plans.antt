@@ -5,7 +5,7 @@ use Rattle.clap.specs.Words.{App, IsAmong, Rule, Text, fault_of, kind_of, new_ap
 use Rattle.clap.specs.declared.builder.action.ArgAction.TheVariants.{Append, SetTrue}
 use Rattle.clap.specs.declared.builder.value_parser.ValueParser.TheVariants.{Signed}
 use Rattle.clap.specs.declared.error.kind.ErrorKind.TheVariants.{OutOfMemory}
-use Rattle.th_plans.specs.Asked.{Asked, Files, adjust, asked_by, book, book_count, book_of_heights, check, explain, has_bad_prefix, list, review}
+use Rattle.th_plans.specs.Asked.{Asked, Files, adjust, asked_by, book, book_count, book_of_heights, check, explain, has_bad_prefix, list, page, review}
 use Rattle.th_plans.specs.Books.{names_in}
 use Rattle.th_plans.specs.Limits.{max_blunder, max_books}
 use Rattle.th_plans.specs.declared.plans.Inputs.{Inputs}
@@ -62,18 +62,21 @@ flag_rule name = record (new_rule name) {
 abbrev pub list_command : App
 list_command = with_rule (new_app (codes "list")) book_rule
 
--- a command with the options of `adjust` and `review`: `--benchmarks FILE [--weights FILE] [--blunder MICROMETRES] --out PREFIX BOOK...`
+-- a command with the options of `adjust`, `review` and `page`: `--benchmarks FILE [--weights FILE] [--blunder MICROMETRES] --out PREFIX BOOK...`
 abbrev pub with_options : App → App
 with_options app =
     with_rule (with_rule (with_rule (with_rule (with_rule app (needed_rule (codes "benchmarks")))
     (option_rule (codes "weights"))) blunder_rule) (needed_rule (codes "out"))) books_rule
 
--- `adjust` and `review`
+-- `adjust`, `review` and `page`
 abbrev pub adjust_command : App
 adjust_command = with_options (new_app (codes "adjust"))
 
 abbrev pub review_command : App
 review_command = with_options (new_app (codes "review"))
+
+abbrev pub page_command : App
+page_command = with_options (new_app (codes "page"))
 
 -- `explain --benchmarks FILE [--weights FILE] [--blunder MICROMETRES] [--csv] BOOK...`
 abbrev pub explain_command : App
@@ -97,11 +100,11 @@ bare_program =
     let bare = new_app (codes "height_office") in
     record bare { top = record bare.top { has_version = true; subcommand_required = true } }
 
--- the command line, as `clap` describes one: `list`, `adjust`, `review`, `explain`, `check` or `book` is required
+-- the command line, as `clap` describes one: `list`, `adjust`, `review`, `explain`, `page`, `check` or `book` is required
 abbrev pub command_line : App
 command_line =
-    with_subcommand (with_subcommand (with_subcommand (with_subcommand (with_subcommand (with_subcommand bare_program list_command.top) adjust_command.top) review_command.top)
-    explain_command.top) check_command.top) book_command.top
+    with_subcommand (with_subcommand (with_subcommand (with_subcommand (with_subcommand (with_subcommand (with_subcommand bare_program list_command.top) adjust_command.top)
+    review_command.top) explain_command.top) page_command.top) check_command.top) book_command.top
 
 -- `clap` accepts the arguments: it reports no fault
 abbrev pub AreTaken : List Text → Type 0
@@ -134,6 +137,7 @@ said_by (plan.List name) = Some (list name.now)
 said_by (plan.Adjust inputs limit prefix) = Some (adjust (files inputs) limit prefix.now)
 said_by (plan.Review inputs limit prefix) = Some (review (files inputs) limit prefix.now)
 said_by (plan.Explain inputs limit table) = Some (explain (files inputs) limit table)
+said_by (plan.Page inputs limit prefix) = Some (page (files inputs) limit prefix.now)
 said_by (plan.Check inputs certificate) = Some (check (files inputs) certificate.now)
 said_by (plan.Book table) = Some (book table.now)
 said_by (plan.BookOfHeights name) = Some (book_of_heights name.now)

@@ -2,7 +2,7 @@
 ghost use Rattle.std.specs.Prelude.{◌≡◌, ◌<◌, ◌≤◌, ◌↔◌, IfErr, IfOk, IsTrue, Ok, Some, false, length, map, option_map};
 ghost use Rattle.std.specs.Option.{option_map_or};
 ghost use Rattle.clap.specs.Words.{all_of, first_of, found_of, rows_of, subcommand_rows_of};
-ghost use Rattle.th_plans.specs.Asked.{adjust_asked, asked_by, book_asked, book_count, check_asked, explain_asked, files_in, flag_in, has_bad_prefix, heights_in, limit_in, list_asked, options_in, prefix_in, review_asked, table_in};
+ghost use Rattle.th_plans.specs.Asked.{adjust_asked, asked_by, book_asked, book_count, check_asked, explain_asked, files_in, flag_in, has_bad_prefix, heights_in, limit_in, list_asked, options_in, page_asked, prefix_in, review_asked, table_in};
 ghost use Rattle.th_plans.specs.Limits.{max_books};
 ghost use Rattle.th_plans.specs.Plans.{IsFaultOf, IsPlanOf, files, said_by};
 
@@ -55,6 +55,8 @@ fn plan_of<'a>(matches: &ArgMatches<'a>) -> Option<Plan<'a>>
         review_of(found)
     } else if name == "explain" {
         explain_of(found)
+    } else if name == "page" {
+        page_of(found)
     } else if name == "check" {
         check_of(found)
     } else if name == "book" {
@@ -140,6 +142,19 @@ fn explain_of<'a>(found: &ArgMatches<'a>) -> Option<Plan<'a>>
     })
 }
 
+/// What follows `page`.
+fn page_of<'a>(found: &ArgMatches<'a>) -> Option<Plan<'a>>
+    ensures { option_map said_by result
+        ≡ option_map Some (page_asked (rows_of (found_of found.now))) }
+{
+    let (inputs, limit, prefix) = options_of(found)?;
+    Some(Plan::Page {
+        inputs,
+        limit,
+        prefix,
+    })
+}
+
 /// What follows `check`.
 fn check_of<'a>(found: &ArgMatches<'a>) -> Option<Plan<'a>>
     ensures { option_map said_by result
@@ -164,7 +179,7 @@ fn book_of<'a>(found: &ArgMatches<'a>) -> Option<Plan<'a>>
     }
 }
 
-/// The options of `adjust` and `review`: the inputs, the limit of blunders, and the prefix of the
+/// The options of `adjust`, `review` and `page`: the inputs, the limit of blunders, and the prefix of the
 /// outputs.
 fn options_of<'a>(found: &ArgMatches<'a>) -> Option<(Inputs<'a>, Limit, &'a str)>
     ensures { option_map (λ own. (files own.0, own.1, own.2.now)) result
@@ -173,7 +188,7 @@ fn options_of<'a>(found: &ArgMatches<'a>) -> Option<(Inputs<'a>, Limit, &'a str)
     Some((inputs_of(found)?, limit_of(found)?, prefix_of(found)?))
 }
 
-/// The files that `adjust`, `review`, `explain` and `check` read.
+/// The files that `adjust`, `review`, `explain`, `page` and `check` read.
 fn inputs_of<'a>(found: &ArgMatches<'a>) -> Option<Inputs<'a>>
     ensures { option_map files result ≡ files_in (rows_of (found_of found.now)) }
 {

@@ -2,7 +2,7 @@
 ghost use Rattle.std.specs.Prelude.{◌≡◌, IfOk, codes};
 ghost use Rattle.clap.specs.Words.{App, app_of};
 ghost use Rattle.th_plans.specs.Inside.Commands.{IsArgument, IsCommand};
-ghost use Rattle.th_plans.specs.Plans.{adjust_command, blunder_rule, book_command, book_rule, books_rule, check_command, command_line, explain_command, flag_rule, list_command, needed_rule, option_rule, review_command, table_rule, with_options};
+ghost use Rattle.th_plans.specs.Plans.{adjust_command, blunder_rule, book_command, book_rule, books_rule, check_command, command_line, explain_command, flag_rule, list_command, needed_rule, option_rule, page_command, review_command, table_rule, with_options};
 
 use crate::limits::MAX_BLUNDER;
 use clap::{Arg, ArgAction, Command};
@@ -16,6 +16,7 @@ const USAGE: &str = "height_office list <BOOK>
        height_office adjust [OPTIONS] --benchmarks <FILE> --out <PREFIX> <BOOK>...
        height_office review [OPTIONS] --benchmarks <FILE> --out <PREFIX> <BOOK>...
        height_office explain [OPTIONS] --benchmarks <FILE> <BOOK>...
+       height_office page [OPTIONS] --benchmarks <FILE> --out <PREFIX> <BOOK>...
        height_office check [OPTIONS] --benchmarks <FILE> --certificate <FILE> <BOOK>...
        height_office book <TABLE>
        height_office book --heights <BOOK>
@@ -25,12 +26,13 @@ const USAGE: &str = "height_office list <BOOK>
 const AFTER_HELP: &str =
     "'adjust' finds the heights. 'explain' answers which one number, if it were wrong, would explain what
 does not fit. 'review' answers what a mistake would do in this network: whether it would show, and
-whether points would move.
+whether points would move. 'page' shows all of this on one page.
 
 Examples:
   height_office adjust --benchmarks marks.csv --out dam monday.gsi tuesday.gsi
   height_office review --benchmarks marks.csv --out dam monday.gsi tuesday.gsi
   height_office explain --benchmarks marks.csv monday.gsi tuesday.gsi
+  height_office page --benchmarks marks.csv --out dam monday.gsi tuesday.gsi
   height_office check --benchmarks marks.csv --certificate dam.certificate.csv monday.gsi tuesday.gsi
 
 Exit status:
@@ -104,6 +106,21 @@ Example:
 Exit status: 0 the text was printed, also where nothing is found, 2 an input was refused, 3 a bad
 command line or help, 4 out of memory, 5 a file could not be read or the text not written";
 
+/// What the help of `page` ends with.
+const AFTER_PAGE: &str =
+    "It adjusts the network as 'adjust' does, and looks at it as 'review' and 'explain' do. It prints
+nothing and writes one file, for people and for whoever they hand it to:
+  PREFIX.html  the heights, a picture of the network, what was marked, what would explain it, and what a
+               mistake in each number would do
+
+A browser shows and prints it. It loads nothing and runs no program.
+
+Example:
+  height_office page --benchmarks marks.csv --weights weights.csv --out dam monday.gsi tuesday.gsi
+
+Exit status: 0 the page was written, 2 an input was refused, 3 a bad command line or help,
+4 out of memory, 5 a file could not be read or written";
+
 /// What the help of `check` ends with.
 const AFTER_CHECK: &str = "It prints 'yes', or 'no' with the first reason.
 
@@ -131,7 +148,7 @@ Examples:
 Exit status: 0 the book was printed, 2 the table or the book was refused, 3 a bad command line or
 help, 4 out of memory, 5 the file could not be read or the book not written";
 
-/// The program's command line: `list`, `adjust`, `review`, `explain`, `check` or `book`.
+/// The program's command line: `list`, `adjust`, `review`, `explain`, `page`, `check` or `book`.
 pub(crate) fn command_line<'a>(alloc: Global) -> Result<Command<'a>, AllocError>
     ensures { IfOk result (λ command. app_of command ≡ command_line) }
 {
@@ -147,6 +164,7 @@ pub(crate) fn command_line<'a>(alloc: Global) -> Result<Command<'a>, AllocError>
         .subcommand(adjust_command(alloc)?)?
         .subcommand(review_command(alloc)?)?
         .subcommand(explain_command(alloc)?)?
+        .subcommand(page_command(alloc)?)?
         .subcommand(check_command(alloc)?)?
         .subcommand(book_command(alloc)?)
 }
@@ -183,7 +201,17 @@ fn review_command<'a>(alloc: Global) -> Result<Command<'a>, AllocError>
     with_options(alloc, review)
 }
 
-/// The command with the options and books that `adjust` and `review` take.
+/// `page`, with its options and books.
+fn page_command<'a>(alloc: Global) -> Result<Command<'a>, AllocError>
+    ensures { IfOk result (IsCommand page_command) }
+{
+    let page = Command::new(alloc, "page")
+        .about("Shows the network of the books on one page: writes an HTML file")
+        .after_help(AFTER_PAGE);
+    with_options(alloc, page)
+}
+
+/// The command with the options and books that `adjust`, `review` and `page` take.
 fn with_options<'a>(alloc: Global, command: Command<'a>) -> Result<Command<'a>, AllocError>
     ensures { (app : App) → IsCommand app command.entry → IfOk result (IsCommand (with_options app)) }
 {

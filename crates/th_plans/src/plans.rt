@@ -3,7 +3,7 @@
 use crate::blunder_limits::Limit;
 use crate::books::Books;
 
-/// The names of the files that `adjust`, `review`, `explain` and `check` read.
+/// The names of the files that `adjust`, `review`, `explain`, `page` and `check` read.
 #[derive(Debug, Drop)]
 pub struct Inputs<'a> {
     /// The books, in the order in which their observations are joined.
@@ -43,6 +43,13 @@ pub enum Plan<'a> {
         inputs: Inputs<'a>,
         limit: Limit,
         table: bool,
+    },
+    /// `page`: write what `adjust`, `review` and `explain` find as a page, in the file whose name is
+    /// the prefix and `.html`. Residuals above the limit are reported as blunders.
+    Page {
+        inputs: Inputs<'a>,
+        limit: Limit,
+        prefix: &'a str,
     },
     /// `check`: check the certificate in the file of this name against the inputs.
     Check {

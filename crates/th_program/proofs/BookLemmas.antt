@@ -8,13 +8,13 @@ use Rattle.th_devices.specs.Devices.{SinkState}
 use Rattle.th_devices.specs.Spots.{Spot, file, output}
 use Rattle.th_program.specs.Done.{IsBooked, IsRefusedBook}
 use Rattle.th_program.specs.Failing.{Failing, HasCause}
-use Rattle.th_program.specs.Owed.{Told, converted_owed}
-use Rattle.th_program.specs.Inside.Opened.{AreMade, IsTaken}
-use Rattle.th_program.proofs.OutputLemmas.{all_whole}
-use Rattle.th_runs.specs.Inputs.{Meets, MeetsRefusal, Owed}
-use Rattle.th_runs.specs.Reads.{refused}
-use Rattle.th_runs.specs.Writes.{AreWritten, IsWritten, UnlessWrite}
-use Rattle.th_runs.specs.declared.refusals.Refusal.{Refusal}
+use Rattle.th_files.specs.Owed.{Told, converted_owed}
+use Rattle.th_files.specs.Opened.{AreMade, IsTaken}
+use Rattle.th_files.proofs.OutputLemmas.{all_whole}
+use Rattle.th_run_parts.specs.Inputs.{Meets, MeetsRefusal, Owed}
+use Rattle.th_run_parts.specs.Reads.{refused}
+use Rattle.th_run_parts.specs.Writes.{AreWritten, IsWritten, UnlessWrite}
+use Rattle.th_run_parts.specs.declared.refusals.Refusal.{Refusal}
 
 -- a book that was written
 pub booked : {X K : Type 0} (tells : Bool) (writing : Spot → Bool) (before after : Told) (conversion : Conversion) (name : List ℕ) (state_of : K → SinkState) (olds news : List K) (given_owed : Owed (List ℕ))

@@ -8,16 +8,16 @@ use Rattle.th_devices.specs.Devices.{SinkState}
 use Rattle.th_devices.specs.Spots.{Spot, output}
 use Rattle.th_plans.specs.Asked.{Files}
 use Rattle.th_program.specs.Done.{Holds, IsChecked}
-use Rattle.th_program.specs.Owed.{Told, claim_owed}
-use Rattle.th_program.specs.Inside.Opened.{AreMade, IsTaken}
-use Rattle.th_program.proofs.OutputLemmas.{all_whole}
+use Rattle.th_files.specs.Owed.{Told, claim_owed}
+use Rattle.th_files.specs.Opened.{AreMade, IsTaken}
+use Rattle.th_files.proofs.OutputLemmas.{all_whole}
 use Rattle.th_runs.specs.Checked.{IsRight, IsVerdictOn, judged, verdict_line, verdict_on}
-use Rattle.th_runs.specs.Inputs.{Claim, Meets, Owed}
-use Rattle.th_runs.specs.Outcomes.{Accepted}
-use Rattle.th_runs.specs.Reads.{refused}
-use Rattle.th_runs.specs.Refusals.{status_of_verdict}
-use Rattle.th_runs.specs.Writes.{AreWritten, IsWritten}
-use Rattle.th_runs.specs.declared.refusals.Refusal.{Refusal}
+use Rattle.th_run_parts.specs.Inputs.{Claim, Meets, Owed}
+use Rattle.th_run_parts.specs.Outcomes.{Accepted}
+use Rattle.th_run_parts.specs.Reads.{refused}
+use Rattle.th_run_parts.specs.Refusals.{status_of_verdict}
+use Rattle.th_run_parts.specs.Writes.{AreWritten, IsWritten}
+use Rattle.th_run_parts.specs.declared.refusals.Refusal.{Refusal}
 
 -- a verdict that is right where it is yes
 right : (claim : Claim) (own : Verdict) → IsVerdictOn claim own → status_of_verdict own ≡ 0 → IsRight claim

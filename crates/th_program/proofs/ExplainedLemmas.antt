@@ -7,17 +7,17 @@ use Rattle.th_devices.specs.Spots.{Spot, file, output}
 use Rattle.th_network.specs.Networks.{Survey}
 use Rattle.th_plans.specs.Asked.{Files}
 use Rattle.th_program.specs.Done.{IsExplained}
-use Rattle.th_program.specs.Owed.{Told, survey_owed}
-use Rattle.th_program.specs.Inside.Opened.{AreMade, IsTaken}
-use Rattle.th_program.proofs.OutputLemmas.{all_whole}
+use Rattle.th_files.specs.Owed.{Told, survey_owed}
+use Rattle.th_files.specs.Opened.{AreMade, IsTaken}
+use Rattle.th_files.proofs.OutputLemmas.{all_whole}
 use Rattle.th_runs.specs.Explained.{AreOfExplanation, text_in}
-use Rattle.th_runs.specs.Inputs.{Meets, Owed}
-use Rattle.th_runs.specs.Outcomes.{Accepted}
-use Rattle.th_runs.specs.Reads.{refused}
-use Rattle.th_runs.specs.Writes.{AreWritten, IsWritten, Texts}
+use Rattle.th_run_parts.specs.Inputs.{Meets, Owed}
+use Rattle.th_run_parts.specs.Outcomes.{Accepted}
+use Rattle.th_run_parts.specs.Reads.{refused}
+use Rattle.th_run_parts.specs.Writes.{AreWritten, IsWritten, Texts}
 use Rattle.th_runs.specs.declared.explaining.Form.{Form}
-use Rattle.th_runs.specs.declared.refusals.Output.TheVariants as out
-use Rattle.th_runs.specs.declared.refusals.Refusal.{Refusal}
+use Rattle.th_run_parts.specs.declared.refusals.Output.TheVariants as out
+use Rattle.th_run_parts.specs.declared.refusals.Refusal.{Refusal}
 
 -- an explanation that was written
 pub explained : {X K : Type 0} (tells : Bool) (writing : Spot → Bool) (before after : Told) (from : Files) (limit : ℤ) (wanted : Form) (state_of : K → SinkState) (olds news : List K)

@@ -15,23 +15,23 @@ use Rattle.th_plans.specs.declared.faults.PlanFault.{PlanFault}
 use Rattle.th_plans.specs.declared.faults.PlanFault.TheVariants as fault
 use Rattle.th_plans.specs.declared.plans.Plan.{Plan}
 use Rattle.th_plans.specs.declared.plans.Plan.TheVariants as plan
-use Rattle.th_program.proofs.OpenedLemmas.{owed-same}
-use Rattle.th_program.proofs.OutputLemmas.{spot_among}
+use Rattle.th_files.proofs.OpenedLemmas.{owed-same}
+use Rattle.th_files.proofs.OutputLemmas.{spot_among}
 use Rattle.th_program.specs.Done.{AreDone, IsAdjustOutput, IsAdjusted, IsCarriedOut, IsChecked, IsRefusedAdjust, IsRefusedCheck, IsRun, IsUsage, WouldOverwrite}
 use Rattle.th_program.specs.Failing.{Failing, IsInClaim, IsInFiles, Origins}
 use Rattle.th_program.specs.Headline.{AskFor, IsAccepted, IsUnlucky, SomeMayFail, SparesInputs}
-use Rattle.th_program.specs.Outputs.{ending_of, spot_at, spots_of}
-use Rattle.th_program.specs.Owed.{Told, claim_owed, given_by, given_by_books, survey_owed}
+use Rattle.th_files.specs.Outputs.{ending_of, spot_at, spots_of}
+use Rattle.th_files.specs.Owed.{Told, claim_owed, given_by, given_by_books, survey_owed}
 use Rattle.th_runs.specs.Adjusted.{AreOutputs, OutTexts, adjusting}
 use Rattle.th_runs.specs.Checked.{IsRight, IsVerdictOn, checking, verdict_on}
-use Rattle.th_runs.specs.Inputs.{Claim, Given, IsOwed, MakesNetwork, Meets, Owed, Text, Untold, and_then, given_at, owed_for_certificate, owed_for_claim, owed_for_survey}
-use Rattle.th_runs.specs.Reads.{failed_reads_of}
-use Rattle.th_runs.specs.Refusals.{status_of, status_of_verdict}
-use Rattle.th_runs.specs.declared.refusals.Input.{Input}
-use Rattle.th_runs.specs.declared.refusals.Input.TheVariants as input
-use Rattle.th_runs.specs.declared.refusals.Output.{Output}
-use Rattle.th_runs.specs.declared.refusals.Refusal.{Refusal}
-use Rattle.th_runs.specs.declared.refusals.Refusal.TheVariants as refusal
+use Rattle.th_run_parts.specs.Inputs.{Claim, Given, IsOwed, MakesNetwork, Meets, Owed, Text, Untold, and_then, given_at, owed_for_certificate, owed_for_claim, owed_for_survey}
+use Rattle.th_run_parts.specs.Reads.{failed_reads_of}
+use Rattle.th_run_parts.specs.Refusals.{status_of, status_of_verdict}
+use Rattle.th_run_parts.specs.declared.refusals.Input.{Input}
+use Rattle.th_run_parts.specs.declared.refusals.Input.TheVariants as input
+use Rattle.th_run_parts.specs.declared.refusals.Output.{Output}
+use Rattle.th_run_parts.specs.declared.refusals.Refusal.{Refusal}
+use Rattle.th_run_parts.specs.declared.refusals.Refusal.TheVariants as refusal
 
 -- what a plan is that says what the words ask for; standard input is listed for no words at all
 said_is : (words : List (List ℕ)) (own : Plan) (wanted : Asked) → IsPlanOf words own → AskFor words wanted → said_by own ≡ Some wanted
@@ -40,6 +40,7 @@ said_is words (plan.List book) wanted is asks = sym is.2 ∙ asks.2
 said_is words (plan.Adjust inputs limit prefix) wanted is asks = sym is.2 ∙ asks.2
 said_is words (plan.Review inputs limit prefix) wanted is asks = sym is.2 ∙ asks.2
 said_is words (plan.Explain inputs limit table) wanted is asks = sym is.2 ∙ asks.2
+said_is words (plan.Page inputs limit prefix) wanted is asks = sym is.2 ∙ asks.2
 said_is words (plan.Check inputs certificate) wanted is asks = sym is.2 ∙ asks.2
 said_is words (plan.Book table) wanted is asks = sym is.2 ∙ asks.2
 said_is words (plan.BookOfHeights book) wanted is asks = sym is.2 ∙ asks.2
@@ -176,6 +177,8 @@ ran_plan tells held has_failed failing old new (plan.Review inputs limit prefix)
 ran_plan tells held has_failed failing old new (plan.Review inputs limit prefix) status (inr (own, run)) = inr (own, run.status_is, tt)
 ran_plan tells held has_failed failing old new (plan.Explain inputs limit table) status (inl done) = inl tt
 ran_plan tells held has_failed failing old new (plan.Explain inputs limit table) status (inr (own, run)) = inr (own, run.status_is, tt)
+ran_plan tells held has_failed failing old new (plan.Page inputs limit prefix) status (inl done) = inl tt
+ran_plan tells held has_failed failing old new (plan.Page inputs limit prefix) status (inr (own, run)) = inr (own, run.status_is, tt)
 ran_plan tells held has_failed failing old new (plan.Check inputs certificate) status (inl run) = inl run.done
 ran_plan tells held has_failed failing old new (plan.Check inputs certificate) status (inr (own, run)) = inr (own, run.status_is, run.refused)
 ran_plan tells held has_failed failing old new (plan.Book table) status (inl done) = inl tt
@@ -200,6 +203,7 @@ stopped_plan tells (plan.Adjust inputs limit prefix) written which name would =
     λ telling spares. spares which name would.is_read (subst (λ (own : List ℕ). IsAdjustOutput prefix.now (file own)) (would.same telling) would.is_written)
 stopped_plan tells (plan.Review inputs limit prefix) written which name would = tt
 stopped_plan tells (plan.Explain inputs limit table) written which name would = tt
+stopped_plan tells (plan.Page inputs limit prefix) written which name would = tt
 stopped_plan tells (plan.Check inputs certificate) written which name would = no_file written would.is_written
 stopped_plan tells (plan.Book table) written which name would = tt
 stopped_plan tells (plan.BookOfHeights book) written which name would = tt

@@ -2,11 +2,11 @@
 use Rattle.std.proofs.Common.{◌≡◌, ◌∙◌, ℕ, Bool, true, false, List, None, inl, inr, refl, sym}
 use Rattle.th_devices.specs.Spots.{Spot, file}
 use Rattle.th_plans.specs.declared.plans.Plan.{Plan}
-use Rattle.th_program.proofs.OutputLemmas.{file-apart}
+use Rattle.th_files.proofs.OutputLemmas.{file-apart}
 use Rattle.th_program.specs.Done.{IsInputOf, IsRun}
 use Rattle.th_program.specs.Failing.{Failing}
-use Rattle.th_program.specs.Owed.{Told}
-use Rattle.th_runs.specs.declared.refusals.Input.{Input}
+use Rattle.th_files.specs.Owed.{Told}
+use Rattle.th_run_parts.specs.declared.refusals.Input.{Input}
 
 kept_told : {F : Type 0} (tells : Bool) (held : F → Told) (has_failed : F → Spot → Bool) (failing : F → Failing) (old new : F) (asked : Plan) (status : ℕ) → tells ≡ true
     → IsRun tells held has_failed failing old new asked status → (which : Input) (name : List ℕ) → IsInputOf asked which name → held new (file name) ≡ held old (file name)

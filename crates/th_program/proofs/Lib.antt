@@ -1,7 +1,5 @@
-pub mod OpenedLemmas
 pub mod ListLemmas
 pub mod BookLemmas
-pub mod OutputLemmas
 pub mod CauseLemmas
 pub mod RefusalLemmas
 pub mod CheckLemmas

@@ -7,21 +7,21 @@ use Rattle.std.proofs.lemmas.List.{length-map}
 use Rattle.std.proofs.lemmas.Slice.Zip.{AllZip-long}
 use Rattle.th_entries.specs.Reviews.{parsed_of}
 use Rattle.th_entries.specs.Several.{numbered}
+use Rattle.th_entries.specs.Sights.{no_sight_in}
+use Rattle.th_entries.specs.declared.sights.NoSight.{NoSight}
 use Rattle.th_network.specs.Networks.{Survey}
 use Rattle.th_plans.specs.Asked.{Files}
 use Rattle.th_plans.specs.Limits.{max_books}
-use Rattle.th_program.specs.Inside.Opened.{AreGivenBack}
+use Rattle.th_files.specs.Opened.{AreGivenBack}
 use Rattle.th_program.specs.Noted.{AreNotesOfFiles}
-use Rattle.th_program.specs.Owed.{Told, survey_owed}
-use Rattle.th_remarks.specs.Sights.{no_sight_in}
-use Rattle.th_remarks.specs.declared.sights.NoSight.{NoSight}
-use Rattle.th_runs.specs.Inputs.{Meets, Owed, told_by}
+use Rattle.th_files.specs.Owed.{Told, survey_owed}
+use Rattle.th_run_parts.specs.Inputs.{Meets, Owed, told_by}
 use Rattle.th_runs.specs.Noted.{AreNotesOfAdjustment, AreSightless, sightless}
-use Rattle.th_runs.specs.Outcomes.{Accepted}
-use Rattle.th_runs.specs.Reads.{refused}
+use Rattle.th_run_parts.specs.Outcomes.{Accepted}
+use Rattle.th_run_parts.specs.Reads.{refused}
 use Rattle.th_runs.specs.declared.notes.Notes.{Notes}
-use Rattle.th_runs.specs.declared.refusals.Output.{Output}
-use Rattle.th_runs.specs.declared.refusals.Refusal.{Refusal}
+use Rattle.th_run_parts.specs.declared.refusals.Output.{Output}
+use Rattle.th_run_parts.specs.declared.refusals.Refusal.{Refusal}
 
 -- what holds of a run that ended well holds if its files have their places
 pub noted_given : {F : Type 0} (tells : Bool) (held : F → Told) (has_failed may_fail : F → Spot → Bool) (sinks : List SinkState) (outputs : List Output)

@@ -10,14 +10,14 @@ use Rattle.th_devices.specs.Spots.{Spot, file}
 use Rattle.th_plans.specs.Asked.{Files}
 use Rattle.th_plans.specs.declared.plans.Plan.{Plan}
 use Rattle.th_program.specs.Done.{IsInputOf, IsOutputOf}
-use Rattle.th_program.proofs.OutputLemmas.{spot_among, spots_more}
+use Rattle.th_files.proofs.OutputLemmas.{spot_among, spots_more}
 use Rattle.th_program.specs.Inside.Stops.{AreKept, IsStop, IsStopOf}
-use Rattle.th_program.specs.Outputs.{ending_of, spot_at, spots_of}
-use Rattle.th_program.specs.Owed.{HasName}
+use Rattle.th_files.specs.Outputs.{ending_of, spot_at, spots_of}
+use Rattle.th_files.specs.Owed.{HasName}
 use Rattle.th_program.specs.declared.overwrites.Stop.{Stop}
 use Rattle.th_program.specs.declared.overwrites.Stop.TheVariants as stop
-use Rattle.th_runs.specs.declared.refusals.Input.{Input}
-use Rattle.th_runs.specs.declared.refusals.Output.{Output}
+use Rattle.th_run_parts.specs.declared.refusals.Input.{Input}
+use Rattle.th_run_parts.specs.declared.refusals.Output.{Output}
 
 -- the names that borrows have
 abbrev pub names_of : List (Bor (List ℕ)) → List (List ℕ)

@@ -1,28 +1,27 @@
 -- Files that took their places after a run.
 use Rattle.std.proofs.Common.{◌≡◌, ◌≢◌, ◌∙◌, ℕ, Bool, true, List, [], ◌∷◌, None, Some, Ok, Err, IfErr, ap, ap₂, inl, inr, length, map, refl, subst, suc, sym, take, zero}
-use Rattle.std.specs.List.{All, AllByRecursion}
+use Rattle.std.specs.List.{AllByRecursion}
 use Rattle.std.specs.Prelude.{OnOk, Option, Result, is_some, slice_get}
-use Rattle.std.proofs.lemmas.List.Elements.{All-from_recursion}
 use Rattle.th_devices.specs.Devices.{IsMade, SinkState}
-use Rattle.th_devices.specs.Spots.{Spot, is_file}
+use Rattle.th_devices.specs.Spots.{Spot}
 use Rattle.th_devices.specs.Transfer.{HasTaken}
-use Rattle.th_folders.specs.Folders.{ArePlaced, IsPlaced, IsWholeFile}
+use Rattle.th_folders.specs.Folders.{ArePlaced, IsPlaced}
 use Rattle.th_network.specs.Networks.{Survey}
 use Rattle.th_plans.specs.Asked.{Files}
 use Rattle.std.proofs.lemmas.Option.{get_or_from_slice_get, slice_get_within}
 use Rattle.th_program.proofs.HeadlineLemmas.{survey_same}
-use Rattle.th_program.proofs.OutputLemmas.{where_told}
+use Rattle.th_files.proofs.OutputLemmas.{where_told}
 use Rattle.th_program.specs.Done.{IsPrinted, IsRefusedFor, IsWrite}
-use Rattle.th_program.specs.Inside.Opened.{AreApart, AreGivenBack, AreMade}
-use Rattle.th_program.specs.Outputs.{IsLeft, spots_of}
-use Rattle.th_program.specs.Owed.{Told, survey_owed}
-use Rattle.th_runs.specs.Inputs.{IsOwed, Meets, Owed}
-use Rattle.th_runs.specs.Outcomes.{Accepted}
-use Rattle.th_runs.specs.Reads.{IsNamed, Run, refused}
-use Rattle.th_runs.specs.Writes.{AreWritten, Complete, EachOut, IsAt, IsWritten, NotBegun, Texts, UnlessWrite, UpTo}
-use Rattle.th_runs.specs.declared.refusals.Output.{Output}
-use Rattle.th_runs.specs.declared.refusals.Refusal.{Refusal}
-use Rattle.th_runs.specs.declared.refusals.Refusal.TheVariants as refusal
+use Rattle.th_files.specs.Opened.{AreApart, AreGivenBack, AreMade}
+use Rattle.th_files.specs.Outputs.{IsLeft, spots_of}
+use Rattle.th_files.specs.Owed.{Told, survey_owed}
+use Rattle.th_run_parts.specs.Inputs.{IsOwed, Meets, Owed}
+use Rattle.th_run_parts.specs.Outcomes.{Accepted}
+use Rattle.th_run_parts.specs.Reads.{IsNamed, Run, refused}
+use Rattle.th_run_parts.specs.Writes.{AreWritten, Complete, EachOut, IsAt, IsWritten, NotBegun, Texts, UnlessWrite, UpTo}
+use Rattle.th_run_parts.specs.declared.refusals.Output.{Output}
+use Rattle.th_run_parts.specs.declared.refusals.Refusal.{Refusal}
+use Rattle.th_run_parts.specs.declared.refusals.Refusal.TheVariants as refusal
 
 -- no sink is at this spot
 abbrev Apart : Spot → List SinkState → Type 0
@@ -131,16 +130,6 @@ pub all_finished : {K : Type 0} (state_of : K → SinkState) (texts : Texts) (ol
 all_finished state_of [] [] [] written = tt
 all_finished state_of (text ∷ texts) (old ∷ olds) (new ∷ news) written = (written.0.stands.finished, all_finished state_of texts olds news written.1)
 all_finished state_of texts olds news written = absurd written
-
--- files that are finished
-pub whole_files : {K : Type 0} (state_of : K → SinkState) (sinks : List K) → AllByRecursion (λ own. is_file (state_of own).spot ≡ true) sinks
-    → AllByRecursion (λ own. (state_of own).is_finished ≡ true) sinks → All (λ own. IsWholeFile (state_of own)) sinks
-whole_files state_of sinks files finished = All-from_recursion (λ own. IsWholeFile (state_of own)) sinks (both sinks files finished)
-  where
-    both : (sinks : List _) → AllByRecursion (λ own. is_file (state_of own).spot ≡ true) sinks
-        → AllByRecursion (λ own. (state_of own).is_finished ≡ true) sinks → AllByRecursion (λ own. IsWholeFile (state_of own)) sinks
-    both [] files finished = tt
-    both (own ∷ sinks) files finished = ((files.0, finished.0), both sinks files.1 finished.1)
 
 -- what a run that was begun and given back printed of its survey
 pub printed_given : {F K : Type 0} (tells : Bool) (held : F → Told) (has_failed may_fail : F → Spot → Bool) (from : Files) (prefix : List ℕ) (outputs : List Output)

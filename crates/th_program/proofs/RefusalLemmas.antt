@@ -4,11 +4,11 @@ use Rattle.std.specs.Prelude.{Option, Result}
 use Rattle.th_network.specs.Networks.{Survey}
 use Rattle.th_plans.specs.Asked.{Files}
 use Rattle.th_program.specs.Done.{IsRefusedFor, IsWrite}
-use Rattle.th_runs.specs.Inputs.{IsOwed, Owed}
-use Rattle.th_runs.specs.Reads.{IsNamed, Run, refused}
-use Rattle.th_runs.specs.Writes.{IsWritten, UnlessWrite}
-use Rattle.th_runs.specs.declared.refusals.Refusal.{Refusal}
-use Rattle.th_runs.specs.declared.refusals.Refusal.TheVariants as refusal
+use Rattle.th_run_parts.specs.Inputs.{IsOwed, Owed}
+use Rattle.th_run_parts.specs.Reads.{IsNamed, Run, refused}
+use Rattle.th_run_parts.specs.Writes.{IsWritten, UnlessWrite}
+use Rattle.th_run_parts.specs.declared.refusals.Refusal.{Refusal}
+use Rattle.th_run_parts.specs.declared.refusals.Refusal.TheVariants as refusal
 
 -- the refusal of a run over the named files
 pub refused-for : {X Y : Type 0} (run : Run) (from : Files) (survey_of : Y → Survey) (owed_at : Option Refusal → Owed Y) (HasLeft : Option Refusal → Type 0)

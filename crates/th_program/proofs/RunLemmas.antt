@@ -1,22 +1,46 @@
 -- What a run leaves after its refusal was reported.
-use Rattle.std.proofs.Common.{◌≡◌, ◌≢◌, ◌∙◌, ℕ, Bool, true, List, None, Some, get_or, map, refl}
+use Rattle.std.proofs.Common.{◌≡◌, ◌≢◌, ◌∙◌, ℕ, Bool, true, List, None, Some, get_or, map, refl, [], ◌∷◌, ap₂, subst, sym}
 use Rattle.std.proofs.lemmas.List.Elements.{All-from_recursion}
 use Rattle.std.specs.List.{AllByRecursion, Contains}
 use Rattle.th_booking.specs.declared.conversions.Conversion.{Conversion}
 use Rattle.th_booking.specs.declared.conversions.Conversion.TheVariants.{Differences, Heights}
 use Rattle.th_devices.specs.Spots.{Spot, errors, file, input, is_file, output}
+use Rattle.th_paging.specs.Paged.{paging}
 use Rattle.th_plans.specs.Plans.{files}
 use Rattle.th_plans.specs.declared.plans.Plan.{Plan}
 use Rattle.th_plans.specs.declared.plans.Plan.TheVariants as plan
-use Rattle.th_program.proofs.OutputLemmas.{all_files, printed_after}
+use Rattle.th_files.proofs.OutputLemmas.{all_files, no_errors}
 use Rattle.th_program.proofs.RefusalLemmas.{refused-for-map}
-use Rattle.th_program.specs.Done.{IsBooked, IsDone, IsListed, IsOutputOf, IsRefused}
+use Rattle.th_program.specs.Done.{IsBooked, IsDone, IsListed, IsOutputOf, IsRefused, IsPrinted}
 use Rattle.th_program.specs.Failing.{Failing}
-use Rattle.th_program.specs.Owed.{Told, survey_owed}
-use Rattle.th_program.specs.Outputs.{ending_of, spots_of}
+use Rattle.th_files.specs.Owed.{Told, survey_owed}
+use Rattle.th_files.specs.Outputs.{ending_of, spots_of, AreLeftAs}
 use Rattle.th_runs.specs.Adjusted.{adjusting}
 use Rattle.th_runs.specs.Reviewed.{reviewing}
-use Rattle.th_runs.specs.declared.refusals.Refusal.{Refusal}
+use Rattle.th_run_parts.specs.declared.refusals.Refusal.{Refusal}
+use Rattle.std.specs.Prelude.{Option}
+use Rattle.th_network.specs.Networks.{Survey}
+use Rattle.th_plans.specs.Asked.{Files}
+use Rattle.th_run_parts.specs.Writes.{Texts}
+use Rattle.th_run_parts.specs.declared.refusals.Output.{Output}
+
+same_told : (after later : Told) (spots : List Spot) → AllByRecursion (λ spot. is_file spot ≡ true) spots
+    → ((spot : Spot) → spot ≢ errors → later spot ≡ after spot) → map later spots ≡ map after spots
+same_told after later [] files same = refl
+same_told after later (spot ∷ spots) files same = ap₂ (λ one more. one ∷ more) (same spot (no_errors spot files.0)) (same_told after later spots files.1 same)
+
+-- what is said on standard error changes no file
+pub printed_after : (tells : Bool) (before after later : Told) (from : Files) (prefix : List ℕ) (outputs : List Output) (AreOf : Survey → Texts → Type 0)
+    → AllByRecursion (λ spot. is_file spot ≡ true) (spots_of prefix outputs) → ((spot : Spot) → spot ≢ errors → later spot ≡ after spot) → (answer : Option Refusal)
+    → IsPrinted tells before after from prefix outputs AreOf answer → IsPrinted tells before later from prefix outputs AreOf answer
+printed_after tells before after later from prefix outputs AreOf files same answer is = record {
+  survey = is.survey;
+  texts = is.texts;
+  given = is.given;
+  network = is.network;
+  printed = is.printed;
+  left = subst (λ known. AreLeftAs tells answer is.texts (map before (spots_of prefix outputs)) known) (sym (same_told after later (spots_of prefix outputs) files same)) is.left;
+}
 
 -- what is said on standard error changes no refusal
 pub refused-after : (tells : Bool) (failing : Failing) (before after later : Told) (asked : Plan) (own : Refusal) → ((spot : Spot) → spot ≢ errors → later spot ≡ after spot)
@@ -29,6 +53,9 @@ refused-after tells failing before after later (plan.Adjust inputs limit prefix)
 refused-after tells failing before after later (plan.Review inputs limit prefix) own same is =
     refused-for-map reviewing (files inputs) _ (survey_owed before (Some own) (files inputs)) _ _ _ own
     (printed_after tells before after later (files inputs) prefix.now reviewing.outputs _ (all_files prefix.now (map ending_of reviewing.outputs) refl) same) is
+refused-after tells failing before after later (plan.Page inputs limit prefix) own same is =
+    refused-for-map paging (files inputs) _ (survey_owed before (Some own) (files inputs)) _ _ _ own
+    (printed_after tells before after later (files inputs) prefix.now paging.outputs _ (all_files prefix.now (map ending_of paging.outputs) refl) same) is
 refused-after tells failing before after later (plan.Explain inputs limit table) own same is = is
 refused-after tells failing before after later (plan.Check inputs certificate) own same is = is
 refused-after tells failing before after later (plan.Book table) own same is = is
@@ -63,6 +90,8 @@ done-after tells before after later (plan.Adjust inputs limit prefix) status sam
     (is.0, printed_after tells before after later (files inputs) prefix.now adjusting.outputs _ (all_files prefix.now (map ending_of adjusting.outputs) refl) same None is.1)
 done-after tells before after later (plan.Review inputs limit prefix) status same is =
     (is.0, printed_after tells before after later (files inputs) prefix.now reviewing.outputs _ (all_files prefix.now (map ending_of reviewing.outputs) refl) same None is.1)
+done-after tells before after later (plan.Page inputs limit prefix) status same is =
+    (is.0, printed_after tells before after later (files inputs) prefix.now paging.outputs _ (all_files prefix.now (map ending_of paging.outputs) refl) same None is.1)
 done-after tells before after later (plan.Explain inputs limit table) status same is = (
   is.0,
   record {
@@ -98,6 +127,7 @@ none_among spots files (place, within, is) =
 pub errors_apart : (asked : Plan) → IsOutputOf asked errors → ⊥
 errors_apart (plan.Adjust inputs limit prefix) is = none_among (spots_of prefix.now adjusting.outputs) (all_files prefix.now (map ending_of adjusting.outputs) refl) is
 errors_apart (plan.Review inputs limit prefix) is = none_among (spots_of prefix.now reviewing.outputs) (all_files prefix.now (map ending_of reviewing.outputs) refl) is
+errors_apart (plan.Page inputs limit prefix) is = none_among (spots_of prefix.now paging.outputs) (all_files prefix.now (map ending_of paging.outputs) refl) is
 errors_apart plan.Standard is = cc
 errors_apart (plan.List book) is = cc
 errors_apart (plan.Explain inputs limit table) is = cc

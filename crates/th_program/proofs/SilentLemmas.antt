@@ -4,8 +4,8 @@ use Rattle.th_devices.specs.Spots.{errors}
 use Rattle.th_plans.specs.declared.plans.Plan.{Plan}
 use Rattle.th_plans.specs.declared.plans.Plan.TheVariants as plan
 use Rattle.th_program.specs.Done.{IsOnOutput, IsOutputOf, IsReported, IsTold}
-use Rattle.th_program.specs.Owed.{Told}
-use Rattle.th_runs.specs.declared.refusals.Refusal.{Refusal}
+use Rattle.th_files.specs.Owed.{Told}
+use Rattle.th_run_parts.specs.declared.refusals.Refusal.{Refusal}
 
 -- what writes to standard output does not write to standard error
 apart : (asked : Plan) (own : Refusal) → IsOnOutput asked own → IsOutputOf asked errors → ⊥
@@ -13,6 +13,7 @@ apart plan.Standard own on is = cc
 apart (plan.List book) own on is = cc
 apart (plan.Adjust inputs limit prefix) own on is = on
 apart (plan.Review inputs limit prefix) own on is = on
+apart (plan.Page inputs limit prefix) own on is = on
 apart (plan.Explain inputs limit table) own on is = cc
 apart (plan.Check inputs certificate) own on is = cc
 apart (plan.Book table) own on is = cc

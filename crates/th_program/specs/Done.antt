@@ -9,6 +9,7 @@ use Rattle.th_devices.specs.Spots.{Spot, errors, file, input, output}
 use Rattle.th_devices.specs.declared.reasons.Reason.{Reason}
 use Rattle.th_lines.specs.Shown.{shown}
 use Rattle.th_network.specs.Networks.{Survey}
+use Rattle.th_paging.specs.Paged.{AreOfPage, paging}
 use Rattle.th_plans.specs.Asked.{Files}
 use Rattle.th_plans.specs.Plans.{IsFaultOf, IsPlanOf, files}
 use Rattle.th_plans.specs.declared.faults.PlanFault.{PlanFault}
@@ -22,27 +23,27 @@ use Rattle.th_booking.specs.declared.conversions.Conversion.TheVariants.{Differe
 use Rattle.th_runs.specs.Adjusted.{AreOfAdjustment, adjusting}
 use Rattle.th_runs.specs.Checked.{IsRight, checking, verdict_line, verdict_on}
 use Rattle.th_runs.specs.Explained.{AreOfExplanation, explaining}
-use Rattle.th_runs.specs.Inputs.{Claim, IsOwed, MakesNetwork, Meets, MeetsRefusal, Owed}
+use Rattle.th_run_parts.specs.Inputs.{Claim, IsOwed, MakesNetwork, Meets, MeetsRefusal, Owed}
 use Rattle.th_runs.specs.Listed.{IsOfList}
 use Rattle.th_runs.specs.Noted.{AreNone}
-use Rattle.th_runs.specs.Reads.{IsNamed, Run}
-use Rattle.th_runs.specs.Refusals.{input_text, status_of, status_of_verdict}
+use Rattle.th_run_parts.specs.Reads.{IsNamed, Run}
+use Rattle.th_run_parts.specs.Refusals.{input_text, status_of, status_of_verdict}
 use Rattle.th_runs.specs.Reviewed.{AreOfReview, reviewing}
-use Rattle.th_runs.specs.Writes.{Texts, UnlessWrite}
+use Rattle.th_run_parts.specs.Writes.{Texts, UnlessWrite}
 use Rattle.th_runs.specs.declared.notes.Notes.{Notes}
-use Rattle.th_runs.specs.declared.refusals.Input.{Input}
-use Rattle.th_runs.specs.declared.refusals.Input.TheVariants as source
+use Rattle.th_run_parts.specs.declared.refusals.Input.{Input}
+use Rattle.th_run_parts.specs.declared.refusals.Input.TheVariants as source
 use Rattle.th_runs.specs.declared.explaining.Form.{Form}
 use Rattle.th_runs.specs.declared.explaining.Form.TheVariants as form
-use Rattle.th_runs.specs.declared.refusals.Output.{Output}
-use Rattle.th_runs.specs.declared.refusals.Output.TheVariants as out
-use Rattle.th_runs.specs.declared.refusals.Refusal.{Refusal}
-use Rattle.th_runs.specs.declared.refusals.Refusal.TheVariants as refusal
+use Rattle.th_run_parts.specs.declared.refusals.Output.{Output}
+use Rattle.th_run_parts.specs.declared.refusals.Output.TheVariants as out
+use Rattle.th_run_parts.specs.declared.refusals.Refusal.{Refusal}
+use Rattle.th_run_parts.specs.declared.refusals.Refusal.TheVariants as refusal
 use Rattle.th_program.specs.Failing.{Failing, HasCause, IsInClaim, IsInFiles}
-use Rattle.th_program.specs.Helped.{refused_lines}
+use Rattle.th_files.specs.Helped.{refused_lines}
 use Rattle.th_program.specs.Noted.{AreNotesOf, notes_lines}
-use Rattle.th_program.specs.Outputs.{AreLeft, spots_of}
-use Rattle.th_program.specs.Owed.{HasName, Told, book_owed, claim_owed, converted_owed, survey_owed}
+use Rattle.th_files.specs.Outputs.{AreLeft, spots_of}
+use Rattle.th_files.specs.Owed.{HasName, Told, book_owed, claim_owed, converted_owed, survey_owed}
 
 -- the spot has this text, if the folder reports its bytes
 abbrev pub Holds : Bool → Told → Spot → List ℕ → Type 0
@@ -80,6 +81,11 @@ abbrev pub IsReviewed : Bool → Told → Told → Files → ℤ → List ℕ �
 IsReviewed tells old new from limit prefix =
     IsPrinted tells old new from prefix reviewing.outputs (AreOfReview (map (λ name. old (file name)) from.books) limit)
 
+-- the file of a page has its text: of the survey in the named files, of what else their books contain, and of the names of these as they were given
+abbrev pub IsPagedFile : Bool → Told → Told → Files → ℤ → List ℕ → Option Refusal → Type 0
+IsPagedFile tells old new from limit prefix =
+    IsPrinted tells old new from prefix paging.outputs (AreOfPage from.books (map (λ name. old (file name)) from.books) limit)
+
 -- the form in which a plan requests explanations
 abbrev pub form_of : Bool → Form
 form_of true = form.Table
@@ -110,6 +116,7 @@ IsDone tells old new (plan.List book) status = (status ≡ 0) × IsListed tells 
 IsDone tells old new (plan.Adjust inputs limit prefix) status = (status ≡ 0) × IsAdjusted tells old new (files inputs) limit prefix.now None
 IsDone tells old new (plan.Review inputs limit prefix) status = (status ≡ 0) × IsReviewed tells old new (files inputs) limit prefix.now None
 IsDone tells old new (plan.Explain inputs limit table) status = (status ≡ 0) × IsExplained tells old new (files inputs) limit (form_of table)
+IsDone tells old new (plan.Page inputs limit prefix) status = (status ≡ 0) × IsPagedFile tells old new (files inputs) limit prefix.now None
 IsDone tells old new (plan.Check inputs certificate) status =
     (verdict : Verdict) × (status ≡ status_of_verdict verdict) × IsChecked tells old new (files inputs) certificate.now verdict
 IsDone tells old new (plan.Book table) status = (status ≡ 0) × IsBooked tells old new Differences table.now
@@ -142,7 +149,7 @@ pub record IsRefusedFor {X : Type 0} (run : Run) (from : Files) (survey_of : X �
   pub left : IsWrite own → HasLeft (Some own)
   pub cause : Caused own
 
--- the refusal of an adjustment, of a review, of an explanation, and of a check
+-- the refusal of an adjustment, of a review, of an explanation, of a page, and of a check
 abbrev pub IsRefusedAdjust : Bool → Failing → Told → Told → Files → ℤ → List ℕ → Refusal → Type 0
 IsRefusedAdjust tells failing old new from limit prefix own =
     IsRefusedFor adjusting from (λ survey. survey) (survey_owed old (Some own) from) (IsAdjusted tells old new from limit prefix)
@@ -158,6 +165,11 @@ IsRefusedExplain failing old from own =
     IsRefusedFor explaining from (λ survey. survey) (survey_owed old (Some own) from) (λ answer. Unit {0})
     (HasCause failing (IsInFiles from) []) own
 
+abbrev pub IsRefusedPage : Bool → Failing → Told → Told → Files → ℤ → List ℕ → Refusal → Type 0
+IsRefusedPage tells failing old new from limit prefix own =
+    IsRefusedFor paging from (λ survey. survey) (survey_owed old (Some own) from) (IsPagedFile tells old new from limit prefix)
+    (HasCause failing (IsInFiles from) prefix) own
+
 abbrev pub IsRefusedCheck : Failing → Told → Files → List ℕ → Refusal → Type 0
 IsRefusedCheck failing old from certificate own =
     IsRefusedFor checking from (λ claim. claim.survey) (claim_owed old (Some own) from certificate) (λ answer. Unit {0})
@@ -170,21 +182,26 @@ IsRefused tells failing old new (plan.List book) own = IsRefusedList failing old
 IsRefused tells failing old new (plan.Adjust inputs limit prefix) own = IsRefusedAdjust tells failing old new (files inputs) limit prefix.now own
 IsRefused tells failing old new (plan.Review inputs limit prefix) own = IsRefusedReview tells failing old new (files inputs) limit prefix.now own
 IsRefused tells failing old new (plan.Explain inputs limit table) own = IsRefusedExplain failing old (files inputs) own
+IsRefused tells failing old new (plan.Page inputs limit prefix) own = IsRefusedPage tells failing old new (files inputs) limit prefix.now own
 IsRefused tells failing old new (plan.Check inputs certificate) own = IsRefusedCheck failing old (files inputs) certificate.now own
 IsRefused tells failing old new (plan.Book table) own = IsRefusedBook failing old Differences table.now own
 IsRefused tells failing old new (plan.BookOfHeights book) own = IsRefusedBook failing old Heights book.now own
 
--- the spots that an adjustment with this prefix writes to, and those of a review
+-- the spots that an adjustment with this prefix writes to, those of a review, and that of a page
 abbrev pub IsAdjustOutput : List ℕ → Spot → Type 0
 IsAdjustOutput prefix spot = Contains (spots_of prefix adjusting.outputs) spot
 
 abbrev pub IsReviewOutput : List ℕ → Spot → Type 0
 IsReviewOutput prefix spot = Contains (spots_of prefix reviewing.outputs) spot
 
+abbrev pub IsPageOutput : List ℕ → Spot → Type 0
+IsPageOutput prefix spot = Contains (spots_of prefix paging.outputs) spot
+
 -- a plan writes to this spot
 abbrev pub IsOutputOf : Plan → Spot → Type 0
 IsOutputOf (plan.Adjust inputs limit prefix) spot = IsAdjustOutput prefix.now spot
 IsOutputOf (plan.Review inputs limit prefix) spot = IsReviewOutput prefix.now spot
+IsOutputOf (plan.Page inputs limit prefix) spot = IsPageOutput prefix.now spot
 IsOutputOf other spot = spot ≡ output
 
 -- a plan reads this input from the file of this name
@@ -194,6 +211,7 @@ IsInputOf (plan.List book) which name = (which ≡ source.Book 1) × (name ≡ b
 IsInputOf (plan.Adjust inputs limit prefix) which name = HasName (files inputs) which name
 IsInputOf (plan.Review inputs limit prefix) which name = HasName (files inputs) which name
 IsInputOf (plan.Explain inputs limit table) which name = HasName (files inputs) which name
+IsInputOf (plan.Page inputs limit prefix) which name = HasName (files inputs) which name
 IsInputOf (plan.Check inputs certificate) which name = HasName (files inputs) which name ⊎ ((which ≡ source.Certificate) × (name ≡ certificate.now))
 IsInputOf (plan.Book table) which name = (which ≡ source.Differences) × (name ≡ table.now)
 IsInputOf (plan.BookOfHeights book) which name = (which ≡ source.Book 1) × (name ≡ book.now)
@@ -221,6 +239,7 @@ IsSaid tells told line = Holds tells told errors (line ++ 10 ∷ [])
 abbrev pub IsOnOutput : Plan → Refusal → Type 0
 IsOnOutput (plan.Adjust inputs limit prefix) own = ⊥
 IsOnOutput (plan.Review inputs limit prefix) own = ⊥
+IsOnOutput (plan.Page inputs limit prefix) own = ⊥
 IsOnOutput other own = IsWrite own
 
 -- standard error has the lines of a refusal, for the reason that the system told or for none

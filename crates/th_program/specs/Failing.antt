@@ -2,12 +2,12 @@
 use Rattle.std.specs.Prelude.{◌≡◌, ℕ, Bool, true, List}
 use Rattle.th_devices.specs.Spots.{Spot, file}
 use Rattle.th_plans.specs.Asked.{Files}
-use Rattle.th_program.specs.Outputs.{ending_of, spot_at}
-use Rattle.th_program.specs.Owed.{HasName}
-use Rattle.th_runs.specs.declared.refusals.Input.{Input}
-use Rattle.th_runs.specs.declared.refusals.Input.TheVariants as input
-use Rattle.th_runs.specs.declared.refusals.Refusal.{Refusal}
-use Rattle.th_runs.specs.declared.refusals.Refusal.TheVariants as refusal
+use Rattle.th_files.specs.Outputs.{ending_of, spot_at}
+use Rattle.th_files.specs.Owed.{HasName}
+use Rattle.th_run_parts.specs.declared.refusals.Input.{Input}
+use Rattle.th_run_parts.specs.declared.refusals.Input.TheVariants as input
+use Rattle.th_run_parts.specs.declared.refusals.Refusal.{Refusal}
+use Rattle.th_run_parts.specs.declared.refusals.Refusal.TheVariants as refusal
 
 -- whether reading what is at a spot may fail, as it does where nothing is, and whether writing to it may
 pub record Failing : Type 0 where

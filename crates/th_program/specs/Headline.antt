@@ -4,12 +4,12 @@ use Rattle.std.specs.List.{Contains}
 use Rattle.th_network.specs.Networks.{Survey}
 use Rattle.th_plans.specs.Asked.{Asked, Files}
 use Rattle.th_plans.specs.Plans.{AreTaken, asked}
-use Rattle.th_runs.specs.Inputs.{MakesNetwork}
+use Rattle.th_run_parts.specs.Inputs.{MakesNetwork}
 use Rattle.th_devices.specs.Spots.{Spot, file}
 use Rattle.th_program.specs.Done.{IsAdjustOutput}
 use Rattle.th_program.specs.Failing.{Failing, Origins}
-use Rattle.th_program.specs.Owed.{HasName, Told, survey_owed}
-use Rattle.th_runs.specs.declared.refusals.Input.{Input}
+use Rattle.th_files.specs.Owed.{HasName, Told, survey_owed}
+use Rattle.th_run_parts.specs.declared.refusals.Input.{Input}
 
 -- the arguments, the program's name first, request this
 abbrev pub AskFor : List (List ℕ) → Asked → Type 0

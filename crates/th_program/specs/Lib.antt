@@ -1,7 +1,4 @@
-pub mod Owed
-pub mod Outputs
 pub mod Failing
-pub mod Helped
 pub mod Noted
 pub mod Done
 pub mod Headline

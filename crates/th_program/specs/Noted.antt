@@ -7,9 +7,9 @@ use Rattle.th_plans.specs.Asked.{Files}
 use Rattle.th_plans.specs.Plans.{files}
 use Rattle.th_plans.specs.declared.plans.Plan.{Plan}
 use Rattle.th_plans.specs.declared.plans.Plan.TheVariants as plan
-use Rattle.th_program.specs.Owed.{Told, survey_owed}
+use Rattle.th_files.specs.Owed.{Told, survey_owed}
 use Rattle.th_remarks.specs.declared.heights.ManyHeights.{ManyHeights}
-use Rattle.th_runs.specs.Inputs.{MakesNetwork, Meets}
+use Rattle.th_run_parts.specs.Inputs.{MakesNetwork, Meets}
 use Rattle.th_runs.specs.Noted.{AreNone, AreNotesOfAdjustment, AreNotesOfList}
 use Rattle.th_runs.specs.declared.notes.Notes.{Notes}
 

@@ -6,11 +6,10 @@ ghost use Rattle.th_program.specs.Failing.{failing_of};
 ghost use Rattle.th_plans.specs.Plans.{files};
 ghost use Rattle.th_program.specs.Noted.{AreNotesOfFiles};
 ghost use Rattle.th_runs.specs.Noted.{AreNone};
-ghost use Rattle.th_runs.specs.Writes.{UnlessWrite};
+ghost use Rattle.th_run_parts.specs.Writes.{UnlessWrite};
 
-use crate::opening::sources_of;
-use crate::outputs::{place_sinks, sinks_of};
 use std::alloc::Global;
+use th_files::{place_sinks, sinks_of, sources_of};
 use th_folders::Folder;
 use th_plans::{Inputs, Limit};
 use th_runs::{ADJUSTED, Notes, Refusal, run_adjust_with_notes};

@@ -3,11 +3,11 @@ ghost use Rattle.std.specs.Prelude.{◌≡◌, ◌≢◌, OnOk, IfErr};
 ghost use Rattle.th_devices.specs.Spots.{output};
 ghost use Rattle.th_program.specs.Done.{IsBooked, IsRefusedBook};
 ghost use Rattle.th_program.specs.Failing.{failing_of};
-ghost use Rattle.th_runs.specs.Writes.{UnlessWrite};
+ghost use Rattle.th_run_parts.specs.Writes.{UnlessWrite};
 
-use crate::outputs::{close_sinks, sinks_of};
 use std::alloc::Global;
 use th_booking::{BOOKED, Conversion, run_book};
+use th_files::{close_sinks, sinks_of};
 use th_folders::{Folder, Origin};
 use th_runs::Refusal;
 

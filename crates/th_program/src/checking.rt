@@ -4,12 +4,11 @@ ghost use Rattle.th_devices.specs.Spots.{output};
 ghost use Rattle.th_plans.specs.Plans.{files};
 ghost use Rattle.th_program.specs.Done.{IsChecked, IsRefusedCheck};
 ghost use Rattle.th_program.specs.Failing.{failing_of};
-ghost use Rattle.th_runs.specs.Writes.{UnlessWrite};
+ghost use Rattle.th_run_parts.specs.Writes.{UnlessWrite};
 
-use crate::opening::sources_of;
-use crate::outputs::{close_sinks, sinks_of};
 use std::alloc::Global;
 use th_checker::Verdict;
+use th_files::{close_sinks, sinks_of, sources_of};
 use th_folders::{Folder, Origin};
 use th_plans::Inputs;
 use th_runs::{CHECKED, Refusal, run_check};

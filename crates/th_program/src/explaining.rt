@@ -4,11 +4,10 @@ ghost use Rattle.th_devices.specs.Spots.{output};
 ghost use Rattle.th_plans.specs.Plans.{files};
 ghost use Rattle.th_program.specs.Done.{IsExplained, IsRefusedExplain, form_of};
 ghost use Rattle.th_program.specs.Failing.{failing_of};
-ghost use Rattle.th_runs.specs.Writes.{UnlessWrite};
+ghost use Rattle.th_run_parts.specs.Writes.{UnlessWrite};
 
-use crate::opening::sources_of;
-use crate::outputs::{close_sinks, sinks_of};
 use std::alloc::Global;
+use th_files::{close_sinks, sinks_of, sources_of};
 use th_folders::Folder;
 use th_plans::{Inputs, Limit};
 use th_runs::{EXPLAINED, Form, Refusal, run_explain};
@@ -32,6 +31,7 @@ pub(crate) fn explain<F: Folder>(
 {
     let mut sources = sources_of(alloc, folder, inputs)?;
     let mut outs = sinks_of(alloc, folder, "", &EXPLAINED)?;
+    let mut progress = folder.progress("explain");
     let answer = run_explain(
         alloc,
         sources.books.as_mut_slice(),
@@ -40,6 +40,7 @@ pub(crate) fn explain<F: Folder>(
         limit.get(),
         form,
         outs.as_mut_slice(),
+        &mut progress,
     );
     close_sinks(folder, outs);
     answer

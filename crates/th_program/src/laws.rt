@@ -8,12 +8,12 @@ ghost use Rattle.th_plans.specs.declared.plans.Plan.{Plan};
 ghost use Rattle.th_program.specs.Done.{AreDone, IsAdjusted, IsInputOf, IsRun};
 ghost use Rattle.th_program.specs.Failing.{IsInClaim, IsInFiles, failing_of};
 ghost use Rattle.th_program.specs.Headline.{AskFor, IsAccepted, IsUnlucky, NoneMayFail, SomeMayFail, SparesInputs};
-ghost use Rattle.th_program.specs.Outputs.{spots_of};
-ghost use Rattle.th_program.specs.Owed.{claim_owed};
+ghost use Rattle.th_files.specs.Outputs.{spots_of};
+ghost use Rattle.th_files.specs.Owed.{claim_owed};
 ghost use Rattle.th_runs.specs.Adjusted.{AreOutputs, OutTexts, adjusting};
 ghost use Rattle.th_runs.specs.Checked.{IsRight, checking};
-ghost use Rattle.th_runs.specs.Inputs.{Claim, Meets};
-ghost use Rattle.th_runs.specs.declared.refusals.Input.{Input};
+ghost use Rattle.th_run_parts.specs.Inputs.{Claim, Meets};
+ghost use Rattle.th_run_parts.specs.declared.refusals.Input.{Input};
 
 use th_folders::Folder;
 use th_runs::laws::{

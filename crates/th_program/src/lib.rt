@@ -6,21 +6,17 @@
 //! it changes nothing else. A command whose outputs would overwrite one of its inputs is not begun.
 #![tactic(auto)]
 
-// The sources of a run, and the sinks of its outputs.
-mod opening;
-mod outputs;
-
 // The commands.
 mod adjusting;
 mod booking;
 mod checking;
 mod explaining;
 mod listing;
+mod paging;
 mod reviewing;
 
 // The program: a refusal is reported, a plan that overwrites no input is run, arguments become a plan.
 mod arguments;
-mod helping;
 mod noting;
 mod overwrites;
 mod plans;

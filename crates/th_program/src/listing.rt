@@ -5,10 +5,10 @@ ghost use Rattle.th_devices.specs.Spots.{output};
 ghost use Rattle.th_program.specs.Done.{IsListed, IsRefusedList};
 ghost use Rattle.th_program.specs.Failing.{failing_of};
 ghost use Rattle.th_runs.specs.Noted.{AreNone, AreNotesOfList};
-ghost use Rattle.th_runs.specs.Writes.{UnlessWrite};
+ghost use Rattle.th_run_parts.specs.Writes.{UnlessWrite};
 
-use crate::outputs::{close_sinks, sinks_of};
 use std::alloc::Global;
+use th_files::{close_sinks, sinks_of};
 use th_folders::{Folder, Origin};
 use th_runs::{LISTED, Notes, Refusal, run_list_with_notes};
 

@@ -9,10 +9,11 @@ ghost use Rattle.th_program.specs.Noted.{heights_line, notes_lines};
 ghost use Rattle.th_runs.specs.Noted.{AreNone};
 
 use th_devices::{Failed, Sink};
+use th_entries::NoSight;
 use th_folders::Folder;
 use th_help::{put_many_heights, put_no_sight};
 use th_lines::{Line, begin_line, end_line};
-use th_remarks::{ManyHeights, NoSight};
+use th_remarks::ManyHeights;
 use th_runs::Notes;
 
 /// Writes a line on standard error for each note, if there are notes. Whether standard error takes them,

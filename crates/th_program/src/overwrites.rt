@@ -4,12 +4,13 @@ ghost use Rattle.th_plans.specs.Limits.{max_books};
 ghost use Rattle.th_plans.specs.Plans.{files};
 ghost use Rattle.th_program.specs.Done.{KeepsInputs};
 ghost use Rattle.th_program.specs.Inside.Stops.{AreKept, IsApart, IsNoBook, IsStop, IsStopOf};
-ghost use Rattle.th_program.specs.Outputs.{spot_at, spots_of};
-ghost use Rattle.th_program.specs.Owed.{HasName, IsBook};
+ghost use Rattle.th_files.specs.Outputs.{spot_at, spots_of};
+ghost use Rattle.th_files.specs.Owed.{HasName, IsBook};
 
-use crate::outputs::ending_of;
 use std::alloc::{AllocError, Global};
+use th_files::ending_of;
 use th_folders::Folder;
+use th_paging::PAGED;
 use th_plans::{Inputs, Plan};
 use th_runs::{ADJUSTED, Input, Output, REVIEWED};
 
@@ -57,6 +58,7 @@ pub(crate) fn keep_inputs<'a, F: Folder>(
         Plan::Review { inputs, prefix, .. } => {
             keep_all(alloc, folder, inputs, *prefix, &REVIEWED)
         }
+        Plan::Page { inputs, prefix, .. } => keep_all(alloc, folder, inputs, *prefix, &PAGED),
         Plan::Standard
         | Plan::List { .. }
         | Plan::Explain { .. }

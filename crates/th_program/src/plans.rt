@@ -5,7 +5,7 @@ ghost use Rattle.th_program.specs.Done.{IsCarriedOut, IsDone, IsOutputOf, IsRefu
 ghost use Rattle.th_program.specs.Failing.{failing_of};
 ghost use Rattle.th_program.specs.Noted.{AreNotesOf};
 ghost use Rattle.th_runs.specs.Noted.{AreNone};
-ghost use Rattle.th_runs.specs.Writes.{UnlessWrite};
+ghost use Rattle.th_run_parts.specs.Writes.{UnlessWrite};
 
 use crate::adjusting::adjust;
 use crate::booking::make_book;
@@ -14,6 +14,7 @@ use crate::explaining::{explain, form_of};
 use crate::listing::list;
 use crate::noting::tell_notes;
 use crate::overwrites::{Stop, keep_inputs};
+use crate::paging::page;
 use crate::refusals::{refuse, refuse_memory, refuse_overwrite};
 use crate::reviewing::review;
 use std::alloc::Global;
@@ -89,6 +90,11 @@ fn carry_out<F: Folder>(
             limit,
             table,
         } => explain(alloc, folder, inputs, *limit, form_of(*table))?,
+        Plan::Page {
+            inputs,
+            limit,
+            prefix,
+        } => page(alloc, folder, inputs, *limit, *prefix)?,
         Plan::Check {
             inputs,
             certificate,

@@ -5,16 +5,16 @@ ghost use Rattle.th_devices.specs.Spots.{errors};
 ghost use Rattle.th_lines.specs.Lines.{HasRoom, IsPut};
 ghost use Rattle.th_lines.specs.Shown.{shown};
 ghost use Rattle.th_program.specs.Done.{IsOnOutput, IsSaid, IsTold, overwrite_text};
-ghost use Rattle.th_program.specs.Helped.{refused_lines};
+ghost use Rattle.th_files.specs.Helped.{refused_lines};
 ghost use Rattle.th_tables.specs.Texts.{fault_text};
-ghost use Rattle.th_runs.specs.Refusals.{input_text, output_text, refusal_text, status_of};
+ghost use Rattle.th_run_parts.specs.Refusals.{input_text, output_text, refusal_text, status_of};
 
-use crate::helping::put_second_line;
 use crate::overwrites::Overwrite;
 use th_book::BookFault;
 use th_certificate::CertFault;
 use th_conversions::DifferenceFault;
 use th_devices::{Failed, Reason, Sink};
+use th_files::put_second_line;
 use th_folders::Folder;
 use th_help::{
     put_book_fault, put_certificate_fault, put_difference_fault, put_network_fault, put_table_fault,
@@ -51,7 +51,7 @@ fn is_on_output(plan: &Plan<'_>, refusal: &Refusal) -> bool
     ensures { result ≡ true → IsOnOutput plan.now refusal.now }
 {
     match (plan, refusal) {
-        (Plan::Adjust { .. } | Plan::Review { .. }, _) => false,
+        (Plan::Adjust { .. } | Plan::Review { .. } | Plan::Page { .. }, _) => false,
         (_, Refusal::Write(_)) => true,
         _ => false,
     }
@@ -285,5 +285,6 @@ fn text_of_output(output: Output) -> &'static str
         Output::Review => "review",
         Output::Explanations => "explanations",
         Output::Book => "book",
+        Output::Page => "page",
     }
 }

@@ -3,11 +3,10 @@ ghost use Rattle.std.specs.Prelude.{◌≡◌, IfErr, None, OnOk};
 ghost use Rattle.th_program.specs.Done.{IsRefusedReview, IsReviewOutput, IsReviewed};
 ghost use Rattle.th_program.specs.Failing.{failing_of};
 ghost use Rattle.th_plans.specs.Plans.{files};
-ghost use Rattle.th_runs.specs.Writes.{UnlessWrite};
+ghost use Rattle.th_run_parts.specs.Writes.{UnlessWrite};
 
-use crate::opening::sources_of;
-use crate::outputs::{place_sinks, sinks_of};
 use std::alloc::Global;
+use th_files::{place_sinks, sinks_of, sources_of};
 use th_folders::Folder;
 use th_plans::{Inputs, Limit};
 use th_progress::Progress;

@@ -5,6 +5,8 @@ pub enum Work {
     Cuts,
     /// Keyed-in heights.
     Entries,
+    /// Numbers that somebody read or typed.
+    Numbers,
 }
 
 impl Work {
@@ -13,6 +15,7 @@ impl Work {
         match self {
             Work::Cuts => "cuts",
             Work::Entries => "entries",
+            Work::Numbers => "numbers",
         }
     }
 }

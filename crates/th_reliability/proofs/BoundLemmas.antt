@@ -1,11 +1,12 @@
 -- What the controls of a group's observations tell of a mistake that the group shares.
-use Rattle.std.proofs.Common.{◌≡◌, ℕ, suc, ◌+◌, ◌<◌, ◌≤◌, inl, inr, Bool, true, false, List, [], ◌∷◌, get_or, length, Option, Some, None, All, Contains, if◌then◌else◌, refl, sym, ap, ◌∙◌, subst, arith}
+use Rattle.std.proofs.Common.{◌≡◌, ℕ, suc, ◌+◌, ◌<◌, ◌≤◌, inl, inr, Bool, true, false, List, [], ◌∷◌, get_or, length, sum_by, Option, Some, None, All, Contains, if◌then◌else◌, refl, sym, ap, ◌∙◌, subst, arith}
+use Rattle.std.proofs.Math.Path.{fun_ext}
 use Rattle.std.proofs.lemmas.Bool.{cases_eq, cases_lt, false≢true, ltb-true}
 use Rattle.std.proofs.lemmas.List.{get_or_default}
 use Rattle.std.proofs.lemmas.List.Elements.{All-contains, All-from_recursion}
 use Rattle.std.proofs.lemmas.List.Sums.{sum_by-cons}
 use Rattle.th_book.specs.Observed.{Observed}
-use Rattle.th_tables.specs.Rows.{weight_of}
+use Rattle.th_tables.specs.Rows.{WeightRows, weight_of}
 use Rattle.th_points.specs.Points.{points}
 use Rattle.th_points.proofs.PlaceLemmas.{ends_contained}
 use Rattle.th_network.specs.Networks.{Survey, points_of}
@@ -13,7 +14,7 @@ use Rattle.th_network.specs.Walks.{Anchored, IsTied}
 use Rattle.th_network.proofs.WalkLemmas.{untied_inside}
 use Rattle.th_reliability.specs.Blunders.{weight_in}
 use Rattle.th_reliability.specs.Cuts.{crosses, cut, differ}
-use Rattle.th_reliability.specs.Groups.{own_cut}
+use Rattle.th_reliability.specs.Groups.{own_cut, rest_cut}
 use Rattle.th_reliability.specs.Numbers.{HasControl}
 use Rattle.th_reliability.specs.SharedMistakes.{IsFreeWithPoint, IsSharedMistake, own, rest}
 use Rattle.th_reliability.specs.Sights.{in_sights}
@@ -21,9 +22,18 @@ use Rattle.th_reliability.specs.declared.sights.Sights.{Sights}
 use Rattle.th_reliability.specs.Runs.{HoldsSights}
 use Rattle.th_reliability.specs.Inside.Bounds.{AreNoLess, IsNoLess, is_above_twice}
 use Rattle.th_reliability.specs.declared.mistakes.SharedMistake.TheVariants.{Shows}
-use Rattle.th_reliability.proofs.GroupLemmas.{parts}
 use Rattle.th_reliability.proofs.LevelLemmas.{none_crosses}
-use Rattle.th_reliability.proofs.SumLemmas.{sums-le}
+use Rattle.th_reliability.proofs.SumLemmas.{sums-le, sums-plus}
+
+-- ---- a cut is the group's and the others'
+one_part : (w : ℕ) (b c : Bool) → (if c then w else 0) ≡ (if b then (if c then w else 0) else 0) + (if b then 0 else (if c then w else 0))
+one_part w true c = omega arith
+one_part w false c = omega arith
+
+pub parts : (observations : List Observed) (weights : WeightRows) (group : Observed → Bool) (inside : List ℕ → Bool) → cut observations weights inside ≡ own_cut observations weights group inside + rest_cut observations weights group inside
+parts observations weights group inside =
+    let c = λ (o : Observed). if crosses inside o then weight_of weights o.station o.target else 0 in
+    ap (λ f. sum_by f observations) (fun_ext (λ o. one_part (weight_of weights o.station o.target) (group o) (crosses inside o))) ∙ sums-plus (λ o. if group o then c o else 0) (λ o. if group o then 0 else c o) observations
 
 -- each observation weighs something
 abbrev pub WeighSome : Survey → Type 0
@@ -76,6 +86,10 @@ member survey group inside (o ∷ observations) some = by (group o) (crosses ins
         let first = sum_by-cons (λ (x : Observed). if group x then (if crosses inside x then weight_of survey.weights x.station x.target else 0) else 0) o observations in
         let none : (if group o then (if crosses inside o then w else 0) else 0) ≡ 0 = ap (λ (g : Bool). if g then (if crosses inside o then w else 0) else 0) not in
         next (omega arith)
+
+-- a set that cuts some of a group holds a point
+pub own_point : (survey : Survey) (group : Observed → Bool) (inside : List ℕ → Bool) → 0 < own survey group inside → (name : List ℕ) × Contains (points_of survey) name × (inside name ≡ true)
+own_point survey group inside some = let found = member survey group inside survey.observations some in end_inside survey found.0 inside found.1 found.3
 
 own_part : (w : ℕ) (g e : Bool) → (if g then (if e then w else 0) else 0) ≤ (if g then w else 0)
 own_part w true true = omega arith

@@ -3,8 +3,8 @@ use Rattle.std.proofs.Common.{◌≡◌, ◌≢◌, ℕ, ◌+◌, ◌<◌, ◌�
 use Rattle.th_book.specs.Observed.{Observed}
 use Rattle.th_network.specs.Networks.{Survey}
 use Rattle.th_network.specs.Walks.{Anchored}
-use Rattle.th_cuts.specs.Cuts.{Weighted, drain, on_side}
-use Rattle.th_cuts.specs.Drains.{IsLeastDrain}
+use Rattle.th_cuts.specs.Cuts.{Weighted}
+use Rattle.th_flows.specs.Drains.{IsLeastDrain, drain, on_side}
 use Rattle.th_reliability.specs.Blames.{IsBlame}
 use Rattle.th_reliability.specs.Blunders.{weight_in}
 use Rattle.th_reliability.specs.Effects.{HasBlame, IsEffect}
@@ -12,8 +12,7 @@ use Rattle.th_reliability.specs.Inside.Effects.{IsLeastDrained, Moves, of_less}
 use Rattle.th_reliability.specs.Inside.Graphs.{IsGraphOf}
 use Rattle.th_reliability.specs.Inside.Sides.{names_beyond}
 use Rattle.th_reliability.specs.Inside.Targets.{AreAtVertex, AreTargets}
-use Rattle.th_reliability.specs.Moves.{IsLeastSet}
-use Rattle.th_reliability.specs.SharedMistakes.{IsSharedMistake}
+use Rattle.th_reliability.specs.SharedMistakes.{IsLeastSet, IsSharedMistake}
 use Rattle.th_reliability.specs.declared.effects.Effect.{Effect}
 use Rattle.th_reliability.specs.declared.mistakes.SharedMistake.{SharedMistake}
 use Rattle.th_reliability.specs.declared.mistakes.SharedMistake.TheVariants.{Drags, Shows, Ties, Unchecked}

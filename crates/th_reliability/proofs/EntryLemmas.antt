@@ -7,9 +7,10 @@ use Rattle.th_book.specs.Observed.{Observed}
 use Rattle.th_tables.specs.Rows.{weight_of}
 use Rattle.th_network.specs.Networks.{Survey}
 use Rattle.th_network.specs.Walks.{Anchored}
-use Rattle.th_cuts.specs.declared.edges.Edge.{Edge}
-use Rattle.th_cuts.specs.Cuts.{Weighted, crosses as edge_crosses, cut_weight, drain, on_side}
-use Rattle.th_cuts.specs.Drains.{IsLeastDrain}
+use Rattle.th_graphs.specs.declared.edges.Edge.{Edge}
+use Rattle.th_cuts.specs.Cuts.{Weighted}
+use Rattle.th_graphs.specs.Cuts.{crosses as edge_crosses, cut_weight}
+use Rattle.th_flows.specs.Drains.{IsLeastDrain, drain, on_side}
 use Rattle.th_cuts.proofs.CutTreeLemmas.{mirrored}
 use Rattle.th_reliability.specs.Blunders.{weight_in}
 use Rattle.th_reliability.specs.Cuts.{IsFreeSet, crosses}
@@ -23,12 +24,10 @@ use Rattle.th_reliability.specs.Inside.Graphs.{IsGraphOf}
 use Rattle.th_reliability.specs.Inside.Targets.{AreAtVertex, AreTargets, IsAtVertex, far_vertex, group_room, room_of, vertex}
 use Rattle.th_reliability.specs.Inside.Effects.{IsLeastDrained, of_less}
 use Rattle.th_reliability.specs.Inside.Sides.{names_beyond}
-use Rattle.th_reliability.specs.Moves.{IsLeastSet}
-use Rattle.th_reliability.specs.SharedMistakes.{IsAlone, IsFreeWithPoint, IsOutweighed, IsSharedMistake, own, rest}
+use Rattle.th_reliability.specs.SharedMistakes.{IsAlone, IsFreeWithPoint, IsLeastSet, IsOutweighed, IsSharedMistake, own, rest}
 use Rattle.th_reliability.specs.declared.mistakes.SharedMistake.{SharedMistake}
 use Rattle.th_reliability.specs.declared.mistakes.SharedMistake.TheVariants.{Drags, Shows, Ties, Unchecked}
-use Rattle.th_reliability.proofs.BoundLemmas.{WeighSome, cuts_other, end_inside, own_most}
-use Rattle.th_reliability.proofs.SharedLemmas.{end_listed, own_end}
+use Rattle.th_reliability.proofs.BoundLemmas.{WeighSome, cuts_other, end_inside, own_most, own_point}
 use Rattle.th_reliability.proofs.SideLemmas.{beyond_crosses, beyond_free}
 use Rattle.th_reliability.proofs.VertexLemmas.{crosses_same, ends_agree}
 
@@ -139,7 +138,7 @@ module _ (survey : Survey) (group : Observed → Bool) (start : ℕ) where
           module _ (less : value < most) where
             outweighed : IsOutweighed survey group (names_beyond survey (on_side side))
             outweighed = let here = value_is in record {
-              is = record { free = beyond_free survey (on_side side); point = end_listed survey (names_beyond survey (on_side side)) (own_end survey group (names_beyond survey (on_side side)) survey.observations (omega arith)) };
+              is = record { free = beyond_free survey (on_side side); point = own_point survey group (names_beyond survey (on_side side)) (omega arith) };
               less = omega arith;
             }
 

@@ -5,9 +5,11 @@ use Rattle.std.proofs.lemmas.Option.{get_or_from_slice_get, slice_get_within}
 use Rattle.th_book.specs.Observed.{IsBetweenPoints, Observed}
 use Rattle.th_tables.specs.Rows.{weight_of}
 use Rattle.th_network.specs.Networks.{Survey}
-use Rattle.th_cuts.specs.Cuts.{IsLeastSide, Weighted, crosses as edge_crosses, on_side, separates}
-use Rattle.th_cuts.specs.Inside.Flows.{edge_at}
-use Rattle.th_cuts.specs.declared.edges.Edge.{Edge}
+use Rattle.th_cuts.specs.Cuts.{IsLeastSide, Weighted}
+use Rattle.th_graphs.specs.Cuts.{crosses as edge_crosses, separates}
+use Rattle.th_flows.specs.Drains.{on_side}
+use Rattle.th_graphs.specs.Graphs.{edge_at}
+use Rattle.th_graphs.specs.declared.edges.Edge.{Edge}
 use Rattle.th_reliability.specs.Blames.{IsBlame}
 use Rattle.th_reliability.specs.Cuts.{IsControl, crosses, differ}
 use Rattle.th_reliability.specs.Edges.{edge_of, vertices_in}

@@ -6,8 +6,7 @@ use Rattle.th_tables.specs.Rows.{weight_of}
 use Rattle.th_network.specs.Networks.{Survey}
 use Rattle.th_reliability.specs.Blames.{IsBlame}
 use Rattle.th_reliability.specs.Cuts.{IsFreeSet, crosses, cut}
-use Rattle.th_reliability.specs.Moves.{IsLeastSet}
-use Rattle.th_reliability.specs.SharedMistakes.{IsSharedMistake}
+use Rattle.th_reliability.specs.SharedMistakes.{IsLeastSet, IsSharedMistake}
 use Rattle.th_reliability.specs.declared.blames.Blame.{Blame}
 use Rattle.th_reliability.specs.declared.effects.Effect.{Effect}
 use Rattle.th_reliability.specs.declared.mistakes.SharedMistake.{SharedMistake}

@@ -7,7 +7,6 @@ pub mod Numbers
 pub mod Sights
 pub mod Runs
 pub mod SharedMistakes
-pub mod Moves
 pub mod Benchmarks
 pub mod Blames
 pub mod Effects

@@ -1,4 +1,4 @@
-use Rattle.std.specs.Prelude.{◌≡◌, ℕ, ◌<◌, ◌≤◌, ◌==◌, Bool, true, List, Contains, Option, Some, None, nat_lt, if◌then◌else◌}
+use Rattle.std.specs.Prelude.{◌≡◌, ℕ, ◌+◌, ◌<◌, ◌≤◌, ◌==◌, Bool, true, List, Contains, nat_lt, if◌then◌else◌}
 use Rattle.th_book.specs.Observed.{Observed}
 use Rattle.th_network.specs.Networks.{Survey, points_of}
 use Rattle.th_reliability.specs.Blunders.{weight_in}
@@ -30,6 +30,12 @@ pub record IsAlone (survey : Survey) (group : Observed → Bool) (inside : List 
   pub whole : own survey group inside ≡ weight_in survey.observations survey.weights group
   pub none : rest survey group inside ≡ 0
 
+-- A free set that contains a point, where the group's weight less its own cut plus the others' cut is least over all such sets. A mistake that the
+-- group shares moves the points of such a set if this value is at most the weight, so if the others' cut is at most the group's.
+pub record IsLeastSet (survey : Survey) (group : Observed → Bool) (inside : List ℕ → Bool) : Type 0 where
+  pub is : IsFreeWithPoint survey inside
+  pub least : (other : List ℕ → Bool) → IsFreeWithPoint survey other → rest survey group inside + own survey group other ≤ rest survey group other + own survey group inside
+
 -- What a mistake that a group shares does, over all free sets that contain a point. It shows if the others outweigh the group in every set. It
 -- ties if the group never outweighs the others but weighs the same in some set. If it outweighs them in some set, the mistake drags, but is
 -- unchecked if the whole group crosses some set alone.
@@ -47,8 +53,3 @@ shared_mistake_of control weight =
     if nat_lt weight control then Shows
     else (if control == weight then Ties
     else (if control == 0 then Unchecked else Drags))
-
--- what a mistake does in a group of one observation with this control and weight: it shows if there is no control
-abbrev pub single_mistake_of : Option ℕ → ℕ → SharedMistake
-single_mistake_of None weight = Shows
-single_mistake_of (Some control) weight = shared_mistake_of control weight

@@ -114,8 +114,8 @@ fn is_at(place: usize, ends: &(usize, usize)) -> bool
     ends.0 == place || ends.1 == place
 }
 
-/// The place of a name among some, or how many there are.
-fn place_in(names: &[Name], name: &Name) -> usize
+/// The place of a name among some, counted from 0, or how many there are if it is none of them.
+pub fn place_in(names: &[Name], name: &Name) -> usize
     ensures { result ≡ place_of names.now name.now }
 {
     for (place, other) in names.iter().enumerate() {

@@ -11,7 +11,7 @@ ghost use Rattle.th_reliability.specs.Inside.Targets.{AreTargets, far_end};
 
 use crate::ground::Ground;
 use std::alloc::{AllocError, Global};
-use th_cuts::Edge;
+use th_graphs::Edge;
 
 /// Some observations with an end at one vertex.
 #[derive(Drop)]

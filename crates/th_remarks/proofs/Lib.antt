@@ -1,4 +1,2 @@
-mod AnyLemmas
 mod BelowLemmas
 mod GapLemmas
-mod WatchLemmas

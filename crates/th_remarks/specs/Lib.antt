@@ -1,5 +1,1 @@
-pub mod Words
-pub mod Sights
-pub mod Watched
 pub mod Heights
-pub mod Inside

@@ -30,6 +30,13 @@ drop-first xs k x within is = drop_more xs k x within ∙ ap (λ first. first �
 pub numbered-first : {X : Type 0} → (xs : List X) (k : ℕ) (x : X) → k < length xs → x ≡ get_or xs k x → enumerate_from (k + 1) (drop k xs) ≡ (k + 1, x) ∷ enumerate_from (k + 1 + 1) (drop (k + 1) xs)
 numbered-first xs k x within is = ap (enumerate_from (k + 1)) (drop-first xs k x within is)
 
+-- two lists side by side, from a place on
+pub zipped-first : {X Y : Type 0} → (xs : List X) (ys : List Y) (k : ℕ) (x : X) (y : Y) → k < length xs → k < length ys → x ≡ get_or xs k x → y ≡ get_or ys k y
+    → zip (drop k xs) (drop k ys) ≡ (x, y) ∷ zip (drop (k + 1) xs) (drop (k + 1) ys)
+zipped-first xs ys k x y within within' is is' =
+    ap (λ (left : List _). zip left (drop k ys)) (drop-first xs k x within is)
+    ∙ ap (λ (left : List _). zip (x ∷ drop (k + 1) xs) left) (drop-first ys k y within' is')
+
 -- two lists side by side, numbered
 pub paired-first : {X Y : Type 0} → (xs : List X) (ys : List Y) (k : ℕ) (x : X) (y : Y) → k < length xs → k < length ys → x ≡ get_or xs k x → y ≡ get_or ys k y
     → enumerate_from (k + 1) (zip (drop k xs) (drop k ys)) ≡ (k + 1, (x, y)) ∷ enumerate_from (k + 1 + 1) (zip (drop (k + 1) xs) (drop (k + 1) ys))

@@ -3,16 +3,16 @@ use Rattle.std.specs.Prelude.{ℕ, ◌-◌, Bool, true, false, List, ◌++◌, O
 use Rattle.th_network.specs.Networks.{Survey, points_of}
 use Rattle.th_report.specs.Columns.{line_end}
 use Rattle.th_report.specs.Reports.{benchmark_count, label_line}
-use Rattle.th_review.specs.Words.{number_or_dash}
+use Rattle.th_review_rows.specs.Words.{number_or_dash}
 use Rattle.th_reliability.specs.declared.effects.Effect.{Effect}
 use Rattle.th_reliability.specs.declared.mistakes.Mistake.{Mistake}
 use Rattle.th_reliability.specs.declared.mistakes.Mistake.TheVariants as mistake
 use Rattle.th_reliability.specs.declared.mistakes.SharedMistake.{SharedMistake}
 use Rattle.th_reliability.specs.declared.mistakes.SharedMistake.TheVariants as shared
-use Rattle.th_review.specs.declared.rows.PointRow.{PointRow}
-use Rattle.th_review.specs.declared.rows.ObservationRow.{ObservationRow}
-use Rattle.th_review.specs.declared.rows.EntryRow.{EntryRow}
-use Rattle.th_review.specs.declared.rows.BenchmarkRow.{BenchmarkRow}
+use Rattle.th_review_rows.specs.declared.rows.PointRow.{PointRow}
+use Rattle.th_review_rows.specs.declared.rows.ObservationRow.{ObservationRow}
+use Rattle.th_review_rows.specs.declared.rows.EntryRow.{EntryRow}
+use Rattle.th_review_rows.specs.declared.rows.BenchmarkRow.{BenchmarkRow}
 
 -- the title
 unfoldable pub title_line : List ℕ

@@ -1,6 +1,3 @@
-pub mod Words
-pub mod Entries
-pub mod Rows
 pub mod Tables
 pub mod Heads
 pub mod Largest

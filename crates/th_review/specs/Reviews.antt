@@ -10,13 +10,13 @@ use Rattle.th_report.specs.Reports.{blunder_mark, end_columns, ends_of, label_li
 use Rattle.th_review.specs.Heads.{head_lines}
 use Rattle.th_review.specs.Largest.{largest}
 use Rattle.th_notes.specs.Notes.{note_lines}
-use Rattle.th_review.specs.Words.{blame_in, blames_of, effect_mark, kind_word, mistake_mark, moves_of, number_or_dash, point_mark, shared_mistake_mark}
-use Rattle.th_entries.specs.declared.reviews.BookCount.{BookCount}
+use Rattle.th_review_rows.specs.Words.{blame_in, blames_of, effect_mark, kind_word, mistake_mark, moves_of, number_or_dash, point_mark, shared_mistake_mark}
+use Rattle.th_entries.specs.declared.counts.BookCount.{BookCount}
 use Rattle.th_notes.specs.declared.notes.Note.{Note}
-use Rattle.th_review.specs.declared.rows.PointRow.{PointRow}
-use Rattle.th_review.specs.declared.rows.ObservationRow.{ObservationRow}
-use Rattle.th_review.specs.declared.rows.EntryRow.{EntryRow}
-use Rattle.th_review.specs.declared.rows.BenchmarkRow.{BenchmarkRow}
+use Rattle.th_review_rows.specs.declared.rows.PointRow.{PointRow}
+use Rattle.th_review_rows.specs.declared.rows.ObservationRow.{ObservationRow}
+use Rattle.th_review_rows.specs.declared.rows.EntryRow.{EntryRow}
+use Rattle.th_review_rows.specs.declared.rows.BenchmarkRow.{BenchmarkRow}
 
 -- the columns of books: a number, and counts of lines, blocks, setups and sights
 unfoldable pub book_columns : List ℕ → List ℕ → List ℕ → List ℕ → List ℕ → List ℕ

@@ -3,11 +3,11 @@ use Rattle.std.specs.Prelude.{ℕ, List, [], ◌∷◌, Option, None, Some, code
 use Rattle.th_units.specs.Metres.{metres}
 use Rattle.th_csv.specs.Records.{Fields}
 use Rattle.th_csv.specs.Texts.{csv_text}
-use Rattle.th_review.specs.Words.{blame_in, blamed_of, blames_of, effect_word, kind_word, mistake_word, moves_of, shared_mistake_word}
-use Rattle.th_review.specs.declared.rows.PointRow.{PointRow}
-use Rattle.th_review.specs.declared.rows.ObservationRow.{ObservationRow}
-use Rattle.th_review.specs.declared.rows.EntryRow.{EntryRow}
-use Rattle.th_review.specs.declared.rows.BenchmarkRow.{BenchmarkRow}
+use Rattle.th_review_rows.specs.Words.{blame_in, blamed_of, blames_of, effect_word, kind_word, mistake_word, moves_of, shared_mistake_word}
+use Rattle.th_review_rows.specs.declared.rows.PointRow.{PointRow}
+use Rattle.th_review_rows.specs.declared.rows.ObservationRow.{ObservationRow}
+use Rattle.th_review_rows.specs.declared.rows.EntryRow.{EntryRow}
+use Rattle.th_review_rows.specs.declared.rows.BenchmarkRow.{BenchmarkRow}
 
 -- a number that may be missing: its digits, or an empty field
 abbrev pub number_field : Option ℕ → List ℕ

@@ -7,11 +7,11 @@ use Rattle.th_entries.specs.declared.spellings.Spelling.{Spelling}
 use Rattle.th_reliability.specs.declared.benchmarks.BenchmarkEffect.{BenchmarkEffect}
 use Rattle.th_reliability.specs.declared.blames.Blame.{Blame}
 use Rattle.th_reliability.specs.declared.effects.Effect.{Effect}
-use Rattle.th_notes.specs.Books.{counts_of_books}
-use Rattle.th_notes.specs.Findings.{notes_of}
-use Rattle.th_review.specs.Entries.{entries_of}
+use Rattle.th_findings.specs.Books.{counts_of_books}
+use Rattle.th_findings.specs.Findings.{notes_of}
+use Rattle.th_review_rows.specs.Entries.{entries_of}
 use Rattle.th_review.specs.Reviews.{review_text}
-use Rattle.th_review.specs.Rows.{benchmark_rows, entry_rows, observation_rows, point_rows}
+use Rattle.th_review_rows.specs.Rows.{benchmark_rows, entry_rows, observation_rows, point_rows}
 use Rattle.th_review.specs.Tables.{benchmarks_text, entries_text, observations_text, points_text}
 use Rattle.th_review.specs.declared.texts.Findings.{Findings}
 use Rattle.th_review.specs.declared.texts.ReviewTexts.{ReviewTexts}

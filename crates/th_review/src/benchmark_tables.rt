@@ -3,14 +3,13 @@ ghost use Rattle.std.specs.Prelude.{◌≡◌, ◌++◌, OnOk, decimal};
 ghost use Rattle.std.specs.List.{flat_map};
 ghost use Rattle.th_units.specs.Metres.{metres};
 ghost use Rattle.th_review.specs.Reviews.{benchmark_columns, benchmark_line, benchmark_lines};
-ghost use Rattle.th_review.specs.Words.{number_or_dash};
+ghost use Rattle.th_review_rows.specs.Words.{number_or_dash};
 
 use crate::moves::{write_moved, write_moved_columns};
-use crate::rows::BenchmarkRow;
-use crate::words::{blame_in, effect_mark, number_or_dash};
 use itoa::Buffer;
 use std::alloc::AllocError;
 use th_report::Page;
+use th_review_rows::{BenchmarkRow, blame_in, effect_mark, number_or_dash};
 use th_units::metre_text;
 
 /// Writes the table of benchmarks.

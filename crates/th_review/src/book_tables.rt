@@ -1,7 +1,7 @@
 //! The table of books.
 ghost use Rattle.std.specs.Prelude.{◌≡◌, ◌++◌, OnOk};
 ghost use Rattle.std.specs.List.{enumerate_from, flat_map};
-ghost use Rattle.th_notes.specs.Books.{counts_of_books};
+ghost use Rattle.th_findings.specs.Books.{counts_of_books};
 ghost use Rattle.th_review.specs.Reviews.{book_columns, book_line, book_lines};
 
 use itoa::Buffer;

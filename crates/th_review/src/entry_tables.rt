@@ -3,15 +3,14 @@ ghost use Rattle.std.specs.Prelude.{◌≡◌, ◌++◌, OnOk, decimal};
 ghost use Rattle.std.specs.List.{flat_map};
 ghost use Rattle.th_units.specs.Metres.{metres};
 ghost use Rattle.th_review.specs.Reviews.{entry_line, entry_lines, entry_places, entry_values};
-ghost use Rattle.th_review.specs.Words.{kind_word};
+ghost use Rattle.th_review_rows.specs.Words.{kind_word};
 
 use crate::moves::{write_moved, write_moved_columns};
-use crate::rows::EntryRow;
-use crate::words::{kind_word, shared_mistake_mark};
 use itoa::Buffer;
 use std::alloc::AllocError;
 use th_entries::Entry;
 use th_report::Page;
+use th_review_rows::{EntryRow, kind_word, shared_mistake_mark};
 use th_units::metre_text;
 
 /// Writes the table of entries.

@@ -1,13 +1,13 @@
 //! The columns of what would move and of what would be blamed.
 ghost use Rattle.std.specs.Prelude.{◌≡◌, ◌++◌, OnOk};
 ghost use Rattle.th_review.specs.Reviews.{moved_columns};
-ghost use Rattle.th_review.specs.Words.{blames_of, moves_of, number_or_dash};
+ghost use Rattle.th_review_rows.specs.Words.{blames_of, moves_of, number_or_dash};
 
-use crate::words::{blames_of, count_or_dash, moves_of};
 use itoa::Buffer;
 use std::alloc::AllocError;
 use th_reliability::Blame;
 use th_report::Page;
+use th_review_rows::{blames_of, count_or_dash, moves_of};
 
 /// Writes how many points a mistake would move, how many observations would be blamed for it, and a
 /// mark; a dash each where it shows.

@@ -2,19 +2,18 @@
 ghost use Rattle.std.specs.Prelude.{◌≡◌, ◌++◌, OnOk, decimal};
 ghost use Rattle.std.specs.List.{flat_map};
 ghost use Rattle.th_units.specs.Metres.{metres};
-ghost use Rattle.th_review.specs.Words.{number_or_dash};
+ghost use Rattle.th_review_rows.specs.Words.{number_or_dash};
 ghost use Rattle.th_review.specs.Reviews.{checked_columns, checked_header, checked_line, largest_line, largest_lines, observation_line, observation_lines};
 
 use crate::largest::largest;
 use crate::moves::{write_moved, write_moved_columns};
-use crate::rows::ObservationRow;
-use crate::words::{mistake_mark, number_or_dash};
 use itoa::Buffer;
 use std::alloc::{AllocError, Global};
 use th_report::{
     Page, blunder_mark, write_count, write_end_columns, write_ends, write_limit, write_place,
     write_place_columns,
 };
+use th_review_rows::{ObservationRow, mistake_mark, number_or_dash};
 use th_units::metre_text;
 
 /// Writes the table of the largest residuals, below how many they are and the limit of blunders,

@@ -3,12 +3,11 @@ ghost use Rattle.std.specs.Prelude.{◌≡◌, ◌++◌, OnOk, option_map};
 ghost use Rattle.std.specs.List.{flat_map};
 ghost use Rattle.th_review.specs.Reviews.{largest_weight, point_columns, point_line, point_lines, withstood};
 
-use crate::rows::PointRow;
-use crate::words::{number_or_dash, point_mark};
 use itoa::Buffer;
 use std::alloc::AllocError;
 use th_network::Network;
 use th_report::Page;
+use th_review_rows::{PointRow, number_or_dash, point_mark};
 use th_units::metre_text;
 
 /// Writes the table of points, given the largest weight of the observations.

@@ -1,6 +1,6 @@
 //! The review for people.
 ghost use Rattle.std.specs.Prelude.{◌≡◌, ◌++◌, IfOk, OnOk};
-ghost use Rattle.th_notes.specs.Books.{counts_of_books};
+ghost use Rattle.th_findings.specs.Books.{counts_of_books};
 ghost use Rattle.th_review.specs.Reviews.{front_part, review_text, table_part};
 
 use crate::benchmark_tables::write_benchmarks;
@@ -9,12 +9,12 @@ use crate::entry_tables::write_entries;
 use crate::heads::write_head;
 use crate::observation_tables::{write_largest, write_observations};
 use crate::point_tables::{largest_weight, write_points};
-use crate::rows::{BenchmarkRow, EntryRow, ObservationRow, PointRow};
 use std::alloc::{AllocError, Global};
 use th_entries::BookReview;
 use th_network::Network;
 use th_notes::{Note, write_notes};
 use th_report::Page;
+use th_review_rows::{BenchmarkRow, EntryRow, ObservationRow, PointRow};
 
 /// The review of a network for people: what was reviewed in numbers, the books, the largest
 /// residuals, the points, the observations, the entries and the benchmarks, and the notes.

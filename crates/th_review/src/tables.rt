@@ -3,14 +3,13 @@ ghost use Rattle.std.specs.Prelude.{◌≡◌, ◌++◌, IfOk, OnOk};
 ghost use Rattle.th_csv.specs.Texts.{row_text};
 ghost use Rattle.th_review.specs.Tables.{benchmark_record, benchmarks_header, benchmarks_text, entries_header, entries_text, entry_record, number_field, observation_record, observations_header, observations_text, point_record, points_text};
 
-use crate::rows::{BenchmarkRow, EntryRow, ObservationRow, PointRow};
-use crate::words::{
-    blame_in, blamed_of, blames_of, effect_word, kind_word, mistake_word, moves_of,
-    shared_mistake_word,
-};
 use itoa::Buffer;
 use std::alloc::{AllocError, Global};
 use th_csv::RowWriter;
+use th_review_rows::{
+    BenchmarkRow, EntryRow, ObservationRow, PointRow, blame_in, blamed_of, blames_of, effect_word,
+    kind_word, mistake_word, moves_of, shared_mistake_word,
+};
 use th_units::metre_text;
 
 /// The table of points: the names of its fields, and then a record for each row.

@@ -2,21 +2,18 @@
 ghost use Rattle.std.specs.Prelude.{◌≡◌, ◌≤◌, IfOk, length};
 ghost use Rattle.th_network.specs.Heights.{heights_at};
 ghost use Rattle.th_network.specs.Networks.{AreAtPoints, points_of};
-ghost use Rattle.th_notes.specs.Limits.{max_reviewed};
-ghost use Rattle.th_review.specs.Entries.{entries_of};
+ghost use Rattle.th_findings.specs.Limits.{max_reviewed};
+ghost use Rattle.th_review_rows.specs.Entries.{entries_of};
 ghost use Rattle.th_review.specs.Texts.{AreReviewTexts, bytes_of, found_in};
 
-use crate::benchmark_list::benchmark_rows;
-use crate::entry_list::entry_rows;
-use crate::observation_list::observation_rows;
-use crate::point_list::point_rows;
 use crate::reviews::review_text;
 use crate::tables::{benchmarks_csv, entries_csv, observations_csv, points_csv};
 use std::alloc::{AllocError, Global};
 use th_entries::{BookReview, Listed, Spelling};
+use th_findings::notes_of;
 use th_network::Network;
-use th_notes::notes_of;
 use th_reliability::{BenchmarkEffect, Blame, Effect};
+use th_review_rows::{benchmark_rows, entry_rows, observation_rows, point_rows};
 
 /// What was found of a network.
 #[derive(Drop)]

@@ -11,7 +11,7 @@ use Rattle.th_network.specs.Networks.{Survey}
 use Rattle.th_reliability.specs.Effects.{IsEffect}
 use Rattle.th_reliability.specs.Sights.{IsOfOneStation, in_sights}
 use Rattle.th_reliability.specs.declared.effects.Effect.{Effect}
-use Rattle.th_review.specs.Entries.{sights_of}
+use Rattle.th_review_rows.specs.Entries.{sights_of}
 
 both : (first second : Bool) → (first && second) ≡ true → (first ≡ true) × (second ≡ true)
 both true second holds = (refl, holds)

@@ -15,7 +15,7 @@ use Rattle.th_report.specs.Gsi.{text_of_point}
 use Rattle.th_report.specs.Heights.{heights_header, heights_text, printed_height, printed_heights}
 use Rattle.th_tables.specs.Rows.{BenchmarkRows, WeightRows}
 use Rattle.th_runs.specs.Adjusted.{AreOutputs, OutTexts}
-use Rattle.th_runs.specs.Inputs.{MakesNetwork}
+use Rattle.th_run_parts.specs.Inputs.{MakesNetwork}
 use Rattle.th_runs.proofs.LawLemmas.{same_heights}
 
 -- misread observations run between the same points

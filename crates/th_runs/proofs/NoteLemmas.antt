@@ -4,9 +4,10 @@ use Rattle.std.specs.Prelude.{OnOk, Option, Result, option_to_list}
 use Rattle.th_book.specs.Observed.{Observed}
 use Rattle.th_entries.specs.Reviews.{parsed_of}
 use Rattle.th_entries.specs.Several.{numbered}
-use Rattle.th_remarks.specs.Sights.{no_sight_in}
-use Rattle.th_remarks.specs.declared.sights.NoSight.{NoSight}
-use Rattle.th_runs.specs.Inside.Readers.{HasReadBooks, IsNotedNext}
+use Rattle.th_entries.specs.Sights.{no_sight_in}
+use Rattle.th_entries.specs.declared.sights.NoSight.{NoSight}
+use Rattle.th_run_parts.specs.Readers.{HasReadBooks}
+use Rattle.th_runs.specs.Inside.Readers.{IsNotedNext}
 use Rattle.th_runs.specs.Noted.{AreNone, AreNotesOfList, AreSightless, sightless}
 use Rattle.th_runs.specs.Reviewed.{AreTold}
 use Rattle.th_runs.specs.declared.notes.Notes.{Notes}

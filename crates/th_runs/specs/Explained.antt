@@ -6,14 +6,14 @@ use Rattle.th_entries.specs.declared.reviews.BookReview.{BookReview}
 use Rattle.th_explanations.specs.Tables.{table_text}
 use Rattle.th_explanations.specs.Texts.{explanation_text}
 use Rattle.th_network.specs.Networks.{Survey}
-use Rattle.th_numbers.specs.Explanations.{AreExplained}
-use Rattle.th_numbers.specs.declared.findings.Explanations.{Explanations}
-use Rattle.th_runs.specs.Reads.{Run}
+use Rattle.th_causes.specs.Explanations.{AreExplained}
+use Rattle.th_causes.specs.declared.findings.Explanations.{Explanations}
+use Rattle.th_run_parts.specs.Reads.{Run}
 use Rattle.th_runs.specs.Reviewed.{AreTold, IsReviewOf}
-use Rattle.th_runs.specs.Writes.{Texts}
+use Rattle.th_run_parts.specs.Writes.{Texts}
 use Rattle.th_runs.specs.declared.explaining.Form.{Form}
 use Rattle.th_runs.specs.declared.explaining.Form.TheVariants as form
-use Rattle.th_runs.specs.declared.refusals.Output.TheVariants as output
+use Rattle.th_run_parts.specs.declared.refusals.Output.TheVariants as output
 
 -- an explanation, and what it writes
 abbrev pub explaining : Run

@@ -3,12 +3,12 @@ use Rattle.std.specs.Prelude.{List, [], ◌∷◌}
 use Rattle.std.specs.List.{Contains}
 use Rattle.th_book.specs.Observed.{Observed}
 use Rattle.th_report.specs.Lists.{list_text}
-use Rattle.th_runs.specs.Reads.{IsOfBook}
-use Rattle.th_runs.specs.Writes.{Texts}
-use Rattle.th_runs.specs.declared.refusals.Output.{Output}
-use Rattle.th_runs.specs.declared.refusals.Output.TheVariants as output
-use Rattle.th_runs.specs.declared.refusals.Refusal.{Refusal}
-use Rattle.th_runs.specs.declared.refusals.Refusal.TheVariants as refusal
+use Rattle.th_run_parts.specs.Reads.{IsOfBook}
+use Rattle.th_run_parts.specs.Writes.{Texts}
+use Rattle.th_run_parts.specs.declared.refusals.Output.{Output}
+use Rattle.th_run_parts.specs.declared.refusals.Output.TheVariants as output
+use Rattle.th_run_parts.specs.declared.refusals.Refusal.{Refusal}
+use Rattle.th_run_parts.specs.declared.refusals.Refusal.TheVariants as refusal
 
 -- what a list of a book writes
 abbrev pub listing : List Output

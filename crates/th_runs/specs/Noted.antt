@@ -3,11 +3,11 @@ use Rattle.std.specs.Prelude.{◌≡◌, ℕ, ℤ, List, [], ◌∷◌, Option, 
 use Rattle.th_book.specs.Lines.{ParsedLine}
 use Rattle.th_circulation.specs.Best.{Best, IsBest}
 use Rattle.th_entries.specs.Several.{numbered}
+use Rattle.th_entries.specs.Sights.{no_sight_in}
+use Rattle.th_entries.specs.declared.sights.NoSight.{NoSight}
 use Rattle.th_network.specs.Networks.{Survey}
 use Rattle.th_remarks.specs.Heights.{IsHeightsNote}
-use Rattle.th_remarks.specs.Sights.{no_sight_in}
 use Rattle.th_remarks.specs.declared.heights.ManyHeights.{ManyHeights}
-use Rattle.th_remarks.specs.declared.sights.NoSight.{NoSight}
 use Rattle.th_runs.specs.Reviewed.{AreTold}
 use Rattle.th_runs.specs.declared.notes.Notes.{Notes}
 

@@ -15,11 +15,11 @@ use Rattle.th_reliability.specs.BenchmarkEffects.{IsBenchmarkEffect}
 use Rattle.th_reliability.specs.Effects.{AreBlames, IsEffect}
 use Rattle.th_reliability.specs.Sights.{in_sights}
 use Rattle.th_entries.specs.declared.spellings.Spelling.{Spelling}
-use Rattle.th_review.specs.Entries.{entries_of, sights_of}
+use Rattle.th_review_rows.specs.Entries.{entries_of, sights_of}
 use Rattle.th_review.specs.Texts.{AreReviewTexts, Found, ReviewOutTexts}
-use Rattle.th_runs.specs.Reads.{Run}
-use Rattle.th_runs.specs.Writes.{Texts}
-use Rattle.th_runs.specs.declared.refusals.Output.TheVariants as output
+use Rattle.th_run_parts.specs.Reads.{Run}
+use Rattle.th_run_parts.specs.Writes.{Texts}
+use Rattle.th_run_parts.specs.declared.refusals.Output.TheVariants as output
 
 -- a review, and what it writes
 abbrev pub reviewing : Run

@@ -1,26 +1,25 @@
 //! A run that checks a certificate.
-ghost use Rattle.std.specs.Prelude.{◌≡◌, IfErr, IfOk, is_some, length};
+ghost use Rattle.std.specs.Prelude.{◌≡◌, IfErr, IfOk, false, is_some, length};
 ghost use Rattle.th_devices.specs.Devices.{IsReady};
-ghost use Rattle.th_runs.specs.Checked.{IsVerdictOn, checking, claim_owed_by_sources, judged, verdict_line, verdict_on};
-ghost use Rattle.th_runs.specs.Inputs.{AnswersOwed, MakesNetwork};
+ghost use Rattle.th_runs.specs.Checked.{IsVerdictOn, checking, judged, verdict_line, verdict_on};
+ghost use Rattle.th_run_parts.specs.Inputs.{AnswersOwed, MakesNetwork, claim_owed_by_sources, given, owed_for_certificate};
 ghost use Rattle.th_runs.specs.Inside.Judged.{IsJudged};
-ghost use Rattle.th_runs.specs.Inside.Refused.{IsOfNetwork};
-ghost use Rattle.th_runs.specs.Reads.{AreRead, AreReady, IsNamed, IsReadFor, IsWithin, network_place, refused};
-ghost use Rattle.th_runs.specs.Outcomes.{SurveyOutcome};
-ghost use Rattle.th_runs.specs.Writes.{AreWritable, AreWritten};
+ghost use Rattle.th_run_parts.specs.Refused.{IsOfNetwork};
+ghost use Rattle.th_run_parts.specs.Reads.{AreRead, AreReady, IsNamed, IsReadFor, IsWithin, network_place, place, refused};
+ghost use Rattle.th_run_parts.specs.Outcomes.{SurveyOutcome};
+ghost use Rattle.th_run_parts.specs.Writes.{AreWritable, AreWritten};
 
-use crate::inputs::certificate_from;
-use crate::outputs::{OutputText, write_outs};
-use crate::readers::ObservationReader;
-use crate::refusals::{Input, Output, Refusal};
-use crate::surveys::{Survey, network_of, read_survey};
 use std::alloc::{AllocError, Global};
 use std::marker::Model;
-use th_certificate::Certificate;
+use th_certificate::{CertKind, Certificate, read_certificate};
 use th_checker::laws::yes_implies_least;
 use th_checker::{Verdict, check};
 use th_devices::{Sink, Source};
 use th_network::Network;
+use th_run_parts::{
+    Input, ObservationReader, Output, OutputText, Refusal, Survey, network_of, read_survey,
+    read_text, write_outs,
+};
 
 /// What a check writes.
 pub const CHECKED: [Output; 1] = [Output::Verdict];
@@ -74,7 +73,7 @@ struct Stated {
 }
 
 impl Model for Stated {
-    ghost use Rattle.th_runs.specs.Inputs.{Claim};
+    ghost use Rattle.th_run_parts.specs.Inputs.{Claim};
 
     ghost Value = { Claim };
 
@@ -167,4 +166,22 @@ fn line_of(alloc: Global, verdict: &Verdict) -> Result<Vec<u8>, AllocError>
     ensures { IfOk result (λ line. line.items ≡ verdict_line verdict.now) }
 {
     Ok(format!(in alloc; "{verdict}\n")?.into_bytes())
+}
+
+/// The certificate that a source says.
+fn certificate_from<S: Source>(alloc: Global, source: &mut S) -> Result<Certificate, Refusal>
+    requires { IsReady (S.state source.old).counts }
+    ensures answer { AnswersOwed (owed_for_certificate (given S.state source.old source.new)) result }
+    ensures at { IfErr result (IsWithin (place Input.Certificate) network_place) }
+    ensures named { IfErr result (IsNamed 0 false checking) }
+    ensures source { IsReadFor S.state Input.Certificate (refused result) source.old source.new }
+{
+    let text = read_text(alloc, Input::Certificate, source)?;
+    match read_certificate(alloc, text.as_slice()) {
+        Ok(certificate) => Ok(certificate),
+        Err(fault) => match fault.kind {
+            CertKind::NoMemory => Err(Refusal::NoMemory),
+            _ => Err(Refusal::Certificate(fault)),
+        },
+    }
 }

@@ -3,22 +3,21 @@ ghost use Rattle.std.specs.Prelude.{◌≡◌, ◌≤◌, ◌∷◌, [], IfErr, 
 ghost use Rattle.th_entries.specs.declared.reviews.BookReview.{BookReview};
 ghost use Rattle.th_limits.specs.Limits.{max_books};
 ghost use Rattle.th_runs.specs.Explained.{AreOfExplanation, ArePrintedOf, explaining, text_in};
-ghost use Rattle.th_runs.specs.Inputs.{owed_by_sources, told_by};
-ghost use Rattle.th_runs.specs.Inside.Refused.{IsOfNetwork};
-ghost use Rattle.th_runs.specs.Outcomes.{PrintedOutcome};
-ghost use Rattle.th_runs.specs.Reads.{AreRead, AreReady, IsNamed, refused};
-ghost use Rattle.th_runs.specs.Writes.{AreWritable};
+ghost use Rattle.th_run_parts.specs.Inputs.{owed_by_sources, told_by};
+ghost use Rattle.th_run_parts.specs.Refused.{IsOfNetwork};
+ghost use Rattle.th_run_parts.specs.Outcomes.{PrintedOutcome};
+ghost use Rattle.th_run_parts.specs.Reads.{AreRead, AreReady, IsNamed, refused};
+ghost use Rattle.th_run_parts.specs.Writes.{AreWritable};
 
-use crate::outputs::{OutputText, write_outs};
-use crate::readers::ReviewReader;
-use crate::refusals::{Output, Refusal};
-use crate::surveys::{Survey, network_of, read_survey};
+use crate::reviews::ReviewReader;
 use std::alloc::{AllocError, Global};
+use th_causes::{Explanations, explanations_of};
 use th_devices::{Sink, Source};
 use th_entries::BookReview;
 use th_explanations::{explanations_csv, explanations_text};
 use th_network::{NetFault, Network};
-use th_numbers::{Explanations, explanations_of};
+use th_progress::Progress;
+use th_run_parts::{Output, OutputText, Refusal, Survey, network_of, read_survey, write_outs};
 
 /// What an explanation writes.
 pub const EXPLAINED: [Output; 1] = [Output::Explanations];
@@ -37,7 +36,7 @@ pub enum Form {
 ///
 /// The limit of blunders is in units of 10 nm. Inputs are read as `run_adjust` reads them, and refused
 /// as it refuses them. The text is made in memory before it is begun.
-pub fn run_explain<B: Source, T: Source, W: Source, K: Sink>(
+pub fn run_explain<B: Source, T: Source, W: Source, K: Sink, P: Progress>(
     alloc: Global,
     books: &mut [B],
     benchmarks: &mut T,
@@ -45,6 +44,7 @@ pub fn run_explain<B: Source, T: Source, W: Source, K: Sink>(
     limit: i64,
     form: Form,
     outs: &mut [K],
+    progress: &mut P,
 ) -> Result<(), Refusal>
     requires ready { AreReady B.state T.state W.state books.old benchmarks.old weights.old }
     requires outs { AreWritable K.state explaining.outputs outs.old }
@@ -62,17 +62,18 @@ pub fn run_explain<B: Source, T: Source, W: Source, K: Sink>(
     let mut reader = ReviewReader::new(alloc);
     let survey = read_survey(alloc, &mut reader, books, benchmarks, weights)?;
     let reviews = reader.reviews.as_slice();
-    let texts = texts_of(alloc, survey, reviews, limit, form)?;
+    let texts = texts_of(alloc, survey, reviews, limit, form, progress)?;
     write_outs(outs, texts.as_slice())
 }
 
 /// The text of what is explained, or the first fault of its network.
-fn texts_of(
+fn texts_of<P: Progress>(
     alloc: Global,
     survey: Survey,
     reviews: &[BookReview],
     limit: i64,
     form: Form,
+    progress: &mut P,
 ) -> Result<Vec<OutputText>, Refusal>
     requires { length reviews.now ≤ max_books }
     ensures { IsOfNetwork survey (λ texts.
@@ -83,23 +84,27 @@ fn texts_of(
         tables,
     } = survey;
     let network = network_of(alloc, observations, &tables.benchmarks, &tables.weights)?;
-    texts_of_network(alloc, &network, reviews, limit, form)
+    texts_of_network(alloc, &network, reviews, limit, form, progress)
 }
 
 /// The text of a network.
-fn texts_of_network(
+fn texts_of_network<P: Progress>(
     alloc: Global,
     network: &Network,
     reviews: &[BookReview],
     limit: i64,
     form: Form,
+    progress: &mut P,
 ) -> Result<Vec<OutputText>, Refusal>
     requires { length reviews.now ≤ max_books }
     ensures texts { IfOk result (λ texts.
         ArePrintedOf reviews.now limit form network.now texts.items) }
     ensures refused { IfErr result (λ own. own ≡ Refusal.NoMemory) }
 {
-    match explanations_of(alloc, network, reviews, limit) {
+    let found = explanations_of(alloc, network, reviews, limit, progress);
+    // The texts may go to the terminal that shows the progress.
+    progress.clear();
+    match found {
         Ok(own) => Ok(printed(alloc, &own, form)?),
         Err(NetFault::NoMemory) => Err(Refusal::NoMemory),
         Err(fault) => Err(Refusal::Network(fault)),

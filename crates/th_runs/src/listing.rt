@@ -1,20 +1,18 @@
 //! A run that lists the observations of one book.
 ghost use Rattle.std.specs.Prelude.{IfErr, Ok, OnOk};
 ghost use Rattle.th_devices.specs.Devices.{IsReady};
-ghost use Rattle.th_runs.specs.Inputs.{Meets, MeetsRefusal, given, owed_for_book};
+ghost use Rattle.th_run_parts.specs.Inputs.{Meets, MeetsRefusal, given, owed_for_book};
 ghost use Rattle.th_runs.specs.Listed.{IsOfList, listed, listing};
 ghost use Rattle.th_runs.specs.Noted.{AreNone, AreNotesOfList};
-ghost use Rattle.th_runs.specs.Reads.{IsReadFor, refused};
-ghost use Rattle.th_runs.specs.Outcomes.{Outcome};
-ghost use Rattle.th_runs.specs.Writes.{AreWritable, AreWritten};
+ghost use Rattle.th_run_parts.specs.Reads.{IsReadFor, refused};
+ghost use Rattle.th_run_parts.specs.Outcomes.{Outcome};
+ghost use Rattle.th_run_parts.specs.Writes.{AreWritable, AreWritten};
 
 use crate::notes::Notes;
-use crate::outputs::{OutputText, write_outs};
-use crate::readers::BookReader;
-use crate::refusals::{Input, Output, Refusal};
 use std::alloc::Global;
 use th_devices::{Sink, Source};
 use th_report::list_text;
+use th_run_parts::{BookReader, Input, Output, OutputText, Refusal, write_outs};
 
 /// What a list of a book writes.
 pub const LISTED: [Output; 1] = [Output::List];

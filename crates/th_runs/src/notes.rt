@@ -2,13 +2,12 @@
 ghost use Rattle.std.specs.Prelude.{◌≡◌, ◌++◌, OnOk, option_to_list};
 ghost use Rattle.th_runs.specs.Noted.{AreNone};
 
-use crate::feeds::{SeenFeed, feed_from};
-use crate::readers::{BookReader, refusal_of};
-use crate::refusals::Refusal;
 use std::alloc::{AllocError, Global};
 use th_book::{BookFeed, Observation};
 use th_devices::Source;
-use th_remarks::{ManyHeights, NoSight, SightWatch};
+use th_entries::{NoSight, SightWatch};
+use th_remarks::ManyHeights;
+use th_run_parts::{BookReader, Refusal, SeenFeed, feed_from, refusal_of};
 
 /// What a surveyor should know of a run that was not refused, though no output shows it.
 #[derive(Drop)]

@@ -8,20 +8,17 @@ ghost use Rattle.th_limits.specs.Limits.{max_books};
 ghost use Rattle.th_reliability.specs.Numbers.{AreControls, AreStrengths};
 ghost use Rattle.th_reliability.specs.Effects.{IsEffect};
 ghost use Rattle.th_reliability.specs.Sights.{in_sights};
-ghost use Rattle.th_review.specs.Entries.{entries_of, sights_of};
+ghost use Rattle.th_review_rows.specs.Entries.{entries_of, sights_of};
 ghost use Rattle.th_review.specs.Texts.{bytes_of, found_in};
-ghost use Rattle.th_runs.specs.Inputs.{MakesNetwork, owed_by_sources, told_by};
-ghost use Rattle.th_runs.specs.Inside.Refused.{IsOfNetwork};
-ghost use Rattle.th_runs.specs.Reads.{AreRead, AreReady, IsNamed, refused};
+ghost use Rattle.th_run_parts.specs.Inputs.{MakesNetwork, owed_by_sources, told_by};
+ghost use Rattle.th_run_parts.specs.Refused.{IsOfNetwork};
+ghost use Rattle.th_run_parts.specs.Reads.{AreRead, AreReady, IsNamed, refused};
 ghost use Rattle.th_runs.specs.Reviewed.{AreFound, AreOfReview, ArePrintedOf, in_order, reviewing};
-ghost use Rattle.th_runs.specs.Outcomes.{PrintedOutcome};
-ghost use Rattle.th_runs.specs.Writes.{AreWritable};
+ghost use Rattle.th_run_parts.specs.Outcomes.{PrintedOutcome};
+ghost use Rattle.th_run_parts.specs.Writes.{AreWritable};
 ghost use Rattle.th_tables.specs.Rows.{AreWeights};
 
-use crate::outputs::{OutputText, write_outs};
-use crate::readers::ReviewReader;
-use crate::refusals::{Output, Refusal};
-use crate::surveys::{Survey, network_of, read_survey};
+use crate::reviews::ReviewReader;
 use std::alloc::{AllocError, Global};
 use th_circulation::best_heights;
 use th_devices::{Sink, Source};
@@ -33,7 +30,9 @@ use th_progress::Progress;
 use th_reliability::{
     Effect, Reliability, Sights, benchmark_mistakes, point_strengths, shared_mistakes,
 };
-use th_review::{Findings, ReviewTexts, entries_of, review_texts, sights_of};
+use th_review::{Findings, ReviewTexts, review_texts};
+use th_review_rows::{entries_of, sights_of};
+use th_run_parts::{Output, OutputText, Refusal, Survey, network_of, read_survey, write_outs};
 use th_tables::Weights;
 
 /// What a review writes, in this order.
@@ -161,7 +160,7 @@ fn in_order(alloc: Global, texts: ReviewTexts) -> Result<Vec<OutputText>, AllocE
 }
 
 /// What a review finds of a network and of the entries of its books.
-fn findings_of<P: Progress>(
+pub fn findings_of<P: Progress>(
     alloc: Global,
     network: &Network,
     reviews: &[BookReview],

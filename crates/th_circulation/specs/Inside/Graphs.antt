@@ -1,4 +1,4 @@
-use Rattle.std.specs.Prelude.{◌≡◌, ℕ, ◌<◌, ◌≤◌, ℤ, List, All, length, unsigned_abs}
+use Rattle.std.specs.Prelude.{◌≡◌, ℕ, ◌<◌, ◌≤◌, List, All, length, unsigned_abs}
 use Rattle.th_network.specs.declared.links.Link.{Link}
 use Rattle.th_network.specs.Limits.{max_observations}
 use Rattle.th_network.specs.Links.{largest_link_difference}
@@ -14,8 +14,3 @@ pub record IsLinkGraph (vertices : ℕ) (links : List Link) (weights : List ℕ)
   pub ends : All (λ link. (link.tail < vertices) × (link.head < vertices)) links
   pub near : All (λ link. unsigned_abs link.diff ≤ largest_link_difference) links
   pub light : All (λ weight. weight ≤ max_weight) weights
-
--- `count` numbers, none larger in size than `most`
-pub record AreWithin (count most : ℕ) (numbers : List ℤ) : Type 0 where
-  pub each : length numbers ≡ count
-  pub small : All (λ number. unsigned_abs number ≤ most) numbers

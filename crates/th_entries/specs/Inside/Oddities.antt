@@ -1,19 +1,10 @@
 -- What looks odd in a block, given what it enters.
-use Rattle.std.specs.Prelude.{ℕ, ◌&&◌, ◌||◌, Bool, false, List, [], ◌∷◌, Option, Some, None, if◌then◌else◌, is_some}
+use Rattle.std.specs.Prelude.{ℕ, ◌&&◌, Bool, false, List, [], ◌∷◌, Option, Some, None, if◌then◌else◌, is_some}
 use Rattle.std.specs.List.{list_any}
 use Rattle.gsi_word.specs.Words.{Parts}
-use Rattle.th_book.specs.Lines.{holds}
 use Rattle.th_book.specs.declared.entries.Entered.{Entered}
 use Rattle.th_book.specs.declared.setups.Setup.{Setup}
-use Rattle.th_entries.specs.Oddities.{differ, is_no_distance, is_zero, slope_distance, target_height}
-use Rattle.th_entries.specs.declared.reviews.WordsSeen.{WordsSeen}
-
--- the words that were seen, with those of one more block
-abbrev pub with_words : List Parts → WordsSeen → WordsSeen
-with_words words seen = record {
-  distances = seen.distances || holds slope_distance words;
-  heights = seen.heights || holds target_height words;
-}
+use Rattle.th_entries.specs.Oddities.{differ, is_no_distance, is_zero}
 
 -- a block points in a direction alone
 abbrev pub points : Entered → List Parts → Bool

@@ -1,50 +1,32 @@
 -- What is known of a book after some of its lines.
-use Rattle.std.specs.Prelude.{◌≡◌, ℕ, suc, ◌+◌, ◌-◌, ◌^◌, ◌++◌, ◌&&◌, not, min, Bool, false, List, [], ◌∷◌, Option, None, if◌then◌else◌, is_some, length, option_and_then, option_map}
+use Rattle.std.specs.Prelude.{◌≡◌, ℕ, suc, ◌+◌, ◌++◌, ◌&&◌, not, Bool, List, [], ◌∷◌, Option, None, if◌then◌else◌, is_some, length, option_and_then, option_map}
 use Rattle.std.specs.List.{list_any}
 use Rattle.std.specs.Option.{option_map_or}
 use Rattle.gsi_word.specs.Words.{Parts}
-use Rattle.th_book.specs.Lines.{ParsedLine, holds, is_setup, is_sight, point_name}
-use Rattle.th_book.specs.Places.{last_below, line_at, setup_of, station_at, words_at}
+use Rattle.th_book.specs.Lines.{ParsedLine, point_name}
+use Rattle.th_book.specs.Places.{last_below, setup_of, station_at, words_at}
 use Rattle.th_book.specs.Faults.{are_one, begins_with_point}
 use Rattle.th_book.specs.Books.{known_name}
 use Rattle.th_book.specs.Entered.{entered_by}
 use Rattle.th_book.specs.Indexes.{reflector_height, instrument_height}
 use Rattle.th_book.specs.declared.entries.Entered.{Entered}
 use Rattle.th_book.specs.declared.setups.Setup.{Setup}
-use Rattle.th_entries.specs.Below.{all_below, any_below, count_below}
+use Rattle.th_entries.specs.Below.{all_below, count_below}
 use Rattle.th_entries.specs.Entries.{begins, begins_from, index_of, length_at, uses}
 use Rattle.th_entries.specs.Listed.{IsListed}
-use Rattle.th_entries.specs.Reviews.{is_block, is_lookalike, is_measured}
+use Rattle.th_entries.specs.Reviews.{is_lookalike, is_measured}
 use Rattle.th_entries.specs.Spellings.{Mention, mentions_at}
 use Rattle.th_entries.specs.Seen.{AreSeenIn}
-use Rattle.th_entries.specs.Oddities.{changes_height, is_direction, slope_distance, target_height}
-use Rattle.th_entries.specs.Inside.Oddities.{changes, line_if, points, with_words}
+use Rattle.th_entries.specs.Watched.{HasWatched}
+use Rattle.th_entries.specs.Oddities.{changes_height, is_direction}
+use Rattle.th_entries.specs.Inside.Oddities.{changes, line_if, points}
 use Rattle.th_entries.specs.Inside.Running.{Entering, entering_after}
 use Rattle.th_entries.specs.Inside.Seen.{IsSeenNext, mention_by}
 use Rattle.th_entries.specs.declared.entries.Entry.{Entry}
 use Rattle.th_entries.specs.declared.entries.HeightKind.{HeightKind}
 use Rattle.th_entries.specs.declared.entries.HeightKind.TheVariants.{Reflector, Instrument}
-use Rattle.th_entries.specs.declared.reviews.BookCount.{BookCount}
-use Rattle.th_entries.specs.declared.reviews.WordsSeen.{WordsSeen}
 use Rattle.th_entries.specs.declared.seen.SeenNames.{SeenNames}
 use Rattle.th_entries.specs.declared.tallies.Tally.{Tally}
-
--- one more, but at most 2^32 - 1
-abbrev pub one_more : ℕ → ℕ
-one_more count = min (count + 1) (2 ^ 32 - 1)
-
--- the counts with one more line
-abbrev pub with_line : BookCount → BookCount
-with_line counts = record counts { lines = one_more counts.lines }
-
--- the counts with one more block, given what it enters
-abbrev pub with_block : Entered → BookCount → BookCount
-with_block entered counts = record {
-  lines = counts.lines;
-  blocks = one_more counts.blocks;
-  setups = if is_some entered.station then one_more counts.setups else counts.setups;
-  sights = if is_some entered.target then one_more counts.sights else counts.sights;
-}
 
 -- a block looks like a setup, and its point is not the station, if there is one
 abbrev pub looks : List Parts → Entered → Option (List ℕ) → Bool
@@ -60,24 +42,22 @@ entering tally = record { latest = tally.latest; entries = tally.entries.items }
 pub record IsEmpty (names : SeenNames) (number : ℕ) (tally : Tally) : Type 0 where
   pub seen : tally.names ≡ names
   pub book : tally.book ≡ number
-  pub counts : tally.counts ≡ record { lines = 0; blocks = 0; setups = 0; sights = 0 }
+  pub watch : (parsed : List ParsedLine) → HasWatched parsed 0 tally.watch
   pub entered : entering tally ≡ record { latest = record { reflector = None; instrument = None }; entries = [] }
-  pub words : tally.words ≡ record { distances = false; heights = false }
   pub lookalikes : IsListed [] tally.lookalikes
   pub directions : IsListed [] tally.directions
   pub changes : IsListed [] tally.changes
 
--- a block without a fault was taken in a running setup, after its line was counted
+-- a block without a fault was taken in a running setup, after it was counted
 pub record HasBlock (running : Option Setup) (words : List Parts) (old new : Tally) : Type 0 where
-  pub seen : IsSeenNext (mention_by old.book old.counts.lines (entered_by words) words) old.names new.names
+  pub seen : IsSeenNext (mention_by old.book old.watch.counts.lines (entered_by words) words) old.names new.names
   pub book : new.book ≡ old.book
-  pub counts : new.counts ≡ with_block (entered_by words) old.counts
-  pub entered : entering new ≡ entering_after old.book old.counts.lines running (entered_by words) (entering old)
-  pub measured : new.words ≡ with_words words old.words
+  pub watch : new.watch ≡ old.watch
+  pub entered : entering new ≡ entering_after old.book old.watch.counts.lines running (entered_by words) (entering old)
   pub lookalikes : (before : List ℕ) → IsListed before old.lookalikes
-      → IsListed (before ++ line_if (looks words (entered_by words) (option_map (λ own. own.station) running)) old.counts.lines) new.lookalikes
-  pub directions : (before : List ℕ) → IsListed before old.directions → IsListed (before ++ line_if (points (entered_by words) words) old.counts.lines) new.directions
-  pub changes : (before : List ℕ) → IsListed before old.changes → IsListed (before ++ line_if (changes running (entered_by words)) old.counts.lines) new.changes
+      → IsListed (before ++ line_if (looks words (entered_by words) (option_map (λ own. own.station) running)) old.watch.counts.lines) new.lookalikes
+  pub directions : (before : List ℕ) → IsListed before old.directions → IsListed (before ++ line_if (points (entered_by words) words) old.watch.counts.lines) new.directions
+  pub changes : (before : List ℕ) → IsListed before old.changes → IsListed (before ++ line_if (changes running (entered_by words)) old.watch.counts.lines) new.changes
 
 -- the place of the last entry of an index that begins before place `n`, in the setup that runs there
 abbrev pub open_at : ℕ → List ParsedLine → ℕ → Option ℕ
@@ -121,15 +101,6 @@ pub record IsEntering (book : ℕ) (parsed : List ParsedLine) (n : ℕ) (state :
   pub instrument : state.latest.instrument ≡ option_map (place_in parsed Instrument) (open_at instrument_height parsed n)
   pub entries : state.entries ≡ all_below (both_at book parsed n n) n
 
--- the counts of the lines before place `n`
-abbrev pub counts_below : List ParsedLine → ℕ → BookCount
-counts_below parsed n = record {
-  lines = n;
-  blocks = count_below (λ place. is_block (line_at parsed place)) n;
-  setups = count_below (λ place. is_setup (words_at parsed place)) n;
-  sights = count_below (λ place. is_sight (words_at parsed place)) n;
-}
-
 -- the lines before place `n` that look like setups, counted from 1
 abbrev pub lookalikes_below : List ParsedLine → ℕ → List ℕ
 lookalikes_below parsed n = all_below (λ place. line_if (is_lookalike parsed place) (place + 1)) n
@@ -141,13 +112,6 @@ directions_below parsed n = all_below (λ place. line_if (is_direction (words_at
 abbrev pub changes_below : List ParsedLine → ℕ → List ℕ
 changes_below parsed n = all_below (λ place. line_if (changes_height parsed place) (place + 1)) n
 
--- the words of the lines before place `n`
-abbrev pub words_below : List ParsedLine → ℕ → WordsSeen
-words_below parsed n = record {
-  distances = any_below (λ place. holds slope_distance (words_at parsed place)) n;
-  heights = any_below (λ place. holds target_height (words_at parsed place)) n;
-}
-
 -- what the lines before place `n` mention was recorded, after anything mentioned before the book
 abbrev pub AreSeenBelow : ℕ → List ParsedLine → ℕ → SeenNames → SeenNames → Type 0
 AreSeenBelow number parsed n old new =
@@ -157,9 +121,8 @@ AreSeenBelow number parsed n old new =
 pub record IsTallied (names : SeenNames) (number : ℕ) (parsed : List ParsedLine) (n : ℕ) (tally : Tally) : Type 0 where
   pub seen : AreSeenBelow number parsed n names tally.names
   pub book : tally.book ≡ number
-  pub counts : tally.counts ≡ counts_below parsed n
+  pub watch : HasWatched parsed n tally.watch
   pub entered : IsEntering number parsed n (entering tally)
-  pub words : tally.words ≡ words_below parsed n
   pub lookalikes : IsListed (lookalikes_below parsed n) tally.lookalikes
   pub directions : IsListed (directions_below parsed n) tally.directions
   pub changes : IsListed (changes_below parsed n) tally.changes

@@ -2,12 +2,12 @@
 use Rattle.std.specs.Prelude.{◌≡◌, ℕ, ◌<◌, ◌≤◌, ℤ, pos, ◌≤ℤ◌, ◌<ℤ◌, Bool, ◌&&◌, Option, None, Some, nat_lt, unsigned_abs}
 use Rattle.th_network.specs.Networks.{Survey}
 use Rattle.th_explain.specs.declared.freed.Freed.{Freed}
-use Rattle.th_explain.specs.declared.numbers.Number.{Number}
-use Rattle.th_explain.specs.declared.slopes.Sloped.{Sloped}
+use Rattle.th_changes.specs.declared.numbers.Number.{Number}
+use Rattle.th_changes.specs.declared.slopes.Sloped.{Sloped}
 use Rattle.th_explain.specs.Explained.{IsNone, mildest}
-use Rattle.th_explain.specs.Freed.{IsFreed, IsProposed}
-use Rattle.th_explain.specs.Reach.{reach_of}
-use Rattle.th_explain.specs.Slopes.{IsSloped}
+use Rattle.th_changes.specs.Freed.{IsFreed, IsProposed}
+use Rattle.th_changes.specs.Reach.{reach_of}
+use Rattle.th_changes.specs.Slopes.{IsSloped}
 
 -- a change within reach, with its cost and slope
 pub record IsInReach (survey : Survey) (number : Number) (own : Sloped) : Type 0 where

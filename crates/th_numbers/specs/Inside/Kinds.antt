@@ -4,7 +4,7 @@ use Rattle.th_book.specs.Observed.{Observed}
 use Rattle.th_entries.specs.declared.entries.Entry.{Entry}
 use Rattle.th_entries.specs.declared.entries.HeightKind.{HeightKind}
 use Rattle.th_reliability.specs.Sights.{in_sights}
-use Rattle.th_review.specs.Entries.{sights_of}
+use Rattle.th_review_rows.specs.Entries.{sights_of}
 use Rattle.th_numbers.specs.Lists.{is_kind}
 
 -- whether an entry is of a kind

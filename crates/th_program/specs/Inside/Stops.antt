@@ -5,10 +5,10 @@ use Rattle.th_devices.specs.Spots.{Spot, file}
 use Rattle.th_plans.specs.Asked.{Files}
 use Rattle.th_plans.specs.declared.plans.Plan.{Plan}
 use Rattle.th_program.specs.Done.{WouldOverwrite}
-use Rattle.th_program.specs.Owed.{HasName}
+use Rattle.th_files.specs.Owed.{HasName}
 use Rattle.th_program.specs.declared.overwrites.Stop.{Stop}
 use Rattle.th_program.specs.declared.overwrites.Stop.TheVariants as stop
-use Rattle.th_runs.specs.declared.refusals.Input.{Input}
+use Rattle.th_run_parts.specs.declared.refusals.Input.{Input}
 
 -- the file of this name is none of these books, if the folder reports its bytes
 abbrev pub IsNoBook : Bool → List (List ℕ) → List ℕ → Type 0

@@ -3,7 +3,7 @@ use Rattle.std.specs.Prelude.{◌⊎◌, ℕ}
 use Rattle.th_plans.specs.declared.faults.PlanFault.{PlanFault}
 use Rattle.th_plans.specs.declared.faults.PlanFault.TheVariants as fault
 use Rattle.th_program.specs.Done.{IsUsage}
-use Rattle.th_program.specs.Owed.{Told}
+use Rattle.th_files.specs.Owed.{Told}
 
 -- the fault was reported, or else that memory ran out
 abbrev pub IsUsageUnlessFull : {F : Type 0} → (F → Told) → F → F → PlanFault → ℕ → Type 0

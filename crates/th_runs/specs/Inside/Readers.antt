@@ -1,20 +1,16 @@
 -- What the readers of books promise one another.
-use Rattle.std.specs.Prelude.{◌≡◌, ◌+◌, ◌++◌, ℕ, List, [], ◌∷◌, Option, IfSome, Ok, length, option_to_list}
+use Rattle.std.specs.Prelude.{◌≡◌, ◌++◌, ℕ, List, [], ◌∷◌, Option, IfSome, Ok, length, option_to_list}
 use Rattle.th_book.specs.Books.{book_answer}
 use Rattle.th_book.specs.Observed.{Observed}
 use Rattle.th_book.specs.Lines.{ParsedLine}
 use Rattle.th_entries.specs.Reviews.{Reviews, parsed_of}
 use Rattle.th_entries.specs.Seen.{AddsBook}
+use Rattle.th_entries.specs.Sights.{no_sight_in}
 use Rattle.th_entries.specs.declared.seen.SeenNames.{SeenNames}
 use Rattle.th_entries.specs.Tallied.{HasSeen}
 use Rattle.th_entries.specs.declared.tallies.Tally.{Tally}
 use Rattle.th_entries.specs.declared.reviews.BookReview.{BookReview}
-use Rattle.th_remarks.specs.Sights.{no_sight_in}
 use Rattle.th_runs.specs.declared.notes.Notes.{Notes}
-
--- a feed took these bytes: if it had just them left to take, it has none left now
-abbrev pub AreTaken : {B F : Type 0} → (B → List ℕ → F → Type 0) → List ℕ → F → F → Type 0
-AreTaken {B} has_taken bytes old new = (start : B) → has_taken start bytes old → has_taken start [] new
 
 -- the review of a tally was put after others, and the names of its book were added to those before
 pub record IsAdded (tally : Tally) (old new : List BookReview) (more : SeenNames) : Type 0 where
@@ -40,10 +36,3 @@ pub record IsNotedNext (number : ℕ) (told : Option (List ℕ)) (old new : Note
   pub is_told : IfSome told (λ own. own ≡ text)
   pub noted : new.books.items ≡ old.books.items ++ option_to_list (no_sight_in number (parsed_of text))
   pub heights : new.heights ≡ old.heights
-
--- a reader read books one after the other, numbered from this one on, and their observations were put after others
-abbrev pub HasReadBooks : {R : Type 0} → (ℕ → Option (List ℕ) → List Observed → R → R → Type 0) → ℕ → List (Option (List ℕ)) → List Observed → List Observed → R → R → Type 0
-HasReadBooks has_read number [] before after old new = (after ≡ before) × (new ≡ old)
-HasReadBooks {R} has_read number (told ∷ tolds) before after old new =
-    (mid : R) × (observations : List Observed) × has_read number told observations old mid
-    × HasReadBooks has_read (number + 1) tolds (before ++ observations) after mid new

@@ -1,5 +1,5 @@
 use Rattle.std.proofs.Common.{◌∙◌, ℤ, List, ap, sym}
-use Rattle.th_explain.specs.Freed.{cost_of}
+use Rattle.th_changes.specs.Freed.{cost_of}
 use Rattle.th_network.specs.Networks.{Survey, at_points_of}
 use Rattle.tests_explain.proofs.finding.explained.Goals as goal
 

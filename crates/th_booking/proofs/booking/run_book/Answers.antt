@@ -1,9 +1,9 @@
 use Rattle.std.proofs.Common.{◌≡◌, ◌+◌, ◌∷◌, [], ℕ, Err, List, ap, rules, subst, arith}
-use Rattle.th_runs.specs.declared.refusals.Output.{Output}
-use Rattle.th_runs.specs.Reads.{outputs_place, refused}
-use Rattle.th_runs.specs.Writes.{AreWritten, Texts}
-use Rattle.th_runs.proofs.RunLemmas.{begun_of, outcome_begun, written_within}
-use Rattle.th_runs.proofs.SourceLemmas.{read_before}
+use Rattle.th_run_parts.specs.declared.refusals.Output.{Output}
+use Rattle.th_run_parts.specs.Reads.{outputs_place, refused}
+use Rattle.th_run_parts.specs.Writes.{AreWritten, Texts}
+use Rattle.th_run_parts.proofs.RunLemmas.{begun_of, outcome_begun, written_within}
+use Rattle.th_run_parts.proofs.SourceLemmas.{read_before}
 use Rattle.th_booking.specs.Booked.{input_of}
 use Rattle.th_booking.proofs.BookingLemmas.{book_refused, input_before}
 use Rattle.th_booking.proofs.booking.run_book.Goals as goal

@@ -1,9 +1,9 @@
 use Rattle.std.proofs.Common.{◌+◌, Ok, refl, arith}
 use Rattle.th_book.specs.Limits.{max_book}
 use Rattle.th_height_books.specs.Printed.{book_of_heights}
-use Rattle.th_runs.proofs.Givens.{book_fault, meets_fault, meets_front}
-use Rattle.th_runs.specs.declared.refusals.Input.TheVariants as input
-use Rattle.th_runs.specs.declared.refusals.Refusal.TheVariants as refusal
+use Rattle.th_run_parts.proofs.Givens.{book_fault, meets_fault, meets_front}
+use Rattle.th_run_parts.specs.declared.refusals.Input.TheVariants as input
+use Rattle.th_run_parts.specs.declared.refusals.Refusal.TheVariants as refusal
 use Rattle.th_booking.proofs.BookingLemmas.{book_of_heights-take}
 use Rattle.th_booking.proofs.sources.book_with_differences.Goals as goal
 

@@ -3,14 +3,14 @@ use Rattle.std.specs.List.{list_any}
 use Rattle.std.proofs.lemmas.List.{take_all}
 use Rattle.gsi_word.specs.Words.{parts_of}
 use Rattle.th_entries.specs.Oddities.{is_no_distance}
-use Rattle.th_entries.proofs.OddityLemmas.{any-at}
+use Rattle.th_entries.proofs.AnyLemmas.{any-at}
 use Rattle.th_entries.proofs.oddities.has_no_distance.Goals as goal
 
 pub loop-word-preserved : goal.loop-word-preserved
 loop-word-preserved c =
     ap (λ own. own || c.is_no_distance-none.result) c.loop-word.invariant
     ∙ ap (λ own. list_any is_no_distance (map parts_of (take c.loop-word.word-index c.args.words.now)) || own) c.is_no_distance-none.ensures
-    ∙ sym (any-at is_no_distance c.args.words.now c.loop-word.word-index c.word-item.result c.loop-word-test.true c.word-item.is)
+    ∙ sym (any-at is_no_distance parts_of c.args.words.now c.loop-word.word-index c.word-item.result c.loop-word-test.true c.word-item.is)
 
 pub returns : goal.returns
 returns c = c.loop-word.invariant ∙ ap (λ front. list_any is_no_distance (map parts_of front)) (take_all c.loop-word.word-index c.args.words.now c.loop-word-test.false)

@@ -1,7 +1,7 @@
 use Rattle.std.proofs.Common.{◌≡◌, FitsSigned, rules, to_z, w64, arith}
 use Rattle.std.proofs.lemmas.Int.{ints}
 use Rattle.th_explain.proofs.ExplainLemmas.{none_above, none_beyond, round_of}
-use Rattle.th_explain.proofs.TiltLemmas.{reach_small}
+use Rattle.th_changes.proofs.TiltLemmas.{reach_small}
 use Rattle.th_explain.proofs.explaining.above.Goals as goal
 
 pub overflow_cast-limit : goal.overflow_cast-limit

@@ -1,7 +1,7 @@
 use Rattle.std.proofs.Common.{◌≡◌, FitsSigned, ◌-ℤ◌, of_z, pos, rules, to_z, w64, arith}
 use Rattle.std.proofs.lemmas.Int.{ints}
 use Rattle.th_explain.proofs.ExplainLemmas.{none_before, none_below, round_of}
-use Rattle.th_explain.proofs.TiltLemmas.{reach_small}
+use Rattle.th_changes.proofs.TiltLemmas.{reach_small}
 use Rattle.th_explain.proofs.explaining.below.Goals as goal
 
 pub overflow_cast-limit : goal.overflow_cast-limit

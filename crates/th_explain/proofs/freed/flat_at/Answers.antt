@@ -1,6 +1,6 @@
 use Rattle.std.proofs.Common.{subst, sym}
 use Rattle.th_explain.specs.Explained.{IsExact}
-use Rattle.th_explain.proofs.SlopeLemmas.{ends_are_exact}
+use Rattle.th_explain.proofs.BracketLemmas.{ends_are_exact}
 use Rattle.th_explain.proofs.freed.flat_at.Goals as goal
 
 pub returns-clause-exact : goal.returns-clause-exact

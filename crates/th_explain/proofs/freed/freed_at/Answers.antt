@@ -1,7 +1,7 @@
 use Rattle.std.proofs.Common.{FitsSigned, ap, rules, subst, sym, to_z, w64, ◌∙◌, arith}
 use Rattle.std.proofs.lemmas.Int.{ints, to_z-of_z}
 use Rattle.th_explain.specs.Explained.{IsExact}
-use Rattle.th_explain.proofs.SlopeLemmas.{shown_is_exact}
+use Rattle.th_explain.proofs.BracketLemmas.{shown_is_exact}
 use Rattle.th_explain.proofs.freed.freed_at.Goals as goal
 
 pub returns : goal.returns

@@ -1,7 +1,7 @@
 use Rattle.std.proofs.Common.{◌≡◌, FitsSigned, ap, of_z, rules, sym, to_z, w64, ◌∙◌, arith}
 use Rattle.std.proofs.lemmas.Int.{ints, to_z-of_z}
-use Rattle.th_explain.proofs.SlopeLemmas.{flat_above, flat_below, nearest_is_exact, round_left, round_right}
-use Rattle.th_explain.proofs.TiltLemmas.{reach_small}
+use Rattle.th_explain.proofs.BracketLemmas.{flat_above, flat_below, nearest_is_exact, round_left, round_right}
+use Rattle.th_changes.proofs.TiltLemmas.{reach_small}
 use Rattle.th_explain.proofs.freed.freed_between.Goals as goal
 
 pub overflow_sub-right : goal.overflow_sub-right

@@ -1,7 +1,7 @@
 use Rattle.std.proofs.Common.{◌≡◌, of_z, to_z, w64, arith}
 use Rattle.std.proofs.lemmas.Int.{ints}
-use Rattle.th_explain.proofs.SlopeLemmas.{flat_is_freed, highest_high, highest_right, step_up_begins, step_up_high, step_up_right}
-use Rattle.th_explain.proofs.TiltLemmas.{reach_small}
+use Rattle.th_explain.proofs.BracketLemmas.{flat_is_freed, highest_high, highest_right, step_up_begins, step_up_high, step_up_right}
+use Rattle.th_changes.proofs.TiltLemmas.{reach_small}
 use Rattle.th_explain.proofs.freed.highest.Goals as goal
 
 pub narrow-init : goal.narrow-init

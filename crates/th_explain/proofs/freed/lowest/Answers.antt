@@ -1,7 +1,7 @@
 use Rattle.std.proofs.Common.{◌≡◌, of_z, to_z, w64, arith}
 use Rattle.std.proofs.lemmas.Int.{ints}
-use Rattle.th_explain.proofs.SlopeLemmas.{flat_is_freed, lowest_left, lowest_low, step_down_begins, step_down_left, step_down_low}
-use Rattle.th_explain.proofs.TiltLemmas.{reach_small}
+use Rattle.th_explain.proofs.BracketLemmas.{flat_is_freed, lowest_left, lowest_low, step_down_begins, step_down_left, step_down_low}
+use Rattle.th_changes.proofs.TiltLemmas.{reach_small}
 use Rattle.th_explain.proofs.freed.lowest.Goals as goal
 
 pub narrow-init : goal.narrow-init

@@ -7,7 +7,7 @@ use Rattle.th_blunders.specs.Residuals.{residuals}
 use Rattle.th_circulation.specs.Best.{IsBest}
 use Rattle.th_network.specs.Heights.{residual}
 use Rattle.th_network.specs.Networks.{Survey, at_points_of}
-use Rattle.th_explain.specs.Inside.Tilted.{tilted}
+use Rattle.th_changes.specs.Tilted.{tilted}
 use Rattle.th_explain.specs.Mended.{LeavesBlunders}
 use Rattle.th_explain.proofs.MendedLemmas.{blunders_moved}
 use Rattle.th_explain.proofs.mended.blunders_left.Goals as goal

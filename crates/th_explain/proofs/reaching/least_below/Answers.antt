@@ -2,7 +2,7 @@ use Rattle.std.proofs.Common.{◌≡◌, FitsSigned, ◌-ℤ◌, of_z, pos, rule
 use Rattle.std.proofs.lemmas.Int.{ints}
 use Rattle.th_explain.proofs.ExplainLemmas.{round_of}
 use Rattle.th_explain.proofs.ReachLemmas.{far_below, freed_within}
-use Rattle.th_explain.proofs.TiltLemmas.{reach_small}
+use Rattle.th_changes.proofs.TiltLemmas.{reach_small}
 use Rattle.th_explain.proofs.reaching.least_below.Goals as goal
 
 pub overflow_cast-reach : goal.overflow_cast-reach

@@ -1,6 +1,5 @@
 use Rattle.std.proofs.Common.{◌++◌, List, ap, ◌∙◌}
-use Rattle.th_numbers.specs.Lists.{forgotten_at}
-use Rattle.th_numbers.specs.Readings.{is_used}
+use Rattle.th_numbers.specs.Lists.{forgotten_at, is_used}
 use Rattle.th_numbers.specs.declared.candidates.Candidate.{Candidate}
 use Rattle.th_numbers.proofs.KindLemmas.{not_forgotten, same_made}
 use Rattle.th_numbers.proofs.entered.add_forgotten.Goals as goal

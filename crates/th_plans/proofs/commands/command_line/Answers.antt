@@ -23,5 +23,6 @@ returns c =
     let two = with_command _ _ _ _ _ c.in_ok-subcommand-2.ensures one c.in_ok-adjust_command.ensures in
     let three = with_command _ _ _ _ _ c.in_ok-subcommand-3.ensures two c.in_ok-review_command.ensures in
     let four = with_command _ _ _ _ _ c.in_ok-subcommand-4.ensures three c.in_ok-explain_command.ensures in
-    let five = with_command _ _ _ _ _ c.in_ok-subcommand-5.ensures four c.in_ok-check_command.ensures in
-    IfOk-weaker c.subcommand-6.result _ _ (λ command adds. with_command _ _ _ _ _ adds five c.in_ok-book_command.ensures) c.subcommand-6.ensures
+    let five = with_command _ _ _ _ _ c.in_ok-subcommand-5.ensures four c.in_ok-page_command.ensures in
+    let six = with_command _ _ _ _ _ c.in_ok-subcommand-6.ensures five c.in_ok-check_command.ensures in
+    IfOk-weaker c.subcommand-7.result _ _ (λ command adds. with_command _ _ _ _ _ adds six c.in_ok-book_command.ensures) c.subcommand-7.ensures

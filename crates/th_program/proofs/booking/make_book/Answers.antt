@@ -3,14 +3,14 @@ use Rattle.std.specs.List.{AllByRecursion}
 use Rattle.th_devices.specs.Spots.{file}
 use Rattle.th_program.proofs.CauseLemmas.{input_caused, output_caused, run_caused}
 use Rattle.th_program.proofs.BookLemmas.{booked, refused-book}
-use Rattle.th_program.proofs.OutputLemmas.{lent, made_ready, made_untouched, none_among, spots_after}
+use Rattle.th_files.proofs.OutputLemmas.{lent, made_ready, made_untouched, none_among, spots_after}
 use Rattle.th_program.proofs.RefusalLemmas.{unless-all}
-use Rattle.th_program.proofs.OpenedLemmas.{given-there}
+use Rattle.th_files.proofs.OpenedLemmas.{given-there}
 use Rattle.th_program.specs.Failing.{failing_of}
-use Rattle.th_program.specs.Inside.Opened.{AreApart, AreMade, IsTaken, IsUntouched}
-use Rattle.th_program.specs.Outputs.{spots_of}
+use Rattle.th_files.specs.Opened.{AreApart, AreMade, IsTaken, IsUntouched}
+use Rattle.th_files.specs.Outputs.{spots_of}
 use Rattle.th_booking.specs.Booked.{booked as booked_texts, booking, converted, input_of}
-use Rattle.th_runs.specs.Reads.{refused}
+use Rattle.th_run_parts.specs.Reads.{refused}
 use Rattle.th_program.proofs.booking.make_book.Goals as goal
 
 pub run_book-answer-requires-clause-outs : goal.run_book-answer-requires-clause-outs

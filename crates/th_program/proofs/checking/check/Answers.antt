@@ -5,17 +5,17 @@ use Rattle.th_devices.specs.Spots.{file}
 use Rattle.th_plans.specs.Plans.{files}
 use Rattle.th_program.proofs.CheckLemmas.{checked}
 use Rattle.th_program.proofs.CauseLemmas.{certificate_blamed, files_caused, output_caused, run_caused, widened}
-use Rattle.th_program.proofs.OpenedLemmas.{claim-opened, named-opened, opened-are-ready}
-use Rattle.th_program.proofs.OutputLemmas.{lent, made_ready, made_untouched, none_among, spots_after}
+use Rattle.th_files.proofs.OpenedLemmas.{claim-opened, named-opened, opened-are-ready}
+use Rattle.th_files.proofs.OutputLemmas.{lent, made_ready, made_untouched, none_among, spots_after}
 use Rattle.th_program.proofs.RefusalLemmas.{refused-for, unless-all}
 use Rattle.th_program.specs.Failing.{HasCause, IsInClaim, failing_of}
-use Rattle.th_program.specs.Inside.Opened.{AreApart, AreMade, AreOpened, IsTaken, IsUntouched}
-use Rattle.th_program.specs.Outputs.{spots_of}
-use Rattle.th_program.specs.Owed.{claim_owed}
-use Rattle.th_runs.specs.Inputs.{Claim, IsOwed, Owed}
+use Rattle.th_files.specs.Opened.{AreApart, AreMade, AreOpened, IsTaken, IsUntouched}
+use Rattle.th_files.specs.Outputs.{spots_of}
+use Rattle.th_files.specs.Owed.{claim_owed}
+use Rattle.th_run_parts.specs.Inputs.{Claim, IsOwed, Owed}
 use Rattle.th_runs.specs.Checked.{checking, judged, verdict_on}
-use Rattle.th_runs.specs.Reads.{refused}
-use Rattle.th_runs.specs.Writes.{UnlessWrite}
+use Rattle.th_run_parts.specs.Reads.{refused}
+use Rattle.th_run_parts.specs.Writes.{UnlessWrite}
 use Rattle.th_program.proofs.checking.check.Goals as goal
 
 pub run_check-answer-requires-clause-ready : goal.run_check-answer-requires-clause-ready

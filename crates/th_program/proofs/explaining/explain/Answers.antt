@@ -5,17 +5,17 @@ use Rattle.th_network.specs.Networks.{Survey}
 use Rattle.th_plans.specs.Plans.{files}
 use Rattle.th_program.proofs.ExplainedLemmas.{explained}
 use Rattle.th_program.proofs.CauseLemmas.{files_caused, output_caused, run_caused}
-use Rattle.th_program.proofs.OpenedLemmas.{named-opened, opened-are-ready, survey-opened, tells-opened}
-use Rattle.th_program.proofs.OutputLemmas.{lent, made_ready, made_untouched, none_among, spots_after}
+use Rattle.th_files.proofs.OpenedLemmas.{named-opened, opened-are-ready, survey-opened, tells-opened}
+use Rattle.th_files.proofs.OutputLemmas.{lent, made_ready, made_untouched, none_among, spots_after}
 use Rattle.th_program.proofs.RefusalLemmas.{refused-for, unless-all}
 use Rattle.th_program.specs.Failing.{HasCause, IsInFiles, failing_of}
-use Rattle.th_program.specs.Inside.Opened.{AreApart, AreMade, AreOpened, IsTaken, IsUntouched}
-use Rattle.th_program.specs.Outputs.{spots_of}
-use Rattle.th_program.specs.Owed.{survey_owed}
+use Rattle.th_files.specs.Opened.{AreApart, AreMade, AreOpened, IsTaken, IsUntouched}
+use Rattle.th_files.specs.Outputs.{spots_of}
+use Rattle.th_files.specs.Owed.{survey_owed}
 use Rattle.th_runs.specs.Explained.{explaining}
-use Rattle.th_runs.specs.Inputs.{IsOwed, Owed}
-use Rattle.th_runs.specs.Reads.{refused}
-use Rattle.th_runs.specs.Writes.{Texts, UnlessWrite}
+use Rattle.th_run_parts.specs.Inputs.{IsOwed, Owed}
+use Rattle.th_run_parts.specs.Reads.{refused}
+use Rattle.th_run_parts.specs.Writes.{Texts, UnlessWrite}
 use Rattle.th_program.proofs.explaining.explain.Goals as goal
 
 pub run_explain-answer-requires-clause-ready : goal.run_explain-answer-requires-clause-ready

@@ -3,16 +3,16 @@ use Rattle.std.specs.List.{AllByRecursion}
 use Rattle.th_folders.specs.Folders.{spot_of_origin}
 use Rattle.th_program.proofs.CauseLemmas.{book_caused, output_caused, run_caused}
 use Rattle.th_program.proofs.ListLemmas.{listed, refused-list}
-use Rattle.th_program.proofs.OutputLemmas.{lent, made_ready, made_untouched, none_among, spots_after}
+use Rattle.th_files.proofs.OutputLemmas.{lent, made_ready, made_untouched, none_among, spots_after}
 use Rattle.th_program.proofs.RefusalLemmas.{unless-all}
-use Rattle.th_program.proofs.OpenedLemmas.{given-there}
+use Rattle.th_files.proofs.OpenedLemmas.{given-there}
 use Rattle.th_program.specs.Failing.{failing_of}
-use Rattle.th_program.specs.Inside.Opened.{AreApart, AreMade, IsTaken, IsUntouched}
-use Rattle.th_program.specs.Outputs.{spots_of}
-use Rattle.th_runs.specs.Inputs.{owed_for_book}
+use Rattle.th_files.specs.Opened.{AreApart, AreMade, IsTaken, IsUntouched}
+use Rattle.th_files.specs.Outputs.{spots_of}
+use Rattle.th_run_parts.specs.Inputs.{owed_for_book}
 use Rattle.th_runs.specs.Listed.{listed as listed_texts, listing}
-use Rattle.th_runs.specs.Reads.{refused}
-use Rattle.th_runs.specs.declared.refusals.Input.TheVariants as input
+use Rattle.th_run_parts.specs.Reads.{refused}
+use Rattle.th_run_parts.specs.declared.refusals.Input.TheVariants as input
 use Rattle.th_program.proofs.listing.list.Goals as goal
 
 pub run_list_with_notes-answer-requires-clause-outs : goal.run_list_with_notes-answer-requires-clause-outs

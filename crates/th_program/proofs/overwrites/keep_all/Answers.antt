@@ -3,10 +3,10 @@ use Rattle.std.proofs.lemmas.List.{take_all}
 use Rattle.std.specs.Prelude.{Option}
 use Rattle.th_plans.specs.Plans.{files}
 use Rattle.th_program.specs.Inside.Stops.{AreKept, IsStop}
-use Rattle.th_program.specs.Outputs.{spot_at, spots_of}
+use Rattle.th_files.specs.Outputs.{spot_at, spots_of}
 use Rattle.th_program.proofs.OverwriteLemmas.{kept_more, stop_wider}
 use Rattle.th_program.proofs.overwrites.keep_all.Goals as goal
-use Rattle.th_runs.specs.declared.refusals.Output.{Output}
+use Rattle.th_run_parts.specs.declared.refusals.Output.{Output}
 
 pub loop-output-preserved : goal.loop-output-preserved
 loop-output-preserved g c =

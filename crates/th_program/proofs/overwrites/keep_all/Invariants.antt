@@ -1,7 +1,7 @@
 use Rattle.std.proofs.Common.{take}
 use Rattle.th_plans.specs.Plans.{files}
 use Rattle.th_program.specs.Inside.Stops.{AreKept}
-use Rattle.th_program.specs.Outputs.{spots_of}
+use Rattle.th_files.specs.Outputs.{spots_of}
 use Rattle.th_program.proofs.overwrites.keep_all.Given as goal
 
 abbrev pub invariant-loop-output : goal.invariant-loop-output

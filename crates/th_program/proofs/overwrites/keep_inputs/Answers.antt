@@ -1,11 +1,12 @@
 use Rattle.std.proofs.Common.{◌≡◌, IfErr, IfOk, subst, sym, true}
 use Rattle.std.proofs.lemmas.Result.{IfErr-weaker}
+use Rattle.th_paging.specs.Paged.{paging}
 use Rattle.th_plans.specs.Plans.{files}
 use Rattle.th_plans.specs.declared.plans.Plan.{Plan}
 use Rattle.th_plans.specs.declared.plans.Plan.TheVariants as plan
 use Rattle.th_program.specs.Done.{KeepsInputs}
 use Rattle.th_program.specs.Inside.Stops.{IsStopOf}
-use Rattle.th_program.specs.Outputs.{spots_of}
+use Rattle.th_files.specs.Outputs.{spots_of}
 use Rattle.th_program.proofs.OverwriteLemmas.{stop_of}
 use Rattle.th_program.proofs.overwrites.keep_inputs.Goals as goal
 use Rattle.th_runs.specs.Adjusted.{adjusting}
@@ -34,3 +35,15 @@ returns-in-Review-clause-stopped g c =
     (stop_of g.F.Folder.tells (plan.Review c.in-Review.inputs c.in-Review.limit c.in-Review.prefix) (files c.in-Review.inputs) (spots_of c.in-Review.prefix.now reviewing.outputs)
     (λ name has. has) (λ which name read. read))
     c.keep_all-in-Review.ensures.stopped)
+
+pub returns-in-Page-clause-apart : goal.returns-in-Page-clause-apart
+returns-in-Page-clause-apart g c =
+    subst (λ (own : Plan). IfOk c.keep_all-in-Page.result (λ _. g.F.Folder.tells ≡ true → KeepsInputs own)) (sym c.in-Page.is) c.keep_all-in-Page.ensures.apart
+
+pub returns-in-Page-clause-stopped : goal.returns-in-Page-clause-stopped
+returns-in-Page-clause-stopped g c =
+    subst (λ (own : Plan). IfErr c.keep_all-in-Page.result (IsStopOf g.F.Folder.tells own)) (sym c.in-Page.is)
+    (IfErr-weaker c.keep_all-in-Page.result _ _
+    (stop_of g.F.Folder.tells (plan.Page c.in-Page.inputs c.in-Page.limit c.in-Page.prefix) (files c.in-Page.inputs) (spots_of c.in-Page.prefix.now paging.outputs)
+    (λ name has. has) (λ which name read. read))
+    c.keep_all-in-Page.ensures.stopped)

@@ -1,7 +1,7 @@
 use Rattle.std.proofs.Common.{◌∙◌, ap, subst, sym}
 use Rattle.th_program.specs.Done.{IsOutputOf}
 use Rattle.th_program.proofs.plans.carry_out.Goals as goal
-use Rattle.th_program.proofs.plans.carry_out.Goals.{in-Standard+in_ok-list-in-Standard, in-List+in_ok-list-in-List, in-Adjust+in_ok-adjust-in-Adjust, in-Review+in_ok-review-in-Review, in-Explain+in_ok-explain-in-Explain, in-Book+in_ok-make_book-in-Book, in-BookOfHeights+in_ok-make_book-in-BookOfHeights}
+use Rattle.th_program.proofs.plans.carry_out.Goals.{in-Standard+in_ok-list-in-Standard, in-List+in_ok-list-in-List, in-Adjust+in_ok-adjust-in-Adjust, in-Review+in_ok-review-in-Review, in-Explain+in_ok-explain-in-Explain, in-Page+in_ok-page-in-Page, in-Book+in_ok-make_book-in-Book, in-BookOfHeights+in_ok-make_book-in-BookOfHeights}
 
 pub returns-clause-others : goal.returns-clause-others
 returns-clause-others g c = λ spot none. elim c.match-plan.branch [
@@ -15,6 +15,8 @@ returns-clause-others g c = λ spot none. elim c.match-plan.branch [
       ap (λ own. g.F.Folder.held own spot) w.folder-is ∙ w.review.ensures.others spot (λ is. none (subst (λ own. IsOutputOf own spot) (sym w.in-Review.is) is))
   | in-Explain+in_ok-explain-in-Explain w ↦
       ap (λ own. g.F.Folder.held own spot) w.folder-is ∙ w.explain.ensures.others spot (λ is. none (subst (λ own. IsOutputOf own spot) (sym w.in-Explain.is) is))
+  | in-Page+in_ok-page-in-Page w ↦
+      ap (λ own. g.F.Folder.held own spot) w.folder-is ∙ w.page.ensures.others spot (λ is. none (subst (λ own. IsOutputOf own spot) (sym w.in-Page.is) is))
   | in-Book+in_ok-make_book-in-Book w ↦
       ap (λ own. g.F.Folder.held own spot) w.folder-is ∙ w.make_book.ensures.others spot (λ is. none (subst (λ own. IsOutputOf own spot) (sym w.in-Book.is) is))
   | in-BookOfHeights+in_ok-make_book-in-BookOfHeights w ↦
@@ -26,3 +28,6 @@ returns-in_err-adjust-in-Adjust-clause-others g c = λ spot none. c.adjust.ensur
 
 pub returns-in_err-review-in-Review-clause-others : goal.returns-in_err-review-in-Review-clause-others
 returns-in_err-review-in-Review-clause-others g c = λ spot none. c.review.ensures.others spot (λ is. none (subst (λ own. IsOutputOf own spot) (sym c.in-Review.is) is))
+
+pub returns-in_err-page-in-Page-clause-others : goal.returns-in_err-page-in-Page-clause-others
+returns-in_err-page-in-Page-clause-others g c = λ spot none. c.page.ensures.others spot (λ is. none (subst (λ own. IsOutputOf own spot) (sym c.in-Page.is) is))

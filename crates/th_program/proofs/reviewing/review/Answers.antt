@@ -6,18 +6,18 @@ use Rattle.th_devices.specs.Spots.{file, is_file}
 use Rattle.th_network.specs.Networks.{Survey}
 use Rattle.th_plans.specs.Plans.{files}
 use Rattle.th_program.proofs.CauseLemmas.{files_caused, given_caused, output_caused, run_caused}
-use Rattle.th_program.proofs.OpenedLemmas.{named-opened, opened-are-ready, survey-opened, tells-opened}
-use Rattle.th_program.proofs.OutputLemmas.{all_apart, all_files, lent, made_ready, none_among, not_among, of_map, spots_after}
+use Rattle.th_files.proofs.OpenedLemmas.{named-opened, opened-are-ready, survey-opened, tells-opened}
+use Rattle.th_files.proofs.OutputLemmas.{all_apart, all_files, lent, made_ready, none_among, not_among, of_map, spots_after}
 use Rattle.th_program.proofs.PlaceLemmas.{apart_map, finished_given, others_given, printed_given, refused_given, untouched_given}
 use Rattle.th_program.specs.Done.{IsReviewed}
 use Rattle.th_program.specs.Failing.{HasCause, IsInFiles, failing_of}
-use Rattle.th_program.specs.Inside.Opened.{AreMade, AreOpened}
-use Rattle.th_program.specs.Outputs.{ending_of, spots_of}
-use Rattle.th_program.specs.Owed.{survey_owed}
+use Rattle.th_files.specs.Opened.{AreMade, AreOpened}
+use Rattle.th_files.specs.Outputs.{ending_of, spots_of}
+use Rattle.th_files.specs.Owed.{survey_owed}
 use Rattle.th_runs.specs.Reviewed.{AreOfReview, reviewing}
-use Rattle.th_runs.specs.Inputs.{IsOwed, Owed}
-use Rattle.th_runs.specs.Reads.{refused}
-use Rattle.th_runs.specs.Writes.{Texts, UnlessWrite}
+use Rattle.th_run_parts.specs.Inputs.{IsOwed, Owed}
+use Rattle.th_run_parts.specs.Reads.{refused}
+use Rattle.th_run_parts.specs.Writes.{Texts, UnlessWrite}
 use Rattle.th_program.proofs.reviewing.review.Goals as goal
 
 pub run_review-answer-requires-clause-ready : goal.run_review-answer-requires-clause-ready

@@ -1,6 +1,6 @@
 use Rattle.std.proofs.Common.{◌≡◌, ◌+◌, ◌++◌, drop}
 use Rattle.std.specs.List.{enumerate_from, flat_map}
-use Rattle.th_notes.specs.Books.{counts_of_books}
+use Rattle.th_findings.specs.Books.{counts_of_books}
 use Rattle.th_review.specs.Reviews.{book_line}
 use Rattle.th_review.proofs.book_tables.write_rows.Given as goal
 

@@ -1,7 +1,7 @@
 use Rattle.std.proofs.Common.{◌≡◌, ◌∙◌, Err, ap, rules, subst}
 use Rattle.th_network.specs.Networks.{Survey, surveyed}
-use Rattle.th_runs.specs.Inputs.{TableRows}
-use Rattle.th_runs.specs.Inside.Refused.{IsNetRefusal}
+use Rattle.th_run_parts.specs.Inputs.{TableRows}
+use Rattle.th_run_parts.specs.Refused.{IsNetRefusal}
 use Rattle.th_runs.proofs.adjusting.texts_of.Goals as goal
 
 pub returns-in_err-network-clause-texts : goal.returns-in_err-network-clause-texts

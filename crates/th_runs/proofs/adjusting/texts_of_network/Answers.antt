@@ -2,7 +2,7 @@ use Rattle.std.proofs.Common.{rules, w64}
 use Rattle.std.proofs.lemmas.Int.{to_z-of_z}
 use Rattle.th_runs.specs.Adjusted.{OutTexts}
 use Rattle.th_runs.proofs.NoteLemmas.{always}
-use Rattle.th_runs.proofs.ReaderLemmas.{if_ok}
+use Rattle.th_run_parts.proofs.ReaderLemmas.{if_ok}
 use Rattle.th_runs.proofs.adjusting.texts_of_network.Goals as goal
 
 pub returns-clause-texts : goal.returns-clause-texts

@@ -2,19 +2,19 @@ use Rattle.std.proofs.Common.{◌≡◌, ◌∙◌, ℤ, Err, IfOk, ap, rules, s
 use Rattle.std.proofs.lemmas.Int.{to_z-of_z}
 use Rattle.th_network.specs.Networks.{Survey, surveyed}
 use Rattle.th_runs.specs.Explained.{ArePrintedOf}
-use Rattle.th_runs.specs.Inputs.{MakesNetwork, TableRows}
-use Rattle.th_runs.specs.Inside.Refused.{IsNetRefusal}
-use Rattle.th_runs.proofs.RunLemmas.{of_network}
+use Rattle.th_run_parts.specs.Inputs.{MakesNetwork, TableRows}
+use Rattle.th_run_parts.specs.Refused.{IsNetRefusal}
+use Rattle.th_run_parts.proofs.RunLemmas.{of_network}
 use Rattle.th_runs.proofs.explaining.texts_of.Goals as goal
 
 pub returns-in_err-network : goal.returns-in_err-network
-returns-in_err-network c =
+returns-in_err-network g c =
     let is : c.from_residual.result ≡ Err c.in_err-network.field-0.0 = search rules in
     let same = ap (λ (rows : TableRows). surveyed c.survey.inside.observations.items rows.benchmarks rows.weights) c.tables.view_is in
     rw is (subst (λ (survey : Survey). IsNetRefusal survey c.in_err-network.field-0.0) (same ∙ c.survey.view_is) c.in_err-network.ensures)
 
 pub returns : goal.returns
-returns c =
+returns g c =
     let same = ap (λ (rows : TableRows). surveyed c.survey.inside.observations.items rows.benchmarks rows.weights) c.tables.view_is ∙ c.survey.view_is in
     of_network c.args.survey c.in_ok-network.network (λ survey texts. ArePrintedOf c.args.reviews.now c.args.limit c.args.form survey texts.items) c.texts_of_network.result
     (subst MakesNetwork same c.in_ok-network.ensures.0) (c.in_ok-network.ensures.1 ∙ same)

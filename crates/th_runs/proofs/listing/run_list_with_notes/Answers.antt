@@ -1,13 +1,13 @@
 use Rattle.std.proofs.Common.{◌≡◌, ◌+◌, ◌∙◌, ◌∷◌, [], ℕ, Err, List, ap, rules, subst, arith}
 use Rattle.th_report.specs.Lists.{list_text}
-use Rattle.th_runs.specs.declared.refusals.Input.TheVariants as input
-use Rattle.th_runs.specs.declared.refusals.Output.{Output}
-use Rattle.th_runs.specs.declared.refusals.Output.TheVariants as output
-use Rattle.th_runs.specs.Reads.{outputs_place, refused}
-use Rattle.th_runs.specs.Writes.{AreWritten, Texts}
+use Rattle.th_run_parts.specs.declared.refusals.Input.TheVariants as input
+use Rattle.th_run_parts.specs.declared.refusals.Output.{Output}
+use Rattle.th_run_parts.specs.declared.refusals.Output.TheVariants as output
+use Rattle.th_run_parts.specs.Reads.{outputs_place, refused}
+use Rattle.th_run_parts.specs.Writes.{AreWritten, Texts}
 use Rattle.th_runs.proofs.NoteLemmas.{always, list_noted}
-use Rattle.th_runs.proofs.RunLemmas.{begun_of, list_refused, outcome_begun, written_within}
-use Rattle.th_runs.proofs.SourceLemmas.{read_before}
+use Rattle.th_run_parts.proofs.RunLemmas.{begun_of, list_refused, outcome_begun, written_within}
+use Rattle.th_run_parts.proofs.SourceLemmas.{read_before}
 use Rattle.th_runs.proofs.listing.run_list_with_notes.Goals as goal
 
 pub returns-in_err-observations-clause-outcome : goal.returns-in_err-observations-clause-outcome

@@ -3,9 +3,9 @@ use Rattle.std.specs.List.{All, AllZip}
 use Rattle.th_reliability.specs.Effects.{IsEffect}
 use Rattle.th_reliability.specs.Sights.{IsOfOneStation, in_sights}
 use Rattle.th_reliability.specs.declared.sights.Sights.{Sights}
-use Rattle.th_review.specs.Entries.{entries_of, sights_of}
+use Rattle.th_review_rows.specs.Entries.{entries_of, sights_of}
 use Rattle.th_runs.proofs.EntryLemmas.{all_of_one_station, of_entries}
-use Rattle.th_runs.proofs.ReaderLemmas.{if_ok}
+use Rattle.th_run_parts.proofs.ReaderLemmas.{if_ok}
 use Rattle.th_runs.proofs.reviewing.effects_of.Goals as goal
 
 pub shared_mistakes-requires-clause-one : goal.shared_mistakes-requires-clause-one

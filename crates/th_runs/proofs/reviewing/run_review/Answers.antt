@@ -5,17 +5,17 @@ use Rattle.std.specs.List.{All}
 use Rattle.th_entries.specs.Stations.{HasOneStation}
 use Rattle.th_entries.specs.declared.reviews.BookReview.{BookReview}
 use Rattle.th_network.specs.Networks.{Survey}
-use Rattle.th_review.specs.Entries.{entries_of}
-use Rattle.th_runs.specs.Inputs.{told_by}
-use Rattle.th_runs.specs.Reads.{network_place, outputs_place, place, refused}
+use Rattle.th_review_rows.specs.Entries.{entries_of}
+use Rattle.th_run_parts.specs.Inputs.{told_by}
+use Rattle.th_run_parts.specs.Reads.{network_place, outputs_place, place, refused}
 use Rattle.th_runs.specs.Reviewed.{ArePrintedOf, AreReviewsOf, reviewing}
-use Rattle.th_runs.specs.Writes.{AreWritable, AreWritten, IsFailedWrite, Texts}
-use Rattle.th_runs.specs.declared.readers.ReviewReader.{ReviewReader}
-use Rattle.th_runs.specs.declared.refusals.Input.TheVariants as input
-use Rattle.th_runs.proofs.ReaderLemmas.{AreAllRead, all_read, all_stationed, as_many, reviews_of_all}
-use Rattle.th_runs.proofs.OutputLemmas.{outputs_of}
-use Rattle.th_runs.proofs.RunLemmas.{begun_of, named_of, network_refused, network_within, survey_begun, survey_refused, written_within}
-use Rattle.th_runs.proofs.SourceLemmas.{all_before}
+use Rattle.th_run_parts.specs.Writes.{AreWritable, AreWritten, IsFailedWrite, Texts}
+use Rattle.th_runs.specs.declared.reviews.ReviewReader.{ReviewReader}
+use Rattle.th_run_parts.specs.declared.refusals.Input.TheVariants as input
+use Rattle.th_runs.proofs.ReviewLemmas.{AreAllRead, all_read, all_stationed, as_many, reviews_of_all}
+use Rattle.th_run_parts.proofs.OutputLemmas.{outputs_of}
+use Rattle.th_run_parts.proofs.RunLemmas.{begun_of, named_of, network_refused, network_within, survey_begun, survey_refused, written_within}
+use Rattle.th_run_parts.proofs.SourceLemmas.{all_before}
 use Rattle.th_runs.proofs.reviewing.run_review.Goals as goal
 
 pub returns-in_err-survey-clause-outcome : goal.returns-in_err-survey-clause-outcome

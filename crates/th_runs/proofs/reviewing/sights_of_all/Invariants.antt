@@ -1,5 +1,5 @@
 use Rattle.std.proofs.Common.{◌≡◌, ◌++◌, drop, map}
-use Rattle.th_review.specs.Entries.{sights_of}
+use Rattle.th_review_rows.specs.Entries.{sights_of}
 use Rattle.th_runs.proofs.reviewing.sights_of_all.Given as goal
 
 abbrev pub invariant-loop-entry : goal.invariant-loop-entry

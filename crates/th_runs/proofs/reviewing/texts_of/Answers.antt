@@ -2,9 +2,9 @@ use Rattle.std.proofs.Common.{◌≡◌, ◌∙◌, Err, ap, rules, subst, sym}
 use Rattle.std.specs.List.{All}
 use Rattle.th_entries.specs.Stations.{HasOneStation}
 use Rattle.th_network.specs.Networks.{Survey, surveyed}
-use Rattle.th_review.specs.Entries.{entries_of}
-use Rattle.th_runs.specs.Inputs.{TableRows}
-use Rattle.th_runs.specs.Inside.Refused.{IsNetRefusal}
+use Rattle.th_review_rows.specs.Entries.{entries_of}
+use Rattle.th_run_parts.specs.Inputs.{TableRows}
+use Rattle.th_run_parts.specs.Refused.{IsNetRefusal}
 use Rattle.th_runs.proofs.reviewing.texts_of.Goals as goal
 
 pub texts_of_network-requires-clause-stations : goal.texts_of_network-requires-clause-stations

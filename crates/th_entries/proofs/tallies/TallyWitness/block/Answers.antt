@@ -6,4 +6,6 @@ use Rattle.th_entries.proofs.tallies.TallyWitness.block.Goals as goal
 pub returns-in_default : goal.returns-in_default
 returns-in_default c = λ names number parsed place is seen kept.
     let before : c.args.self.now.failed ≡ None = search rules in
-    block-next names number parsed place c.args.self.now c.take.new.self c.line.new.self c.args.running.now c.args.entered.now (map parts_of c.args.words.now) c.faultless_book_is_sound.ensures is c.line.ensures c.in_default.ensures (seen before)
+    let was = seen before in
+    block-next names number parsed place c.args.self.now c.take.new.self c.block.new.self c.args.running.now c.args.entered.now (map parts_of c.args.words.now) c.faultless_book_is_sound.ensures is
+    (c.block.ensures tt number parsed place is was.watch) c.in_default.ensures was

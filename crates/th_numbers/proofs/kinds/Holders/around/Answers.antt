@@ -1,7 +1,7 @@
 use Rattle.std.proofs.Common.{List, ap, ◌∙◌}
 use Rattle.std.specs.List.{filter, slice_range}
 use Rattle.th_entries.specs.declared.entries.Entry.{Entry}
-use Rattle.th_numbers.specs.Readings.{is_used}
+use Rattle.th_numbers.specs.Lists.{is_used}
 use Rattle.th_numbers.proofs.KindLemmas.{used_around}
 use Rattle.th_numbers.proofs.kinds.Holders.around.Goals as goal
 

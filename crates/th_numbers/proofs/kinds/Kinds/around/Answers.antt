@@ -2,7 +2,7 @@ use Rattle.std.proofs.Common.{◌≡◌, rules, subst, sym}
 use Rattle.std.specs.List.{filter}
 use Rattle.th_entries.specs.declared.entries.HeightKind.{HeightKind}
 use Rattle.th_entries.specs.declared.entries.HeightKind.TheVariants as height
-use Rattle.th_numbers.specs.Readings.{is_used}
+use Rattle.th_numbers.specs.Lists.{is_used}
 use Rattle.th_numbers.proofs.KindLemmas.{used_of_kind}
 use Rattle.th_numbers.proofs.kinds.Kinds.around.Goals as goal
 

@@ -2,11 +2,11 @@ use Rattle.std.proofs.Common.{◌≡◌, ◌+◌, ◌++◌, ◌∙◌, Ok, ap, s
 use Rattle.std.specs.Prelude.{option_to_list}
 use Rattle.th_book.specs.Books.{book_answer, parsed_of}
 use Rattle.th_book.specs.Limits.{max_book}
-use Rattle.th_runs.proofs.Fronts.{book_answer-take}
-use Rattle.th_runs.proofs.Givens.{book_fault, meets_fault, meets_front}
-use Rattle.th_runs.proofs.ReaderLemmas.{front_told}
-use Rattle.th_runs.specs.declared.refusals.Input.TheVariants as input
-use Rattle.th_runs.specs.declared.refusals.Refusal.TheVariants as refusal
+use Rattle.th_run_parts.proofs.Fronts.{book_answer-take}
+use Rattle.th_run_parts.proofs.Givens.{book_fault, meets_fault, meets_front}
+use Rattle.th_run_parts.proofs.ReaderLemmas.{front_told}
+use Rattle.th_run_parts.specs.declared.refusals.Input.TheVariants as input
+use Rattle.th_run_parts.specs.declared.refusals.Refusal.TheVariants as refusal
 use Rattle.th_runs.proofs.notes.NotesBookReader.read.Goals as goal
 
 pub returns-in_ok-add-in-Ok-clause-ok : goal.returns-in_ok-add-in-Ok-clause-ok

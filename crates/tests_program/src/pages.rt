@@ -1,0 +1,113 @@
+//! Pages: what `page` leaves in its one file, and what remains where it is refused.
+use crate::folders::{ADJUST_BACK, ADJUSTED, WIDE, file, project, put, run, same, shown};
+
+/// The arguments that make the page of a sight there and one back, whose residual is -0.01 m.
+const BACK: &str = "page --benchmarks heights --weights weights --out out back.gsi";
+
+/// Lines of that page, in order: of its head, of its picture, of its sections and of its end. They are
+/// those of a program that shares no code with this one.
+const LINES: [&str; 9] = [
+    "<!DOCTYPE html>\n<html lang=\"en\">\n",
+    "<li><bdi>back.gsi</bdi>\n</ol>\n",
+    "<li>Points <b>2</b>\n<li>Benchmarks <b>1</b>\n<li>Sights <b>2</b>\n<li>Loops <b>1</b>\n<li>Keyed-in heights <b>4</b>\n<li>Cost <b>0.0100 m</b>\n<li>Limit <b>0.0200 m</b>\n",
+    "<li class=\"ok\"><b>0 of 2 sights marked.</b> No residual is above the limit.\n<li class=\"no\"><b>1 of 2 sights weak.</b>",
+    "<circle cx=\"6150\" cy=\"755\" r=\"38\"><title>B 102.5450</title></circle>\n",
+    "<tr><th>A<td>100.0000<td><td>benchmark\n<tr><th>B<td>102.5450<td><td>4\n",
+    "<tr><td>1:2<th>A<th>B<td>2.5450<td>0.0000<td>3<td>1<th><b class=\"h\">&lt;</b> hides\n",
+    "<li>a part of the network hangs on A alone: nothing checks its height\n",
+    "</footer>\n</body>\n</html>\n",
+];
+
+#[test]
+fn a_network_is_shown(rt: HostRuntime) {
+    let mut folder = project(&rt, WIDE);
+    assert_eq!(rt; run(&rt, &mut folder, BACK), 0);
+    let mut left = str::from_utf8(file(&folder, "out.html")).unwrap_or("");
+    for line in LINES {
+        let found = left.split_once(line);
+        assert!(rt; found.is_some(), "{line}");
+        left = found.map(|(_, behind)| behind).unwrap_or("");
+    }
+    assert!(rt; left.is_empty());
+    assert!(rt; folder.output().is_none());
+    assert!(rt; folder.errors().is_none());
+}
+
+/// Pages with a limit, and how many sights are marked above it.
+const MARKED: [(&str, &str); 2] = [
+    (
+        "page --benchmarks heights --weights weights --blunder 10000 --out out back.gsi",
+        "<b>0 of 2 sights marked.</b>",
+    ),
+    (
+        "page --benchmarks heights --weights weights --blunder 9999 --out out back.gsi",
+        "<b>1 of 2 sights marked.</b>",
+    ),
+];
+
+#[test]
+fn a_residual_above_the_limit_is_marked(rt: HostRuntime) {
+    for (page, marked) in MARKED {
+        let mut folder = project(&rt, WIDE);
+        assert_eq!(rt; run(&rt, &mut folder, page), 0);
+        let text = str::from_utf8(file(&folder, "out.html")).unwrap_or("");
+        assert!(rt; text.contains(marked), "{marked}");
+    }
+}
+
+#[test]
+fn an_adjustment_stays_beside_its_page(rt: HostRuntime) {
+    let mut folder = project(&rt, WIDE);
+    let mut adjusted = project(&rt, WIDE);
+    assert_eq!(rt; run(&rt, &mut adjusted, ADJUST_BACK), 0);
+    assert_eq!(rt; run(&rt, &mut folder, ADJUST_BACK), 0);
+    assert_eq!(rt; run(&rt, &mut folder, BACK), 0);
+    for name in ADJUSTED {
+        assert!(rt; same(file(&folder, name), file(&adjusted, name)), "{name}");
+    }
+    assert!(rt; adjusted.file("out.html").is_none());
+}
+
+/// Command lines, the status, and how the line on standard error begins.
+const REFUSED: [(&str, u8, &[u8]); 5] = [
+    (
+        "page --out out --benchmarks heights site.gsi faulty.gsi",
+        2,
+        b"book 2 line 1: B1 ",
+    ),
+    (
+        "page --out out --benchmarks heights --weights heights site.gsi",
+        2,
+        b"weights record 1: E1 ",
+    ),
+    (
+        "page --out out --benchmarks elsewhere site.gsi",
+        2,
+        b"network: N3 no benchmark for A\n",
+    ),
+    (
+        "page --out out --benchmarks heights none.gsi",
+        5,
+        b"read failed: book 1\n  'none.gsi'\n",
+    ),
+    // The page has more bytes than its sink has room for.
+    (
+        "page --out out --benchmarks heights site.gsi",
+        5,
+        b"write failed: page\n  'out.html'\n",
+    ),
+];
+
+#[test]
+fn a_run_that_is_refused_leaves_the_old_page(rt: HostRuntime) {
+    for (page, status, line) in REFUSED {
+        let mut folder = project(&rt, 5_000);
+        put(&rt, &mut folder, "faulty.gsi", b"no block\n");
+        put(&rt, &mut folder, "elsewhere", b"point,height\nX,50\n");
+        put(&rt, &mut folder, "out.html", b"old page");
+        assert_eq!(rt; run(&rt, &mut folder, page), status);
+        assert!(rt; shown(folder.errors()).starts_with(line));
+        assert!(rt; same(file(&folder, "out.html"), b"old page"));
+        assert!(rt; folder.output().is_none());
+    }
+}

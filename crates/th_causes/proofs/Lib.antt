@@ -1,0 +1,6 @@
+mod RowLemmas
+mod OrderLemmas
+mod PrintedLemmas
+mod RereadLemmas
+mod BookLemmas
+mod FindLemmas

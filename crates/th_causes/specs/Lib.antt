@@ -1,0 +1,5 @@
+pub mod Rows
+pub mod Readings
+pub mod Explanations
+pub mod Printed
+pub mod Inside

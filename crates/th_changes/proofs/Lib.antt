@@ -1,0 +1,9 @@
+pub mod Tilts
+pub mod Changes
+pub mod Bounds
+pub mod Sums
+pub mod TiltLemmas
+pub mod SlopeLemmas
+pub mod ReroutedLemmas
+pub mod PriceLemmas
+pub mod NetLemmas

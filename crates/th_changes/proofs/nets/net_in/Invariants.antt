@@ -1,0 +1,10 @@
+use Rattle.std.proofs.Common.{◌≡◌, ◌≤◌, ◌*◌, unsigned_abs}
+use Rattle.th_tables.specs.Limits.{max_weight}
+use Rattle.th_changes.proofs.NetLemmas.{net_to}
+use Rattle.th_changes.proofs.nets.net_in.Given as goal
+
+abbrev pub invariant-loop-i : goal.invariant-loop-i
+invariant-loop-i l = record {
+  sum : l.net ≡ net_to l.number l.network.observations l.flows l.i;
+  small : unsigned_abs l.net ≤ l.i * max_weight;
+}

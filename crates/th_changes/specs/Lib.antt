@@ -1,0 +1,7 @@
+pub mod Numbers
+pub mod Freed
+pub mod Flows
+pub mod Slopes
+pub mod Reach
+pub mod Tilted
+pub mod Rerouted

@@ -1,0 +1,24 @@
+//! Networks in which one number is changed: what they cost, how steeply that rises as the number grows,
+//! and what flows that are sent other ways show of it.
+//!
+//! A number is one that somebody read or typed. `tilted` moves the change of a number to the differences
+//! that it touches, so no table changes. `specs/` has the definitions: numbers, and what is left if one is
+//! freed.
+#![tactic(auto)]
+
+// The numbers.
+mod numbers;
+
+// Networks with a changed number, and what they cost.
+mod slopes;
+mod tilting;
+
+// What flows through a number, and flows that are sent other ways.
+mod nets;
+mod rerouting;
+
+pub use nets::{net_in, run_of};
+pub use numbers::Number;
+pub use rerouting::Rerouted;
+pub use slopes::{Sloped, slope_as_given, slope_at};
+pub use tilting::{reach_of, tilted};

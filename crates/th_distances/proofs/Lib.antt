@@ -1,0 +1,3 @@
+pub mod WithinLemmas
+pub mod QueueLemmas
+pub mod DistanceLemmas

@@ -1,0 +1,3 @@
+-- what private functions promise one another
+pub mod Labels
+pub mod Spreading

@@ -1,0 +1,26 @@
+//! What stands before and between the numbers in the text of a book without sights. A page and a line for
+//! standard error take that text in different ways, and both use these parts.
+ghost use Rattle.std.specs.Prelude.{◌≡◌};
+ghost use Rattle.th_entries.specs.Sights.{separator, words_lead};
+
+/// What stands before the numbers of the words that a book has in place of sights.
+pub fn words_lead(numbers: &[u16]) -> &'static str
+    ensures { result.now ≡ words_lead numbers.now }
+{
+    match numbers.len() {
+        0 => "",
+        1 => "; it has word ",
+        _ => "; it has words ",
+    }
+}
+
+/// What stands between a number and those behind it.
+pub fn separator(rest: &[u16]) -> &'static str
+    ensures { result.now ≡ separator rest.now }
+{
+    match rest.len() {
+        0 => "",
+        1 => " and ",
+        _ => ", ",
+    }
+}

@@ -1,0 +1,63 @@
+ghost use Rattle.std.specs.Prelude.{◌≡◌, map};
+ghost use Rattle.gsi_word.specs.Words.{parts_of};
+ghost use Rattle.th_entries.specs.Inside.Watches.{with_words};
+ghost use Rattle.th_entries.specs.Words.{has, is_numbered, number_of};
+
+use gsi_word::Word;
+
+/// How many words tell what a book has in place of sights.
+pub const MEASURED_WORDS: usize = 14;
+
+/// The numbers of these words: a vertical angle, a slope and a horizontal distance, the height of the
+/// target, and the readings of a digital level (Leica GSI Online manual, table of word indexes).
+pub const MEASURED: [u16; MEASURED_WORDS] = [
+    22, 31, 32, 83, 330, 331, 332, 333, 334, 335, 336, 337, 338, 339,
+];
+
+/// The number of a word: two digits where position 3 is a dot, or else three.
+fn number_of(word: &Word<'_>) -> Option<u16>
+    ensures { result ≡ number_of (parts_of word.now) }
+{
+    let index = u16::from(word.index());
+    let [third, ..] = word.info();
+    match third {
+        b'.' => Some(index),
+        b'0'..=b'9' => Some(index * 10 + u16::from(third - b'0')),
+        _ => None,
+    }
+}
+
+/// Whether a word has a number.
+fn is_numbered(word: &Word<'_>, number: u16) -> bool
+    ensures { result ≡ is_numbered number (parts_of word.now) }
+{
+    match number_of(word) {
+        Some(own) => own == number,
+        None => false,
+    }
+}
+
+/// Whether one of some words has a number.
+fn has(words: &[Word<'_>], number: u16) -> bool
+    ensures { result ≡ has number (map parts_of words.now) }
+{
+    let mut found = false;
+    for word in words {
+        found = found | is_numbered(word, number);
+    }
+    found
+}
+
+/// Notes which of some numbers the words of a block have.
+pub(crate) fn see(seen: &mut [bool], numbers: &[u16], words: &[Word<'_>])
+    ensures { seen.new ≡ with_words (map parts_of words.now) seen.old numbers.now }
+{
+    let Some((own, later)) = seen.split_first_mut() else {
+        return;
+    };
+    let Some((number, rest)) = numbers.split_first() else {
+        return;
+    };
+    *own = *own | has(words, *number);
+    see(later, rest, words);
+}

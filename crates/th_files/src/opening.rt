@@ -1,0 +1,74 @@
+//! The sources of a run, as a folder gives them.
+ghost use Rattle.std.specs.Prelude.{◌≤◌, ◌≡◌, IfOk, length, map, option_map};
+ghost use Rattle.th_plans.specs.Limits.{max_books};
+ghost use Rattle.th_plans.specs.Plans.{files};
+ghost use Rattle.th_files.specs.Opened.{AreOpened, EachIsOpened, IsOpenedIfAny};
+
+use std::alloc::{AllocError, Global};
+use th_folders::{Folder, Origin};
+use th_plans::Inputs;
+
+/// The sources that `adjust`, `review` and `check` read.
+///
+/// A run reads them before it opens an output, and keeps them until the outputs are placed. So where a
+/// standard stream is closed, an input gets its number, and no output gets what is written to it. If
+/// more streams are closed than there are inputs, an output has the number of standard error, and is
+/// closed before a line is written there.
+#[derive(Drop)]
+pub struct Sources<S> {
+    pub books: Vec<S>,
+    pub benchmarks: S,
+    pub weights: Option<S>,
+}
+
+/// The sources of the files that the inputs name.
+pub fn sources_of<F: Folder>(
+    alloc: Global,
+    folder: &mut F,
+    inputs: &Inputs<'_>,
+) -> Result<Sources<F::In>, AllocError>
+    ensures same { folder.new ≡ folder.old }
+    ensures opened { IfOk result (λ sources. AreOpened F.In.state (F.reading_may_fail folder.old)
+        (F.held folder.old) (files inputs.now)
+        sources.books.items sources.benchmarks sources.weights) }
+    ensures few_books { IfOk result (λ sources. length sources.books.items ≤ max_books) }
+{
+    Ok(Sources {
+        books: books_of(alloc, folder, inputs.books.names())?,
+        benchmarks: folder.source(alloc, Origin::File(inputs.benchmarks))?,
+        weights: source_if_any(alloc, folder, inputs.weights)?,
+    })
+}
+
+/// The sources of the files of these names.
+fn books_of<F: Folder>(
+    alloc: Global,
+    folder: &mut F,
+    names: &[&str],
+) -> Result<Vec<F::In>, AllocError>
+    ensures same { folder.new ≡ folder.old }
+    ensures opened { IfOk result (λ sources. EachIsOpened F.In.state (F.reading_may_fail folder.old)
+        (F.held folder.old) (map (λ name. name.now) names.now) sources.items) }
+{
+    let mut sources = Vec::new(alloc);
+    for name in names {
+        sources.push(folder.source(alloc, Origin::File(*name))?)?;
+    }
+    Ok(sources)
+}
+
+/// The source of the file of this name, where there is a name.
+fn source_if_any<F: Folder>(
+    alloc: Global,
+    folder: &mut F,
+    name: Option<&str>,
+) -> Result<Option<F::In>, AllocError>
+    ensures same { folder.new ≡ folder.old }
+    ensures opened { IfOk result (IsOpenedIfAny F.In.state (F.reading_may_fail folder.old)
+        (F.held folder.old) (option_map (λ own. own.now) name.entry)) }
+{
+    match name {
+        Some(name) => Ok(Some(folder.source(alloc, Origin::File(name))?)),
+        None => Ok(None),
+    }
+}

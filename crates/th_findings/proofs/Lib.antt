@@ -1,0 +1,4 @@
+pub mod FindingLemmas
+mod UseLemmas
+mod PartLemmas
+mod PartLaws

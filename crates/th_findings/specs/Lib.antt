@@ -1,0 +1,12 @@
+pub mod Limits
+pub mod Books
+pub mod Repeats
+pub mod Limited
+pub mod Seen
+pub mod Parts
+pub mod Uses
+pub mod Twins
+pub mod Points
+pub mod Names
+pub mod Findings
+pub mod Inside

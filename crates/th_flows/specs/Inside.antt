@@ -1,0 +1,5 @@
+-- what private functions promise one another
+pub mod Flows
+pub mod Guides
+pub mod Trees
+pub mod Paths

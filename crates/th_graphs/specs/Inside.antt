@@ -1,0 +1,2 @@
+-- what private functions promise one another
+pub mod Merges

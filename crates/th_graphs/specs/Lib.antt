@@ -1,0 +1,4 @@
+pub mod Cuts
+pub mod Graphs
+pub mod Neighbours
+pub mod Inside

@@ -1,0 +1,5 @@
+use Rattle.th_mistakes.proofs.WithstandLemmas.{bounded}
+use Rattle.th_mistakes.proofs.laws.errors_reach_a_point.Goals as goal
+
+pub returns : goal.returns
+returns c = record { bounded = bounded }

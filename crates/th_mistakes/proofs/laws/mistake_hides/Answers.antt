@@ -1,0 +1,10 @@
+use Rattle.th_mistakes.proofs.ShiftLemmas.{hidden}
+use Rattle.th_mistakes.proofs.UncheckedLemmas.{unblamed}
+use Rattle.th_tables.proofs.WeightLemmas.{heavy}
+use Rattle.th_mistakes.proofs.laws.mistake_hides.Goals as goal
+
+pub returns : goal.returns
+returns c = record {
+  hidden = hidden;
+  unchecked = λ before after benchmarks weights heights o difference are. unblamed before after benchmarks weights heights o difference (heavy weights are);
+}

@@ -1,0 +1,13 @@
+use Rattle.th_mistakes.proofs.MoveLemmas.{blames, least_moved}
+use Rattle.th_mistakes.proofs.OneLemmas.{one_least}
+use Rattle.th_mistakes.proofs.WordLemmas.{found, unshown}
+use Rattle.th_mistakes.proofs.laws.mistake_moves_a_least_set.Goals as goal
+
+pub returns : goal.returns
+returns c = record {
+  least = least_moved;
+  blames = blames;
+  found = found;
+  unshown = unshown;
+  one = λ survey group place o control inside only at. one_least survey group place o only at control inside;
+}

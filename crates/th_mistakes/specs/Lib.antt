@@ -1,0 +1,3 @@
+pub mod Blunders
+pub mod Groups
+pub mod Moves

@@ -1,5 +1,0 @@
-use Rattle.th_reliability.proofs.TieLemmas.{agrees_too, stays_least}
-use Rattle.th_reliability.proofs.laws.mistake_ties.Goals as goal
-
-pub returns : goal.returns
-returns c = record { least = stays_least; agrees = agrees_too }

@@ -1,7 +1,0 @@
-use Rattle.std.proofs.Common.{◌≡◌, map, take}
-use Rattle.gsi_word.specs.Words.{parts_of}
-use Rattle.th_remarks.specs.Words.{has}
-use Rattle.th_remarks.proofs.words.has.Given as goal
-
-abbrev pub invariant-loop-word : goal.invariant-loop-word
-invariant-loop-word l = l.found ≡ has l.number (map parts_of (take l.word-index l.words))

@@ -1,8 +1,0 @@
-use Rattle.std.specs.Prelude.{ℕ, List}
-use Rattle.th_book.specs.Lines.{ParsedLine}
-use Rattle.th_remarks.specs.Inside.Watches.{IsWatched}
-use Rattle.th_remarks.specs.declared.sights.SightWatch.{SightWatch}
-
--- the lines before a place were seen: the watch holds what they say of the book's sights
-abbrev pub HasWatched : List ParsedLine → ℕ → SightWatch → Type 0
-HasWatched parsed place watch = IsWatched parsed place watch

@@ -1,0 +1,31 @@
+//! What runs consist of: why a run is refused, how it reads its inputs, and how it writes its outputs, over
+//! any sources and sinks.
+//!
+//! Inputs are read in one order: books, benchmarks, weights, and for a check the certificate. The
+//! first that is refused decides, and no later one is read. A refusal has one line for the user,
+//! and a status for the program to end with.
+#![tactic(auto)]
+
+// Why a run is refused.
+mod refusals;
+
+// Reading: one book in pieces, what a run keeps of it, all books, the other inputs, and the survey
+// that all of them give.
+mod books;
+mod feeds;
+mod inputs;
+mod readers;
+mod surveys;
+
+// Writing.
+mod outputs;
+
+pub use feeds::{Feed, SeenFeed, feed_from};
+pub use inputs::read_text;
+pub use outputs::{OutputText, write_outs};
+pub use readers::{BookReader, ObservationReader, refusal_of};
+pub use refusals::{
+    DEVICE_FAILED, DONE, INPUT_REFUSED, Input, NO_MEMORY, Output, REFUSED_VERDICT, Refusal, USAGE,
+    status_of, status_of_verdict,
+};
+pub use surveys::{Survey, Tables, network_of, read_survey};

@@ -1,0 +1,203 @@
+//! Why a run was refused, in one line for the user, and the status that the program ends with.
+ghost use Rattle.std.specs.Prelude.{◌≡◌};
+ghost use Rattle.th_run_parts.specs.Refusals.{status_of, status_of_verdict};
+
+use std::alloc::AllocError;
+use std::fmt;
+use th_book::BookFault;
+use th_certificate::CertFault;
+use th_checker::Verdict;
+use th_conversions::DifferenceFault;
+use th_network::NetFault;
+use th_tables::TableFault;
+use thiserror::Error;
+
+/// Done. The verdict on a certificate that was checked is yes.
+pub const DONE: u8 = 0;
+
+/// The checker rejected the certificate.
+pub const REFUSED_VERDICT: u8 = 1;
+
+/// An input was refused.
+pub const INPUT_REFUSED: u8 = 2;
+
+/// The command line is not valid, or requests help or the version.
+pub const USAGE: u8 = 3;
+
+/// Out of memory.
+pub const NO_MEMORY: u8 = 4;
+
+/// A device failed.
+pub const DEVICE_FAILED: u8 = 5;
+
+/// What a run reads.
+#[derive(Clone, Copy, Debug, PartialEq, Eq)]
+pub enum Input {
+    /// The book with this number, from 1.
+    Book(u32),
+    /// The table of the benchmarks.
+    Benchmarks,
+    /// The table of the weights.
+    Weights,
+    /// The certificate that is checked.
+    Certificate,
+    /// The table of differences that becomes a book. It is read alone.
+    Differences,
+}
+
+impl fmt::Display for Input {
+    ghost use Rattle.std.specs.Prelude.{Some};
+    ghost use Rattle.th_run_parts.specs.Refusals.{input_text};
+
+    ghost output = { λ input. Some (input_text input) };
+
+    fn fmt<W: fmt::Write>(&self, f: &mut fmt::Formatter<W>) -> fmt::Result {
+        match self {
+            Input::Book(number) => write!(f, "book {number}"),
+            Input::Benchmarks => f.write_str("benchmarks"),
+            Input::Weights => f.write_str("weights"),
+            Input::Certificate => f.write_str("certificate"),
+            Input::Differences => f.write_str("differences"),
+        }
+    }
+}
+
+/// What a run writes.
+#[derive(Clone, Copy, Debug, PartialEq, Eq)]
+pub enum Output {
+    /// The list of a book's observations.
+    List,
+    /// The file of heights.
+    Heights,
+    /// The certificate.
+    Certificate,
+    /// The report.
+    Report,
+    /// The heights as GSI-16 blocks.
+    Gsi,
+    /// The verdict on a certificate.
+    Verdict,
+    /// The table of a review's points.
+    Points,
+    /// The table of a review's observations.
+    Observations,
+    /// The table of a review's entries.
+    Entries,
+    /// The table of a review's benchmarks.
+    Benchmarks,
+    /// The review for people.
+    Review,
+    /// What explains what does not fit, for people or as a table.
+    Explanations,
+    /// The book of a table of differences.
+    Book,
+    /// The page to hand on.
+    Page,
+}
+
+impl fmt::Display for Output {
+    ghost use Rattle.std.specs.Prelude.{Some};
+    ghost use Rattle.th_run_parts.specs.Refusals.{output_text};
+
+    ghost output = { λ output. Some (output_text output) };
+
+    fn fmt<W: fmt::Write>(&self, f: &mut fmt::Formatter<W>) -> fmt::Result {
+        match self {
+            Output::List => f.write_str("list"),
+            Output::Heights => f.write_str("heights"),
+            Output::Certificate => f.write_str("certificate"),
+            Output::Report => f.write_str("report"),
+            Output::Gsi => f.write_str("gsi"),
+            Output::Verdict => f.write_str("verdict"),
+            Output::Points => f.write_str("points"),
+            Output::Observations => f.write_str("observations"),
+            Output::Entries => f.write_str("entries"),
+            Output::Benchmarks => f.write_str("reviewed benchmarks"),
+            Output::Review => f.write_str("review"),
+            Output::Explanations => f.write_str("explanations"),
+            Output::Book => f.write_str("book"),
+            Output::Page => f.write_str("page"),
+        }
+    }
+}
+
+/// Why a run was refused. It displays as the line for standard error. A run that is out of memory
+/// returns `Refusal::NoMemory`, and never a fault of that kind.
+#[derive(Clone, Copy, Debug, PartialEq, Eq, Error)]
+pub enum Refusal {
+    /// The book with this number, from 1, has a fault.
+    Book(u32, BookFault),
+    /// The table of the benchmarks has a fault.
+    Benchmarks(TableFault),
+    /// The table of the weights has a fault.
+    Weights(TableFault),
+    /// The certificate has a fault.
+    Certificate(CertFault),
+    /// The table of differences has a fault.
+    Differences(DifferenceFault),
+    /// Observations and benchmarks make no network.
+    Network(NetFault),
+    /// This input was not read to its end.
+    Read(Input),
+    /// This output was not written whole.
+    Write(Output),
+    /// Out of memory.
+    NoMemory,
+}
+
+impl fmt::Display for Refusal {
+    ghost use Rattle.std.specs.Prelude.{Some};
+    ghost use Rattle.th_run_parts.specs.Refusals.{refusal_text};
+
+    ghost output = { λ refusal. Some (refusal_text refusal) };
+
+    fn fmt<W: fmt::Write>(&self, f: &mut fmt::Formatter<W>) -> fmt::Result {
+        match self {
+            Refusal::Book(number, fault) => write!(f, "book {number} {fault}"),
+            Refusal::Benchmarks(fault) => write!(f, "benchmarks {fault}"),
+            Refusal::Weights(fault) => write!(f, "weights {fault}"),
+            Refusal::Certificate(fault) => write!(f, "certificate {fault}"),
+            Refusal::Differences(fault) => write!(f, "differences {fault}"),
+            Refusal::Network(fault) => write!(f, "network: {fault}"),
+            Refusal::Read(input) => write!(f, "read failed: {input}"),
+            Refusal::Write(output) => write!(f, "write failed: {output}"),
+            Refusal::NoMemory => f.write_str("out of memory"),
+        }
+    }
+}
+
+impl From<AllocError> for Refusal {
+    ghost use Rattle.th_run_parts.specs.declared.refusals.Refusal.TheVariants.{NoMemory};
+
+    ghost from_gives = { λ _ refusal. refusal ≡ NoMemory };
+
+    fn from(_error: AllocError) -> Refusal {
+        Refusal::NoMemory
+    }
+}
+
+/// The status that the program ends with after a refusal.
+pub fn status_of(refusal: &Refusal) -> u8
+    ensures { result ≡ status_of refusal.now }
+{
+    match refusal {
+        Refusal::Book(_, _)
+        | Refusal::Benchmarks(_)
+        | Refusal::Weights(_)
+        | Refusal::Certificate(_)
+        | Refusal::Differences(_)
+        | Refusal::Network(_) => INPUT_REFUSED,
+        Refusal::Read(_) | Refusal::Write(_) => DEVICE_FAILED,
+        Refusal::NoMemory => NO_MEMORY,
+    }
+}
+
+/// The status that the program ends with after a verdict.
+pub fn status_of_verdict(verdict: &Verdict) -> u8
+    ensures { result ≡ status_of_verdict verdict.now }
+{
+    match verdict {
+        Verdict::Yes => DONE,
+        Verdict::No(_) => REFUSED_VERDICT,
+    }
+}

@@ -1,5 +1,0 @@
-use Rattle.std.proofs.Common.{length}
-use Rattle.th_runs.proofs.outputs.+write_outs.Given as goal
-
-abbrev pub decreases-write_outs : goal.decreases-write_outs
-decreases-write_outs g l = length l.outs.now
