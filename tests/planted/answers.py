@@ -14,7 +14,7 @@ TESTS = Path(__file__).resolve().parents[1]
 sys.path.insert(0, str(TESTS / "second_office"))
 import office  # noqa: E402
 from explain import csv_text  # noqa: E402
-from runs import DEFAULT_PROGRAM, has_explain  # noqa: E402
+from runs import DEFAULT_PROGRAM  # noqa: E402
 
 PATIENCE_IN_SECONDS = 600
 UNITS = 100_000  # of 10 nm in a millimetre

@@ -16,8 +16,7 @@ once, and in each sight. Each number that others check is made wrong in turn: si
 
 Heights are right within 20 mm, the limit. The last kind, 'hides or drags', counts the sights and entries of which `review` says so a second
 time. Status 1 if a wrong number does not lead, if its mildest value does not make the heights right, or if a survey without a mistake has
-an explanation, and errors are of at most 1 mm. Without a program that has `explain` the second office answers, on surveys of at most 40
-sights.
+an explanation, and errors are of at most 1 mm. The second office answers on surveys of at most 40 sights.
 """
 
 import argparse
@@ -29,7 +28,7 @@ from multiprocessing import Pool
 from pathlib import Path
 from typing import Dict, Iterator, List, NamedTuple, Optional, Tuple
 
-from answers import DEFAULT_PROGRAM, UNITS, Adjusted, Program, Row, SecondOffice, has_explain, units
+from answers import DEFAULT_PROGRAM, UNITS, Adjusted, Program, Row, SecondOffice, units
 from surveys import FORMS, SHAPES, Number, Survey, Written, changed, survey_of, without, written
 
 LIMIT_IN_MICROMETRES = 20_000
@@ -219,14 +218,11 @@ def arguments() -> argparse.Namespace:
 
 
 def program_of(chosen: argparse.Namespace) -> Optional[Path]:
-    """The program to be tried; none where the second office is to answer, or has to."""
+    """The program to be tried; none where the second office is to answer."""
     if chosen.second_office:
         return None
     if not os.access(chosen.program, os.X_OK):
         sys.exit(f"there is no program at {chosen.program}: build it, or name it with --program, or try --second-office")
-    if not has_explain(chosen.program.resolve()):
-        print("the program has no command explain: the second office answers, on small surveys")
-        return None
     return chosen.program
 
 
