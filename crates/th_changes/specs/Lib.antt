@@ -5,3 +5,4 @@ pub mod Slopes
 pub mod Reach
 pub mod Tilted
 pub mod Rerouted
+pub mod Inside

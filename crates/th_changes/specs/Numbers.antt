@@ -22,6 +22,12 @@ lift (Benchmark benchmark) name = if bytes_eq benchmark name then pos 1 else pos
 abbrev pub touch : Number → Observed → ℤ
 touch number o = share number o +ℤ lift number o.station -ℤ lift number o.target
 
+-- how much each difference that the number touches grows for each unit that it grows, if it is no benchmark
+abbrev pub sign : Number → ℤ
+sign (Added sights) = pos 1
+sign (Subtracted sights) = negsuc 0
+sign (Benchmark name) = pos 0
+
 -- the observation, after the number grew by so many units
 abbrev pub changed_observation : Number → ℤ → Observed → Observed
 changed_observation number x o = record o { difference = o.difference +ℤ x *ℤ share number o }

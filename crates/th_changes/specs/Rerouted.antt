@@ -1,5 +1,5 @@
 -- Flows of a survey that are sent other ways, and what they then show.
-use Rattle.std.specs.Prelude.{◌≡◌, ℕ, ◌*◌, ◌<◌, ◌≤◌, ℤ, pos, ◌+ℤ◌, ◌-ℤ◌, ◌*ℤ◌, ◌≤ℤ◌, List, length, slice_index, slice_index_or, unsigned_abs, zip}
+use Rattle.std.specs.Prelude.{◌≡◌, ℕ, ◌*◌, ◌<◌, ◌≤◌, ℤ, pos, ◌+ℤ◌, ◌-ℤ◌, ◌*ℤ◌, ◌≤ℤ◌, List, length, slice_index, slice_index_or, true, unsigned_abs, zip}
 use Rattle.th_book.specs.Observed.{Observed}
 use Rattle.th_network.specs.Circulation.{total_by}
 use Rattle.th_network.specs.Heights.{residual}
@@ -9,10 +9,11 @@ use Rattle.th_network.specs.Vertices.{vertex_of}
 use Rattle.th_tables.specs.Limits.{max_weight}
 use Rattle.th_tables.specs.Rows.{weight_of}
 use Rattle.th_changes.specs.declared.numbers.Number.{Number}
+use Rattle.th_changes.specs.declared.runs.Run.{Run}
 use Rattle.th_changes.specs.Flows.{value}
 use Rattle.th_changes.specs.Freed.{Keeps, cost_of}
 use Rattle.th_changes.specs.Tilted.{tilted_observation}
-use Rattle.th_changes.specs.Numbers.{changed, touch}
+use Rattle.th_changes.specs.Numbers.{changed, sign, touch}
 
 -- the sum of the flows times f
 abbrev pub summed : (Observed → ℤ) → List Observed → List ℤ → ℤ
@@ -38,12 +39,14 @@ pub record IsNext (survey : Survey) (flows : List ℤ) (lost : ℤ) (at amount p
   pub lost_less : (o : Observed) → slice_index_or survey.observations place o ≡ o → lost_then ≡ lost -ℤ (flow -ℤ slice_index_or flows place (pos 0)) *ℤ link_difference survey.benchmarks o
   pub carried : (o : Observed) → slice_index_or survey.observations place o ≡ o → (potential : ℕ → ℤ) → (flow -ℤ slice_index_or flows place (pos 0)) *ℤ rise survey potential o ≡ pos amount *ℤ (potential at_then -ℤ potential at)
 
--- a run contains all observations that a number touches; it goes from its first place up to its second, without the second
-pub record HoldsNumber (observations : List Observed) (number : Number) (run : ℕ × ℕ) : Type 0 where
-  pub ordered : run.0 ≤ run.1
-  pub within : run.1 ≤ length observations
-  pub below : (k : ℕ) (d : Observed) → k < run.0 → touch number (slice_index_or observations k d) ≡ pos 0
-  pub above : (k : ℕ) (d : Observed) → run.1 ≤ k → k < length observations → touch number (slice_index_or observations k d) ≡ pos 0
+-- A run contains all observations that a number touches; it goes from its start up to its end, without that. If it is
+-- whole, the number touches all that are there alike.
+pub record HoldsNumber (observations : List Observed) (number : Number) (run : Run) : Type 0 where
+  pub ordered : run.start ≤ run.end
+  pub within : run.end ≤ length observations
+  pub below : (k : ℕ) (d : Observed) → k < run.start → touch number (slice_index_or observations k d) ≡ pos 0
+  pub above : (k : ℕ) (d : Observed) → run.end ≤ k → k < length observations → touch number (slice_index_or observations k d) ≡ pos 0
+  pub alike : run.is_whole ≡ true → (k : ℕ) (d : Observed) → run.start ≤ k → k < run.end → touch number (slice_index_or observations k d) ≡ sign number
 
 -- heights that are above those of the benchmarks by what these of the vertices are above vertex 0
 abbrev pub heights_over : Survey → List ℤ → List ℕ → ℤ

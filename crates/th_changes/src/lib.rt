@@ -16,9 +16,11 @@ mod tilting;
 // What flows through a number, and flows that are sent other ways.
 mod nets;
 mod rerouting;
+mod runs;
 
-pub use nets::{net_in, run_of};
+pub use nets::net_in;
 pub use numbers::Number;
 pub use rerouting::Rerouted;
+pub use runs::{Run, run_of};
 pub use slopes::{Sloped, slope_as_given, slope_at};
 pub use tilting::{reach_of, tilted};

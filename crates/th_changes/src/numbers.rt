@@ -1,5 +1,5 @@
 ghost use Rattle.std.specs.Prelude.{◌≡◌, ◌<◌, ◌≤◌, ◌^◌, pos, ◌*ℤ◌, if◌then◌else◌, unsigned_abs};
-ghost use Rattle.th_changes.specs.Numbers.{touch};
+ghost use Rattle.th_changes.specs.Numbers.{sign, touch};
 
 use gsi_word::Name;
 use th_book::Observation;
@@ -44,6 +44,19 @@ impl Number {
             -amount
         } else {
             0
+        }
+    }
+
+    /// An amount with the number's sign.
+    pub(crate) fn signed(&self, amount: i64) -> i64
+        requires { unsigned_abs amount < 2 ^ 63 }
+        ensures signed { result ≡ amount *ℤ sign self.now }
+        ensures small { unsigned_abs result ≤ unsigned_abs amount }
+    {
+        match self {
+            Number::Added(_) => amount,
+            Number::Subtracted(_) => -amount,
+            Number::Benchmark(_) => 0,
         }
     }
 }

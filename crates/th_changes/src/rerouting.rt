@@ -15,6 +15,7 @@ ghost use Rattle.th_tables.specs.Limits.{max_weight};
 
 use crate::nets::net_in;
 use crate::numbers::Number;
+use crate::runs::Run;
 use crate::slopes::Sloped;
 use std::alloc::{AllocError, Global};
 use th_circulation::BestHeights;
@@ -171,7 +172,7 @@ impl<'a> Rerouted<'a> {
 
     /// By how much the cost rises at least for each unit that a number grows, whose observations are in
     /// a run: what flows through them, if the flows show the whole cost.
-    pub fn slope(&self, number: &Number, run: (usize, usize)) -> Option<i64>
+    pub fn slope(&self, number: &Number, run: Run) -> Option<i64>
         requires { HoldsNumber self.now.network.now.observations number.now run }
         ensures { IfSome result (IsSteep self.now.network.now number.now self.now.cost) }
     {
@@ -186,7 +187,7 @@ impl<'a> Rerouted<'a> {
     pub fn sloped(
         &self,
         number: &Number,
-        run: (usize, usize),
+        run: Run,
         change: i64,
         heights: &[i64],
     ) -> Option<Sloped>
@@ -240,7 +241,7 @@ impl<'a> Rerouted<'a> {
     pub fn is_costly_beyond(
         &self,
         number: &Number,
-        run: (usize, usize),
+        run: Run,
         slope: i64,
         limit: u64,
     ) -> bool
@@ -260,7 +261,7 @@ impl<'a> Rerouted<'a> {
     }
 
     /// Whether the flows show that more than this is left, whatever a number is changed by.
-    pub fn leaves_more(&self, number: &Number, run: (usize, usize), slope: i64, most: u128) -> bool
+    pub fn leaves_more(&self, number: &Number, run: Run, slope: i64, most: u128) -> bool
         requires run { HoldsNumber self.now.network.now.observations number.now run }
         requires slope { IsSteep self.now.network.now number.now self.now.cost slope }
         ensures { result ≡ true → LeavesMore self.now.network.now number.now most }

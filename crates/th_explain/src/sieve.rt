@@ -10,7 +10,7 @@ use crate::freed::{Freed, freed_at};
 use gsi_word::Name;
 use std::alloc::{AllocError, Global};
 use th_blunders::Fit;
-use th_changes::{Number, Rerouted, run_of};
+use th_changes::{Number, Rerouted, Run, run_of};
 use th_circulation::BestHeights;
 use th_network::Network;
 use th_paths::{End, Freeing, Group, Guide, Link};
@@ -69,7 +69,7 @@ impl<'a> Sieve<'a> {
     fn freed_by(
         &mut self,
         number: &Number,
-        run: (usize, usize),
+        run: Run,
         slope: i64,
         freeing: Freeing,
     ) -> Option<Freed>
@@ -213,7 +213,7 @@ fn propose(
     guide: &mut Guide,
     network: &Network,
     number: &Number,
-    run: (usize, usize),
+    run: Run,
     slope: i64,
     limit: u64,
 ) -> Option<()> {
@@ -227,7 +227,7 @@ fn propose_below(
     guide: &mut Guide,
     network: &Network,
     number: &Number,
-    run: (usize, usize),
+    run: Run,
     slope: i64,
     worth: u64,
 ) -> Option<()> {
@@ -240,10 +240,10 @@ fn parted(
     guide: &mut Guide,
     network: &Network,
     number: &Number,
-    run: (usize, usize),
+    run: Run,
     slope: i64,
 ) -> Option<(Group, u32, i64)> {
-    let (start, end) = run;
+    let Run { start, end, .. } = run;
     let tails = Group::Tails { start, end };
     match number {
         Number::Added(_) => Some((tails, network.arcs().get(start)?.tail, slope)),

@@ -1,17 +1,14 @@
 -- Entries of one kind in the order of books and lines, and lists from which nothing that passes is missing.
 use Rattle.std.proofs.Common.{◌≡◌, ◌<◌, ◌≤◌, ◌+◌, ◌-◌, ◌&&◌, ◌++◌, [], ◌∷◌, ℕ, zero, suc, Bool, true, false, List, Some, cond, drop, get_or, if◌then◌else◌, length, min, refl, subst, take, sym, ap, ◌∙◌, arith}
-use Rattle.std.specs.List.{count_by, filter, find, flat_map, slice_range}
+use Rattle.std.specs.List.{filter, find, flat_map, slice_range}
 use Rattle.std.specs.List.Sorted.{IsPartitionedBy}
 use Rattle.std.proofs.Math.Nat.{le-min, min-le_left}
 use Rattle.std.proofs.lemmas.Bool.Decides.{nat_tests}
 use Rattle.std.proofs.lemmas.List.{get_or-drop}
-use Rattle.std.proofs.lemmas.List.Sums.{length-filter}
 use Rattle.th_book.specs.Observed.{Observed}
 use Rattle.th_entries.specs.declared.entries.Entry.{Entry}
 use Rattle.th_entries.specs.declared.entries.HeightKind.{HeightKind}
-use Rattle.th_reliability.specs.Runs.{HoldsSights}
 use Rattle.th_reliability.specs.Sights.{in_sights}
-use Rattle.th_reliability.specs.declared.sights.Sights.{Sights}
 use Rattle.th_review_rows.specs.Entries.{sights_of}
 use Rattle.th_numbers.specs.Inside.Kinds.{AreAround, FollowEachOther, is_ended, is_of, precedes}
 use Rattle.th_numbers.specs.Lists.{forgotten_at, is_kind, is_part, is_used}
@@ -70,15 +67,6 @@ module _ {X : Type 0} (p : X → Bool) where
 
   pub same_found : (xs ys : List X) → filter p xs ≡ filter p ys → find p xs ≡ find p ys
   same_found xs ys same = sym (found_in_kept xs) ∙ ap (find p) same ∙ found_in_kept ys
-
-  pub same_count : (xs ys : List X) → filter p xs ≡ filter p ys → count_by p xs ≡ count_by p ys
-  same_count xs ys same = sym (length-filter p xs) ∙ ap length same ∙ length-filter p ys
-
--- the sights of an entry are in their run
-pub held_in : (observations : List Observed) (sights : Sights) (run : ℕ × ℕ) → HoldsSights observations sights run → count_by (in_sights sights) (slice_range observations run.0 run.1) ≡ count_by (in_sights sights) observations
-held_in observations sights run holds =
-    same_count (in_sights sights) (slice_range observations run.0 run.1) observations
-    (all_in_range (in_sights sights) observations run.0 run.1 holds.ordered holds.within holds.below holds.above)
 
 -- ---- entries of a kind
 used_of : (kind : HeightKind) (o : Observed) (entries : List Entry) → filter (is_used kind o) (filter (is_of kind) entries) ≡ filter (is_used kind o) entries

@@ -1,6 +1,5 @@
 //! A number that somebody read or typed, and where it is.
-ghost use Rattle.th_reliability.specs.Sights.{in_sights};
-ghost use Rattle.std.specs.Prelude.{◌≡◌, ◌≤◌, count_by, length, unsigned_abs};
+ghost use Rattle.std.specs.Prelude.{◌≡◌, ◌≤◌, length, unsigned_abs};
 ghost use Rattle.th_book.specs.Observed.{largest_difference};
 ghost use Rattle.th_network.specs.Limits.{max_observations};
 ghost use Rattle.th_numbers.specs.Candidates.{count_in, entered_kind, entry_label, given_of, label_of, number_of, number_over, sight_count, sight_of, since_kind, sights_since, touches, whole_of};
@@ -195,22 +194,21 @@ pub fn sight_count(network: &Network, number: &Number) -> u32
 pub(crate) fn count_in(runs: &Runs<'_>, sights: &Sights) -> usize
     ensures { result ≡ count_in runs.now.observations.now sights.now }
 {
-    let own = run_of(runs, sights);
+    match runs.exact_run(sights) {
+        Some((start, end)) => end - start,
+        None => count_among(runs.observations, sights),
+    }
+}
+
+/// How many observations are among some sights, with a look at each.
+fn count_among(observations: &[Observation], sights: &Sights) -> usize
+    ensures { result ≡ count_in observations.now sights.now }
+{
     let mut count = 0;
-    for o in own {
+    for o in observations {
         if sights.hold(o) {
             count += 1;
         }
     }
     count
-}
-
-/// Observations in runs, among them all of some sights.
-fn run_of<'a>(runs: &Runs<'a>, sights: &Sights) -> &'a [Observation]
-    ensures { count_by (in_sights sights.now) result.now
-        ≡ count_by (in_sights sights.now) runs.now.observations.now }
-{
-    let (start, end) = runs.run_of(sights);
-    let observations = runs.observations;
-    &observations[start..end]
 }

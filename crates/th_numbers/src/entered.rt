@@ -121,59 +121,7 @@ fn is_part(runs: &Runs<'_>, o: &Observation, entry: &Entry) -> bool
 fn is_part_of(runs: &Runs<'_>, part: &Sights, whole: &Sights) -> bool
     ensures { result ≡ is_part_of runs.now.observations.now part.now whole.now }
 {
-    if is_shown_part(runs, part, whole) {
-        return true;
-    }
     let behind = count_in(runs, part);
     let all = count_in(runs, whole);
     2 <= behind && behind < all
-}
-
-/// Whether the first of the sights show that they are two or more, and fewer than others. So an entry of many sights
-/// need not be counted for each change of it.
-fn is_shown_part(runs: &Runs<'_>, part: &Sights, whole: &Sights) -> bool
-    ensures two { result ≡ true → 2 ≤ count_in runs.now.observations.now part.now }
-    ensures fewer { result ≡ true
-        → count_in runs.now.observations.now part.now < count_in runs.now.observations.now whole.now }
-{
-    let observations = runs.observations;
-    let (place, _) = runs.run_of(whole);
-    let (next, _) = runs.run_of(part);
-    if !has_other(observations, part, whole, place) {
-        return false;
-    }
-    has_two(observations, part, next)
-}
-
-/// Whether the observation at a place and the one behind it are among some sights.
-fn has_two(observations: &[Observation], sights: &Sights, place: usize) -> bool
-    ensures { result ≡ true → 2 ≤ count_in observations.now sights.now }
-{
-    if place >= observations.len() {
-        return false;
-    }
-    let next = place + 1;
-    if next >= observations.len() {
-        return false;
-    }
-    if !sights.hold(&observations[place]) {
-        return false;
-    }
-    sights.hold(&observations[next])
-}
-
-/// Whether some sights are a part of the whole, and the observation at a place is of the whole alone.
-fn has_other(observations: &[Observation], part: &Sights, whole: &Sights, place: usize) -> bool
-    ensures { result ≡ true → count_in observations.now part.now < count_in observations.now whole.now }
-{
-    if part.book != whole.book || part.first < whole.first || part.last > whole.last {
-        return false;
-    }
-    if place >= observations.len() {
-        return false;
-    }
-    if part.hold(&observations[place]) {
-        return false;
-    }
-    whole.hold(&observations[place])
 }

@@ -1,5 +1,5 @@
 -- Where the sights of an entry are among observations.
-use Rattle.std.specs.Prelude.{◌≡◌, ℕ, ◌<◌, ◌≤◌, false, List, length, slice_index_or}
+use Rattle.std.specs.Prelude.{◌≡◌, ℕ, ◌<◌, ◌≤◌, false, true, List, length, slice_index_or}
 use Rattle.th_book.specs.Observed.{Observed}
 use Rattle.th_reliability.specs.Sights.{in_sights}
 use Rattle.th_reliability.specs.declared.sights.Sights.{Sights}
@@ -10,3 +10,8 @@ pub record HoldsSights (observations : List Observed) (sights : Sights) (run : �
   pub within : run.1 ≤ length observations
   pub below : (k : ℕ) (d : Observed) → k < run.0 → in_sights sights (slice_index_or observations k d) ≡ false
   pub above : (k : ℕ) (d : Observed) → run.1 ≤ k → k < length observations → in_sights sights (slice_index_or observations k d) ≡ false
+
+-- a run contains all of the sights, and nothing else
+pub record AreTheSights (observations : List Observed) (sights : Sights) (run : ℕ × ℕ) : Type 0 where
+  pub all : HoldsSights observations sights run
+  pub alone : (k : ℕ) (d : Observed) → run.0 ≤ k → k < run.1 → in_sights sights (slice_index_or observations k d) ≡ true

@@ -1,9 +1,9 @@
 //! Where the sights of an entry are among the observations of a network.
-ghost use Rattle.std.specs.Prelude.{◌≡◌, ◌≤◌, ◌↔◌, All, false, length, true};
+ghost use Rattle.std.specs.Prelude.{◌≡◌, ◌≤◌, ◌↔◌, All, IfSome, false, length, true};
 ghost use Rattle.std.specs.List.Sorted.{IsPartitionPoint};
 ghost use Rattle.th_reliability.specs.Blunders.{weight_in};
 ghost use Rattle.th_reliability.specs.Inside.Runs.{AreInOrder, is_before};
-ghost use Rattle.th_reliability.specs.Runs.{HoldsSights};
+ghost use Rattle.th_reliability.specs.Runs.{AreTheSights, HoldsSights};
 ghost use Rattle.th_reliability.specs.Sights.{in_sights};
 
 use crate::sights::Sights;
@@ -70,13 +70,24 @@ impl<'a> Runs<'a> {
     pub fn run_of(&self, sights: &Sights) -> (usize, usize)
         ensures { HoldsSights self.now.observations.now sights.now result }
     {
-        let observations = self.observations;
-        if !self.in_order {
-            return (0, observations.len());
+        match self.exact_run(sights) {
+            Some(run) => run,
+            None => (0, self.observations.len()),
         }
+    }
+
+    /// The places of the sights and of no other observations, counted from 0, from the first up to the
+    /// second, without it. There are none where the observations are not in order.
+    pub fn exact_run(&self, sights: &Sights) -> Option<(usize, usize)>
+        ensures { IfSome result (AreTheSights self.now.observations.now sights.now) }
+    {
+        if !self.in_order {
+            return None;
+        }
+        let observations = self.observations;
         let start = count_before(observations, sights.book, u64::from(sights.first));
         let end = count_before(observations, sights.book, u64::from(sights.last) + 1);
-        (start, end.max(start))
+        Some((start, end.max(start)))
     }
 }
 

@@ -1,7 +1,7 @@
 use Rattle.std.proofs.Common.{◌≡◌, ◌≤◌, ◌*◌, unsigned_abs}
 use Rattle.th_tables.specs.Limits.{max_weight}
 use Rattle.th_changes.proofs.NetLemmas.{net_to}
-use Rattle.th_changes.proofs.nets.net_in.Given as goal
+use Rattle.th_changes.proofs.nets.net_by_touch.Given as goal
 
 abbrev pub invariant-loop-i : goal.invariant-loop-i
 invariant-loop-i l = record {

@@ -1,0 +1,2 @@
+-- what private functions promise each other
+pub mod Sums
