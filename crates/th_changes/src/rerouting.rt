@@ -184,13 +184,7 @@ impl<'a> Rerouted<'a> {
 
     /// What the network costs if a number grows by so much, and how steeply that rises, if the flows show
     /// that these heights of the vertices are best then.
-    pub fn sloped(
-        &self,
-        number: &Number,
-        run: Run,
-        change: i64,
-        heights: &[i64],
-    ) -> Option<Sloped>
+    pub fn sloped(&self, number: &Number, run: Run, change: i64, heights: &[i64]) -> Option<Sloped>
         requires { HoldsNumber self.now.network.now.observations number.now run }
         ensures { IfSome result (IsSloped self.now.network.now number.now) }
     {
@@ -238,13 +232,7 @@ impl<'a> Rerouted<'a> {
     }
 
     /// Whether the flows show that no change of a number beyond a limit makes the network cost less.
-    pub fn is_costly_beyond(
-        &self,
-        number: &Number,
-        run: Run,
-        slope: i64,
-        limit: u64,
-    ) -> bool
+    pub fn is_costly_beyond(&self, number: &Number, run: Run, slope: i64, limit: u64) -> bool
         requires run { HoldsNumber self.now.network.now.observations number.now run }
         requires slope { IsSteep self.now.network.now number.now self.now.cost slope }
         ensures { result ≡ true

@@ -66,13 +66,7 @@ impl<'a> Sieve<'a> {
     }
 
     /// What is left if a number is freed, if the walks of the guide show it.
-    fn freed_by(
-        &mut self,
-        number: &Number,
-        run: Run,
-        slope: i64,
-        freeing: Freeing,
-    ) -> Option<Freed>
+    fn freed_by(&mut self, number: &Number, run: Run, slope: i64, freeing: Freeing) -> Option<Freed>
         requires { HoldsNumber self.old.network.now.observations number.now run }
         ensures network { self.new.network.now ≡ self.old.network.now }
         ensures cost { self.new.cost ≡ self.old.cost }
