@@ -24,6 +24,15 @@ impl Way {
             Way::In => arc.reversed(),
         }
     }
+
+    /// How much flow rises from a height here and one there, or from there to here.
+    #[inline]
+    pub fn rise(self, here: i64, there: i64) -> Option<i64> {
+        match self {
+            Way::Out => there.checked_sub(here),
+            Way::In => here.checked_sub(there),
+        }
+    }
 }
 
 /// What a search goes by.
@@ -164,6 +173,9 @@ impl Ball {
         let sides = ground.sides(vertex)?;
         for place in from..sides.len() {
             let side = sides.get(place)?;
+            if side.other != ground.base && self.reached.distance(side.other).is_some() {
+                continue;
+            }
             if let Some(other) = ground.other(self.way, vertex, side)
                 && self.reached.distance(other).is_none()
             {

@@ -71,12 +71,17 @@ impl Front {
             return Some(best);
         }
         let mut best = best;
+        let here = *heights.get(open.vertex as usize)?;
         for side in ground.sides(open.vertex)? {
+            if side.other != ground.base && self.reached.is_within(side.other, open.distance) {
+                continue;
+            }
             let Some(vertex) = ground.other(self.way, open.vertex, side) else {
                 continue;
             };
             let arc = self.way.along(side.arc);
-            let distance = open.distance.checked_add(cost(ground, heights, arc)?)?;
+            let rise = self.way.rise(here, *heights.get(vertex as usize)?)?;
+            let distance = open.distance.checked_add(cost(ground, arc, rise)?)?;
             if distance < best.distance && self.is_nearer(vertex, distance) {
                 self.reach(vertex, distance, arc)?;
                 best = nearer(best, other, vertex, distance)?;
@@ -112,13 +117,10 @@ fn nearer(best: Meeting, other: &Front, vertex: u32, distance: u64) -> Option<Me
     }
 }
 
-/// What a unit costs that is sent along an arc: less than nothing is no answer.
+/// What a unit costs that is sent along an arc which rises so much: less than nothing is no answer.
 #[inline]
-fn cost(ground: Ground, heights: &[i64], arc: ResidualArc) -> Option<u64> {
+fn cost(ground: Ground, arc: ResidualArc, rise: i64) -> Option<u64> {
     let difference = ground.links.get(arc.row())?.difference;
-    let low = *heights.get(ground.start(arc)? as usize)?;
-    let high = *heights.get(ground.start(arc.reversed())? as usize)?;
-    let rise = high.checked_sub(low)?;
     let cost = if arc.is_forward() {
         rise.checked_sub(difference)?
     } else {

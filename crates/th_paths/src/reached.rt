@@ -62,6 +62,15 @@ impl Reached {
         Some(row.distance)
     }
 
+    /// Whether a vertex was reached, and is no further away than this.
+    #[inline]
+    pub fn is_within(&self, vertex: u32, distance: u64) -> bool {
+        match self.distance(vertex) {
+            Some(known) => known <= distance,
+            None => false,
+        }
+    }
+
     /// The arc by which a vertex was reached.
     fn arc(&self, vertex: u32) -> Option<ResidualArc> {
         Some(self.rows.get(vertex as usize)?.arc)
