@@ -104,8 +104,9 @@ pub trait Folder {
     /// far as the system can.
     fn settle(&self, name: &str);
 
-    /// Why a call of the system failed last, where the folder knows. Contracts leave it open.
-    fn reason(&self) -> Option<Reason>;
+    /// Why a call of the system failed last, where the folder knows. One that reports its bytes knows none.
+    fn reason(&self) -> Option<Reason>
+        ensures { tells ≡ true → result ≡ None };
 
     // A folder that does not report the bytes that are written reports none.
     ghost tells_or_not: { (folder : Self) (spot : Spot) → tells ≡ false → held folder spot ≡ None };

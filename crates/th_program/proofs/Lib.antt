@@ -5,7 +5,6 @@ pub mod RefusalLemmas
 pub mod CheckLemmas
 mod ExplainedLemmas
 pub mod RunLemmas
-pub mod SilentLemmas
 pub mod InputLemmas
 pub mod OverwriteLemmas
 pub mod HeadlineLemmas

@@ -6,7 +6,6 @@ use Rattle.clap.specs.declared.error.kind.ErrorKind.TheVariants.{DisplayHelp, Di
 use Rattle.th_checker.specs.declared.verdicts.Verdict.{Verdict}
 use Rattle.th_book.specs.Observed.{Observed}
 use Rattle.th_devices.specs.Spots.{Spot, errors, file, input, output}
-use Rattle.th_devices.specs.declared.reasons.Reason.{Reason}
 use Rattle.th_lines.specs.Shown.{shown}
 use Rattle.th_network.specs.Networks.{Survey}
 use Rattle.th_paging.specs.Paged.{AreOfPage, paging}
@@ -235,27 +234,16 @@ overwrite_text written which name = codes "error: output " ++ shown written ++ c
 abbrev pub IsSaid : Bool → Told → List ℕ → Type 0
 IsSaid tells told line = Holds tells told errors (line ++ 10 ∷ [])
 
--- the refusal of a write to standard output
-abbrev pub IsOnOutput : Plan → Refusal → Type 0
-IsOnOutput (plan.Adjust inputs limit prefix) own = ⊥
-IsOnOutput (plan.Review inputs limit prefix) own = ⊥
-IsOnOutput (plan.Page inputs limit prefix) own = ⊥
-IsOnOutput other own = IsWrite own
-
--- standard error has the lines of a refusal, for the reason that the system told or for none
-abbrev pub IsTold : Bool → Told → Plan → Refusal → Type 0
-IsTold tells told asked own = (reason : Option Reason) × Holds tells told errors (refused_lines asked own reason)
-
--- and a write to standard output that nobody reads any more is not told
-abbrev pub IsReported : Bool → Told → Told → Plan → Refusal → Type 0
-IsReported tells old new asked own = IsTold tells new asked own ⊎ (IsOnOutput asked own × (new errors ≡ old errors))
+-- standard error has the lines of a refusal, without a reason: a folder that reports its bytes knows none
+abbrev pub IsReported : Bool → Told → Plan → Refusal → Type 0
+IsReported tells told asked own = Holds tells told errors (refused_lines asked own None)
 
 -- A plan was refused: the status is that of the refusal, and unless standard error failed, its lines are
 -- there. Only standard error changes, and after a failed write the plan's outputs too.
 pub record IsRefusedRun {F : Type 0} (tells : Bool) (held : F → Told) (has_failed : F → Spot → Bool) (failing : F → Failing) (old new : F) (asked : Plan) (status : ℕ) (own : Refusal) : Type 0 where
   pub refused : IsRefused tells (failing old) (held old) (held new) asked own
   pub status_is : status ≡ status_of own
-  pub reported : has_failed new errors ≡ false → IsReported tells (held old) (held new) asked own
+  pub reported : has_failed new errors ≡ false → IsReported tells (held new) asked own
   pub untouched : UnlessWrite own ((spot : Spot) → spot ≢ errors → held new spot ≡ held old spot)
   pub others : (spot : Spot) → spot ≢ errors → (IsOutputOf asked spot → ⊥) → held new spot ≡ held old spot
 

@@ -1,10 +1,10 @@
 //! What is reported on standard error. Nothing here allocates, so that each refusal has its own line,
 //! also where memory ran out.
-ghost use Rattle.std.specs.Prelude.{◌≡◌, ◌≢◌, ◌⊎◌, ◌++◌, ◌∷◌, [], codes, decimal, false, string_bytes, true};
+ghost use Rattle.std.specs.Prelude.{◌≡◌, ◌≢◌, ◌++◌, ◌∷◌, [], codes, decimal, false, string_bytes, true};
 ghost use Rattle.th_devices.specs.Spots.{errors};
 ghost use Rattle.th_lines.specs.Lines.{HasRoom, IsPut};
 ghost use Rattle.th_lines.specs.Shown.{shown};
-ghost use Rattle.th_program.specs.Done.{IsOnOutput, IsSaid, IsTold, overwrite_text};
+ghost use Rattle.th_program.specs.Done.{IsReported, IsSaid, overwrite_text};
 ghost use Rattle.th_files.specs.Helped.{refused_lines};
 ghost use Rattle.th_tables.specs.Texts.{fault_text};
 ghost use Rattle.th_run_parts.specs.Refusals.{input_text, output_text, refusal_text, status_of};
@@ -32,8 +32,7 @@ use th_tables::TableFault;
 pub(crate) fn refuse<F: Folder>(folder: &mut F, plan: &Plan<'_>, refusal: &Refusal) -> u8
     ensures status { result ≡ status_of refusal.now }
     ensures reported { F.has_failed folder.new errors ≡ false
-        → IsTold F.tells (F.held folder.new) plan.now refusal.now
-        ⊎ (IsOnOutput plan.now refusal.now × (folder.new ≡ folder.old)) }
+        → IsReported F.tells (F.held folder.new) plan.now refusal.now }
     ensures others { (spot : _) → spot ≢ errors → F.held folder.new spot ≡ F.held folder.old spot }
 {
     let reason = folder.reason();
@@ -47,9 +46,7 @@ pub(crate) fn refuse<F: Folder>(folder: &mut F, plan: &Plan<'_>, refusal: &Refus
 }
 
 /// Whether this is the refusal of a write to standard output.
-fn is_on_output(plan: &Plan<'_>, refusal: &Refusal) -> bool
-    ensures { result ≡ true → IsOnOutput plan.now refusal.now }
-{
+fn is_on_output(plan: &Plan<'_>, refusal: &Refusal) -> bool {
     match (plan, refusal) {
         (Plan::Adjust { .. } | Plan::Review { .. } | Plan::Page { .. }, _) => false,
         (_, Refusal::Write(_)) => true,

@@ -1,6 +1,5 @@
 use Rattle.std.proofs.Common.{◌∙◌, ap, inl, inr}
 use Rattle.th_program.proofs.RefusalLemmas.{unless-map}
-use Rattle.th_program.proofs.SilentLemmas.{told-or-silent}
 use Rattle.th_program.proofs.RunLemmas.{done-after, errors_apart, refused-after}
 use Rattle.th_program.specs.Failing.{failing_of}
 use Rattle.th_devices.specs.Spots.{errors}
@@ -14,7 +13,7 @@ returns g c =
       record {
         refused = refused-after g.F.Folder.tells (failing_of g.F.Folder.reading_may_fail g.F.Folder.writing_may_fail c.args.folder.now) (g.F.Folder.held c.args.folder.now) (g.F.Folder.held c.carry_out.new.folder) (g.F.Folder.held c.refuse.new.folder) c.args.plan.now own c.refuse.ensures.others c.in-Err.ensures.refused;
         status_is = c.refuse.ensures.status;
-        reported = λ clear. told-or-silent g.F.Folder.tells g.F.Folder.held c.args.folder.now c.carry_out.new.folder c.refuse.new.folder c.args.plan.now own (c.carry_out.ensures.others errors) (c.refuse.ensures.reported clear);
+        reported = c.refuse.ensures.reported;
         untouched = unless-map own _ _ (λ same. λ spot apart. c.refuse.ensures.others spot apart ∙ ap (λ folder. g.F.Folder.held folder spot) same) c.in-Err.ensures.untouched;
         others = λ spot apart no_output. c.refuse.ensures.others spot apart ∙ c.carry_out.ensures.others spot no_output;
       },
