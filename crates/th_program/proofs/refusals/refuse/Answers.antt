@@ -1,4 +1,4 @@
-use Rattle.std.proofs.Common.{◌≡◌, ◌∙◌, List, Option, Some, ap}
+use Rattle.std.proofs.Common.{◌∙◌, Option, Some, ap}
 use Rattle.th_devices.specs.declared.reasons.Reason.{Reason}
 use Rattle.th_files.specs.Helped.{refused_lines}
 use Rattle.th_lines.proofs.ErrorLemmas.{put_whole}
