@@ -19,6 +19,7 @@ pub fn net_in(network: &Network, number: &Number, flows: &[i64], run: Run) -> i6
     ensures small { unsigned_abs result ≤ max_weight * max_observations }
 {
     if run.is_whole {
+        // Asked for its promise that observations are few: so their flows come to a number of 64 bits.
         let _all = network.observations();
         return number.signed(sum_between(flows, run.start, run.end));
     }

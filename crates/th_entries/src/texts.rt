@@ -1,9 +1,9 @@
-//! What stands before and between the numbers in the text of a book without sights. A page and a line for
+//! The words before and between the numbers in the text of a book without sights. A page and a line for
 //! standard error take that text in different ways, and both use these parts.
 ghost use Rattle.std.specs.Prelude.{◌≡◌};
 ghost use Rattle.th_entries.specs.Sights.{separator, words_lead};
 
-/// What stands before the numbers of the words that a book has in place of sights.
+/// The text before the numbers of the words that a book has in place of sights.
 pub fn words_lead(numbers: &[u16]) -> &'static str
     ensures { result.now ≡ words_lead numbers.now }
 {
@@ -14,7 +14,7 @@ pub fn words_lead(numbers: &[u16]) -> &'static str
     }
 }
 
-/// What stands between a number and those behind it.
+/// The text between a number and the rest of the numbers.
 pub fn separator(rest: &[u16]) -> &'static str
     ensures { result.now ≡ separator rest.now }
 {
