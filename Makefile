@@ -11,7 +11,7 @@ LOG := build.log
 	hostile bench install uninstall clean
 
 help:
-	@echo 'make try       adjust an example project and show its report in a minute or two, with nothing proved and no program kept'
+	@echo 'make try       adjust an example and show its report in a few minutes, with nothing proved and no program kept (yours: MARKS=FILE BOOK="FILE ..")'
 	@echo 'make run       prove and build the program, adjust an example project, show its report and check its certificate'
 	@echo 'make refuse    prove a function of the checker, break a line of it in a copy, and show that the prover refuses it: a minute or two'
 	@echo 'make list      prove and build the program, and list a book (BOOK=$(BOOK))'
@@ -49,8 +49,9 @@ help:
 	@echo 'make clean     remove what was built'
 
 try: toolchain
-	@echo 'compiling the program, which is not proved yet: a minute or two'
-	@tests/try_example
+	@echo 'compiling the program, which is not proved yet: a few minutes'
+	@tests/try_example $(if $(MARKS),$(MARKS) $(BOOK))
+	@echo 'with books of your own: make try MARKS=marks.csv BOOK="monday.gsi tuesday.gsi"; make run proves the program and keeps it'
 
 run: build
 	@tests/adjust_example $(PROGRAM)
