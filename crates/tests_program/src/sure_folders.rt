@@ -75,9 +75,10 @@ impl<'a, R: Abort> Folder for SureFolder<'a, R> {
 
     ghost has_failed = { λ own spot. memory_failed own.folder spot };
 
-    ghost reading_may_fail = { λ own spot. is_none (memory_held own.folder spot) };
-
-    ghost writing_may_fail = { λ _ _. false };
+    ghost failing = { λ own. record {
+      reading = λ spot. is_none (memory_held own.folder spot);
+      writing = λ _. false;
+    } };
 
     fn source(&mut self, alloc: Global, origin: Origin<'_>) -> Result<Self::In, AllocError> {
         self.folder.source(alloc, origin)

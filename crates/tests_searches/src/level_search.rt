@@ -2,7 +2,7 @@ ghost use Rattle.std.specs.Prelude.{◌≡◌, ◌≢◌, ◌+◌, ◌<◌, ◌�
 ghost use Rattle.th_search.specs.Walks.{IsArc, IsNegativeCycle};
 ghost use Rattle.th_search.specs.Answers.{IsAnswer};
 ghost use Rattle.th_search.specs.Asked.{asked_last};
-ghost use Rattle.th_search.specs.Inside.Searched.{IsSearched};
+ghost use Rattle.th_search.specs.Searched.{IsSearched};
 ghost use Rattle.tests_searches.specs.Levels.{AreLevels, last_at, row_at, rows_of};
 
 use crate::levels::Level;

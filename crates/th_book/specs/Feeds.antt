@@ -1,4 +1,4 @@
-use Rattle.std.specs.Prelude.{◌≡◌, ◌≤◌, ℕ, ◌+◌, List, [], ◌∷◌, ◌++◌, Option, Some, None, IfSome, Result, Err, if◌then◌else◌, length, nat_lt}
+use Rattle.std.specs.Prelude.{◌≡◌, ◌≢◌, ◌<◌, ◌≤◌, ℕ, ◌+◌, List, [], ◌∷◌, ◌++◌, Option, Some, None, IfErr, IfOk, IfSome, Result, Err, Ok, Vec, if◌then◌else◌, length, nat_lt}
 use Rattle.gsi_block.specs.Pieces.{LineState, lines_due}
 use Rattle.th_book.specs.Observed.{Observed}
 use Rattle.th_book.specs.Books.{too_long}
@@ -46,6 +46,16 @@ StopsUnless None old new piece = (fault : BookFault) × IsWantingIn old.book old
 
 abbrev pub StopsAt : FeedState → FeedState → List ℕ → Type 0
 StopsAt old new piece = StopsUnless old.wanting old new piece
+
+-- What a feed gives at its end: the observations or the fault of the whole book, where no allocation failed. One that failed
+-- earlier is given back. Otherwise one fails only for the observation of a last line without an end, if there is no capacity left.
+pub record IsFinished {A : Type 0} (feed : FeedState) (result : Result (Vec Observed A) BookFault) : Type 0 where
+  pub ok : IfOk result (λ observations. feed_due feed [] ≡ Ok observations.items)
+  pub fault : IfErr result (λ fault. fault.kind ≢ NoMemory → feed_due feed [] ≡ Err fault)
+  pub lasting : IfSome feed.wanting (λ fault. result ≡ Err fault)
+  pub too_long : feed.wanting ≡ None → max_book < feed.bytes → result ≡ Err too_long
+  pub wanting : IfErr result (λ fault. fault.kind ≡ NoMemory → feed.wanting ≡ None → EndsWithSight (feed_due feed []) fault.line)
+  pub full : IfErr result (λ fault. fault.kind ≡ NoMemory → feed.wanting ≡ None → feed.book.room ≤ length feed.book.observations)
 
 -- What every feed keeps. Unless an allocation failed or the book is too long, the lines counted and
 -- still due are at most as many as its bytes. A recorded failure is always `NoMemory`.

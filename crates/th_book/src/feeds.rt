@@ -3,7 +3,7 @@ ghost use Rattle.gsi_block.specs.Pieces.{lines_due};
 ghost use Rattle.th_book.specs.Books.{book_answer, parsed_of, too_long};
 ghost use Rattle.th_book.specs.Limits.{max_book};
 ghost use Rattle.th_book.specs.Due.{EndsWithSight, IsWanting};
-ghost use Rattle.th_book.specs.Feeds.{feed_due, IsFed, IsWantingIn, StopsAt};
+ghost use Rattle.th_book.specs.Feeds.{feed_due, IsFed, IsFinished, IsWantingIn, StopsAt};
 ghost use Rattle.th_book.specs.Inside.Feeds.{AreTaken, IsGiven};
 ghost use Rattle.th_book.specs.Inside.Witnesses.{AreSeen, IsSeenNext};
 ghost use Rattle.th_book.specs.Witnesses.{IsReadTo, IsSeeing};
@@ -100,31 +100,17 @@ impl BookFeed {
     /// `NoMemory` if an earlier call failed, or if the observation of a last line without an end
     /// cannot be allocated.
     pub fn finish(self) -> Result<Vec<Observation>, BookFault>
-        ensures ok { IfOk result (λ observations. feed_due self [] ≡ Ok observations.items) }
-        ensures fault { IfErr result (λ fault. fault.kind ≢ BookKind.NoMemory → feed_due self [] ≡ Err fault) }
-        ensures lasting { IfSome self.wanting (λ fault. result ≡ Err fault) }
-        ensures too_long { self.wanting ≡ None → max_book < self.bytes → result ≡ Err too_long }
-        ensures wanting { IfErr result (λ fault. fault.kind ≡ BookKind.NoMemory → self.wanting ≡ None
-            → EndsWithSight (feed_due self []) fault.line) }
-        ensures full { IfErr result (λ fault. fault.kind ≡ BookKind.NoMemory → self.wanting ≡ None
-            → self.book.room ≤ length self.book.observations) }
+        ensures { IsFinished self result }
     {
         self.finish_to(&mut ())
     }
 
     /// The observations or the fault of the book, as of `finish`. A witness sees the last line if it has no end.
     pub fn finish_to<W: Witness>(self, witness: &mut W) -> Result<Vec<Observation>, BookFault>
-        ensures ok { IfOk result (λ observations. feed_due self [] ≡ Ok observations.items) }
+        ensures finished { IsFinished self result }
         ensures seen { OnOk result ((start : W.Start) (number : ℕ) (text : List ℕ) →
             IsSeeing W.has_seen start number text [] self witness.old →
             W.has_seen start number (parsed_of text) (length (parsed_of text)) witness.new) }
-        ensures fault { IfErr result (λ fault. fault.kind ≢ BookKind.NoMemory → feed_due self [] ≡ Err fault) }
-        ensures lasting { IfSome self.wanting (λ fault. result ≡ Err fault) }
-        ensures too_long { self.wanting ≡ None → max_book < self.bytes → result ≡ Err too_long }
-        ensures wanting { IfErr result (λ fault. fault.kind ≡ BookKind.NoMemory → self.wanting ≡ None
-            → EndsWithSight (feed_due self []) fault.line) }
-        ensures full { IfErr result (λ fault. fault.kind ≡ BookKind.NoMemory → self.wanting ≡ None
-            → self.book.room ≤ length self.book.observations) }
     {
         let BookFeed {
             mut book,

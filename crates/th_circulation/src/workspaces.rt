@@ -1,15 +1,15 @@
-ghost use Rattle.std.specs.Prelude.{◌≡◌, ◌+◌, ◌<◌, ◌≤◌, ◌-◌, ◌*◌, ◌⊎◌, ◌^◌, ℤ, List, All, false, pos, IfOk, MatchBool, OnOk, length, replicate, sum};
+ghost use Rattle.std.specs.Prelude.{◌≡◌, ◌+◌, ◌<◌, ◌≤◌, ◌-◌, ◌*◌, ◌⊎◌, ◌^◌, ℤ, List, false, pos, IfOk, MatchBool, OnOk, length, replicate, sum};
 ghost use Rattle.std.specs.Bool.{OnTrue};
 ghost use Rattle.th_circulation.specs.Inside.Bounds.{height_bound};
 ghost use Rattle.th_distances.specs.Distances.{AreWithin};
 ghost use Rattle.th_circulation.specs.Inside.Listings.{Fits, HasAllBefore, Lists};
 ghost use Rattle.th_circulation.specs.Inside.Phases.{differences_in};
 ghost use Rattle.th_circulation.specs.Inside.Proposals.{HasNoPotentials};
-ghost use Rattle.th_circulation.specs.Inside.Workspaces.{AreShownFor, Counts, GoesOn, IsAskedFor, IsDone, IsNear, IsReady, IsRested, WasAsked, others_in};
+ghost use Rattle.th_circulation.specs.Inside.Workspaces.{AreShownFor, Counts, GoesOn, IsDone, IsNear, IsReady, IsRested, WasAsked, others_in};
 ghost use Rattle.th_circulation.specs.Limits.{max_counted, phases};
-ghost use Rattle.th_search.specs.Limits.{max_arcs, max_calls, max_vertices};
+ghost use Rattle.th_search.specs.Limits.{max_calls, max_vertices};
 ghost use Rattle.th_search.specs.Potentials.{IsFeasible};
-ghost use Rattle.th_search.specs.Walks.{IsArc};
+ghost use Rattle.th_search.specs.Searched.{IsSearched};
 
 use crate::cancels::cancel;
 use crate::differences::set_differences;
@@ -73,9 +73,7 @@ impl Workspace {
         requires rested { IsRested graph.now self.old }
         requires calls { S.calls search.old ≤ max_counted }
         requires steps { steps.old ≤ max_counted }
-        ensures done { OnOk result (IsDone graph.now self.new) }
-        ensures asked { OnOk result (IsAskedFor graph.now (differences_in 0 graph.now.links.now)
-            self.new.state.flows.items self.new.listing.arcs.items (S.asked search.new)) }
+        ensures done { OnOk result (IsDone graph.now self.new (S.asked search.new)) }
         ensures few { steps.new ≤ steps.old + 2 * phases * sum graph.now.weights.now }
         ensures counts { Counts S.calls S.refusals S.cycles phases result
             search.old search.new steps.old steps.new }
@@ -102,10 +100,7 @@ impl Workspace {
         requires calls { S.calls search.old ≤ max_counted }
         requires steps { steps.old ≤ max_counted }
         ensures rested { OnOk result (IsRested graph.now self.new) }
-        ensures done { IfOk result (λ left. left ≡ false → IsDone graph.now self.new) }
-        ensures asked { IfOk result (λ left. left ≡ false
-            → IsAskedFor graph.now (differences_in 0 graph.now.links.now)
-            self.new.state.flows.items self.new.listing.arcs.items (S.asked search.new)) }
+        ensures done { IfOk result (λ left. left ≡ false → IsDone graph.now self.new (S.asked search.new)) }
         ensures few { steps.new ≤ steps.old + sum graph.now.weights.now }
         ensures counts { Counts S.calls S.refusals S.cycles (others_in result) result
             search.old search.new steps.old steps.new }
@@ -136,9 +131,7 @@ impl Workspace {
         requires none { self.old.state.flows.items ≡ replicate (length graph.now.links.now) (pos 0) }
         requires calls { S.calls search.old ≤ 2 * max_counted }
         requires steps { steps.old ≤ 2 * max_counted }
-        ensures done { OnOk result (IsDone graph.now self.new) }
-        ensures asked { OnOk result (IsAskedFor graph.now (differences_in 0 graph.now.links.now)
-            self.new.state.flows.items self.new.listing.arcs.items (S.asked search.new)) }
+        ensures done { OnOk result (IsDone graph.now self.new (S.asked search.new)) }
         ensures few { steps.new + sum graph.now.weights.now
             ≤ steps.old + 2 * phases * sum graph.now.weights.now }
         ensures counts { Counts S.calls S.refusals S.cycles phases result
@@ -167,10 +160,7 @@ impl Workspace {
         ensures answer { IfOk result (λ cancelled. MatchBool cancelled
             (AreWithin graph.now.vertices height_bound self.new.state.heights.items
             × (steps.new ≡ steps.old + 1))
-            (AreShownFor graph.now self.old.state.differences.items self.new)) }
-        ensures asked { IfOk result (λ cancelled. cancelled ≡ false
-            → IsAskedFor graph.now self.old.state.differences.items
-            self.new.state.flows.items self.new.listing.arcs.items (S.asked search.new)) }
+            (AreShownFor graph.now self.old.state.differences.items self.new (S.asked search.new))) }
         ensures few { steps.new ≤ steps.old + 1 }
         ensures counts { Counts S.calls S.refusals S.cycles (others_in result) result
             search.old search.new steps.old steps.new }
@@ -267,9 +257,8 @@ impl Workspace {
         requires calls { S.calls search.old + 2 * sum graph.now.weights.now < max_calls }
         requires steps { steps.old + 2 * sum graph.now.weights.now < max_calls }
         ensures goes_on { GoesOn graph.now self.old self.new (steps.new - steps.old) }
-        ensures shown { OnOk result (AreShownFor graph.now self.old.state.differences.items self.new) }
-        ensures asked { OnOk result (IsAskedFor graph.now self.old.state.differences.items
-            self.new.state.flows.items self.new.listing.arcs.items (S.asked search.new)) }
+        ensures shown { OnOk result (AreShownFor graph.now self.old.state.differences.items self.new
+            (S.asked search.new)) }
         ensures few { steps.new ≤ steps.old + 2 * sum graph.now.weights.now }
         ensures counts { Counts S.calls S.refusals S.cycles 1 result
             search.old search.new steps.old steps.new }
@@ -287,10 +276,7 @@ fn ask_again<S: Search>(
     arcs: &Vec<Arc>,
     search: &mut S,
 ) -> Result<(), AllocError>
-    requires some { 1 ≤ vertices }
-    requires few { vertices ≤ max_vertices }
-    requires many { length arcs.now.items ≤ max_arcs }
-    requires arcs { All (IsArc vertices) arcs.now.items }
+    requires searched { IsSearched vertices arcs.now.items }
     requires potentials { (values : List ℤ) × IsFeasible arcs.now.items values }
     requires calls { S.calls search.old + phases ≤ max_calls }
     ensures counts { Counts S.calls S.refusals S.cycles (phases - 1) result search.old search.new 0 0 }

@@ -1,7 +1,7 @@
-ghost use Rattle.std.specs.Prelude.{◌≡◌, ◌≢◌, ◌+◌, ◌-◌, ◌<◌, ◌≤◌, ◌⊎◌, ℕ, Bool, IfOk, length, slice_index_or, true};
+ghost use Rattle.std.specs.Prelude.{◌≡◌, ◌+◌, ◌-◌, ◌<◌, ◌≤◌, ◌⊎◌, ℕ, Bool, IfOk, length, slice_index_or, true};
 ghost use Rattle.th_cuts.specs.Cuts.{IsLeastCut, IsLeastSide};
 ghost use Rattle.th_graphs.specs.Cuts.{cut_weight, separates};
-ghost use Rattle.th_cuts.specs.Inside.CutTrees.{AreBranches, AreLone, IsBranch, IsCut, IsGrown};
+ghost use Rattle.th_cuts.specs.Inside.CutTrees.{AreBranches, AreLone, IsBranch, IsCut, IsGrown, IsPair};
 
 use crate::cuts::{Cut, cut_between};
 use crate::near::{lone_weights, near_rooms};
@@ -50,9 +50,7 @@ impl Branches {
     /// That branch's own side mostly separates them too; if it does not, they get a cut of their
     /// own.
     pub fn least(&self, alloc: Global, first: u32, second: u32) -> Result<u32, AllocError>
-        requires first { first < self.now.graph.vertices }
-        requires second { second < self.now.graph.vertices }
-        requires apart { first ≢ second }
+        requires { IsPair self.now.graph.vertices first second }
         ensures { IfOk result (λ value. IsLeastCut self.now.graph.edges.items first second value) }
     {
         let lightest = self.lightest(first, second);
@@ -71,9 +69,7 @@ impl Branches {
         first: u32,
         second: u32,
     ) -> Result<Vec<bool>, AllocError>
-        requires first { first < self.now.graph.vertices }
-        requires second { second < self.now.graph.vertices }
-        requires apart { first ≢ second }
+        requires { IsPair self.now.graph.vertices first second }
         ensures { IfOk result (λ side. IsLeastSide self.now.graph.edges.items first second side.items) }
     {
         let lightest = self.lightest(first, second);
@@ -87,9 +83,7 @@ impl Branches {
 
     /// A least cut between two vertices, beside those of the tree.
     fn further(&self, alloc: Global, first: u32, second: u32) -> Result<Cut, AllocError>
-        requires first { first < self.now.graph.vertices }
-        requires second { second < self.now.graph.vertices }
-        requires apart { first ≢ second }
+        requires { IsPair self.now.graph.vertices first second }
         ensures { IfOk result (IsCut self.now.graph.vertices self.now.graph.edges.items first second) }
     {
         let most = self.lone[first as usize].min(self.lone[second as usize]);
@@ -99,9 +93,7 @@ impl Branches {
 
     /// The number of the lightest branch on the way between two vertices.
     fn lightest(&self, first: u32, second: u32) -> usize
-        requires first { first < self.now.graph.vertices }
-        requires second { second < self.now.graph.vertices }
-        requires apart { first ≢ second }
+        requires { IsPair self.now.graph.vertices first second }
         ensures within { result < length self.now.branches.items }
         ensures least { (d : Branch) (inside : ℕ → Bool) → separates inside first second ≡ true
             → (slice_index_or self.now.branches.items result d).cut.value

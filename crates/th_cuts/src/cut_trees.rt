@@ -1,7 +1,7 @@
-ghost use Rattle.std.specs.Prelude.{◌≡◌, ◌≢◌, ◌<◌, ◌≤◌, ℕ, Bool, All, IfOk, sum_by};
-ghost use Rattle.th_limits.specs.Limits.{max_total_weight};
+ghost use Rattle.std.specs.Prelude.{◌≡◌, ◌≢◌, ◌<◌, ℕ, Bool, IfOk};
 ghost use Rattle.th_cuts.specs.Cuts.{IsLeastCut, IsLeastSide};
 ghost use Rattle.th_graphs.specs.Cuts.{cut_weight};
+ghost use Rattle.th_graphs.specs.Graphs.{IsGraph};
 
 use crate::branches::Branches;
 use std::alloc::{AllocError, Global};
@@ -36,8 +36,7 @@ impl CutTree {
         edges: Vec<Edge>,
         progress: &mut P,
     ) -> Result<CutTree, AllocError>
-        requires ends { All (λ edge. (edge.tail < vertices) × (edge.head < vertices)) edges.items }
-        requires light { sum_by (λ edge. edge.weight) edges.items ≤ max_total_weight }
+        requires { IsGraph vertices edges.items }
         ensures vertices { IfOk result (λ tree. tree.vertices ≡ vertices) }
         ensures cuts { IfOk result (λ tree. (inside : ℕ → Bool)
             → cut_weight inside tree.edges ≡ cut_weight inside edges.items) }

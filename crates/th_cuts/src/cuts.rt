@@ -1,6 +1,6 @@
-ghost use Rattle.std.specs.Prelude.{◌≡◌, ◌≢◌, ◌<◌, ◌==◌, ℕ, IfOk, length, min, not};
-ghost use Rattle.th_flows.specs.Drains.{on_side, room_at};
-ghost use Rattle.th_cuts.specs.Inside.CutTrees.{AreLone, AreNear, IsCut, IsSame};
+ghost use Rattle.std.specs.Prelude.{◌≡◌, ◌<◌, ◌==◌, ℕ, IfOk, length, not};
+ghost use Rattle.th_flows.specs.Drains.{on_side};
+ghost use Rattle.th_cuts.specs.Inside.CutTrees.{AreNear, AreWeighed, IsCut, IsSame};
 
 use std::alloc::{AllocError, Global};
 use th_flows::least_below;
@@ -25,11 +25,7 @@ pub(crate) fn cut_between(
     most: u32,
     rooms: &[u32],
 ) -> Result<Cut, AllocError>
-    requires lone { AreLone graph.now.vertices graph.now.edges.items lone.now }
-    requires source { source < graph.now.vertices }
-    requires sink { sink < graph.now.vertices }
-    requires apart { source ≢ sink }
-    requires most { most ≡ min (room_at lone.now source) (room_at lone.now sink) }
+    requires weighed { AreWeighed graph.now.vertices graph.now.edges.items lone.now source sink most }
     requires near { AreNear graph.now.vertices graph.now.edges.items most sink rooms.now }
     ensures { IfOk result (IsCut graph.now.vertices graph.now.edges.items source sink) }
 {
@@ -48,11 +44,7 @@ fn lone_cut(
     sink: u32,
     most: u32,
 ) -> Result<Cut, AllocError>
-    requires lone { AreLone graph.now.vertices graph.now.edges.items lone.now }
-    requires source { source < graph.now.vertices }
-    requires sink { sink < graph.now.vertices }
-    requires apart { source ≢ sink }
-    requires most { most ≡ min (room_at lone.now source) (room_at lone.now sink) }
+    requires weighed { AreWeighed graph.now.vertices graph.now.edges.items lone.now source sink most }
     requires least { IsSame graph.now.edges.items most source sink }
     ensures { IfOk result (IsCut graph.now.vertices graph.now.edges.items source sink) }
 {

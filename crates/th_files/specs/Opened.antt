@@ -3,7 +3,7 @@ use Rattle.std.specs.Prelude.{◌≡◌, ◌≢◌, Bool, true, false, List, [],
 use Rattle.std.specs.List.{AllByRecursion, AllZip}
 use Rattle.th_devices.specs.Devices.{IsMade, IsOpened, SinkState, SourceState}
 use Rattle.th_devices.specs.Spots.{Spot, file, is_file}
-use Rattle.th_folders.specs.Folders.{ArePlaced, IsStopped}
+use Rattle.th_folders.specs.Folders.{ArePlaced, Failing, IsStopped}
 use Rattle.th_plans.specs.Asked.{Files}
 use Rattle.th_files.specs.Owed.{Told}
 use Rattle.th_run_parts.specs.declared.refusals.Output.{Output}
@@ -41,13 +41,13 @@ pub record IsTaken (before after : Told) (sink : SinkState) : Type 0 where
 
 -- The sinks of the files of a run that ended with this answer were given back: their bytes took their places, or the first that could not is refused. If the run
 -- was refused, nothing changed.
-abbrev pub AreGivenBack : {F : Type 0} → Bool → (F → Told) → (F → Spot → Bool) → (F → Spot → Bool) → List SinkState → List Output
+abbrev pub AreGivenBack : {F : Type 0} → Bool → (F → Told) → (F → Spot → Bool) → (F → Failing) → List SinkState → List Output
     → Result (Unit {0}) Refusal → Result (Unit {0}) Refusal → F → F → Type 0
-AreGivenBack tells held has_failed may_fail sinks outputs (Ok done) (Ok given) old new = ArePlaced tells held has_failed sinks old new
-AreGivenBack tells held has_failed may_fail sinks outputs (Ok done) (Err own) old new =
+AreGivenBack tells held has_failed failing sinks outputs (Ok done) (Ok given) old new = ArePlaced tells held has_failed sinks old new
+AreGivenBack tells held has_failed failing sinks outputs (Ok done) (Err own) old new =
     (number : ℕ) × (which : Output) × (slice_get outputs number ≡ Some which) × (own ≡ refusal.Write which)
-    × IsStopped tells held has_failed may_fail sinks old new number
-AreGivenBack tells held has_failed may_fail sinks outputs (Err before) result old new = (result ≡ Err before) × (new ≡ old)
+    × IsStopped tells held has_failed failing sinks old new number
+AreGivenBack tells held has_failed failing sinks outputs (Err before) result old new = (result ≡ Err before) × (new ≡ old)
 
 -- no two of these spots are the same
 abbrev pub AreApart : List Spot → Type 0

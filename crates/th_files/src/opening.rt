@@ -28,7 +28,7 @@ pub fn sources_of<F: Folder>(
     inputs: &Inputs<'_>,
 ) -> Result<Sources<F::In>, AllocError>
     ensures same { folder.new ≡ folder.old }
-    ensures opened { IfOk result (λ sources. AreOpened F.In.state (F.reading_may_fail folder.old)
+    ensures opened { IfOk result (λ sources. AreOpened F.In.state (F.failing folder.old).reading
         (F.held folder.old) (files inputs.now)
         sources.books.items sources.benchmarks sources.weights) }
     ensures few_books { IfOk result (λ sources. length sources.books.items ≤ max_books) }
@@ -47,7 +47,7 @@ fn books_of<F: Folder>(
     names: &[&str],
 ) -> Result<Vec<F::In>, AllocError>
     ensures same { folder.new ≡ folder.old }
-    ensures opened { IfOk result (λ sources. EachIsOpened F.In.state (F.reading_may_fail folder.old)
+    ensures opened { IfOk result (λ sources. EachIsOpened F.In.state (F.failing folder.old).reading
         (F.held folder.old) (map (λ name. name.now) names.now) sources.items) }
 {
     let mut sources = Vec::new(alloc);
@@ -64,7 +64,7 @@ fn source_if_any<F: Folder>(
     name: Option<&str>,
 ) -> Result<Option<F::In>, AllocError>
     ensures same { folder.new ≡ folder.old }
-    ensures opened { IfOk result (IsOpenedIfAny F.In.state (F.reading_may_fail folder.old)
+    ensures opened { IfOk result (IsOpenedIfAny F.In.state (F.failing folder.old).reading
         (F.held folder.old) (option_map (λ own. own.now) name.entry)) }
 {
     match name {

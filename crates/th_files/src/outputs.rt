@@ -42,7 +42,7 @@ pub fn sinks_of<F: Folder>(
 ) -> Result<Vec<F::Out>, AllocError>
     ensures same { folder.new ≡ folder.old }
     ensures made { IfOk result (λ sinks. AreMade F.Out.state F.tells
-        (F.writing_may_fail folder.old) (spots_of prefix.now outputs.now) sinks.items) }
+        (F.failing folder.old).writing (spots_of prefix.now outputs.now) sinks.items) }
 {
     let mut sinks = Vec::new(alloc);
     for output in outputs {
@@ -61,7 +61,7 @@ fn sink_of<F: Folder>(
     ensures same { folder.new ≡ folder.old }
     ensures made { IfOk result (λ sink.
         let spot = spot_at prefix.now (option_map (λ own. own.now) ending.entry) in
-        IsMade F.tells (F.writing_may_fail folder.old spot) spot (F.Out.state sink)) }
+        IsMade F.tells ((F.failing folder.old).writing spot) spot (F.Out.state sink)) }
 {
     let Some(ending) = ending else {
         return folder.sink(alloc, Target::Output);
@@ -85,7 +85,7 @@ pub fn place_sinks<F: Folder>(
     requires finished { OnOk answer
         (AllByRecursion (λ sink. (F.Out.state sink).is_finished ≡ true) sinks.items) }
     requires as_many { length sinks.items ≡ length outputs.now }
-    ensures { AreGivenBack F.tells F.held F.has_failed F.writing_may_fail
+    ensures { AreGivenBack F.tells F.held F.has_failed F.failing
         (map F.Out.state sinks.items) outputs.now answer result folder.old folder.new }
 {
     if let Err(refusal) = answer {

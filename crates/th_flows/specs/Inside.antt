@@ -3,3 +3,4 @@ pub mod Flows
 pub mod Guides
 pub mod Trees
 pub mod Paths
+pub mod OfFlows

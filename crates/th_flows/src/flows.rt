@@ -1,6 +1,6 @@
 ghost use Rattle.std.specs.Prelude.{◌≡◌, ◌<◌, ◌≤◌, ◌↔◌, ℕ, IfOk, false, length, true};
 ghost use Rattle.th_flows.specs.Drains.{on_side, room_at};
-ghost use Rattle.th_flows.specs.Inside.Flows.{AreBounded, AreFullOut, CanCarry, IsClosedSide, IsFlow, IsFullOut};
+ghost use Rattle.th_flows.specs.Inside.Flows.{AreBounded, IsFlow};
 ghost use Rattle.th_flows.specs.Inside.Trees.{AreApart, AreSteps, IsSent, step_at};
 
 use crate::guides::Guide;
@@ -37,6 +37,8 @@ pub(crate) struct Flow<'a> {
 }
 
 impl<'a> Flow<'a> {
+    ghost use Rattle.th_flows.specs.Inside.OfFlows.{AreFull, AreStepsOf, CanCarryMore, IsClosedBy, IsFull};
+
     /// No flow.
     pub fn none(alloc: Global, drain: &Drain<'a>) -> Result<Flow<'a>, AllocError>
         ensures { IfOk result (λ flow. flow.drain ≡ drain.now) }
@@ -55,8 +57,7 @@ impl<'a> Flow<'a> {
     /// How much more can flow along a way.
     pub fn room(&self, way: Way) -> u32
         requires { way.edge < length self.now.drain.graph.now.edges.items }
-        ensures { (amount : ℕ) → CanCarry self.now.drain.graph.now.edges.items self.now.flows.items amount way
-            ↔ (amount ≤ result) }
+        ensures { (amount : ℕ) → CanCarryMore self.now amount way ↔ (amount ≤ result) }
     {
         room(self.drain.graph, &self.flows, way)
     }
@@ -73,8 +74,7 @@ impl<'a> Flow<'a> {
 
     /// Sends as much as has room along the ways that lead to a step, and may end there.
     pub fn send(&mut self, steps: &[WayStep], last: usize)
-        requires steps { AreSteps self.old.drain.graph.now.edges.items self.old.flows.items
-            self.old.drain.source steps.now }
+        requires steps { AreStepsOf self.old steps.now }
         requires apart { AreApart steps.now }
         requires within { last < length steps.now }
         requires room { 1 ≤ room_at self.old.left.items (step_at steps.now last).vertex }
@@ -107,9 +107,7 @@ impl<'a> Flow<'a> {
     /// Whether a side holds the source, and nothing more can leave it or end in it.
     pub fn is_closed(&self, side: &[bool]) -> bool
         requires { length side.now ≡ self.now.drain.graph.now.vertices }
-        ensures { result ≡ true → IsClosedSide self.now.drain.graph.now.vertices
-            self.now.drain.graph.now.edges.items self.now.drain.source self.now.left.items self.now.flows.items
-            side.now }
+        ensures { result ≡ true → IsClosedBy self.now side.now }
     {
         side[self.drain.source as usize] && self.is_full(side) && self.is_used(side)
     }
@@ -117,8 +115,7 @@ impl<'a> Flow<'a> {
     /// Whether each way that leads out of a side is full.
     fn is_full(&self, side: &[bool]) -> bool
         requires { length side.now ≡ self.now.drain.graph.now.vertices }
-        ensures { result ≡ true → AreFullOut self.now.drain.graph.now.edges.items self.now.flows.items
-            (on_side side.now) }
+        ensures { result ≡ true → AreFull self.now (on_side side.now) }
     {
         let graph = self.drain.graph;
         for number in 0..graph.edges.len() {
@@ -133,10 +130,8 @@ impl<'a> Flow<'a> {
     fn is_full_at(&self, side: &[bool], number: usize) -> bool
         requires side { length side.now ≡ self.now.drain.graph.now.vertices }
         requires number { number < length self.now.drain.graph.now.edges.items }
-        ensures forward { result ≡ true → IsFullOut self.now.drain.graph.now.edges.items self.now.flows.items
-            (on_side side.now) (record { edge = number; is_forward = true }) }
-        ensures back { result ≡ true → IsFullOut self.now.drain.graph.now.edges.items self.now.flows.items
-            (on_side side.now) (record { edge = number; is_forward = false }) }
+        ensures forward { result ≡ true → IsFull self.now (on_side side.now) (record { edge = number; is_forward = true }) }
+        ensures back { result ≡ true → IsFull self.now (on_side side.now) (record { edge = number; is_forward = false }) }
     {
         let graph = self.drain.graph;
         let edge = graph.edges[number];

@@ -1,5 +1,6 @@
 ghost use Rattle.std.specs.Prelude.{◌≡◌, ◌-◌, ◌<◌, ◌≤◌, IfOk, length, true};
-ghost use Rattle.th_flows.specs.Inside.Paths.{IsPath, LeadsToRoom};
+ghost use Rattle.th_flows.specs.Inside.OfFlows.{IsPathOf};
+ghost use Rattle.th_flows.specs.Inside.Paths.{LeadsToRoom};
 ghost use Rattle.th_flows.specs.Inside.Trees.{step_at};
 
 use crate::flows::{Flow, least};
@@ -25,8 +26,8 @@ impl Path {
     /// Searches in depth from the source, along ways with room that lead one level on, and returns whether
     /// the path leads to where more may end. Otherwise no such way is left to be tried.
     pub fn find(&mut self, flow: &Flow<'_>, guide: &mut Guide) -> Result<bool, AllocError>
-        ensures path { IfOk result (λ found. found ≡ true → IsPath flow.now.drain.graph.now.edges.items
-            flow.now.flows.items flow.now.drain.source guide.new.ahead.levels.items self.new.steps.items) }
+        ensures path { IfOk result (λ found. found ≡ true
+            → IsPathOf flow.now guide.new.ahead.levels.items self.new.steps.items) }
         ensures room { IfOk result (λ found. found ≡ true
             → LeadsToRoom flow.now.left.items self.new.steps.items) }
     {
@@ -66,11 +67,9 @@ impl Path {
         guide: &mut Guide,
         last: WayStep,
     ) -> Result<bool, AllocError>
-        requires path { IsPath flow.now.drain.graph.now.edges.items flow.now.flows.items
-            flow.now.drain.source guide.old.ahead.levels.items self.old.steps.items }
+        requires path { IsPathOf flow.now guide.old.ahead.levels.items self.old.steps.items }
         requires last { last ≡ step_at self.old.steps.items (length self.old.steps.items - 1) }
-        ensures path { IfOk result (λ _. IsPath flow.now.drain.graph.now.edges.items flow.now.flows.items
-            flow.now.drain.source guide.new.ahead.levels.items self.new.steps.items) }
+        ensures path { IfOk result (λ _. IsPathOf flow.now guide.new.ahead.levels.items self.new.steps.items) }
     {
         if let Some(number) = guide.next_way(last.vertex) {
             let graph = flow.drain.graph;
@@ -102,11 +101,9 @@ impl Path {
         last: WayStep,
     ) -> Result<bool, AllocError>
         requires way { way.edge < length flow.now.drain.graph.now.edges.items }
-        requires path { IsPath flow.now.drain.graph.now.edges.items flow.now.flows.items
-            flow.now.drain.source guide.now.ahead.levels.items self.old.steps.items }
+        requires path { IsPathOf flow.now guide.now.ahead.levels.items self.old.steps.items }
         requires last { last ≡ step_at self.old.steps.items (length self.old.steps.items - 1) }
-        ensures { IfOk result (λ _. IsPath flow.now.drain.graph.now.edges.items flow.now.flows.items
-            flow.now.drain.source guide.now.ahead.levels.items self.new.steps.items) }
+        ensures { IfOk result (λ _. IsPathOf flow.now guide.now.ahead.levels.items self.new.steps.items) }
     {
         let graph = flow.drain.graph;
         let edge = graph.edges[way.edge];

@@ -1,5 +1,4 @@
 ghost use Rattle.std.specs.Prelude.{◌≡◌, ◌<◌, ◌≤◌, ℕ, false, true, suc, All, Contains, IfOk, IfSome, None, length, map};
-ghost use Rattle.th_flows.specs.Inside.Flows.{AreFullOut, IsFullOut};
 ghost use Rattle.th_flows.specs.Drains.{room_at};
 ghost use Rattle.th_flows.specs.Inside.Trees.{IsFound, IsTree, is_placed, place_at, reached, step_at};
 
@@ -33,6 +32,8 @@ pub(crate) struct Tree<'a, 'b> {
 }
 
 impl<'a, 'b> Tree<'a, 'b> {
+    ghost use Rattle.th_flows.specs.Inside.OfFlows.{AreFull, IsFull};
+
     /// The source alone.
     pub fn new(alloc: Global, flow: &'a Flow<'b>) -> Result<Tree<'a, 'b>, AllocError>
         ensures { IfOk result (λ tree. tree.flow.now ≡ flow.now) }
@@ -80,8 +81,7 @@ impl<'a, 'b> Tree<'a, 'b> {
     /// Searches until no way with room leads on.
     pub fn close(&mut self) -> Result<(), AllocError>
         ensures flow { IfOk result (λ _. self.new.flow.now ≡ self.old.flow.now) }
-        ensures full { IfOk result (λ _. AreFullOut self.new.flow.now.drain.graph.now.edges.items
-            self.new.flow.now.flows.items (reached self.new.places.items)) }
+        ensures full { IfOk result (λ _. AreFull self.new.flow.now (reached self.new.places.items)) }
     {
         'closing: while self.take_any()? {}
         Ok(())
@@ -112,8 +112,7 @@ impl<'a, 'b> Tree<'a, 'b> {
         ensures kept { IfOk result (λ grown. grown ≡ false
             → self.new.places.items ≡ self.old.places.items) }
         ensures full { IfOk result (λ grown. grown ≡ false
-            → AreFullOut self.new.flow.now.drain.graph.now.edges.items self.new.flow.now.flows.items
-            (reached self.new.places.items)) }
+            → AreFull self.new.flow.now (reached self.new.places.items)) }
     {
         let flow = self.flow;
         let graph = flow.drain.graph;
@@ -145,8 +144,7 @@ impl<'a, 'b> Tree<'a, 'b> {
             → length self.new.steps.items ≡ suc (length self.old.steps.items)) }
         ensures kept { IfOk result (λ grown. grown ≡ false → self.new ≡ self.old) }
         ensures full { IfOk result (λ grown. grown ≡ false
-            → IsFullOut self.old.flow.now.drain.graph.now.edges.items self.old.flow.now.flows.items
-            (reached self.old.places.items) way) }
+            → IsFull self.old.flow.now (reached self.old.places.items) way) }
     {
         let flow = self.flow;
         let graph = flow.drain.graph;

@@ -4,14 +4,14 @@ use Rattle.std.proofs.lemmas.List.{take_at}
 use Rattle.std.specs.Prelude.{IfErr, OnOk, Option, Result, slice_get}
 use Rattle.th_devices.specs.Devices.{SinkState}
 use Rattle.th_devices.specs.Spots.{Spot}
-use Rattle.th_folders.specs.Folders.{ArePlaced, IsPlaced, IsStopped}
+use Rattle.th_folders.specs.Folders.{ArePlaced, Failing, IsPlaced, IsStopped}
 use Rattle.th_folders.specs.Inside.{IsNext}
 
 -- how far some of the sinks came: they took their places, or one of them could not
-abbrev pub HaveCome : {F : Type 0} → Bool → (F → Spot → Option (List ℕ)) → (F → Spot → Bool) → (F → Spot → Bool) → List SinkState → List SinkState
+abbrev pub HaveCome : {F : Type 0} → Bool → (F → Spot → Option (List ℕ)) → (F → Spot → Bool) → (F → Failing) → List SinkState → List SinkState
     → F → F → Result (Unit {0}) ℕ → Type 0
-HaveCome tells held_in has_failed may_fail all done old new answer =
-    OnOk answer (ArePlaced tells held_in has_failed done old new) × IfErr answer (IsStopped tells held_in has_failed may_fail all old new)
+HaveCome tells held_in has_failed failing all done old new answer =
+    OnOk answer (ArePlaced tells held_in has_failed done old new) × IfErr answer (IsStopped tells held_in has_failed failing all old new)
 
 -- one more takes its place
 placed-more : {F : Type 0} (tells : Bool) (held_in : F → Spot → Option (List ℕ)) (has_failed : F → Spot → Bool) (sinks : List SinkState) (sink : SinkState) (old mid new : F)
@@ -26,24 +26,24 @@ at-end [] sink rest = refl
 at-end (first ∷ done) sink rest = at-end done sink rest
 
 -- the next sink of all
-pub come-further : {F : Type 0} (tells : Bool) (held_in : F → Spot → Option (List ℕ)) (has_failed may_fail : F → Spot → Bool) (all done rest : List SinkState) (sink : SinkState)
+pub come-further : {F : Type 0} (tells : Bool) (held_in : F → Spot → Option (List ℕ)) (has_failed : F → Spot → Bool) (failing : F → Failing) (all done rest : List SinkState) (sink : SinkState)
     (number : ℕ) (old mid new : F) (answer result : Result (Unit {0}) ℕ)
-    → all ≡ done ++ sink ∷ rest → number ≡ length done → ((spot : Spot) → may_fail mid spot ≡ may_fail old spot)
-    → HaveCome tells held_in has_failed may_fail all done old mid answer → IsNext tells held_in has_failed may_fail sink number answer mid new result
-    → HaveCome tells held_in has_failed may_fail all (done ++ sink ∷ []) old new result
-come-further tells held_in has_failed may_fail all done rest sink number old mid new (Ok u) (Ok v) are is fixed (placed, stopped) (one, none) =
+    → all ≡ done ++ sink ∷ rest → number ≡ length done → (failing mid).writing ≡ (failing old).writing
+    → HaveCome tells held_in has_failed failing all done old mid answer → IsNext tells held_in has_failed failing sink number answer mid new result
+    → HaveCome tells held_in has_failed failing all (done ++ sink ∷ []) old new result
+come-further tells held_in has_failed failing all done rest sink number old mid new (Ok u) (Ok v) are is fixed (placed, stopped) (one, none) =
     (placed-more tells held_in has_failed done sink old mid new placed one, tt)
-come-further tells held_in has_failed may_fail all done rest sink number old mid new (Ok u) (Err own) are is fixed (placed, stopped) (one, (same, kept, fails)) = (
+come-further tells held_in has_failed failing all done rest sink number old mid new (Ok u) (Err own) are is fixed (placed, stopped) (one, (same, kept, fails)) = (
   tt,
   record {
     sink = sink;
     at = ap (slice_get all) (same ∙ is) ∙ ap (λ (sinks : List SinkState). slice_get sinks (length done)) are ∙ at-end done sink rest;
-    allowed = sym (fixed sink.spot) ∙ fails;
+    allowed = sym (ap (λ (may : Spot → Bool). may sink.spot) fixed) ∙ fails;
     before = subst (λ (front : List SinkState). ArePlaced tells held_in has_failed front old new)
         (sym (ap (take own) are ∙ take_at done (sink ∷ rest) own (sym (same ∙ is))))
         (subst (λ to. ArePlaced tells held_in has_failed done old to) (sym kept) placed);
   },
 )
-come-further tells held_in has_failed may_fail all done rest sink number old mid new (Err before) result are is fixed (placed, stopped) (same, kept) =
-    subst (λ (own : Result (Unit {0}) ℕ). HaveCome tells held_in has_failed may_fail all (done ++ sink ∷ []) old new own) (sym same)
-    (tt, subst (λ to. IsStopped tells held_in has_failed may_fail all old to before) (sym kept) stopped)
+come-further tells held_in has_failed failing all done rest sink number old mid new (Err before) result are is fixed (placed, stopped) (same, kept) =
+    subst (λ (own : Result (Unit {0}) ℕ). HaveCome tells held_in has_failed failing all (done ++ sink ∷ []) old new own) (sym same)
+    (tt, subst (λ to. IsStopped tells held_in has_failed failing all old to before) (sym kept) stopped)

@@ -1,4 +1,4 @@
--- What a folder does with the sinks that it takes back, and the spots of origins and targets.
+-- Where the devices of a folder may fail, what it does with the sinks that it takes back, and the spots of origins and targets.
 use Rattle.std.specs.Prelude.{◌≡◌, ◌≢◌, ◌<◌, ℕ, Bool, true, false, List, [], ◌∷◌, Option, Some, slice_get, take}
 use Rattle.th_devices.specs.Devices.{SinkState}
 use Rattle.th_devices.specs.Spots.{Spot, file, input, is_file, output}
@@ -6,6 +6,11 @@ use Rattle.th_folders.specs.declared.folders.Origin.{Origin}
 use Rattle.th_folders.specs.declared.folders.Origin.TheVariants as origin
 use Rattle.th_folders.specs.declared.folders.Target.{Target}
 use Rattle.th_folders.specs.declared.folders.Target.TheVariants as target
+
+-- whether reading what is at a spot may fail, as it does where nothing is, and whether writing to it may
+pub record Failing : Type 0 where
+  pub reading : Spot → Bool
+  pub writing : Spot → Bool
 
 -- where an origin is
 abbrev pub spot_of_origin : Origin → Spot
@@ -47,8 +52,8 @@ ArePlaced {F} tells held_in has_failed (sink ∷ sinks) old new =
     (next : F) × IsPlaced tells held_in has_failed sink old next × ArePlaced tells held_in has_failed sinks next new
 
 -- the bytes of the sink with this number, counted from 0, could not take their place; those before it did, and it and later ones left what was there
-pub record IsStopped {F : Type 0} (tells : Bool) (held_in : F → Spot → Option (List ℕ)) (has_failed may_fail : F → Spot → Bool) (sinks : List SinkState) (old new : F) (number : ℕ) : Type 0 where
+pub record IsStopped {F : Type 0} (tells : Bool) (held_in : F → Spot → Option (List ℕ)) (has_failed : F → Spot → Bool) (failing : F → Failing) (sinks : List SinkState) (old new : F) (number : ℕ) : Type 0 where
   pub sink : SinkState
   pub at : slice_get sinks number ≡ Some sink
-  pub allowed : may_fail old sink.spot ≡ true
+  pub allowed : (failing old).writing sink.spot ≡ true
   pub before : ArePlaced tells held_in has_failed (take number sinks) old new

@@ -4,7 +4,7 @@
 //! devices that it gave.
 ghost use Rattle.std.specs.Prelude.{◌≡◌, ◌↔◌, Bool, List, None, Option, ℕ, IfOk, IsTrue, OnErr, OnOk, false, true};
 ghost use Rattle.th_devices.specs.Devices.{IsMade, IsOpened};
-ghost use Rattle.th_folders.specs.Folders.{IsClosed, IsPlaced, spot_of_origin, spot_of_target};
+ghost use Rattle.th_folders.specs.Folders.{Failing, IsClosed, IsPlaced, spot_of_origin, spot_of_target};
 ghost use Rattle.th_devices.specs.Spots.{Spot, errors};
 
 use std::alloc::{AllocError, Global};
@@ -50,11 +50,9 @@ pub trait Folder {
     // bytes knows.
     ghost has_failed: { Self → Spot → Bool };
 
-    // Whether reading what is at a spot may fail, as it does where nothing is.
-    ghost reading_may_fail: { Self → Spot → Bool };
-
-    // Whether writing to a spot may fail. Taking sinks back changes that of no spot.
-    ghost writing_may_fail: { Self → Spot → Bool };
+    // Whether reading what is at a spot may fail, as it does where nothing is, and whether writing to
+    // it may. Taking sinks back does not change where writing may fail.
+    ghost failing: { Self → Failing };
 
     /// Whether writing the file `output` would change the file `input`: they are one file under two
     /// names, or one of them is written in place of the other.
@@ -65,26 +63,25 @@ pub trait Folder {
     fn source(&mut self, alloc: Global, origin: Origin<'_>) -> Result<Self::In, AllocError>
         ensures same { self.new ≡ self.old }
         ensures opened { IfOk result (λ source. let spot = spot_of_origin origin.entry in
-            IsOpened (reading_may_fail self.old spot) (held self.old spot) (Self.In.state source)) };
+            IsOpened ((failing self.old).reading spot) (held self.old spot) (Self.In.state source)) };
 
     /// A sink for the bytes there. Nothing is changed yet.
     fn sink(&mut self, alloc: Global, target: Target<'_>) -> Result<Self::Out, AllocError>
         ensures same { self.new ≡ self.old }
         ensures made { IfOk result (λ sink. let spot = spot_of_target target.entry in
-            IsMade tells (writing_may_fail self.old spot) spot (Self.Out.state sink)) };
+            IsMade tells ((failing self.old).writing spot) spot (Self.Out.state sink)) };
 
     /// A sink for standard error. It allocates nothing, so that a program that is out of memory can
     /// report it.
     fn standard_error(&mut self) -> Self::Out
         ensures same { self.new ≡ self.old }
-        ensures made { IsMade tells (writing_may_fail self.old errors) errors
-            (Self.Out.state result) };
+        ensures made { IsMade tells ((failing self.old).writing errors) errors (Self.Out.state result) };
 
     /// Takes a sink back. Its bytes stay where it is a stream. Where it is a file, they are dropped,
     /// and the file of that name is as it was.
     fn close(&mut self, sink: Self::Out)
         ensures closed { IsClosed tells held has_failed (Self.Out.state sink) self.old self.new }
-        ensures fixed { (spot : Spot) → writing_may_fail self.new spot ≡ writing_may_fail self.old spot };
+        ensures fixed { (failing self.new).writing ≡ (failing self.old).writing };
 
     /// Takes a finished sink back, and gives its bytes their place. If that fails, what was there stays
     /// as it was.
@@ -94,8 +91,8 @@ pub trait Folder {
             (IsPlaced tells held has_failed (Self.Out.state sink) self.old self.new) }
         ensures left { OnErr result (self.new ≡ self.old) }
         ensures allowed { OnErr result
-            (writing_may_fail self.old (Self.Out.state sink).spot ≡ true) }
-        ensures fixed { (spot : Spot) → writing_may_fail self.new spot ≡ writing_may_fail self.old spot };
+            ((failing self.old).writing (Self.Out.state sink).spot ≡ true) }
+        ensures fixed { (failing self.new).writing ≡ (failing self.old).writing };
 
     /// What shows people how far a run is that they know by this name.
     fn progress(&self, name: &'static str) -> Self::Shown;

@@ -57,9 +57,7 @@ impl<'a, R: Files + Input + Print + Eprint + Clock> Folder for HostFolder<'a, R>
 
     ghost has_failed = { λ _ _. true };
 
-    ghost reading_may_fail = { λ _ _. true };
-
-    ghost writing_may_fail = { λ _ _. true };
+    ghost failing = { λ _. record { reading = λ _. true; writing = λ _. true } };
 
     fn source(&mut self, alloc: Global, origin: Origin<'_>) -> Result<Self::In, AllocError> {
         let source = match origin {

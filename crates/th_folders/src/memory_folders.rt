@@ -215,9 +215,10 @@ impl Folder for MemoryFolder {
 
     ghost has_failed = { memory_failed };
 
-    ghost reading_may_fail = { λ folder spot. is_none (memory_held folder spot) };
-
-    ghost writing_may_fail = { λ _ _. true };
+    ghost failing = { λ folder. record {
+      reading = λ spot. is_none (memory_held folder spot);
+      writing = λ _. true;
+    } };
 
     fn source(&mut self, alloc: Global, origin: Origin<'_>) -> Result<Self::In, AllocError> {
         let text = match origin {

@@ -1,6 +1,5 @@
 //! The files of a run take their places together, after all of them are whole.
 ghost use Rattle.std.specs.Prelude.{◌≡◌, All, IfErr, OnOk, map};
-ghost use Rattle.th_devices.specs.Spots.{Spot};
 ghost use Rattle.th_folders.specs.Folders.{ArePlaced, IsStopped, IsWholeFile};
 ghost use Rattle.th_folders.specs.Inside.{IsNext};
 
@@ -14,7 +13,7 @@ pub fn place_all<F: Folder>(folder: &mut F, sinks: Vec<F::Out>) -> Result<(), us
     requires { All (λ sink. IsWholeFile (F.Out.state sink)) sinks.items }
     ensures placed { OnOk result (ArePlaced F.tells F.held F.has_failed
         (map F.Out.state sinks.items) folder.old folder.new) }
-    ensures stopped { IfErr result (IsStopped F.tells F.held F.has_failed F.writing_may_fail
+    ensures stopped { IfErr result (IsStopped F.tells F.held F.has_failed F.failing
         (map F.Out.state sinks.items) folder.old folder.new) }
 {
     let mut answer = Ok(());
@@ -35,10 +34,9 @@ fn place_next<F: Folder>(
     answer: Result<(), usize>,
 ) -> Result<(), usize>
     requires { IsWholeFile (F.Out.state sink) }
-    ensures next { IsNext F.tells F.held F.has_failed F.writing_may_fail (F.Out.state sink) number
+    ensures next { IsNext F.tells F.held F.has_failed F.failing (F.Out.state sink) number
         answer folder.old folder.new result }
-    ensures fixed { (spot : Spot)
-        → F.writing_may_fail folder.new spot ≡ F.writing_may_fail folder.old spot }
+    ensures fixed { (F.failing folder.new).writing ≡ (F.failing folder.old).writing }
 {
     match answer {
         Ok(()) => match folder.place(sink) {

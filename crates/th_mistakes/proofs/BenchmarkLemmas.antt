@@ -1,5 +1,5 @@
 -- A wrong height of a benchmark is a mistake that all observations with an end there share.
-use Rattle.std.proofs.Common.{◌≡◌, ◌≢◌, ℕ, zero, suc, Bool, true, false, ◌||◌, ◌+◌, ◌-◌, ◌*◌, ◌<◌, ◌≤◌, ℤ, pos, negsuc, ◌+ℤ◌, ◌-ℤ◌, List, All, Contains, IsSome, inl, inr, if◌then◌else◌, bytes_eq, unwrap_or, unsigned_abs, refl, ap, subst, sym, ◌∙◌, mul-le-mul_left, arith}
+use Rattle.std.proofs.Common.{◌≡◌, ◌≢◌, ℕ, zero, suc, Bool, true, false, ◌||◌, ◌+◌, ◌-◌, ◌*◌, ◌<◌, ◌≤◌, ℤ, pos, negsuc, ◌+ℤ◌, ◌-ℤ◌, List, All, Any, Contains, IsSome, ◌⊎◌, inl, inr, if◌then◌else◌, bytes_eq, unwrap_or, unsigned_abs, refl, ap, subst, sym, ◌∙◌, mul-le-mul_left, arith}
 use Rattle.std.specs.Prelude.{slice_index_or}
 use Rattle.std.proofs.lemmas.Bool.{false≢true, or_left, or_right}
 use Rattle.std.proofs.lemmas.Int.{ints}
@@ -12,16 +12,17 @@ use Rattle.th_network.specs.Networks.{Survey, points_of}
 use Rattle.th_mistakes.specs.Blunders.{cost_outside}
 use Rattle.th_reliability.specs.Blunders.{weight_in}
 use Rattle.th_reliability.specs.Groups.{IsGroupControl}
-use Rattle.th_reliability.specs.SharedMistakes.{IsLeastSet, IsOutweighed, IsSharedMistake, own, rest}
+use Rattle.th_reliability.specs.SharedMistakes.{IsOutweighed, IsSharedMistake, own, rest}
 use Rattle.th_reliability.specs.declared.mistakes.SharedMistake.{SharedMistake}
-use Rattle.th_reliability.specs.declared.mistakes.SharedMistake.TheVariants.{Shows, Ties}
+use Rattle.th_reliability.specs.declared.mistakes.SharedMistake.TheVariants.{Drags, Shows, Ties, Unchecked}
 use Rattle.th_mistakes.proofs.SharedLemmas.{outweighs}
-use Rattle.th_mistakes.specs.Moves.{ErrsAt, IsOffAt, moved, way, with_height}
+use Rattle.th_mistakes.specs.Fits.{AllElseFits, FitsButAt}
+use Rattle.th_mistakes.specs.Moves.{ErrsAt, IsMovable, IsOffAt, moved, way, with_height}
 use Rattle.th_reliability.specs.Benchmarks.{has_end}
 use Rattle.th_reliability.proofs.SumLemmas.{sums-le, sums-le-all, sums-times}
 use Rattle.th_mistakes.proofs.ShiftLemmas.{shifted_keeps}
 use Rattle.th_mistakes.proofs.GroupLemmas.{same_residuals}
-use Rattle.th_mistakes.proofs.WordLemmas.{least_by_word, shown_by_word}
+use Rattle.th_mistakes.proofs.WordLemmas.{least, shown}
 use Rattle.th_mistakes.proofs.NearLemmas.{moves_little}
 use Rattle.th_mistakes.proofs.MoveLemmas.{err_size, least_moved, moved_cost}
 
@@ -86,6 +87,12 @@ tabled_errs point error truth o distinct fits at = by (bytes_eq o.station point)
         inr ((bytes_eq-Decides o.target point).0 f, omega (arith, ints))
     by false false e f = absurd (false≢true (sym (ap (λ (b : Bool). b || bytes_eq o.target point) e ∙ f) ∙ at))
 
+tabled_else : (survey : Survey) (point : List ℕ) (error : ℤ) (truth : List ℕ → ℤ) → FitsButAt survey point error truth → AllElseFits survey (has_end point) (tabled point error truth)
+tabled_else survey point error truth but = record {
+  kept = tabled_kept survey.benchmarks point error truth but.off;
+  fit = λ k d within out. tabled_fits point error truth (slice_index_or survey.observations k d) (but.fit k d within) out;
+}
+
 -- ---- it shows
 from_there : (point : List ℕ) (error : ℤ) (truth : List ℕ → ℤ) (o : Observed) → (o.station ≡ o.target → ⊥) → residual o truth ≡ pos 0 → o.station ≡ point → residual o (tabled point error truth) ≡ error
 from_there point error truth o distinct fits at =
@@ -99,15 +106,15 @@ to_there point error truth o distinct fits at =
     let b = tabled_at point error truth o.target ((bytes_eq-Decides o.target point).1 at) in
     omega (arith, ints)
 
-pub shows : (survey : Survey) (truth heights : List ℕ → ℤ) (point : List ℕ) (error : ℤ) → IsSharedMistake survey (has_end point) Shows → IsOffAt survey.benchmarks point error truth → All (λ o. o.station ≢ o.target) survey.observations → All (λ o. residual o truth ≡ pos 0) survey.observations → Least survey.observations survey.benchmarks survey.weights heights → All (λ name. name ≢ point → heights name ≡ truth name) (points_of survey) × All (λ o. (o.station ≡ point → residual o heights ≡ error) × (o.target ≡ point → residual o heights ≡ pos 0 -ℤ error) × (has_end point o ≡ false → residual o heights ≡ pos 0)) survey.observations
-shows survey truth heights point error word is distinct fit best =
-    let there = shown_by_word survey (tabled point error truth) heights (has_end point) word (tabled_kept survey.benchmarks point error truth is) (λ k d within out. tabled_fits point error truth (slice_index_or survey.observations k d) (fit k d within) out) best in (
+pub shows : (survey : Survey) (truth heights : List ℕ → ℤ) (point : List ℕ) (error : ℤ) → IsSharedMistake survey (has_end point) Shows → FitsButAt survey point error truth → All (λ o. o.station ≢ o.target) survey.observations → Least survey.observations survey.benchmarks survey.weights heights → All (λ name. name ≢ point → heights name ≡ truth name) (points_of survey) × All (λ o. (o.station ≡ point → residual o heights ≡ error) × (o.target ≡ point → residual o heights ≡ pos 0 -ℤ error) × (has_end point o ≡ false → residual o heights ≡ pos 0)) survey.observations
+shows survey truth heights point error word but distinct best =
+    let there = shown survey (tabled point error truth) heights (has_end point) word (tabled_else survey point error truth but) best in (
       λ k d within differs. there.0 k d within ∙ tabled_off point error truth (slice_index_or (points_of survey) k d) (not_it (slice_index_or (points_of survey) k d) point differs),
       λ k d within.
           let o = slice_index_or survey.observations k d in (
-            λ at. there.1 k d within ∙ from_there point error truth o (distinct k d within) (fit k d within) at,
-            λ at. there.1 k d within ∙ to_there point error truth o (distinct k d within) (fit k d within) at,
-            λ out. there.1 k d within ∙ tabled_fits point error truth o (fit k d within) out,
+            λ at. there.1 k d within ∙ from_there point error truth o (distinct k d within) (but.fit k d within) at,
+            λ at. there.1 k d within ∙ to_there point error truth o (distinct k d within) (but.fit k d within) at,
+            λ out. there.1 k d within ∙ tabled_fits point error truth o (but.fit k d within) out,
           ),
     )
 
@@ -131,30 +138,29 @@ near survey truth heights point error control name is_control is best listed dif
     omega arith
 
 -- ---- it does not: a least set moves along
-pub moves : (survey : Survey) (truth : List ℕ → ℤ) (inside : List ℕ → Bool) (point : List ℕ) (error : ℤ) → IsLeastSet survey (has_end point) inside → rest survey (has_end point) inside ≤ own survey (has_end point) inside → IsOffAt survey.benchmarks point error truth → All (λ o. o.station ≢ o.target) survey.observations → All (λ o. residual o truth ≡ pos 0) survey.observations → Least survey.observations survey.benchmarks survey.weights (moved inside error (tabled point error truth))
-moves survey truth inside point error least light is distinct fit =
-    let out : inside point ≡ false = least.is.free point (subst IsSome (sym is.here) refl) in
-    let best = least_moved survey (tabled point error truth) (has_end point) inside point error least light
-    (λ k d within at. tabled_errs point error truth (slice_index_or survey.observations k d) (distinct k d within) (fit k d within) at)
-    (tabled_kept survey.benchmarks point error truth is)
-    (λ k d within off. tabled_fits point error truth (slice_index_or survey.observations k d) (fit k d within) off) in
+pub moves : (survey : Survey) (truth : List ℕ → ℤ) (inside : List ℕ → Bool) (point : List ℕ) (error : ℤ) → IsMovable survey (has_end point) inside → FitsButAt survey point error truth → All (λ o. o.station ≢ o.target) survey.observations → Least survey.observations survey.benchmarks survey.weights (moved inside error (tabled point error truth))
+moves survey truth inside point error movable but distinct =
+    let out : inside point ≡ false = movable.is.is.free point (subst IsSome (sym but.off.here) refl) in
+    let best = least_moved survey (tabled point error truth) (has_end point) inside point error movable
+    (λ k d within at. tabled_errs point error truth (slice_index_or survey.observations k d) (distinct k d within) (but.fit k d within) at)
+    (tabled_else survey point error truth but) in
     subst (λ b. Least survey.observations survey.benchmarks survey.weights (moved inside (way b error) (tabled point error truth))) out best
 
-pub ties_least : (survey : Survey) (truth : List ℕ → ℤ) (point : List ℕ) (error : ℤ) → IsSharedMistake survey (has_end point) Ties → IsOffAt survey.benchmarks point error truth → All (λ o. residual o truth ≡ pos 0) survey.observations → Least survey.observations survey.benchmarks survey.weights (tabled point error truth)
-ties_least survey truth point error word is fit = least_by_word survey (tabled point error truth) (has_end point) word (tabled_kept survey.benchmarks point error truth is) (λ k d within out. tabled_fits point error truth (slice_index_or survey.observations k d) (fit k d within) out)
+pub ties_least : (survey : Survey) (truth : List ℕ → ℤ) (point : List ℕ) (error : ℤ) → IsSharedMistake survey (has_end point) Ties → FitsButAt survey point error truth → Least survey.observations survey.benchmarks survey.weights (tabled point error truth)
+ties_least survey truth point error word but = least survey (tabled point error truth) (has_end point) Ties word (inr refl) (tabled_else survey point error truth but)
 
--- where it ties, the set that weighs the same is a least set
-tie_set : (survey : Survey) (group : Observed → Bool) (word : IsSharedMistake survey group Ties) → IsLeastSet survey group word.1.0
+-- where it ties, the set that weighs the same is movable
+tie_set : (survey : Survey) (group : Observed → Bool) (word : IsSharedMistake survey group Ties) → IsMovable survey group word.1.0
 tie_set survey group word = record {
-  is = word.1.1;
-  least = λ other free. let low = word.0 other free in let even = word.1.2 in omega arith;
+  is = record { is = word.1.1; least = λ other free. let low = word.0 other free in let even = word.1.2 in omega arith };
+  light = let even = word.1.2 in omega arith;
 }
 
-pub ties_moves : (survey : Survey) (truth : List ℕ → ℤ) (point : List ℕ) (error : ℤ) → IsSharedMistake survey (has_end point) Ties → IsOffAt survey.benchmarks point error truth → All (λ o. o.station ≢ o.target) survey.observations → All (λ o. residual o truth ≡ pos 0) survey.observations → (others : List ℕ → ℤ) × Least survey.observations survey.benchmarks survey.weights others × ((name : List ℕ) × Contains (points_of survey) name × (name ≢ point) × (unsigned_abs (others name -ℤ truth name) ≡ unsigned_abs error))
-ties_moves survey truth point error word is distinct fit = (
+pub ties_moves : (survey : Survey) (truth : List ℕ → ℤ) (point : List ℕ) (error : ℤ) → IsSharedMistake survey (has_end point) Ties → FitsButAt survey point error truth → All (λ o. o.station ≢ o.target) survey.observations → (others : List ℕ → ℤ) × Least survey.observations survey.benchmarks survey.weights others × Any (λ name. (name ≢ point) × (unsigned_abs (others name -ℤ truth name) ≡ unsigned_abs error)) (points_of survey)
+ties_moves survey truth point error word but distinct = (
   moved inside error (tabled point error truth),
-  moves survey truth inside point error (tie_set survey (has_end point) word) (let even = word.1.2 in omega arith) is distinct fit,
-  (name, word.1.1.point.1, differs, off),
+  moves survey truth inside point error (tie_set survey (has_end point) word) but distinct,
+  (word.1.1.point.1.0, name, word.1.1.point.1.1, word.1.1.point.1.2, (differs, off)),
 )
   where
     inside : List ℕ → Bool
@@ -164,7 +170,7 @@ ties_moves survey truth point error word is distinct fit = (
     name = word.1.1.point.0
 
     differs : name ≡ point → ⊥
-    differs same = false≢true (sym (word.1.1.free point (subst IsSome (sym is.here) refl)) ∙ ap inside (sym same) ∙ word.1.1.point.2)
+    differs same = false≢true (sym (word.1.1.free point (subst IsSome (sym but.off.here) refl)) ∙ ap inside (sym same) ∙ word.1.1.point.2)
 
     off : unsigned_abs (moved inside error (tabled point error truth) name -ℤ truth name) ≡ unsigned_abs error
     off =
@@ -205,12 +211,12 @@ not_least survey heights group point error (inside, word) errs fits some best =
     let more = gains (unsigned_abs error) (rest survey group inside) (own survey group inside) (some_size error some) word.less in
     omega arith
 
-pub drags : (survey : Survey) (truth heights : List ℕ → ℤ) (mistake : SharedMistake) (point : List ℕ) (error : ℤ) → IsSharedMistake survey (has_end point) mistake → (mistake ≡ Shows → ⊥) → (mistake ≡ Ties → ⊥) → IsOffAt survey.benchmarks point error truth → All (λ o. o.station ≢ o.target) survey.observations → All (λ o. residual o truth ≡ pos 0) survey.observations → (error ≡ pos 0 → ⊥) → Least survey.observations survey.benchmarks survey.weights heights → All (λ name. name ≢ point → heights name ≡ truth name) (points_of survey) → ⊥
-drags survey truth heights mistake point error word not_shown not_tied is distinct fit some best same =
+pub drags : (survey : Survey) (truth heights : List ℕ → ℤ) (mistake : SharedMistake) (point : List ℕ) (error : ℤ) → IsSharedMistake survey (has_end point) mistake → (mistake ≡ Drags) ⊎ (mistake ≡ Unchecked) → FitsButAt survey point error truth → All (λ o. o.station ≢ o.target) survey.observations → (error ≡ pos 0 → ⊥) → Least survey.observations survey.benchmarks survey.weights heights → All (λ name. name ≢ point → heights name ≡ truth name) (points_of survey) → ⊥
+drags survey truth heights mistake point error word either but distinct some best same =
     let alike = same_residuals survey.observations survey.benchmarks (tabled point error truth) heights (λ k d within. at (slice_index_or (points_of survey) k d) (same k d within)) in
-    not_least survey heights (has_end point) point error (outweighs survey (has_end point) mistake word not_shown not_tied)
-    (λ k d within has. turn (slice_index_or survey.observations k d) (alike k d within) (tabled_errs point error truth (slice_index_or survey.observations k d) (distinct k d within) (fit k d within) has))
-    (λ k d within out. alike k d within ∙ tabled_fits point error truth (slice_index_or survey.observations k d) (fit k d within) out)
+    not_least survey heights (has_end point) point error (outweighs survey (has_end point) mistake word either)
+    (λ k d within has. turn (slice_index_or survey.observations k d) (alike k d within) (tabled_errs point error truth (slice_index_or survey.observations k d) (distinct k d within) (but.fit k d within) has))
+    (λ k d within out. alike k d within ∙ tabled_fits point error truth (slice_index_or survey.observations k d) (but.fit k d within) out)
     some best
   where
     at : (name : List ℕ) → (name ≢ point → heights name ≡ truth name) → heights name ≡ tabled point error truth name
@@ -219,7 +225,7 @@ drags survey truth heights mistake point error word not_shown not_tied is distin
         by : (b : Bool) → bytes_eq name point ≡ b → heights name ≡ tabled point error truth name
         by true e =
             let is_it = (bytes_eq-Decides name point).0 e in
-            ap heights is_it ∙ best.kept point (truth point +ℤ error) is.here ∙ sym (ap (λ (b : Bool). if b then truth point +ℤ error else truth name) e)
+            ap heights is_it ∙ best.kept point (truth point +ℤ error) but.off.here ∙ sym (ap (λ (b : Bool). if b then truth point +ℤ error else truth name) e)
         by false e = off (it_differs name point e) ∙ sym (tabled_off point error truth name e)
 
     turn : (o : Observed) → residual o heights ≡ residual o (tabled point error truth) → ErrsAt point error (tabled point error truth) o → ErrsAt point error heights o

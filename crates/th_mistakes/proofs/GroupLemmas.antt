@@ -10,9 +10,8 @@ use Rattle.th_points.specs.Points.{points}
 use Rattle.th_points.proofs.PlaceLemmas.{ends_contained}
 use Rattle.th_network.specs.Heights.{IsHeights, Least, residual}
 use Rattle.th_mistakes.specs.Blunders.{cost_outside}
-use Rattle.th_reliability.specs.Blunders.{weight_in}
 use Rattle.th_reliability.specs.Cuts.{IsFreeSet, crosses, differ}
-use Rattle.th_reliability.specs.Groups.{IsGroupControl, own_cut, rest_cut}
+use Rattle.th_reliability.specs.Groups.{own_cut, rest_cut}
 use Rattle.th_reliability.proofs.BoundLemmas.{parts}
 use Rattle.th_reliability.proofs.SumLemmas.{sums-le, sums-le-all, sums-plus}
 use Rattle.th_mistakes.proofs.ShiftLemmas.{one, one_changes, shifted, shifted_keeps}
@@ -86,9 +85,6 @@ shown_by_sets observations benchmarks weights truth heights group outweighed kep
         by (pos (suc n)) e = absurd (not_off observations benchmarks weights truth heights group outweighed kept fit best point listed true n e)
         by (negsuc n) e = absurd (not_off observations benchmarks weights truth heights group outweighed kept fit best point listed false n (omega (arith, ints)))
 
-pub shown : (observations : List Observed) (benchmarks : BenchmarkRows) (weights : WeightRows) (truth heights : List ℕ → ℤ) (group : Observed → Bool) (control : ℕ) → IsGroupControl observations benchmarks weights group control → weight_in observations weights group < control → IsHeights benchmarks truth → All (λ o. group o ≡ false → residual o truth ≡ pos 0) observations → Least observations benchmarks weights heights → All (λ point. heights point ≡ truth point) (points observations benchmarks) × All (λ o. residual o heights ≡ residual o truth) observations
-shown observations benchmarks weights truth heights group control is_control more = shown_by_sets observations benchmarks weights truth heights group (λ inside point free listed there. let least = is_control.least inside point free listed there in omega arith)
-
 -- ---- the mistake drags: one set goes one unit towards the group
 -- the way that lessens the group's residuals: whether its station is in the set, and the residual
 abbrev upwards : Bool → ℤ → Bool
@@ -115,21 +111,17 @@ one_weighed w before after true false less gains = let scaled = mul-le-mul_left 
 one_weighed w before after false true less gains = let scaled = mul-le-mul_left w less in omega arith
 one_weighed w before after false false less gains = let scaled = mul-le-mul_left w less in omega arith
 
-pub not_shared : (observations : List Observed) (benchmarks : BenchmarkRows) (weights : WeightRows) (heights : List ℕ → ℤ) (group : Observed → Bool) (control : ℕ) (station : List ℕ) (error : ℤ) → IsGroupControl observations benchmarks weights group control → control < weight_in observations weights group → All (λ o. group o ≡ true → o.station ≡ station) observations → All (λ o. group o ≡ true → residual o heights ≡ error) observations → Least observations benchmarks weights heights → (error ≡ pos 0 → ⊥) → ⊥
-not_shared observations benchmarks weights heights group control station error is_control light from err best some =
+pub not_shared : (observations : List Observed) (benchmarks : BenchmarkRows) (weights : WeightRows) (heights : List ℕ → ℤ) (group : Observed → Bool) (inside : List ℕ → Bool) (station : List ℕ) (error : ℤ) → IsFreeSet benchmarks inside → rest_cut observations weights group inside < own_cut observations weights group inside → All (λ o. group o ≡ true → o.station ≡ station) observations → All (λ o. group o ≡ true → residual o heights ≡ error) observations → Least observations benchmarks weights heights → (error ≡ pos 0 → ⊥) → ⊥
+not_shared observations benchmarks weights heights group inside station error free heavy from err best some =
     let w = λ (o : Observed). weight_of weights o.station o.target in
     let own = λ (o : Observed). if group o then (if crosses inside o then w o else 0) else 0 in
     let rest = λ (o : Observed). if group o then 0 else (if crosses inside o then w o else 0) in
     let less = sums-le-all (λ o. w o * unsigned_abs (residual o others) + own o) (λ o. w o * unsigned_abs (residual o heights) + rest o) observations (recursion_from_All (λ o. (w o * unsigned_abs (residual o others) + own o) ≤ (w o * unsigned_abs (residual o heights) + rest o)) observations (λ k d within. each (slice_index_or observations k d) (from k d within) (err k d within))) in
     let left = sums-plus (λ o. w o * unsigned_abs (residual o others)) own observations in
     let right = sums-plus (λ o. w o * unsigned_abs (residual o heights)) rest observations in
-    let least = best.least others (shifted_keeps benchmarks inside (one up) heights is_control.reached.1 best.kept) in
-    let reached = is_control.reached.3 in
+    let least = best.least others (shifted_keeps benchmarks inside (one up) heights free best.kept) in
     omega arith
   where
-    inside : List ℕ → Bool
-    inside = is_control.reached.0
-
     up : Bool
     up = upwards (inside station) error
 
@@ -140,19 +132,3 @@ not_shared observations benchmarks weights heights group control station error i
     each o at e = one_weighed (weight_of weights o.station o.target) (unsigned_abs (residual o heights)) (unsigned_abs (residual o others)) (group o) (crosses inside o)
         (one_changes up (inside o.station) (inside o.target) o.difference (heights o.station) (heights o.target))
         (λ own crossing. one_gains (inside o.station) (inside o.target) (inside station) o.difference (heights o.station) (heights o.target) error (ap inside (at own)) (e own) some crossing)
-
-pub agrees : (observations : List Observed) (benchmarks : BenchmarkRows) (weights : WeightRows) (heights : List ℕ → ℤ) (group : Observed → Bool) (control : ℕ) (station : List ℕ) (error : ℤ) → IsGroupControl observations benchmarks weights group control → control < weight_in observations weights group → All (λ o. group o ≡ true → o.station ≡ station) observations → All (λ o. group o ≡ true → residual o heights ≡ error) observations → Least observations benchmarks weights heights → error ≡ pos 0
-agrees observations benchmarks weights heights group control station error is_control light from err best = by error refl
-  where
-    no : (error ≡ pos 0 → ⊥) → ⊥
-    no = not_shared observations benchmarks weights heights group control station error is_control light from err best
-
-    by : (z : ℤ) → error ≡ z → error ≡ pos 0
-    by (pos zero) e = e
-    by (pos (suc n)) e = absurd (no (λ zero. omega (arith, ints)))
-    by (negsuc n) e = absurd (no (λ zero. omega (arith, ints)))
-
-pub drags : (observations : List Observed) (benchmarks : BenchmarkRows) (weights : WeightRows) (truth heights : List ℕ → ℤ) (group : Observed → Bool) (control : ℕ) (station : List ℕ) (error : ℤ) → IsGroupControl observations benchmarks weights group control → control < weight_in observations weights group → All (λ o. group o ≡ true → o.station ≡ station) observations → All (λ o. group o ≡ true → residual o truth ≡ error) observations → (error ≡ pos 0 → ⊥) → Least observations benchmarks weights heights → All (λ point. heights point ≡ truth point) (points observations benchmarks) → ⊥
-drags observations benchmarks weights truth heights group control station error is_control light from err some best same =
-    let alike = same_residuals observations benchmarks truth heights same in
-    not_shared observations benchmarks weights heights group control station error is_control light from (λ k d within own. alike k d within ∙ err k d within own) best some

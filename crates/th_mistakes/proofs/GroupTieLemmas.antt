@@ -1,5 +1,5 @@
 -- A group of observations that weighs no more than its control: heights that all others fit are least. Where it weighs just as much, so are others.
-use Rattle.std.proofs.Common.{◌≡◌, ℕ, zero, suc, Bool, true, false, ◌+◌, ◌*◌, ◌≤◌, ℤ, pos, ◌+ℤ◌, ◌-ℤ◌, List, [], ◌∷◌, All, Contains, if◌then◌else◌, ◌⊎◌, inl, inr, sum_by, unsigned_abs, refl, ap, ◌∙◌, mul-le-mul_left, arith}
+use Rattle.std.proofs.Common.{◌≡◌, ℕ, zero, suc, Bool, true, false, ◌+◌, ◌*◌, ◌≤◌, ℤ, pos, ◌+ℤ◌, ◌-ℤ◌, List, [], ◌∷◌, All, Any, Contains, if◌then◌else◌, ◌⊎◌, inl, inr, sum_by, unsigned_abs, refl, ap, ◌∙◌, mul-le-mul_left, arith}
 use Rattle.std.specs.Prelude.{slice_index_or}
 use Rattle.std.specs.List.{AllByRecursion}
 use Rattle.std.proofs.Math.Path.{fun_ext}
@@ -7,17 +7,19 @@ use Rattle.std.proofs.lemmas.Int.{ints}
 use Rattle.std.proofs.lemmas.List.Sums.{get_or-le-sum_by, sum_by-cons, sum_by-le}
 use Rattle.std.proofs.lemmas.List.Elements.{recursion_from_All}
 use Rattle.th_book.specs.Observed.{Observed}
-use Rattle.th_tables.specs.Rows.{BenchmarkRows, WeightRows, weight_of}
-use Rattle.th_points.specs.Points.{points}
+use Rattle.th_tables.specs.Rows.{WeightRows, weight_of}
 use Rattle.th_points.proofs.PlaceLemmas.{ends_contained}
 use Rattle.th_network.specs.Heights.{IsHeights, Least, cost, residual}
-use Rattle.th_reliability.specs.Blunders.{weight_in}
+use Rattle.th_network.specs.Networks.{Survey, points_of}
 use Rattle.th_reliability.specs.Cuts.{IsFreeSet, crosses, cut, differ}
-use Rattle.th_reliability.specs.Groups.{IsGroupControl, own_cut, rest_cut}
+use Rattle.th_reliability.specs.Groups.{own_cut}
+use Rattle.th_reliability.specs.SharedMistakes.{IsFreeWithPoint, IsSharedMistake, own, rest}
+use Rattle.th_reliability.specs.declared.mistakes.SharedMistake.TheVariants.{Ties}
 use Rattle.th_reliability.proofs.SumLemmas.{sums-le-all, sums-plus, sums-times}
 use Rattle.th_mistakes.proofs.LayerLemmas.{clamped_low, cut_off, layer, layer_along, spread, spread_more}
 use Rattle.th_mistakes.proofs.LoweringLemmas.{layer_free, off}
 use Rattle.th_reliability.proofs.BoundLemmas.{parts}
+use Rattle.th_mistakes.specs.Fits.{AllElseFits, ErrAlike}
 use Rattle.th_mistakes.proofs.TieLemmas.{blamed, clamped_whole, one_cost, spread_both, weighed_whole}
 use Rattle.th_mistakes.proofs.ShiftLemmas.{shifted, shifted_keeps}
 
@@ -96,36 +98,33 @@ one_least w false d hs ht gs gt fits =
     let less = one_cost w d hs ht gs gt zero in
     omega arith
 
-pub stays_least : (observations : List Observed) (benchmarks : BenchmarkRows) (weights : WeightRows) (truth : List ℕ → ℤ) (group : Observed → Bool) (control : ℕ) → IsGroupControl observations benchmarks weights group control → weight_in observations weights group ≤ control → IsHeights benchmarks truth → All (λ o. group o ≡ false → residual o truth ≡ pos 0) observations → Least observations benchmarks weights truth
-stays_least observations benchmarks weights truth group control is_control light kept fit = record {
-  kept = kept;
-  least = at_least;
-}
+pub stays_least : (survey : Survey) (truth : List ℕ → ℤ) (group : Observed → Bool) → ((inside : List ℕ → Bool) → IsFreeWithPoint survey inside → own survey group inside ≤ rest survey group inside) → AllElseFits survey group truth → Least survey.observations survey.benchmarks survey.weights truth
+stays_least survey truth group light all = record { kept = all.kept; least = at_least }
   where
     w : Observed → ℕ
-    w x = weight_of weights x.station x.target
+    w x = weight_of survey.weights x.station x.target
 
-    strong : (inside : List ℕ → Bool) → IsFreeSet benchmarks inside → 2 * own_cut observations weights group inside ≤ cut observations weights inside
-    strong inside free = by (crossed observations weights group inside (points observations benchmarks) (ends_contained observations benchmarks))
+    strong : (inside : List ℕ → Bool) → IsFreeSet survey.benchmarks inside → 2 * own_cut survey.observations survey.weights group inside ≤ cut survey.observations survey.weights inside
+    strong inside free = by (crossed survey.observations survey.weights group inside (points_of survey) (ends_contained survey.observations survey.benchmarks))
       where
-        by : ((point : List ℕ) × Contains (points observations benchmarks) point × (inside point ≡ true)) ⊎ (own_cut observations weights group inside ≤ 0) → 2 * own_cut observations weights group inside ≤ cut observations weights inside
-        by (inl (point, listed, there)) =
-            let least = is_control.least inside point free listed there in
-            let both = parts observations weights group inside in
+        by : ((point : List ℕ) × Contains (points_of survey) point × (inside point ≡ true)) ⊎ (own_cut survey.observations survey.weights group inside ≤ 0) → 2 * own_cut survey.observations survey.weights group inside ≤ cut survey.observations survey.weights inside
+        by (inl point) =
+            let less = light inside (record { free = free; point = point }) in
+            let both = parts survey.observations survey.weights group inside in
             omega arith
         by (inr none) = omega arith
 
-    at_least : (heights : List ℕ → ℤ) → IsHeights benchmarks heights → cost observations weights truth ≤ cost observations weights heights
+    at_least : (heights : List ℕ → ℤ) → IsHeights survey.benchmarks heights → cost survey.observations survey.weights truth ≤ cost survey.observations survey.weights heights
     at_least heights heights_kept =
-        let above = own_most observations weights group u (λ below. strong (layer below u) (layer_free benchmarks true below heights truth heights_kept kept)) size in
-        let under = own_most observations weights group u' (λ below. strong (layer below u') (layer_free benchmarks false below heights truth heights_kept kept)) size in
-        let both = spread_both observations weights heights truth size in
-        let whole = sums-le-all (λ x. if group x then w x * change u x else 0) (λ x. (if group x then w x * change (cut_off size u) x else 0) + (if group x then w x * change (cut_off size u') x else 0)) observations (recursion_from_All (λ x. (if group x then w x * change u x else 0) ≤ ((if group x then w x * change (cut_off size u) x else 0) + (if group x then w x * change (cut_off size u') x else 0))) observations (λ k d within. wholly (slice_index_or observations k d) (get_or-le-sum_by sizes observations k d within))) in
-        let halves = sums-plus (λ x. if group x then w x * change (cut_off size u) x else 0) (λ x. if group x then w x * change (cut_off size u') x else 0) observations in
-        let less = sums-le-all (λ x. w x * unsigned_abs (residual x truth) + w x * change u x) (λ x. w x * unsigned_abs (residual x heights) + ((if group x then w x * change u x else 0) + (if group x then w x * change u x else 0))) observations (recursion_from_All (λ x. (w x * unsigned_abs (residual x truth) + w x * change u x) ≤ (w x * unsigned_abs (residual x heights) + ((if group x then w x * change u x else 0) + (if group x then w x * change u x else 0)))) observations (λ k d within. costs (slice_index_or observations k d) (fit k d within))) in
-        let left = sums-plus (λ x. w x * unsigned_abs (residual x truth)) (λ x. w x * change u x) observations in
-        let right = sums-plus (λ x. w x * unsigned_abs (residual x heights)) (λ x. (if group x then w x * change u x else 0) + (if group x then w x * change u x else 0)) observations in
-        let twice = sums-plus (λ x. if group x then w x * change u x else 0) (λ x. if group x then w x * change u x else 0) observations in
+        let above = own_most survey.observations survey.weights group u (λ below. strong (layer below u) (layer_free survey.benchmarks true below heights truth heights_kept all.kept)) size in
+        let under = own_most survey.observations survey.weights group u' (λ below. strong (layer below u') (layer_free survey.benchmarks false below heights truth heights_kept all.kept)) size in
+        let both = spread_both survey.observations survey.weights heights truth size in
+        let whole = sums-le-all (λ x. if group x then w x * change u x else 0) (λ x. (if group x then w x * change (cut_off size u) x else 0) + (if group x then w x * change (cut_off size u') x else 0)) survey.observations (recursion_from_All (λ x. (if group x then w x * change u x else 0) ≤ ((if group x then w x * change (cut_off size u) x else 0) + (if group x then w x * change (cut_off size u') x else 0))) survey.observations (λ k d within. wholly (slice_index_or survey.observations k d) (get_or-le-sum_by sizes survey.observations k d within))) in
+        let halves = sums-plus (λ x. if group x then w x * change (cut_off size u) x else 0) (λ x. if group x then w x * change (cut_off size u') x else 0) survey.observations in
+        let less = sums-le-all (λ x. w x * unsigned_abs (residual x truth) + w x * change u x) (λ x. w x * unsigned_abs (residual x heights) + ((if group x then w x * change u x else 0) + (if group x then w x * change u x else 0))) survey.observations (recursion_from_All (λ x. (w x * unsigned_abs (residual x truth) + w x * change u x) ≤ (w x * unsigned_abs (residual x heights) + ((if group x then w x * change u x else 0) + (if group x then w x * change u x else 0)))) survey.observations (λ k d within. costs (slice_index_or survey.observations k d) (all.fit k d within))) in
+        let left = sums-plus (λ x. w x * unsigned_abs (residual x truth)) (λ x. w x * change u x) survey.observations in
+        let right = sums-plus (λ x. w x * unsigned_abs (residual x heights)) (λ x. (if group x then w x * change u x else 0) + (if group x then w x * change u x else 0)) survey.observations in
+        let twice = sums-plus (λ x. if group x then w x * change u x else 0) (λ x. if group x then w x * change u x else 0) survey.observations in
         omega arith
       where
         u : List ℕ → ℤ
@@ -141,7 +140,7 @@ stays_least observations benchmarks weights truth group control is_control light
         sizes x = unsigned_abs (u x.station) + unsigned_abs (u x.target)
 
         size : ℕ
-        size = sum_by sizes observations
+        size = sum_by sizes survey.observations
 
         wholly : (x : Observed) → sizes x ≤ size → (if group x then w x * change u x else 0) ≤ ((if group x then w x * change (cut_off size u) x else 0) + (if group x then w x * change (cut_off size u') x else 0))
         wholly x low = one_whole (w x) (change (cut_off size u) x) (change (cut_off size u') x) (change u x) (group x) (clamped_whole size (u x.station) (u x.target) (u' x.station) (u' x.target) refl refl (omega arith) (omega arith))
@@ -186,21 +185,21 @@ one_moved : (w : ℕ) (own s t from : Bool) (d gs gt e : ℤ) → (own ≡ true 
 one_moved w true s t from d gs gt e at err fits = let less = own_moved w s t from d gs gt e (at refl) (err refl) in omega arith
 one_moved w false s t from d gs gt e at err fits = let less = other_moved w (unsigned_abs e) s t (whole_way from e) d gs gt (way_size from e) (fits refl) in omega arith
 
-pub moves_too : (observations : List Observed) (benchmarks : BenchmarkRows) (weights : WeightRows) (truth : List ℕ → ℤ) (group : Observed → Bool) (control : ℕ) (station : List ℕ) (error : ℤ) → IsGroupControl observations benchmarks weights group control → control ≡ weight_in observations weights group → All (λ o. group o ≡ true → o.station ≡ station) observations → All (λ o. group o ≡ true → residual o truth ≡ error) observations → IsHeights benchmarks truth → All (λ o. group o ≡ false → residual o truth ≡ pos 0) observations → (others : List ℕ → ℤ) × Least observations benchmarks weights others × ((point : List ℕ) × Contains (points observations benchmarks) point × (unsigned_abs (others point -ℤ truth point) ≡ unsigned_abs error))
-moves_too observations benchmarks weights truth group control station error is_control tie from err kept fit = (
+pub moves_too : (survey : Survey) (truth : List ℕ → ℤ) (group : Observed → Bool) (station : List ℕ) (error : ℤ) → IsSharedMistake survey group Ties → ErrAlike survey group station error truth → AllElseFits survey group truth → (others : List ℕ → ℤ) × Least survey.observations survey.benchmarks survey.weights others × Any (λ point. unsigned_abs (others point -ℤ truth point) ≡ unsigned_abs error) (points_of survey)
+moves_too survey truth group station error word alike all = (
   others,
   record {
-    kept = shifted_keeps benchmarks inside more truth is_control.reached.1 kept;
+    kept = shifted_keeps survey.benchmarks inside more truth word.1.1.free all.kept;
     least = λ heights heights_kept.
-        let least = (stays_least observations benchmarks weights truth group control is_control (omega arith) kept fit).least heights heights_kept in
+        let least = (stays_least survey truth group word.0 all).least heights heights_kept in
         let less = no_more in
         omega arith;
   },
-  (is_control.reached.2.0, is_control.reached.2.1, moved),
+  (word.1.1.point.1.0, word.1.1.point.0, word.1.1.point.1.1, word.1.1.point.1.2, moved),
 )
   where
     inside : List ℕ → Bool
-    inside = is_control.reached.0
+    inside = word.1.0
 
     more : ℤ
     more = whole_way (inside station) error
@@ -209,28 +208,27 @@ moves_too observations benchmarks weights truth group control station error is_c
     others = shifted inside more truth
 
     w : Observed → ℕ
-    w x = weight_of weights x.station x.target
+    w x = weight_of survey.weights x.station x.target
 
-    moved : unsigned_abs (others is_control.reached.2.0 -ℤ truth is_control.reached.2.0) ≡ unsigned_abs error
+    moved : unsigned_abs (others word.1.1.point.0 -ℤ truth word.1.1.point.0) ≡ unsigned_abs error
     moved =
-        let by_more = ap (λ b. unsigned_abs ((truth is_control.reached.2.0 +ℤ (if b then more else pos 0)) -ℤ truth is_control.reached.2.0)) is_control.reached.2.2 in
-        let back : unsigned_abs ((truth is_control.reached.2.0 +ℤ more) -ℤ truth is_control.reached.2.0) ≡ unsigned_abs more = omega (arith, ints) in
+        let by_more = ap (λ b. unsigned_abs ((truth word.1.1.point.0 +ℤ (if b then more else pos 0)) -ℤ truth word.1.1.point.0)) word.1.1.point.2 in
+        let back : unsigned_abs ((truth word.1.1.point.0 +ℤ more) -ℤ truth word.1.1.point.0) ≡ unsigned_abs more = omega (arith, ints) in
         by_more ∙ back ∙ way_size (inside station) error
 
     each : (x : Observed) → (group x ≡ true → x.station ≡ station) → (group x ≡ true → residual x truth ≡ error) → (group x ≡ false → residual x truth ≡ pos 0) → (w x * unsigned_abs (residual x others) + unsigned_abs error * (if group x then (if crosses inside x then w x else 0) else 0)) ≤ (w x * unsigned_abs (residual x truth) + unsigned_abs error * (if group x then 0 else (if crosses inside x then w x else 0)))
     each x at e fits = one_moved (w x) (group x) (inside x.station) (inside x.target) (inside station) x.difference (truth x.station) (truth x.target) error (λ own. ap inside (at own)) e fits
 
-    no_more : cost observations weights others ≤ cost observations weights truth
+    no_more : cost survey.observations survey.weights others ≤ cost survey.observations survey.weights truth
     no_more =
         let size = unsigned_abs error in
         let own = λ (o : Observed). if group o then (if crosses inside o then w o else 0) else 0 in
         let rest = λ (o : Observed). if group o then 0 else (if crosses inside o then w o else 0) in
-        let less = sums-le-all (λ o. w o * unsigned_abs (residual o others) + size * own o) (λ o. w o * unsigned_abs (residual o truth) + size * rest o) observations (recursion_from_All (λ o. (w o * unsigned_abs (residual o others) + size * own o) ≤ (w o * unsigned_abs (residual o truth) + size * rest o)) observations (λ k d within. each (slice_index_or observations k d) (from k d within) (err k d within) (fit k d within))) in
-        let left = sums-plus (λ o. w o * unsigned_abs (residual o others)) (λ o. size * own o) observations in
-        let right = sums-plus (λ o. w o * unsigned_abs (residual o truth)) (λ o. size * rest o) observations in
-        let left_times = sums-times size own observations in
-        let right_times = sums-times size rest observations in
-        let reached = is_control.reached.3 in
-        let even : own_cut observations weights group inside ≡ rest_cut observations weights group inside = omega arith in
+        let less = sums-le-all (λ o. w o * unsigned_abs (residual o others) + size * own o) (λ o. w o * unsigned_abs (residual o truth) + size * rest o) survey.observations (recursion_from_All (λ o. (w o * unsigned_abs (residual o others) + size * own o) ≤ (w o * unsigned_abs (residual o truth) + size * rest o)) survey.observations (λ k d within. each (slice_index_or survey.observations k d) (alike.from k d within) (alike.err k d within) (all.fit k d within))) in
+        let left = sums-plus (λ o. w o * unsigned_abs (residual o others)) (λ o. size * own o) survey.observations in
+        let right = sums-plus (λ o. w o * unsigned_abs (residual o truth)) (λ o. size * rest o) survey.observations in
+        let left_times = sums-times size own survey.observations in
+        let right_times = sums-times size rest survey.observations in
+        let even = word.1.2 in
         let scaled = ap (λ n. size * n) even in
         omega arith

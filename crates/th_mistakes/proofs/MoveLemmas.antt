@@ -14,7 +14,8 @@ use Rattle.th_reliability.specs.Blunders.{weight_in}
 use Rattle.th_reliability.specs.Cuts.{IsFreeSet, crosses, cut, differ}
 use Rattle.th_reliability.specs.Groups.{own_cut, rest_cut}
 use Rattle.th_reliability.specs.SharedMistakes.{IsLeastSet, own, rest}
-use Rattle.th_mistakes.specs.Moves.{ErrsAt, moved, way}
+use Rattle.th_mistakes.specs.Fits.{AllElseFits}
+use Rattle.th_mistakes.specs.Moves.{ErrsAt, IsMovable, moved, way}
 use Rattle.th_reliability.proofs.SumLemmas.{sums-le-all, sums-plus, sums-times}
 use Rattle.th_mistakes.proofs.LayerLemmas.{IsAlong, clamped, cut_off, is_above, layer, turned, turned_along}
 use Rattle.th_mistakes.proofs.LoweringLemmas.{none_off}
@@ -245,21 +246,20 @@ least_by survey truth group inside point error up size is_error is_size is light
     turn o (inl (at, err)) = inl (at, err ∙ is_error)
     turn o (inr (at, err)) = inr (at, err ∙ ap (λ z. pos 0 -ℤ z) is_error)
 
-pub least_moved : (survey : Survey) (truth : List ℕ → ℤ) (group : Observed → Bool) (inside : List ℕ → Bool) (point : List ℕ) (error : ℤ) → IsLeastSet survey group inside → rest survey group inside ≤ own survey group inside → All (λ o. group o ≡ true → ErrsAt point error truth o) survey.observations → IsHeights survey.benchmarks truth → All (λ o. group o ≡ false → residual o truth ≡ pos 0) survey.observations → Least survey.observations survey.benchmarks survey.weights (moved inside (way (inside point) error) truth)
-least_moved survey truth group inside point error is light errs kept fits = record {
-  kept = shifted_keeps survey.benchmarks inside (way (inside point) error) truth is.is.free kept;
+pub least_moved : (survey : Survey) (truth : List ℕ → ℤ) (group : Observed → Bool) (inside : List ℕ → Bool) (point : List ℕ) (error : ℤ) → IsMovable survey group inside → All (λ o. group o ≡ true → ErrsAt point error truth o) survey.observations → AllElseFits survey group truth → Least survey.observations survey.benchmarks survey.weights (moved inside (way (inside point) error) truth)
+least_moved survey truth group inside point error movable errs all = record {
+  kept = shifted_keeps survey.benchmarks inside (way (inside point) error) truth movable.is.is.free all.kept;
   least = by error refl;
 }
   where
     by : (z : ℤ) → error ≡ z → (heights : List ℕ → ℤ) → IsHeights survey.benchmarks heights → cost survey.observations survey.weights (moved inside (way (inside point) error) truth) ≤ cost survey.observations survey.weights heights
-    by (pos n) e = least_by survey truth group inside point error true n e (ap unsigned_abs e) is light errs kept fits
-    by (negsuc n) e = least_by survey truth group inside point error false (suc n) (omega (arith, ints)) (ap unsigned_abs e) is light errs kept fits
+    by (pos n) e = least_by survey truth group inside point error true n e (ap unsigned_abs e) movable.is movable.light errs all.kept all.fit
+    by (negsuc n) e = least_by survey truth group inside point error false (suc n) (omega (arith, ints)) (ap unsigned_abs e) movable.is movable.light errs all.kept all.fit
 
 -- ---- the residuals in the moved heights
-pub blames : (survey : Survey) (truth : List ℕ → ℤ) (group : Observed → Bool) (inside : List ℕ → Bool) (point : List ℕ) (error : ℤ) → All (λ o. group o ≡ true → ErrsAt point error truth o) survey.observations → All (λ o. group o ≡ false → residual o truth ≡ pos 0) survey.observations → All (λ o. group o ≡ false → crosses inside o ≡ true → unsigned_abs (residual o (moved inside (way (inside point) error) truth)) ≡ unsigned_abs error) survey.observations × All (λ o. group o ≡ false → crosses inside o ≡ false → residual o (moved inside (way (inside point) error) truth) ≡ pos 0) survey.observations × All (λ o. group o ≡ true → crosses inside o ≡ true → residual o (moved inside (way (inside point) error) truth) ≡ pos 0) survey.observations × All (λ o. group o ≡ true → crosses inside o ≡ false → residual o (moved inside (way (inside point) error) truth) ≡ residual o truth) survey.observations
+pub blames : (survey : Survey) (truth : List ℕ → ℤ) (group : Observed → Bool) (inside : List ℕ → Bool) (point : List ℕ) (error : ℤ) → All (λ o. group o ≡ true → ErrsAt point error truth o) survey.observations → All (λ o. group o ≡ false → residual o truth ≡ pos 0) survey.observations → All (λ o. group o ≡ false → crosses inside o ≡ true → unsigned_abs (residual o (moved inside (way (inside point) error) truth)) ≡ unsigned_abs error) survey.observations × All (λ o. group o ≡ true → crosses inside o ≡ true → residual o (moved inside (way (inside point) error) truth) ≡ pos 0) survey.observations × All (λ o. crosses inside o ≡ false → residual o (moved inside (way (inside point) error) truth) ≡ residual o truth) survey.observations
 blames survey truth group inside point error errs fits = (
   λ k d within other crossing. other_blamed truth inside (inside point) error (slice_index_or survey.observations k d) (fits k d within other) crossing,
-  λ k d within other out. level_same truth inside (way (inside point) error) (slice_index_or survey.observations k d) out ∙ fits k d within other,
   λ k d within own crossing. own_zero truth inside point error (slice_index_or survey.observations k d) (errs k d within own) crossing,
-  λ k d within own out. level_same truth inside (way (inside point) error) (slice_index_or survey.observations k d) out,
+  λ k d within out. level_same truth inside (way (inside point) error) (slice_index_or survey.observations k d) out,
 )

@@ -1,5 +1,5 @@
 -- What a mistake that a group shares does, by the least value of the others' cut less its own.
-use Rattle.std.proofs.Common.{◌≡◌, ℕ, ◌+◌, ◌≤◌, Bool, true, false, List, eqb, ltb, if◌then◌else◌, refl, sym, arith}
+use Rattle.std.proofs.Common.{◌≡◌, ℕ, ◌+◌, ◌≤◌, Bool, true, false, List, ◌⊎◌, inl, inr, eqb, ltb, if◌then◌else◌, refl, subst, sym, arith}
 use Rattle.std.proofs.lemmas.Bool.{eqb-false, eqb-true, ltb-false, ltb-true}
 use Rattle.th_book.specs.Observed.{Observed}
 use Rattle.th_network.specs.Networks.{Survey}
@@ -44,12 +44,10 @@ decided_by_control survey group control h =
     (λ inside is. h.least inside is.point.0 is.free is.point.1 is.point.2)
     (λ small. (h.reached.0, record { free = h.reached.1; point = h.reached.2 }, sym h.reached.3))
 
--- where it neither shows nor ties, the group outweighs the others in some set
-pub outweighs : (survey : Survey) (group : Observed → Bool) (mistake : SharedMistake) → IsSharedMistake survey group mistake → (mistake ≡ Shows → ⊥) → (mistake ≡ Ties → ⊥) → (inside : List ℕ → Bool) × IsOutweighed survey group inside
-outweighs survey group Shows is not_shown not_tied = absurd (not_shown refl)
-outweighs survey group Ties is not_shown not_tied = absurd (not_tied refl)
-outweighs survey group Drags is not_shown not_tied = is.0
-outweighs survey group Unchecked is not_shown not_tied = (is.0, is.1.is)
+-- where it drags or nothing checks it, the group outweighs the others in some set
+pub outweighs : (survey : Survey) (group : Observed → Bool) (mistake : SharedMistake) → IsSharedMistake survey group mistake → (mistake ≡ Drags) ⊎ (mistake ≡ Unchecked) → (inside : List ℕ → Bool) × IsOutweighed survey group inside
+outweighs survey group mistake is (inl drags) = (subst (IsSharedMistake survey group) drags is).0
+outweighs survey group mistake is (inr unchecked) = let alone = subst (IsSharedMistake survey group) unchecked is in (alone.0, alone.1.is)
 
 shown_outweighed : (survey : Survey) (group : Observed → Bool) (inside : List ℕ → Bool) → IsSharedMistake survey group Shows → IsOutweighed survey group inside → ⊥
 shown_outweighed survey group inside shown is = let less = shown inside is.is in let more = is.less in absurd (omega arith)

@@ -1,5 +1,5 @@
 -- A group of one observation: its control decides what a mistake in it does.
-use Rattle.std.proofs.Common.{◌≡◌, ◌≢◌, ℕ, zero, suc, ◌<◌, ◌≤◌, Bool, true, false, List, [], ◌∷◌, get_or, slice_get, length, Option, Some, None, Contains, eqb, ltb, if◌then◌else◌, sum_by, refl, sym, ap, ◌∙◌, arith}
+use Rattle.std.proofs.Common.{◌≡◌, ◌≢◌, ℕ, zero, suc, ◌<◌, ◌≤◌, Bool, true, false, List, [], ◌∷◌, get_or, length, Option, Some, None, Contains, eqb, ltb, if◌then◌else◌, sum_by, refl, ap, ◌∙◌, arith}
 use Rattle.std.proofs.lemmas.Bool.{eqb-false, eqb-true, ltb-false, ltb-true}
 use Rattle.std.proofs.lemmas.List.Sums.{sum_by-cons, sum_by-le}
 use Rattle.std.proofs.lemmas.Option.{get_or_from_slice_get, slice_get_within}
@@ -29,15 +29,17 @@ one_term f (x ∷ xs) (suc k) d within others =
     let rest = one_term f xs k d (omega arith) (λ j e differs less. others (suc j) e (omega arith) (omega arith)) in
     omega arith
 
-module _ (survey : Survey) (group : Observed → Bool) (place : ℕ) (o : Observed) (only : IsOnly survey.observations group place) (at : slice_get survey.observations place ≡ Some o) where
+module _ (survey : Survey) (group : Observed → Bool) (o : Observed) (only : IsOnly survey.observations group o) where
+  -- it is one of the observations
+  abbrev pub listed : Contains survey.observations o
+  listed = (only.place, slice_get_within survey.observations only.place o only.at, get_or_from_slice_get survey.observations only.place o o only.at)
+
   -- the group's own cut is the weight of the observation where it crosses, and else nothing
   pub own_is : (inside : List ℕ → Bool) → own survey group inside ≡ (if crosses inside o then weight_of survey.weights o.station o.target else 0)
   own_is inside =
       let term = λ (x : Observed). if group x then (if crosses inside x then weight_of survey.weights x.station x.target else 0) else 0 in
-      let sum : own survey group inside ≡ term (get_or survey.observations place o) = one_term term survey.observations place o only.within (λ j d differs less. ap (λ (b : Bool). if b then (if crosses inside (get_or survey.observations j d) then weight_of survey.weights (get_or survey.observations j d).station (get_or survey.observations j d).target else 0) else 0) (only.others j d differs less)) in
-      let here : get_or survey.observations place o ≡ o = get_or_from_slice_get survey.observations place o o at in
-      let is : group o ≡ true = ap group (sym here) ∙ only.is o in
-      sum ∙ ap term here ∙ ap (λ (b : Bool). if b then (if crosses inside o then weight_of survey.weights o.station o.target else 0) else 0) is
+      let sum : own survey group inside ≡ term (get_or survey.observations only.place o) = one_term term survey.observations only.place o listed.1 (λ j d differs less. ap (λ (b : Bool). if b then (if crosses inside (get_or survey.observations j d) then weight_of survey.weights (get_or survey.observations j d).station (get_or survey.observations j d).target else 0) else 0) (only.others j d differs less)) in
+      sum ∙ ap term listed.2 ∙ ap (λ (b : Bool). if b then (if crosses inside o then weight_of survey.weights o.station o.target else 0) else 0) only.is
 
   -- where it crosses, the others weigh no less than its control
   crossed : (inside : List ℕ → Bool) (control : ℕ) → IsControl survey.observations survey.benchmarks survey.weights o control → IsFreeWithPoint survey inside → crosses inside o ≡ true → (own survey group inside ≡ weight_of survey.weights o.station o.target) × (control ≤ rest survey group inside)
@@ -63,17 +65,14 @@ module _ (survey : Survey) (group : Observed → Bool) (place : ℕ) (o : Observ
       let mine : own survey group inside ≡ weight_of survey.weights o.station o.target = own_is inside ∙ ap (λ (b : Bool). if b then weight_of survey.weights o.station o.target else 0) crossing in
       let all = is_control.reached.3 in
       let both = parts survey.observations survey.weights group inside in
-      let has : Contains survey.observations o = (place, slice_get_within survey.observations place o at, get_or_from_slice_get survey.observations place o o at) in
-      (inside, record { free = is_control.reached.1; point = end_inside survey o inside has crossing }, mine, omega arith)
+      (inside, record { free = is_control.reached.1; point = end_inside survey o inside listed crossing }, mine, omega arith)
 
   -- the group's weight is that of the observation
   pub weight_is : weight_in survey.observations survey.weights group ≡ weight_of survey.weights o.station o.target
   weight_is =
       let term = λ (x : Observed). if group x then weight_of survey.weights x.station x.target else 0 in
-      let sum : weight_in survey.observations survey.weights group ≡ term (get_or survey.observations place o) = one_term term survey.observations place o only.within (λ j d differs less. ap (λ (b : Bool). if b then weight_of survey.weights (get_or survey.observations j d).station (get_or survey.observations j d).target else 0) (only.others j d differs less)) in
-      let here : get_or survey.observations place o ≡ o = get_or_from_slice_get survey.observations place o o at in
-      let is : group o ≡ true = ap group (sym here) ∙ only.is o in
-      sum ∙ ap term here ∙ ap (λ (b : Bool). if b then weight_of survey.weights o.station o.target else 0) is
+      let sum : weight_in survey.observations survey.weights group ≡ term (get_or survey.observations only.place o) = one_term term survey.observations only.place o listed.1 (λ j d differs less. ap (λ (b : Bool). if b then weight_of survey.weights (get_or survey.observations j d).station (get_or survey.observations j d).target else 0) (only.others j d differs less)) in
+      sum ∙ ap term listed.2 ∙ ap (λ (b : Bool). if b then weight_of survey.weights o.station o.target else 0) only.is
 
   by_control : (control : ℕ) → AreWeights survey.weights → Anchored survey.observations survey.benchmarks → IsControl survey.observations survey.benchmarks survey.weights o control → (more same none : Bool) → ltb (weight_of survey.weights o.station o.target) control ≡ more → eqb control (weight_of survey.weights o.station o.target) ≡ same → eqb control 0 ≡ none → IsSharedMistake survey group (if more then Shows else (if same then Ties else (if none then Unchecked else Drags)))
   by_control control are tied is_control true same none e f g = λ inside is. by inside is (crosses inside o) refl
@@ -135,10 +134,10 @@ module _ (survey : Survey) (group : Observed → Bool) (place : ℕ) (o : Observ
           (there.0, record { is = heavy; whole = omega arith; none = omega arith })
       by false some = ((there.0, heavy), λ inside alone. checked inside some alone (crosses inside o) refl)
 
-pub single : (survey : Survey) (group : Observed → Bool) (place : ℕ) (o : Observed) (control : Option ℕ) → AreWeights survey.weights → Anchored survey.observations survey.benchmarks → IsOnly survey.observations group place → slice_get survey.observations place ≡ Some o → HasControl survey o control → IsSharedMistake survey group (single_mistake_of control (weight_of survey.weights o.station o.target))
-single survey group place o None are tied only at fixed = λ inside is.
+pub single : (survey : Survey) (group : Observed → Bool) (o : Observed) (control : Option ℕ) → AreWeights survey.weights → Anchored survey.observations survey.benchmarks → IsOnly survey.observations group o → HasControl survey o control → IsSharedMistake survey group (single_mistake_of control (weight_of survey.weights o.station o.target))
+single survey group o None are tied only fixed = λ inside is.
     let station = is.free o.station fixed.0 in
     let target = is.free o.target fixed.1 in
-    uncrossed survey group place o only at inside are tied is (ap (λ (s : Bool). differ s (inside o.target)) station ∙ ap (differ false) target)
-single survey group place o (Some control) are tied only at is_control =
-    by_control survey group place o only at control are tied is_control (ltb (weight_of survey.weights o.station o.target) control) (eqb control (weight_of survey.weights o.station o.target)) (eqb control 0) refl refl refl
+    uncrossed survey group o only inside are tied is (ap (λ (s : Bool). differ s (inside o.target)) station ∙ ap (differ false) target)
+single survey group o (Some control) are tied only is_control =
+    by_control survey group o only control are tied is_control (ltb (weight_of survey.weights o.station o.target) control) (eqb control (weight_of survey.weights o.station o.target)) (eqb control 0) refl refl refl

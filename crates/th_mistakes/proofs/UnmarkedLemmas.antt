@@ -1,5 +1,5 @@
 -- A mistake at a point that nothing checks: a set that the group alone crosses goes along, and no residual changes.
-use Rattle.std.proofs.Common.{◌≡◌, ℕ, Bool, true, false, ◌+◌, ◌*◌, ◌≤◌, ℤ, pos, ◌+ℤ◌, ◌-ℤ◌, List, [], ◌∷◌, map, All, ◌⊎◌, inl, inr, if◌then◌else◌, bytes_eq, unsigned_abs, refl, ap, sym, ◌∙◌, arith}
+use Rattle.std.proofs.Common.{◌≡◌, ℕ, Bool, true, false, ◌+◌, ◌*◌, ◌≤◌, ℤ, pos, ◌+ℤ◌, ◌-ℤ◌, List, [], ◌∷◌, map, All, ◌⊎◌, ◌↔◌, inl, inr, if◌then◌else◌, bytes_eq, unsigned_abs, refl, ap, sym, ◌∙◌, arith}
 use Rattle.std.specs.Prelude.{slice_index_or}
 use Rattle.std.specs.List.{AllByRecursion}
 use Rattle.std.proofs.Math.Path.{fun_ext}
@@ -14,8 +14,8 @@ use Rattle.th_tables.proofs.WeightLemmas.{heavy}
 use Rattle.th_network.specs.Networks.{Survey}
 use Rattle.th_reliability.specs.Blunders.{weight_in}
 use Rattle.th_reliability.specs.Groups.{IsGroupControl, own_cut, rest_cut}
-use Rattle.th_reliability.specs.SharedMistakes.{IsFreeWithPoint, IsSharedMistake, own, rest}
-use Rattle.th_reliability.specs.declared.mistakes.SharedMistake.TheVariants.{Unchecked}
+use Rattle.th_reliability.specs.SharedMistakes.{IsFreeWithPoint}
+use Rattle.th_mistakes.specs.Groups.{CrossesAlone}
 use Rattle.th_mistakes.proofs.ControlLemmas.{own_low}
 use Rattle.th_network.specs.Heights.{Least, cost, residual}
 use Rattle.th_reliability.specs.Cuts.{IsFreeSet, crosses, differ}
@@ -133,22 +133,21 @@ alone_by weights group inside (o ∷ observations) heavy none all =
     let one = one_alone (w o) (own_cut observations weights group inside) (rest_cut observations weights group inside) (weight_in observations weights group) (group o) (crosses inside o) (heavy o.station o.target) low (omega arith) (omega arith) in
     (one.0, alone_by weights group inside observations heavy one.1 one.2)
 
-pub alone : (survey : Survey) (group : Observed → Bool) (inside : List ℕ → Bool) → AreWeights survey.weights → rest survey group inside ≡ 0 → own survey group inside ≡ weight_in survey.observations survey.weights group → All (λ o. crosses inside o ≡ group o) survey.observations
-alone survey group inside are none all = All-from_recursion (λ o. crosses inside o ≡ group o) survey.observations (alone_by survey.weights group inside survey.observations (heavy survey.weights are) (omega arith) (omega arith))
+pub alone : (survey : Survey) (group : Observed → Bool) (inside : List ℕ → Bool) → AreWeights survey.weights → CrossesAlone survey group inside → All (λ o. crosses inside o ≡ group o) survey.observations
+alone survey group inside are is =
+    let whole = is.whole in
+    let none = is.none in
+    All-from_recursion (λ o. crosses inside o ≡ group o) survey.observations (alone_by survey.weights group inside survey.observations (heavy survey.weights are) (omega arith) (omega arith))
 
--- a group whose control is 0 has such a set
-pub none_checks : (survey : Survey) (group : Observed → Bool) → IsGroupControl survey.observations survey.benchmarks survey.weights group 0 → (inside : List ℕ → Bool) × IsFreeWithPoint survey inside × (rest survey group inside ≡ 0) × (own survey group inside ≡ weight_in survey.observations survey.weights group)
-none_checks survey group is_control =
-    let low = own_low survey.observations survey.weights group is_control.reached.0 in
-    let reached = is_control.reached.3 in
-    (is_control.reached.0, record { free = is_control.reached.1; point = is_control.reached.2 }, omega arith, omega arith)
-
-pub control_none : (survey : Survey) (group : Observed → Bool) (inside : List ℕ → Bool) → IsFreeWithPoint survey inside → rest survey group inside ≡ 0 → own survey group inside ≡ weight_in survey.observations survey.weights group → IsGroupControl survey.observations survey.benchmarks survey.weights group 0
-control_none survey group inside is none all = record {
-  reached = (inside, is.free, is.point, omega arith);
-  least = λ other name free listed there. let low = own_low survey.observations survey.weights group other in omega arith;
-}
-
--- so the word alone says that there is such a set
-pub unchecked_by_word : (survey : Survey) (group : Observed → Bool) → AreWeights survey.weights → IsSharedMistake survey group Unchecked → (inside : List ℕ → Bool) × IsFreeSet survey.benchmarks inside × All (λ o. crosses inside o ≡ group o) survey.observations
-unchecked_by_word survey group are word = (word.0, word.1.is.is.free, alone survey group word.0 are word.1.none word.1.whole)
+-- a group has such a set just where its control is 0
+pub control_none : (survey : Survey) (group : Observed → Bool) → IsGroupControl survey.observations survey.benchmarks survey.weights group 0 ↔ ((inside : List ℕ → Bool) × IsFreeWithPoint survey inside × CrossesAlone survey group inside)
+control_none survey group = (
+  λ is_control.
+      let low = own_low survey.observations survey.weights group is_control.reached.0 in
+      let reached = is_control.reached.3 in
+      (is_control.reached.0, record { free = is_control.reached.1; point = is_control.reached.2 }, record { whole = omega arith; none = omega arith }),
+  λ set. record {
+    reached = (set.0, set.1.free, set.1.point, let whole = set.2.whole in let none = set.2.none in omega arith);
+    least = λ other name free listed there. let low = own_low survey.observations survey.weights group other in omega arith;
+  },
+)

@@ -1,16 +1,19 @@
 -- What a shared mistake does, from its word alone.
-use Rattle.std.proofs.Common.{◌≡◌, ℕ, Bool, true, false, ◌<◌, ◌≤◌, ℤ, pos, ◌-ℤ◌, List, All, Contains, ◌⊎◌, inl, inr, unsigned_abs, refl, arith}
+use Rattle.std.proofs.Common.{◌≡◌, ℕ, zero, suc, Bool, ◌≤◌, ℤ, pos, negsuc, List, All, ◌⊎◌, inl, inr, refl, ◌∙◌, subst, arith}
+use Rattle.std.proofs.lemmas.Int.{ints}
 use Rattle.th_book.specs.Observed.{Observed}
-use Rattle.th_network.specs.Heights.{IsHeights, Least, residual}
+use Rattle.th_network.specs.Heights.{Least, residual}
 use Rattle.th_network.specs.Networks.{Survey, points_of}
 use Rattle.th_reliability.specs.Blunders.{weight_in}
 use Rattle.th_reliability.specs.Groups.{IsGroupControl}
 use Rattle.th_reliability.specs.SharedMistakes.{IsFreeWithPoint, IsLeastSet, IsOutweighed, IsSharedMistake, own, rest, shared_mistake_of}
 use Rattle.th_reliability.specs.declared.mistakes.SharedMistake.{SharedMistake}
 use Rattle.th_reliability.specs.declared.mistakes.SharedMistake.TheVariants.{Shows, Ties, Drags, Unchecked}
+use Rattle.th_mistakes.specs.Fits.{AllElseFits, ErrAlike}
+use Rattle.th_mistakes.specs.Moves.{IsMovable}
 use Rattle.th_mistakes.proofs.ControlLemmas.{HasNone, control_or_none, has_control}
-use Rattle.th_mistakes.proofs.GroupLemmas.{agrees, drags, shown_by_sets}
-use Rattle.th_mistakes.proofs.GroupTieLemmas.{moves_too, stays_least}
+use Rattle.th_mistakes.proofs.GroupLemmas.{not_shared, same_residuals, shown_by_sets}
+use Rattle.th_mistakes.proofs.GroupTieLemmas.{stays_least}
 use Rattle.th_mistakes.proofs.SharedLemmas.{decided_by_control, outweighs, shown_without_points}
 
 -- the weight of a group
@@ -28,40 +31,34 @@ some_word survey group = by (control_or_none survey.observations survey.benchmar
     by (inl (control, is)) = (shared_mistake_of control (weight survey group), decided_by_control survey group control is)
     by (inr none) = (Shows, shown_without_points survey group (λ inside is. none inside is.point.0 is.free is.point.1 is.point.2))
 
-pub shown_by_word : (survey : Survey) (truth heights : List ℕ → ℤ) (group : Observed → Bool) → IsSharedMistake survey group Shows → IsHeights survey.benchmarks truth → All (λ o. group o ≡ false → residual o truth ≡ pos 0) survey.observations → Least survey.observations survey.benchmarks survey.weights heights → All (λ point. heights point ≡ truth point) (points_of survey) × All (λ o. residual o heights ≡ residual o truth) survey.observations
-shown_by_word survey truth heights group word = shown_by_sets survey.observations survey.benchmarks survey.weights truth heights group (λ inside point free listed there. word inside (record { free = free; point = (point, listed, there) }))
+pub shown : (survey : Survey) (truth heights : List ℕ → ℤ) (group : Observed → Bool) → IsSharedMistake survey group Shows → AllElseFits survey group truth → Least survey.observations survey.benchmarks survey.weights heights → All (λ point. heights point ≡ truth point) (points_of survey) × All (λ o. residual o heights ≡ residual o truth) survey.observations
+shown survey truth heights group word all = shown_by_sets survey.observations survey.benchmarks survey.weights truth heights group (λ inside point free listed there. word inside (record { free = free; point = (point, listed, there) })) all.kept all.fit
 
--- where it ties, the control is the weight
-tie_control : (survey : Survey) (group : Observed → Bool) → IsSharedMistake survey group Ties → IsControl survey group (weight survey group)
-tie_control survey group word = record {
-  reached = let even = word.1.2 in (word.1.0, word.1.1.free, word.1.1.point, omega arith);
-  least = λ inside point free listed there. let low = word.0 inside (record { free = free; point = (point, listed, there) }) in omega arith;
-}
+-- where it shows or ties, the group never outweighs the others
+light : (survey : Survey) (group : Observed → Bool) (mistake : SharedMistake) → IsSharedMistake survey group mistake → (mistake ≡ Shows) ⊎ (mistake ≡ Ties) → (inside : List ℕ → Bool) → IsFreeWithPoint survey inside → own survey group inside ≤ rest survey group inside
+light survey group mistake word (inl shows) inside is = let less = subst (IsSharedMistake survey group) shows word inside is in omega arith
+light survey group mistake word (inr ties) inside is = (subst (IsSharedMistake survey group) ties word).0 inside is
 
-pub least_by_word : (survey : Survey) (truth : List ℕ → ℤ) (group : Observed → Bool) → IsSharedMistake survey group Ties → IsHeights survey.benchmarks truth → All (λ o. group o ≡ false → residual o truth ≡ pos 0) survey.observations → Least survey.observations survey.benchmarks survey.weights truth
-least_by_word survey truth group word = stays_least survey.observations survey.benchmarks survey.weights truth group (weight survey group) (tie_control survey group word) (omega arith)
+pub least : (survey : Survey) (truth : List ℕ → ℤ) (group : Observed → Bool) (mistake : SharedMistake) → IsSharedMistake survey group mistake → (mistake ≡ Shows) ⊎ (mistake ≡ Ties) → AllElseFits survey group truth → Least survey.observations survey.benchmarks survey.weights truth
+least survey truth group mistake word either = stays_least survey truth group (light survey group mistake word either)
 
-pub moves_by_word : (survey : Survey) (truth : List ℕ → ℤ) (group : Observed → Bool) (station : List ℕ) (error : ℤ) → IsSharedMistake survey group Ties → All (λ o. group o ≡ true → o.station ≡ station) survey.observations → All (λ o. group o ≡ true → residual o truth ≡ error) survey.observations → IsHeights survey.benchmarks truth → All (λ o. group o ≡ false → residual o truth ≡ pos 0) survey.observations → (others : List ℕ → ℤ) × Least survey.observations survey.benchmarks survey.weights others × ((point : List ℕ) × Contains (points_of survey) point × (unsigned_abs (others point -ℤ truth point) ≡ unsigned_abs error))
-moves_by_word survey truth group station error word = moves_too survey.observations survey.benchmarks survey.weights truth group (weight survey group) station error (tie_control survey group word) refl
+-- where it drags or nothing checks it, best heights leave no error that the sights share
+not_alike : (survey : Survey) (heights : List ℕ → ℤ) (group : Observed → Bool) (station : List ℕ) (error : ℤ) → ((inside : List ℕ → Bool) × IsOutweighed survey group inside) → ErrAlike survey group station error heights → Least survey.observations survey.benchmarks survey.weights heights → (error ≡ pos 0 → ⊥) → ⊥
+not_alike survey heights group station error (inside, heavy) alike = not_shared survey.observations survey.benchmarks survey.weights heights group inside station error heavy.is.free heavy.less alike.from alike.err
 
--- where the group outweighs the others in some set, its control is below its weight
-drag_control : (survey : Survey) (group : Observed → Bool) → ((inside : List ℕ → Bool) × IsOutweighed survey group inside) → (control : ℕ) × IsControl survey group control × (control < weight survey group)
-drag_control survey group (inside, heavy) =
-    let point = heavy.is.point in
-    let has = has_control survey.observations survey.benchmarks survey.weights group inside point.0 heavy.is.free point.1 point.2 in
-    let least = has.1.least inside point.0 heavy.is.free point.1 point.2 in
-    let more = heavy.less in
-    (has.0, has.1, omega arith)
+pub agrees : (survey : Survey) (heights : List ℕ → ℤ) (group : Observed → Bool) (mistake : SharedMistake) (station : List ℕ) (error : ℤ) → IsSharedMistake survey group mistake → (mistake ≡ Drags) ⊎ (mistake ≡ Unchecked) → ErrAlike survey group station error heights → Least survey.observations survey.benchmarks survey.weights heights → error ≡ pos 0
+agrees survey heights group mistake station error word either alike best = by error refl
+  where
+    no : (error ≡ pos 0 → ⊥) → ⊥
+    no = not_alike survey heights group station error (outweighs survey group mistake word either) alike best
 
-pub agrees_by_word : (survey : Survey) (heights : List ℕ → ℤ) (group : Observed → Bool) (mistake : SharedMistake) (station : List ℕ) (error : ℤ) → IsSharedMistake survey group mistake → (mistake ≡ Shows → ⊥) → (mistake ≡ Ties → ⊥) → All (λ o. group o ≡ true → o.station ≡ station) survey.observations → All (λ o. group o ≡ true → residual o heights ≡ error) survey.observations → Least survey.observations survey.benchmarks survey.weights heights → error ≡ pos 0
-agrees_by_word survey heights group mistake station error word not_shown not_tied =
-    let has = drag_control survey group (outweighs survey group mistake word not_shown not_tied) in
-    agrees survey.observations survey.benchmarks survey.weights heights group has.0 station error has.1 has.2
+    by : (z : ℤ) → error ≡ z → error ≡ pos 0
+    by (pos zero) e = e
+    by (pos (suc n)) e = absurd (no (λ zero. omega (arith, ints)))
+    by (negsuc n) e = absurd (no (λ zero. omega (arith, ints)))
 
-pub drags_by_word : (survey : Survey) (truth heights : List ℕ → ℤ) (group : Observed → Bool) (mistake : SharedMistake) (station : List ℕ) (error : ℤ) → IsSharedMistake survey group mistake → (mistake ≡ Shows → ⊥) → (mistake ≡ Ties → ⊥) → All (λ o. group o ≡ true → o.station ≡ station) survey.observations → All (λ o. group o ≡ true → residual o truth ≡ error) survey.observations → (error ≡ pos 0 → ⊥) → Least survey.observations survey.benchmarks survey.weights heights → All (λ point. heights point ≡ truth point) (points_of survey) → ⊥
-drags_by_word survey truth heights group mistake station error word not_shown not_tied =
-    let has = drag_control survey group (outweighs survey group mistake word not_shown not_tied) in
-    drags survey.observations survey.benchmarks survey.weights truth heights group has.0 station error has.1 has.2
+pub drags : (survey : Survey) (truth heights : List ℕ → ℤ) (group : Observed → Bool) (mistake : SharedMistake) (station : List ℕ) (error : ℤ) → IsSharedMistake survey group mistake → (mistake ≡ Drags) ⊎ (mistake ≡ Unchecked) → ErrAlike survey group station error truth → (error ≡ pos 0 → ⊥) → Least survey.observations survey.benchmarks survey.weights heights → All (λ point. heights point ≡ truth point) (points_of survey) → ⊥
+drags survey truth heights group mistake station error word either alike some best same = some (agrees survey heights group mistake station error word either (record { from = alike.from; err = λ k d within own. same_residuals survey.observations survey.benchmarks truth heights same k d within ∙ alike.err k d within own }) best)
 
 -- ---- a least set, and where the group cuts no less than the others
 pub found : (survey : Survey) (group : Observed → Bool) (inside : List ℕ → Bool) → IsFreeWithPoint survey inside → (other : List ℕ → Bool) × IsLeastSet survey group other
@@ -76,8 +73,11 @@ found survey group inside is = of (has_control survey.observations survey.benchm
       },
     )
 
-pub unshown : (survey : Survey) (group : Observed → Bool) (mistake : SharedMistake) (inside : List ℕ → Bool) → IsLeastSet survey group inside → IsSharedMistake survey group mistake → (mistake ≡ Shows → ⊥) → rest survey group inside ≤ own survey group inside
+unshown : (survey : Survey) (group : Observed → Bool) (mistake : SharedMistake) (inside : List ℕ → Bool) → IsLeastSet survey group inside → IsSharedMistake survey group mistake → (mistake ≡ Shows → ⊥) → rest survey group inside ≤ own survey group inside
 unshown survey group Shows inside is word other = absurd (other refl)
 unshown survey group Ties inside is word other = let low = is.least word.1.0 word.1.1 in let even = word.1.2 in omega arith
 unshown survey group Drags inside is word other = let low = is.least word.0.0 word.0.1.is in let more = word.0.1.less in omega arith
 unshown survey group Unchecked inside is word other = let low = is.least word.0 word.1.is.is in let more = word.1.is.less in omega arith
+
+pub movable : (survey : Survey) (group : Observed → Bool) (mistake : SharedMistake) (inside : List ℕ → Bool) → IsLeastSet survey group inside → IsSharedMistake survey group mistake → (mistake ≡ Shows → ⊥) → IsMovable survey group inside
+movable survey group mistake inside is word other = record { is = is; light = unshown survey group mistake inside is word other }

@@ -1,3 +1,4 @@
 pub mod Blunders
+pub mod Fits
 pub mod Groups
 pub mod Moves

@@ -1,7 +1,9 @@
-use Rattle.std.specs.Prelude.{◌≡◌, ◌≢◌, ℕ, ℤ, pos, ◌+ℤ◌, ◌-ℤ◌, ◌⊎◌, Bool, true, false, List, Some, bytes_eq, if◌then◌else◌}
+use Rattle.std.specs.Prelude.{◌≡◌, ◌≢◌, ℕ, ◌≤◌, ℤ, pos, ◌+ℤ◌, ◌-ℤ◌, ◌⊎◌, Bool, true, false, List, Some, bytes_eq, if◌then◌else◌}
 use Rattle.th_book.specs.Observed.{Observed}
 use Rattle.th_tables.specs.Rows.{BenchmarkRows, height_of}
 use Rattle.th_network.specs.Heights.{residual}
+use Rattle.th_network.specs.Networks.{Survey}
+use Rattle.th_reliability.specs.SharedMistakes.{IsLeastSet, own, rest}
 
 -- a mistake at a point: an observation from the point errs by it from the heights, or one to the point by its negative
 abbrev pub ErrsAt : List ℕ → ℤ → (List ℕ → ℤ) → Observed → Type 0
@@ -28,3 +30,8 @@ with_height point height heights name = if bytes_eq name point then height else 
 pub record IsOffAt (benchmarks : BenchmarkRows) (point : List ℕ) (error : ℤ) (heights : List ℕ → ℤ) : Type 0 where
   pub here : height_of benchmarks point ≡ Some (heights point +ℤ error)
   pub others : (name : List ℕ) (height : ℤ) → name ≢ point → height_of benchmarks name ≡ Some height → heights name ≡ height
+
+-- a least set that the others cut with no more weight than the group: a mistake that the group shares can move it
+pub record IsMovable (survey : Survey) (group : Observed → Bool) (inside : List ℕ → Bool) : Type 0 where
+  pub is : IsLeastSet survey group inside
+  pub light : rest survey group inside ≤ own survey group inside

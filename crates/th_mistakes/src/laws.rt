@@ -1,26 +1,29 @@
 //! Laws that relate the definitions to one another. A law is its contract: it computes nothing.
 
-ghost use Rattle.std.specs.Prelude.{◌≡◌, ◌≢◌, ℕ, ◌+◌, ◌-◌, ◌*◌, ◌<◌, ◌≤◌, ℤ, pos, ◌+ℤ◌, ◌-ℤ◌, Bool, true, false, List, ◌∷◌, ◌++◌, ◌⊎◌, All, Contains, IsSome, Option, Some, map, min, slice_get, unsigned_abs};
+ghost use Rattle.std.specs.Prelude.{◌≡◌, ◌≢◌, ℕ, ◌+◌, ◌-◌, ◌*◌, ◌<◌, ◌≤◌, ℤ, pos, ◌+ℤ◌, ◌-ℤ◌, Bool, true, false, List, ◌∷◌, ◌++◌, ◌⊎◌, ◌↔◌, All, Any, Contains, Option, map, min, unsigned_abs};
 ghost use Rattle.th_book.specs.Observed.{Observed};
 ghost use Rattle.th_graphs.specs.Cuts.{cut_weight};
 ghost use Rattle.th_network.specs.Heights.{IsHeights, Least, residual};
-ghost use Rattle.th_network.specs.Networks.{Survey, points_of};
+ghost use Rattle.th_network.specs.Networks.{Survey, points_of, surveyed};
 ghost use Rattle.th_network.specs.Vertices.{vertex_of};
 ghost use Rattle.th_network.specs.Walks.{Anchored};
 ghost use Rattle.th_points.specs.Points.{points};
-ghost use Rattle.th_mistakes.specs.Moves.{ErrsAt, IsOffAt, erred, moved, way, with_height};
+ghost use Rattle.th_mistakes.specs.Fits.{AllElseFits, AllFit, ErrAlike, FitsButAt};
+ghost use Rattle.th_mistakes.specs.Moves.{ErrsAt, IsMovable, IsOffAt, erred, moved, way, with_height};
 ghost use Rattle.th_reliability.specs.Benchmarks.{has_end};
 ghost use Rattle.th_mistakes.specs.Blunders.{cost_outside, cost_up_to};
 ghost use Rattle.th_reliability.specs.Blunders.{weight_in};
 ghost use Rattle.th_reliability.specs.Cuts.{IsControl, IsFreeSet, IsStrength, crosses, cut};
 ghost use Rattle.th_reliability.specs.Edges.{edges_of, names_in, vertices_in};
 ghost use Rattle.th_reliability.specs.Groups.{IsGroupControl};
-ghost use Rattle.th_mistakes.specs.Groups.{IsOnly, single_mistake_of};
-ghost use Rattle.th_reliability.specs.SharedMistakes.{IsFreeWithPoint, IsLeastSet, IsSharedMistake, own, rest, shared_mistake_of};
+ghost use Rattle.th_reliability.specs.Mistakes.{mistake_of};
+ghost use Rattle.th_mistakes.specs.Groups.{CrossesAlone, IsOnly, single_mistake_of};
+ghost use Rattle.th_reliability.specs.SharedMistakes.{IsFreeWithPoint, IsLeastSet, IsSharedMistake, shared_mistake_of};
 ghost use Rattle.th_reliability.specs.Numbers.{HasControl};
+ghost use Rattle.th_reliability.specs.declared.mistakes.Mistake.TheVariants as mistake;
 ghost use Rattle.th_reliability.specs.declared.mistakes.SharedMistake.{SharedMistake};
-ghost use Rattle.th_reliability.specs.declared.mistakes.SharedMistake.TheVariants.{Shows, Ties, Unchecked};
-ghost use Rattle.th_tables.specs.Rows.{AreWeights, BenchmarkRows, WeightRows, height_of, weight_of};
+ghost use Rattle.th_reliability.specs.declared.mistakes.SharedMistake.TheVariants.{Drags, Shows, Ties, Unchecked};
+ghost use Rattle.th_tables.specs.Rows.{AreWeights, BenchmarkRows, WeightRows, weight_of};
 
 /// A cut of a network is a cut of the graph over its vertices.
 ///
@@ -49,12 +52,11 @@ pub fn vertices_have_the_cuts_of_names()
 /// set of points that holds one of its ends by one unit costs the others less than it gains. If
 /// nothing checks it, nothing is blamed: the others keep their residuals, whatever it says.
 pub fn mistake_hides()
-    ensures hidden { (observations : List Observed) (benchmarks : BenchmarkRows) (weights : WeightRows)
-        (heights : List ℕ → ℤ) (o : Observed) (control : ℕ)
-        → Contains observations o
-        → IsControl observations benchmarks weights o control
-        → control < weight_of weights o.station o.target
-        → Least observations benchmarks weights heights
+    ensures hidden { (survey : Survey) (heights : List ℕ → ℤ) (o : Observed) (control : ℕ)
+        → Contains survey.observations o
+        → IsControl survey.observations survey.benchmarks survey.weights o control
+        → control < weight_of survey.weights o.station o.target
+        → Least survey.observations survey.benchmarks survey.weights heights
         → residual o heights ≡ pos 0 }
     ensures unchecked { (before after : List Observed) (benchmarks : BenchmarkRows)
         (weights : WeightRows) (heights : List ℕ → ℤ) (o : Observed) (difference : ℤ)
@@ -69,27 +71,16 @@ pub fn mistake_hides()
 /// A mistake in an observation that weighs less than the others that check it shows.
 ///
 /// If all other observations fit the true heights exactly, best heights are the true ones, so that
-/// observation's residual is the whole mistake. The same holds between two benchmarks.
+/// observation's residual is the whole mistake. The same holds between two benchmarks, where there
+/// is no control.
 pub fn mistake_shows()
-    ensures checked { (before after : List Observed) (benchmarks : BenchmarkRows)
-        (weights : WeightRows) (truth heights : List ℕ → ℤ) (o : Observed) (control : ℕ)
+    ensures shown { (before after : List Observed) (benchmarks : BenchmarkRows)
+        (weights : WeightRows) (truth heights : List ℕ → ℤ) (o : Observed) (control : Option ℕ)
         → AreWeights weights
         → Anchored (before ++ o ∷ after) benchmarks
-        → IsControl (before ++ o ∷ after) benchmarks weights o control
-        → weight_of weights o.station o.target < control
-        → IsHeights benchmarks truth
-        → All (λ other. residual other truth ≡ pos 0) (before ++ after)
-        → Least (before ++ o ∷ after) benchmarks weights heights
-        → All (λ point. heights point ≡ truth point) (points (before ++ o ∷ after) benchmarks)
-        × (residual o heights ≡ residual o truth) }
-    ensures fixed { (before after : List Observed) (benchmarks : BenchmarkRows)
-        (weights : WeightRows) (truth heights : List ℕ → ℤ) (o : Observed)
-        → AreWeights weights
-        → Anchored (before ++ o ∷ after) benchmarks
-        → IsSome (height_of benchmarks o.station)
-        → IsSome (height_of benchmarks o.target)
-        → IsHeights benchmarks truth
-        → All (λ other. residual other truth ≡ pos 0) (before ++ after)
+        → HasControl (surveyed (before ++ o ∷ after) benchmarks weights) o control
+        → mistake_of control (weight_of weights o.station o.target) ≡ mistake.Shows
+        → AllFit (before ++ after) benchmarks truth
         → Least (before ++ o ∷ after) benchmarks weights heights
         → All (λ point. heights point ≡ truth point) (points (before ++ o ∷ after) benchmarks)
         × (residual o heights ≡ residual o truth) }
@@ -104,15 +95,13 @@ pub fn mistake_ties()
         (weights : WeightRows) (truth : List ℕ → ℤ) (o : Observed) (control : ℕ)
         → IsControl (before ++ o ∷ after) benchmarks weights o control
         → weight_of weights o.station o.target ≤ control
-        → IsHeights benchmarks truth
-        → All (λ other. residual other truth ≡ pos 0) (before ++ after)
+        → AllFit (before ++ after) benchmarks truth
         → Least (before ++ o ∷ after) benchmarks weights truth }
     ensures agrees { (before after : List Observed) (benchmarks : BenchmarkRows)
         (weights : WeightRows) (truth : List ℕ → ℤ) (o : Observed) (control : ℕ)
         → IsControl (before ++ o ∷ after) benchmarks weights o control
         → control ≡ weight_of weights o.station o.target
-        → IsHeights benchmarks truth
-        → All (λ other. residual other truth ≡ pos 0) (before ++ after)
+        → AllFit (before ++ after) benchmarks truth
         → (others : List ℕ → ℤ)
         × Least (before ++ o ∷ after) benchmarks weights others
         × (residual o others ≡ pos 0) }
@@ -124,13 +113,13 @@ pub fn mistake_ties()
 /// true heights cost, if no residual counts more than that distance. So a few large blunders count
 /// no more than as many small ones.
 pub fn errors_reach_a_point()
-    ensures bounded { (observations : List Observed) (benchmarks : BenchmarkRows)
-        (weights : WeightRows) (truth heights : List ℕ → ℤ) (point : List ℕ) (strength : ℕ)
-        → IsStrength observations benchmarks weights point strength
-        → IsHeights benchmarks truth
-        → Least observations benchmarks weights heights
+    ensures bounded { (survey : Survey) (truth heights : List ℕ → ℤ) (point : List ℕ) (strength : ℕ)
+        → IsStrength survey.observations survey.benchmarks survey.weights point strength
+        → IsHeights survey.benchmarks truth
+        → Least survey.observations survey.benchmarks survey.weights heights
         → unsigned_abs (heights point -ℤ truth point) * strength
-        ≤ 2 * cost_up_to observations weights (unsigned_abs (heights point -ℤ truth point)) truth }
+        ≤ 2 * cost_up_to survey.observations survey.weights
+        (unsigned_abs (heights point -ℤ truth point)) truth }
 {}
 
 /// A point withstands blunders that weigh less than half its strength together.
@@ -138,45 +127,33 @@ pub fn errors_reach_a_point()
 /// However wrong they are, the best height of the point is off the true one by no more than the
 /// small errors of the good observations allow. If these have none, it is the true one.
 pub fn blunders_are_withstood()
-    ensures near { (observations : List Observed) (benchmarks : BenchmarkRows)
-        (weights : WeightRows) (truth heights : List ℕ → ℤ) (blunder : Observed → Bool)
+    ensures near { (survey : Survey) (truth heights : List ℕ → ℤ) (blunder : Observed → Bool)
         (point : List ℕ) (strength : ℕ)
-        → IsStrength observations benchmarks weights point strength
-        → IsHeights benchmarks truth
-        → Least observations benchmarks weights heights
+        → IsStrength survey.observations survey.benchmarks survey.weights point strength
+        → IsHeights survey.benchmarks truth
+        → Least survey.observations survey.benchmarks survey.weights heights
         → unsigned_abs (heights point -ℤ truth point)
-        * (strength - 2 * weight_in observations weights blunder)
-        ≤ 2 * cost_outside observations weights blunder truth }
-    ensures exact { (observations : List Observed) (benchmarks : BenchmarkRows)
-        (weights : WeightRows) (truth heights : List ℕ → ℤ) (blunder : Observed → Bool)
+        * (strength - 2 * weight_in survey.observations survey.weights blunder)
+        ≤ 2 * cost_outside survey.observations survey.weights blunder truth }
+    ensures exact { (survey : Survey) (truth heights : List ℕ → ℤ) (blunder : Observed → Bool)
         (point : List ℕ) (strength : ℕ)
-        → IsStrength observations benchmarks weights point strength
-        → 2 * weight_in observations weights blunder < strength
-        → IsHeights benchmarks truth
-        → All (λ o. blunder o ≡ false → residual o truth ≡ pos 0) observations
-        → Least observations benchmarks weights heights
+        → IsStrength survey.observations survey.benchmarks survey.weights point strength
+        → 2 * weight_in survey.observations survey.weights blunder < strength
+        → AllElseFits survey blunder truth
+        → Least survey.observations survey.benchmarks survey.weights heights
         → heights point ≡ truth point }
 {}
 
-/// A mistake that a group of observations shares shows if the group's control is above its weight.
+/// Where a mistake that a group of observations shares shows, best heights are the true ones if all
+/// other observations fit these exactly.
 ///
-/// If all other observations fit the true heights exactly, best heights are the true ones, so each
-/// of the group has its whole error as its residual. (The errors may differ, and so may the
-/// stations.)
+/// So each of the group has its whole error as its residual. (The errors may differ, and so may the
+/// stations.) The mistake shows if the group's control is above its weight
+/// (`control_decides_shared_mistake`).
 pub fn shared_mistake_shows()
-    ensures shown { (observations : List Observed) (benchmarks : BenchmarkRows)
-        (weights : WeightRows) (truth heights : List ℕ → ℤ) (group : Observed → Bool) (control : ℕ)
-        → IsGroupControl observations benchmarks weights group control
-        → weight_in observations weights group < control
-        → IsHeights benchmarks truth
-        → All (λ o. group o ≡ false → residual o truth ≡ pos 0) observations
-        → Least observations benchmarks weights heights
-        → All (λ point. heights point ≡ truth point) (points observations benchmarks)
-        × All (λ o. residual o heights ≡ residual o truth) observations }
-    ensures by_word { (survey : Survey) (truth heights : List ℕ → ℤ) (group : Observed → Bool)
+    ensures shown { (survey : Survey) (truth heights : List ℕ → ℤ) (group : Observed → Bool)
         → IsSharedMistake survey group Shows
-        → IsHeights survey.benchmarks truth
-        → All (λ o. group o ≡ false → residual o truth ≡ pos 0) survey.observations
+        → AllElseFits survey group truth
         → Least survey.observations survey.benchmarks survey.weights heights
         → All (λ point. heights point ≡ truth point) (points_of survey)
         × All (λ o. residual o heights ≡ residual o truth) survey.observations }
@@ -189,20 +166,18 @@ pub fn shared_mistake_shows()
 /// what these heights cost the other observations. If one observation errs, it is so with the lesser
 /// of what its control is above its weight and of the point's strength.
 pub fn mistake_that_shows_moves_little()
-    ensures near { (observations : List Observed) (benchmarks : BenchmarkRows)
-        (weights : WeightRows) (truth heights : List ℕ → ℤ) (group : Observed → Bool) (control : ℕ)
-        (point : List ℕ)
-        → IsGroupControl observations benchmarks weights group control
-        → IsHeights benchmarks truth
-        → Least observations benchmarks weights heights
-        → Contains (points observations benchmarks) point
+    ensures near { (survey : Survey) (truth heights : List ℕ → ℤ) (group : Observed → Bool)
+        (control : ℕ) (point : List ℕ)
+        → IsGroupControl survey.observations survey.benchmarks survey.weights group control
+        → IsHeights survey.benchmarks truth
+        → Least survey.observations survey.benchmarks survey.weights heights
+        → Contains (points_of survey) point
         → unsigned_abs (heights point -ℤ truth point)
-        * (control - weight_in observations weights group)
-        ≤ 2 * cost_outside observations weights group truth }
+        * (control - weight_in survey.observations survey.weights group)
+        ≤ 2 * cost_outside survey.observations survey.weights group truth }
     ensures one { (survey : Survey) (truth heights : List ℕ → ℤ) (group : Observed → Bool)
-        (place : ℕ) (o : Observed) (control : ℕ) (point : List ℕ) (strength : ℕ)
-        → IsOnly survey.observations group place
-        → slice_get survey.observations place ≡ Some o
+        (o : Observed) (control : ℕ) (point : List ℕ) (strength : ℕ)
+        → IsOnly survey.observations group o
         → IsControl survey.observations survey.benchmarks survey.weights o control
         → IsStrength survey.observations survey.benchmarks survey.weights point strength
         → IsHeights survey.benchmarks truth
@@ -212,122 +187,71 @@ pub fn mistake_that_shows_moves_little()
         ≤ 2 * cost_outside survey.observations survey.weights group truth }
 {}
 
-/// A mistake that the sights of one station share may show or drag if their control equals their
-/// weight.
+/// A mistake that the sights of one station share may show or drag where it ties: if their control
+/// equals their weight.
 ///
-/// If all other observations fit the true heights exactly, these are best unless the group weighs
-/// more than its control. If it weighs as much, heights with a point off by the whole mistake are
-/// as good.
+/// If all other observations fit the true heights exactly, these are best where the mistake of any
+/// group shows or ties. Where it ties, heights with a point off by the whole mistake are as good.
 pub fn shared_mistake_ties()
-    ensures least { (observations : List Observed) (benchmarks : BenchmarkRows)
-        (weights : WeightRows) (truth : List ℕ → ℤ) (group : Observed → Bool) (control : ℕ)
-        → IsGroupControl observations benchmarks weights group control
-        → weight_in observations weights group ≤ control
-        → IsHeights benchmarks truth
-        → All (λ o. group o ≡ false → residual o truth ≡ pos 0) observations
-        → Least observations benchmarks weights truth }
-    ensures drags { (observations : List Observed) (benchmarks : BenchmarkRows)
-        (weights : WeightRows) (truth : List ℕ → ℤ) (group : Observed → Bool) (control : ℕ)
-        (station : List ℕ) (error : ℤ)
-        → IsGroupControl observations benchmarks weights group control
-        → control ≡ weight_in observations weights group
-        → All (λ o. group o ≡ true → o.station ≡ station) observations
-        → All (λ o. group o ≡ true → residual o truth ≡ error) observations
-        → IsHeights benchmarks truth
-        → All (λ o. group o ≡ false → residual o truth ≡ pos 0) observations
-        → (others : List ℕ → ℤ)
-        × Least observations benchmarks weights others
-        × ((point : List ℕ)
-        × Contains (points observations benchmarks) point
-        × (unsigned_abs (others point -ℤ truth point) ≡ unsigned_abs error)) }
-    ensures least_by_word { (survey : Survey) (truth : List ℕ → ℤ) (group : Observed → Bool)
-        → IsSharedMistake survey group Ties
-        → IsHeights survey.benchmarks truth
-        → All (λ o. group o ≡ false → residual o truth ≡ pos 0) survey.observations
+    ensures least { (survey : Survey) (truth : List ℕ → ℤ) (group : Observed → Bool)
+        (mistake : SharedMistake)
+        → IsSharedMistake survey group mistake
+        → (mistake ≡ Shows) ⊎ (mistake ≡ Ties)
+        → AllElseFits survey group truth
         → Least survey.observations survey.benchmarks survey.weights truth }
-    ensures drags_by_word { (survey : Survey) (truth : List ℕ → ℤ) (group : Observed → Bool)
+    ensures drags { (survey : Survey) (truth : List ℕ → ℤ) (group : Observed → Bool)
         (station : List ℕ) (error : ℤ)
         → IsSharedMistake survey group Ties
-        → All (λ o. group o ≡ true → o.station ≡ station) survey.observations
-        → All (λ o. group o ≡ true → residual o truth ≡ error) survey.observations
-        → IsHeights survey.benchmarks truth
-        → All (λ o. group o ≡ false → residual o truth ≡ pos 0) survey.observations
+        → ErrAlike survey group station error truth
+        → AllElseFits survey group truth
         → (others : List ℕ → ℤ)
         × Least survey.observations survey.benchmarks survey.weights others
-        × ((point : List ℕ)
-        × Contains (points_of survey) point
-        × (unsigned_abs (others point -ℤ truth point) ≡ unsigned_abs error)) }
+        × Any (λ point. unsigned_abs (others point -ℤ truth point) ≡ unsigned_abs error)
+        (points_of survey) }
 {}
 
 /// A mistake that the sights of one station share drags points along if their control is below
-/// their weight, whether others are blamed or nothing checks it.
+/// their weight: others are blamed, or nothing checks it.
 ///
 /// Best heights never leave all such sights with the same residual other than 0. So if they all err
 /// by the same amount from the true heights, best heights are not the true ones, whatever the
 /// others say.
 pub fn shared_mistake_drags()
-    ensures agrees { (observations : List Observed) (benchmarks : BenchmarkRows)
-        (weights : WeightRows) (heights : List ℕ → ℤ) (group : Observed → Bool) (control : ℕ)
-        (station : List ℕ) (error : ℤ)
-        → IsGroupControl observations benchmarks weights group control
-        → control < weight_in observations weights group
-        → All (λ o. group o ≡ true → o.station ≡ station) observations
-        → All (λ o. group o ≡ true → residual o heights ≡ error) observations
-        → Least observations benchmarks weights heights
-        → error ≡ pos 0 }
-    ensures drags { (observations : List Observed) (benchmarks : BenchmarkRows)
-        (weights : WeightRows) (truth heights : List ℕ → ℤ) (group : Observed → Bool) (control : ℕ)
-        (station : List ℕ) (error : ℤ)
-        → IsGroupControl observations benchmarks weights group control
-        → control < weight_in observations weights group
-        → All (λ o. group o ≡ true → o.station ≡ station) observations
-        → All (λ o. group o ≡ true → residual o truth ≡ error) observations
-        → error ≢ pos 0
-        → Least observations benchmarks weights heights
-        → All (λ point. heights point ≡ truth point) (points observations benchmarks)
-        → ⊥ }
-    ensures agrees_by_word { (survey : Survey) (heights : List ℕ → ℤ) (group : Observed → Bool)
+    ensures agrees { (survey : Survey) (heights : List ℕ → ℤ) (group : Observed → Bool)
         (mistake : SharedMistake) (station : List ℕ) (error : ℤ)
         → IsSharedMistake survey group mistake
-        → mistake ≢ Shows
-        → mistake ≢ Ties
-        → All (λ o. group o ≡ true → o.station ≡ station) survey.observations
-        → All (λ o. group o ≡ true → residual o heights ≡ error) survey.observations
+        → (mistake ≡ Drags) ⊎ (mistake ≡ Unchecked)
+        → ErrAlike survey group station error heights
         → Least survey.observations survey.benchmarks survey.weights heights
         → error ≡ pos 0 }
-    ensures drags_by_word { (survey : Survey) (truth heights : List ℕ → ℤ)
-        (group : Observed → Bool) (mistake : SharedMistake) (station : List ℕ) (error : ℤ)
+    ensures drags { (survey : Survey) (truth heights : List ℕ → ℤ) (group : Observed → Bool)
+        (mistake : SharedMistake) (station : List ℕ) (error : ℤ)
         → IsSharedMistake survey group mistake
-        → mistake ≢ Shows
-        → mistake ≢ Ties
-        → All (λ o. group o ≡ true → o.station ≡ station) survey.observations
-        → All (λ o. group o ≡ true → residual o truth ≡ error) survey.observations
+        → (mistake ≡ Drags) ⊎ (mistake ≡ Unchecked)
+        → ErrAlike survey group station error truth
         → error ≢ pos 0
         → Least survey.observations survey.benchmarks survey.weights heights
-        → All (λ point. heights point ≡ truth point) (points_of survey)
-        → ⊥ }
+        → ¬ All (λ point. heights point ≡ truth point) (points_of survey) }
 {}
 
 /// A mistake at a point that does not show moves a set of points by the whole mistake, and others
 /// are blamed for it.
 ///
 /// All observations of a group err by the mistake, seen from the point, and all others fit the true
-/// heights exactly. If a least set is cut by the others with no more weight than by the group, the
-/// true heights, with that set moved by the mistake, are best. In these the others that cross the
-/// set have residuals as large as the mistake, and the rest of them have none; the group errs only
-/// where it does not cross.
+/// heights exactly. If a set is movable, the true heights, with that set moved by the mistake, are
+/// best. In these the others that cross the set have residuals as large as the mistake, and those
+/// of the group that cross it have none. All that do not cross it keep their residuals, so the rest
+/// of the others have none.
 ///
-/// There is a least set if some free set holds a point, and it is cut so unless the mistake shows.
-/// In a group of one observation, each set that its control is of is a least set, unless the control
-/// is above the weight.
+/// There is a least set if some free set holds a point, and it is movable unless the mistake shows.
+/// In a group of one observation, each set that its control is of is movable, unless the control is
+/// above the weight.
 pub fn mistake_moves_a_least_set()
     ensures least { (survey : Survey) (truth : List ℕ → ℤ) (group : Observed → Bool)
         (inside : List ℕ → Bool) (point : List ℕ) (error : ℤ)
-        → IsLeastSet survey group inside
-        → rest survey group inside ≤ own survey group inside
+        → IsMovable survey group inside
         → All (λ o. group o ≡ true → ErrsAt point error truth o) survey.observations
-        → IsHeights survey.benchmarks truth
-        → All (λ o. group o ≡ false → residual o truth ≡ pos 0) survey.observations
+        → AllElseFits survey group truth
         → Least survey.observations survey.benchmarks survey.weights
         (moved inside (way (inside point) error) truth) }
     ensures blames { (survey : Survey) (truth : List ℕ → ℤ) (group : Observed → Bool)
@@ -337,11 +261,9 @@ pub fn mistake_moves_a_least_set()
         → All (λ o. group o ≡ false → crosses inside o ≡ true
         → unsigned_abs (residual o (moved inside (way (inside point) error) truth))
         ≡ unsigned_abs error) survey.observations
-        × All (λ o. group o ≡ false → crosses inside o ≡ false
-        → residual o (moved inside (way (inside point) error) truth) ≡ pos 0) survey.observations
         × All (λ o. group o ≡ true → crosses inside o ≡ true
         → residual o (moved inside (way (inside point) error) truth) ≡ pos 0) survey.observations
-        × All (λ o. group o ≡ true → crosses inside o ≡ false
+        × All (λ o. crosses inside o ≡ false
         → residual o (moved inside (way (inside point) error) truth)
         ≡ residual o truth) survey.observations }
     ensures found { (survey : Survey) (group : Observed → Bool) (inside : List ℕ → Bool)
@@ -352,59 +274,43 @@ pub fn mistake_moves_a_least_set()
         → IsLeastSet survey group inside
         → IsSharedMistake survey group mistake
         → mistake ≢ Shows
-        → rest survey group inside ≤ own survey group inside }
-    ensures one { (survey : Survey) (group : Observed → Bool) (place : ℕ) (o : Observed)
-        (control : ℕ) (inside : List ℕ → Bool)
-        → IsOnly survey.observations group place
-        → slice_get survey.observations place ≡ Some o
+        → IsMovable survey group inside }
+    ensures one { (survey : Survey) (group : Observed → Bool) (o : Observed) (control : ℕ)
+        (inside : List ℕ → Bool)
+        → IsOnly survey.observations group o
         → IsControl survey.observations survey.benchmarks survey.weights o control
         → control ≤ weight_of survey.weights o.station o.target
         → IsFreeSet survey.benchmarks inside
         → crosses inside o ≡ true
         → cut survey.observations survey.weights inside
         ≡ control + weight_of survey.weights o.station o.target
-        → IsLeastSet survey group inside
-        × (rest survey group inside ≤ own survey group inside) }
+        → IsMovable survey group inside }
 {}
 
 /// Nothing checks a mistake at a point if all of the group that shares it crosses a free set, and
-/// nothing else does. A group has such a set just where its control is 0.
+/// nothing else does. A group has such a set just where its control is 0. The word `Unchecked` says
+/// by its definition that it has one.
 ///
 /// Whatever the mistake, best heights move that set along, and all residuals stay as they were.
 pub fn shared_mistake_unchecked()
-    ensures unmarked { (observations : List Observed) (benchmarks : BenchmarkRows)
-        (weights : WeightRows) (heights : List ℕ → ℤ) (group : Observed → Bool)
+    ensures unmarked { (survey : Survey) (heights : List ℕ → ℤ) (group : Observed → Bool)
         (inside : List ℕ → Bool) (point : List ℕ) (error : ℤ)
-        → IsFreeSet benchmarks inside
-        → All (λ o. crosses inside o ≡ group o) observations
-        → All (λ o. group o ≡ true → (o.station ≡ point) ⊎ (o.target ≡ point)) observations
-        → Least observations benchmarks weights heights
-        → Least (map (erred group point error) observations) benchmarks weights
+        → IsFreeSet survey.benchmarks inside
+        → All (λ o. crosses inside o ≡ group o) survey.observations
+        → All (λ o. group o ≡ true → (o.station ≡ point) ⊎ (o.target ≡ point)) survey.observations
+        → Least survey.observations survey.benchmarks survey.weights heights
+        → Least (map (erred group point error) survey.observations) survey.benchmarks survey.weights
         (moved inside (way (inside point) error) heights)
-        × All (λ o. residual (erred group point error o)
-        (moved inside (way (inside point) error) heights) ≡ residual o heights) observations }
+        × All (λ o. residual (erred group point error o) (moved inside (way (inside point) error)
+        heights) ≡ residual o heights) survey.observations }
     ensures alone { (survey : Survey) (group : Observed → Bool) (inside : List ℕ → Bool)
         → AreWeights survey.weights
-        → rest survey group inside ≡ 0
-        → own survey group inside ≡ weight_in survey.observations survey.weights group
+        → CrossesAlone survey group inside
         → All (λ o. crosses inside o ≡ group o) survey.observations }
-    ensures by_word { (survey : Survey) (group : Observed → Bool)
-        → AreWeights survey.weights
-        → IsSharedMistake survey group Unchecked
-        → (inside : List ℕ → Bool)
-        × IsFreeSet survey.benchmarks inside
-        × All (λ o. crosses inside o ≡ group o) survey.observations }
     ensures control { (survey : Survey) (group : Observed → Bool)
         → IsGroupControl survey.observations survey.benchmarks survey.weights group 0
-        → (inside : List ℕ → Bool)
-        × IsFreeWithPoint survey inside
-        × (rest survey group inside ≡ 0)
-        × (own survey group inside ≡ weight_in survey.observations survey.weights group) }
-    ensures no_control { (survey : Survey) (group : Observed → Bool) (inside : List ℕ → Bool)
-        → IsFreeWithPoint survey inside
-        → rest survey group inside ≡ 0
-        → own survey group inside ≡ weight_in survey.observations survey.weights group
-        → IsGroupControl survey.observations survey.benchmarks survey.weights group 0 }
+        ↔ ((inside : List ℕ → Bool) × IsFreeWithPoint survey inside
+        × CrossesAlone survey group inside) }
 {}
 
 /// A wrong height of a benchmark is a mistake that all observations with an end there share.
@@ -413,15 +319,14 @@ pub fn shared_mistake_unchecked()
 /// observations fit the true heights exactly: where the mistake shows, best heights are the true
 /// ones at every other point, and each observation at the benchmark has the whole mistake as its
 /// residual; where it ties, these are best, but so are others; where it drags or nothing checks it,
-/// they are not best;
-/// where it does not show, a least set moves along with the benchmark. If they err (`near`), best
-/// heights are off by no more than the errors of those that have no end there allow.
+/// they are not best; where it does not show, a least set moves along with the benchmark. If they
+/// err (`near`), best heights are off by no more than the errors of those that have no end there
+/// allow.
 pub fn wrong_benchmark()
     ensures shows { (survey : Survey) (truth heights : List ℕ → ℤ) (point : List ℕ) (error : ℤ)
         → IsSharedMistake survey (has_end point) Shows
-        → IsOffAt survey.benchmarks point error truth
+        → FitsButAt survey point error truth
         → All (λ o. o.station ≢ o.target) survey.observations
-        → All (λ o. residual o truth ≡ pos 0) survey.observations
         → Least survey.observations survey.benchmarks survey.weights heights
         → All (λ name. name ≢ point → heights name ≡ truth name) (points_of survey)
         × All (λ o. (o.station ≡ point → residual o heights ≡ error)
@@ -439,45 +344,36 @@ pub fn wrong_benchmark()
         ≤ 2 * cost_outside survey.observations survey.weights (has_end point) truth }
     ensures ties { (survey : Survey) (truth : List ℕ → ℤ) (point : List ℕ) (error : ℤ)
         → IsSharedMistake survey (has_end point) Ties
-        → IsOffAt survey.benchmarks point error truth
-        → All (λ o. residual o truth ≡ pos 0) survey.observations
+        → FitsButAt survey point error truth
         → Least survey.observations survey.benchmarks survey.weights
         (with_height point (truth point +ℤ error) truth) }
     ensures ties_too { (survey : Survey) (truth : List ℕ → ℤ) (point : List ℕ) (error : ℤ)
         → IsSharedMistake survey (has_end point) Ties
-        → IsOffAt survey.benchmarks point error truth
+        → FitsButAt survey point error truth
         → All (λ o. o.station ≢ o.target) survey.observations
-        → All (λ o. residual o truth ≡ pos 0) survey.observations
         → (others : List ℕ → ℤ)
         × Least survey.observations survey.benchmarks survey.weights others
-        × ((name : List ℕ)
-        × Contains (points_of survey) name
-        × (name ≢ point)
-        × (unsigned_abs (others name -ℤ truth name) ≡ unsigned_abs error)) }
+        × Any (λ name. (name ≢ point)
+        × (unsigned_abs (others name -ℤ truth name) ≡ unsigned_abs error)) (points_of survey) }
     ensures drags { (survey : Survey) (truth heights : List ℕ → ℤ) (mistake : SharedMistake)
         (point : List ℕ) (error : ℤ)
         → IsSharedMistake survey (has_end point) mistake
-        → mistake ≢ Shows
-        → mistake ≢ Ties
-        → IsOffAt survey.benchmarks point error truth
+        → (mistake ≡ Drags) ⊎ (mistake ≡ Unchecked)
+        → FitsButAt survey point error truth
         → All (λ o. o.station ≢ o.target) survey.observations
-        → All (λ o. residual o truth ≡ pos 0) survey.observations
         → error ≢ pos 0
         → Least survey.observations survey.benchmarks survey.weights heights
-        → All (λ name. name ≢ point → heights name ≡ truth name) (points_of survey)
-        → ⊥ }
+        → ¬ All (λ name. name ≢ point → heights name ≡ truth name) (points_of survey) }
     ensures moves { (survey : Survey) (truth : List ℕ → ℤ) (inside : List ℕ → Bool)
         (point : List ℕ) (error : ℤ)
-        → IsLeastSet survey (has_end point) inside
-        → rest survey (has_end point) inside ≤ own survey (has_end point) inside
-        → IsOffAt survey.benchmarks point error truth
+        → IsMovable survey (has_end point) inside
+        → FitsButAt survey point error truth
         → All (λ o. o.station ≢ o.target) survey.observations
-        → All (λ o. residual o truth ≡ pos 0) survey.observations
         → Least survey.observations survey.benchmarks survey.weights
         (moved inside error (with_height point (truth point +ℤ error) truth)) }
 {}
 
-/// A group has a control if some free set holds a point. So a shared mistake does one of three
+/// A group has a control if some free set holds a point. So a shared mistake does one of four
 /// things in each group, whether its control is known or not.
 pub fn group_has_a_control()
     ensures control { (survey : Survey) (group : Observed → Bool) (inside : List ℕ → Bool)
@@ -498,12 +394,10 @@ pub fn control_decides_shared_mistake()
         → IsGroupControl survey.observations survey.benchmarks survey.weights group control
         → IsSharedMistake survey group (shared_mistake_of control
         (weight_in survey.observations survey.weights group)) }
-    ensures single { (survey : Survey) (group : Observed → Bool) (place : ℕ) (o : Observed)
-        (control : Option ℕ)
+    ensures single { (survey : Survey) (group : Observed → Bool) (o : Observed) (control : Option ℕ)
         → AreWeights survey.weights
         → Anchored survey.observations survey.benchmarks
-        → IsOnly survey.observations group place
-        → slice_get survey.observations place ≡ Some o
+        → IsOnly survey.observations group o
         → HasControl survey o control
         → IsSharedMistake survey group (single_mistake_of control
         (weight_of survey.weights o.station o.target)) }

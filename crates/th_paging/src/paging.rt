@@ -1,15 +1,15 @@
 //! A run that makes a page of the height network of books.
-ghost use Rattle.std.specs.Prelude.{◌≡◌, ◌≤◌, ◌∷◌, [], All, IfErr, IfOk, is_some, length, map};
+ghost use Rattle.std.specs.Prelude.{◌≡◌, ◌≤◌, All, IfErr, IfOk, length, map};
 ghost use Rattle.th_entries.specs.Stations.{HasOneStation};
 ghost use Rattle.th_entries.specs.declared.reviews.BookReview.{BookReview};
 ghost use Rattle.th_limits.specs.Limits.{max_books};
 ghost use Rattle.th_causes.specs.Explanations.{AreExplained};
 ghost use Rattle.th_paging.specs.Paged.{AreOfPage, IsPaged, paging};
 ghost use Rattle.th_review_rows.specs.Entries.{entries_of};
-ghost use Rattle.th_run_parts.specs.Inputs.{MakesNetwork, owed_by_sources, told_by};
+ghost use Rattle.th_run_parts.specs.Inputs.{MakesNetwork, told_by};
 ghost use Rattle.th_run_parts.specs.Refused.{IsOfNetwork};
-ghost use Rattle.th_run_parts.specs.Outcomes.{PrintedOutcome};
-ghost use Rattle.th_run_parts.specs.Reads.{AreRead, AreReady, IsNamed, refused};
+ghost use Rattle.th_run_parts.specs.Outcomes.{PrintedRun};
+ghost use Rattle.th_run_parts.specs.Reads.{AreReady};
 ghost use Rattle.th_run_parts.specs.Writes.{AreWritable};
 ghost use Rattle.th_tables.specs.Rows.{AreWeights};
 
@@ -46,17 +46,9 @@ pub fn run_page<B: Source, T: Source, W: Source, K: Sink, P: Progress>(
 ) -> Result<(), Refusal>
     requires ready { AreReady B.state T.state W.state books.old benchmarks.old weights.old }
     requires outs { AreWritable K.state paging.outputs outs.old }
-
-    // What the answer means.
-    ensures outcome { PrintedOutcome K.state (owed_by_sources B.state T.state W.state
-        books.old books.new benchmarks.old benchmarks.new weights.old weights.new)
-        (AreOfPage (map (λ name. name.now) names.now) (told_by B.state books.old) limit)
-        result outs.old outs.new }
-    ensures named { IfErr result (IsNamed (length books.old) (is_some weights.old) paging) }
-
-    // How the sources are read.
-    ensures sources { AreRead B.state T.state W.state (refused result) books.old books.new
-        benchmarks.old benchmarks.new weights.old weights.new }
+    ensures { PrintedRun B.state T.state W.state K.state paging
+        (AreOfPage (map (λ name. name.now) names.now) (told_by B.state books.old) limit) result
+        books.old books.new benchmarks.old benchmarks.new weights.old weights.new outs.old outs.new }
 {
     entry_of_several_books_has_one_station();
     let mut reader = ReviewReader::new(alloc);

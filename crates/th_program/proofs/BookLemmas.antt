@@ -6,8 +6,9 @@ use Rattle.th_booking.specs.Booked.{IsOfBooking, booked as booked_texts}
 use Rattle.th_booking.specs.declared.conversions.Conversion.{Conversion}
 use Rattle.th_devices.specs.Devices.{SinkState}
 use Rattle.th_devices.specs.Spots.{Spot, file, output}
+use Rattle.th_folders.specs.Folders.{Failing}
 use Rattle.th_program.specs.Done.{IsBooked, IsRefusedBook}
-use Rattle.th_program.specs.Failing.{Failing, HasCause}
+use Rattle.th_program.specs.Failing.{HasCause}
 use Rattle.th_files.specs.Owed.{Told, converted_owed}
 use Rattle.th_files.specs.Opened.{AreMade, IsTaken}
 use Rattle.th_files.proofs.OutputLemmas.{all_whole}

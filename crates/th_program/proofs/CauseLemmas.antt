@@ -7,10 +7,10 @@ use Rattle.th_booking.specs.declared.conversions.Conversion.{Conversion}
 use Rattle.th_booking.specs.declared.conversions.Conversion.TheVariants.{Differences, Heights}
 use Rattle.th_devices.specs.Devices.{IsOpened, SinkState, SourceState}
 use Rattle.th_devices.specs.Spots.{Spot, file}
-use Rattle.th_folders.specs.Folders.{IsStopped}
+use Rattle.th_folders.specs.Folders.{Failing, IsStopped}
 use Rattle.th_plans.specs.Asked.{Files}
 use Rattle.th_files.proofs.OpenedLemmas.{named-opened}
-use Rattle.th_program.specs.Failing.{Failing, HasCause, IsInClaim, IsInFiles, Origins}
+use Rattle.th_program.specs.Failing.{HasCause, IsInClaim, IsInFiles, Origins}
 use Rattle.th_files.specs.Opened.{AreGivenBack, AreMade, AreOpened, EachIsOpened, IsOpenedIfAny}
 use Rattle.th_files.specs.Outputs.{ending_of, spot_at, spots_of}
 use Rattle.th_files.specs.Owed.{Told}
@@ -207,32 +207,31 @@ spots_map state_of [] = refl
 spots_map state_of (own ∷ sinks) = ap (λ (more : List Spot). (state_of own).spot ∷ more) (spots_map state_of sinks)
 
 -- a finished file that could not take its place is where writing may fail
-stop_caused : {F K : Type 0} (state_of : K → SinkState) (tells : Bool) (held : F → Told) (has_failed writing : F → Spot → Bool) (prefix : List ℕ) (outputs : List Output)
+stop_caused : {F K : Type 0} (state_of : K → SinkState) (tells : Bool) (held : F → Told) (has_failed : F → Spot → Bool) (failing : F → Failing) (prefix : List ℕ) (outputs : List Output)
     (news : List K) (before after : F) (number : ℕ) (which : Output) → slice_get outputs number ≡ Some which
-    → map (λ own. (state_of own).spot) news ≡ spots_of prefix outputs → IsStopped tells held has_failed writing (map state_of news) before after number
-    → writing before (spot_at prefix (ending_of which)) ≡ true
-stop_caused state_of tells held has_failed writing prefix outputs news before after number which at there stopped =
+    → map (λ own. (state_of own).spot) news ≡ spots_of prefix outputs → IsStopped tells held has_failed failing (map state_of news) before after number
+    → (failing before).writing (spot_at prefix (ending_of which)) ≡ true
+stop_caused state_of tells held has_failed failing prefix outputs news before after number which at there stopped =
     let here : Some stopped.sink.spot ≡ Some (spot_at prefix (ending_of which)) =
     sym (ap (option_map (λ (own : SinkState). own.spot)) stopped.at) ∙ sym (slice_get-map (λ (own : SinkState). own.spot) (map state_of news) number)
     ∙ ap (λ (spots : List Spot). slice_get spots number) (spots_map state_of news ∙ there)
     ∙ slice_get-map (λ (own : Output). spot_at prefix (ending_of own)) outputs number ∙ ap (option_map (λ (own : Output). spot_at prefix (ending_of own))) at in
     let same : stopped.sink.spot ≡ spot_at prefix (ending_of which) = cc here in
-    subst (λ (spot : Spot). writing before spot ≡ true) same stopped.allowed
+    subst (λ (spot : Spot). (failing before).writing spot ≡ true) same stopped.allowed
 
 -- so the refusal of a run has its cause also after its sinks were given back
-pub given_caused : {F K : Type 0} (state_of : K → SinkState) (tells : Bool) (held : F → Told) (has_failed writing : F → Spot → Bool) (failing : Failing) (origins : Origins)
-    (prefix : List ℕ) (outputs : List Output) (news : List K) (answer result : Result (Unit {0}) Refusal) (before after : F) → failing.writing ≡ writing before
-    → map (λ own. (state_of own).spot) news ≡ spots_of prefix outputs → AreGivenBack tells held has_failed writing (map state_of news) outputs answer result before after
-    → IfErr answer (HasCause failing origins prefix) → IfErr result (HasCause failing origins prefix)
-given_caused state_of tells held has_failed writing failing origins prefix outputs news (Ok x) (Ok y) before after same there given caused = tt
-given_caused state_of tells held has_failed writing failing origins prefix outputs news (Ok x) (Err own) before after same there (number, which, at, is, stopped) caused =
-    subst (HasCause failing origins prefix) (sym is)
-    (ap (λ (may : Spot → Bool). may (spot_at prefix (ending_of which))) same
-    ∙ stop_caused state_of tells held has_failed writing prefix outputs news before after number which at there stopped)
-given_caused state_of tells held has_failed writing failing origins prefix outputs news (Err own) (Ok y) before after same there given caused = tt
-given_caused state_of tells held has_failed writing failing origins prefix outputs news (Err own) (Err other) before after same there (is, kept) caused =
+pub given_caused : {F K : Type 0} (state_of : K → SinkState) (tells : Bool) (held : F → Told) (has_failed : F → Spot → Bool) (failing : F → Failing) (origins : Origins)
+    (prefix : List ℕ) (outputs : List Output) (news : List K) (answer result : Result (Unit {0}) Refusal) (before after : F)
+    → map (λ own. (state_of own).spot) news ≡ spots_of prefix outputs → AreGivenBack tells held has_failed failing (map state_of news) outputs answer result before after
+    → IfErr answer (HasCause (failing before) origins prefix) → IfErr result (HasCause (failing before) origins prefix)
+given_caused state_of tells held has_failed failing origins prefix outputs news (Ok x) (Ok y) before after there given caused = tt
+given_caused state_of tells held has_failed failing origins prefix outputs news (Ok x) (Err own) before after there (number, which, at, is, stopped) caused =
+    subst (HasCause (failing before) origins prefix) (sym is)
+    (stop_caused state_of tells held has_failed failing prefix outputs news before after number which at there stopped)
+given_caused state_of tells held has_failed failing origins prefix outputs news (Err own) (Ok y) before after there given caused = tt
+given_caused state_of tells held has_failed failing origins prefix outputs news (Err own) (Err other) before after there (is, kept) caused =
     let own_is : own ≡ other = cc is in
-    subst (HasCause failing origins prefix) own_is caused
+    subst (HasCause (failing before) origins prefix) own_is caused
 
 -- what is an input of these files is one of a check
 pub widened : (from : Files) (certificate : List ℕ) (which : Input) (spot : Spot) → IsInFiles from which spot → IsInClaim from certificate which spot

@@ -7,6 +7,7 @@ use Rattle.th_certificate.specs.Certified.{Certified}
 use Rattle.th_checker.specs.declared.verdicts.Verdict.{Verdict}
 use Rattle.th_checker.specs.declared.verdicts.Verdict.TheVariants.{Yes}
 use Rattle.th_devices.specs.Spots.{Spot, file, output}
+use Rattle.th_folders.specs.Folders.{Failing}
 use Rattle.th_network.specs.Networks.{Survey}
 use Rattle.th_plans.specs.Asked.{Asked, Files, adjust, check}
 use Rattle.th_plans.specs.Limits.{max_books}
@@ -18,7 +19,7 @@ use Rattle.th_plans.specs.declared.plans.Plan.TheVariants as plan
 use Rattle.th_files.proofs.OpenedLemmas.{owed-same}
 use Rattle.th_files.proofs.OutputLemmas.{spot_among}
 use Rattle.th_program.specs.Done.{AreDone, IsAdjustOutput, IsAdjusted, IsCarriedOut, IsChecked, IsRefusedAdjust, IsRefusedCheck, IsRun, IsUsage, WouldOverwrite}
-use Rattle.th_program.specs.Failing.{Failing, IsInClaim, IsInFiles, Origins}
+use Rattle.th_program.specs.Failing.{IsInClaim, IsInFiles, Origins}
 use Rattle.th_program.specs.Headline.{AskFor, IsAccepted, IsUnlucky, SomeMayFail, SparesInputs}
 use Rattle.th_files.specs.Outputs.{ending_of, spot_at, spots_of}
 use Rattle.th_files.specs.Owed.{Told, claim_owed, given_by, given_by_books, survey_owed}

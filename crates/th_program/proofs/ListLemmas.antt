@@ -5,8 +5,9 @@ use Rattle.th_book.specs.Observed.{Observed}
 use Rattle.std.specs.List.{AllByRecursion}
 use Rattle.th_devices.specs.Devices.{SinkState}
 use Rattle.th_devices.specs.Spots.{Spot, output}
+use Rattle.th_folders.specs.Folders.{Failing}
 use Rattle.th_program.specs.Done.{IsListed, IsRefusedList}
-use Rattle.th_program.specs.Failing.{Failing, HasCause}
+use Rattle.th_program.specs.Failing.{HasCause}
 use Rattle.th_files.specs.Owed.{Told, book_owed}
 use Rattle.th_files.specs.Opened.{AreMade, IsTaken}
 use Rattle.th_files.proofs.OutputLemmas.{all_whole}

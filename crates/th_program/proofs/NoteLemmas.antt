@@ -3,6 +3,7 @@ use Rattle.std.proofs.Common.{◌≡◌, ◌≤◌, ◌+◌, ◌∷◌, ℕ, ℤ
 use Rattle.std.specs.Prelude.{OnOk, Option, Result, option_to_list}
 use Rattle.th_devices.specs.Devices.{SinkState, SourceState}
 use Rattle.th_devices.specs.Spots.{Spot, file}
+use Rattle.th_folders.specs.Folders.{Failing}
 use Rattle.std.proofs.lemmas.List.{length-map}
 use Rattle.std.proofs.lemmas.Slice.Zip.{AllZip-long}
 use Rattle.th_entries.specs.Reviews.{parsed_of}
@@ -24,13 +25,13 @@ use Rattle.th_run_parts.specs.declared.refusals.Output.{Output}
 use Rattle.th_run_parts.specs.declared.refusals.Refusal.{Refusal}
 
 -- what holds of a run that ended well holds if its files have their places
-pub noted_given : {F : Type 0} (tells : Bool) (held : F → Told) (has_failed may_fail : F → Spot → Bool) (sinks : List SinkState) (outputs : List Output)
-    (answer result : Result (Unit {0}) Refusal) (before after : F) (P : Type 0) → AreGivenBack tells held has_failed may_fail sinks outputs answer result before after
+pub noted_given : {F : Type 0} (tells : Bool) (held : F → Told) (has_failed : F → Spot → Bool) (failing : F → Failing) (sinks : List SinkState) (outputs : List Output)
+    (answer result : Result (Unit {0}) Refusal) (before after : F) (P : Type 0) → AreGivenBack tells held has_failed failing sinks outputs answer result before after
     → OnOk answer P → OnOk result P
-noted_given tells held has_failed may_fail sinks outputs (Ok x) (Ok y) before after P given holds = holds
-noted_given tells held has_failed may_fail sinks outputs (Ok x) (Err own) before after P given holds = tt
-noted_given tells held has_failed may_fail sinks outputs (Err own) (Ok y) before after P (same, kept) holds = absurd (cc same)
-noted_given tells held has_failed may_fail sinks outputs (Err own) (Err other) before after P (same, kept) holds = tt
+noted_given tells held has_failed failing sinks outputs (Ok x) (Ok y) before after P given holds = holds
+noted_given tells held has_failed failing sinks outputs (Ok x) (Err own) before after P given holds = tt
+noted_given tells held has_failed failing sinks outputs (Err own) (Ok y) before after P (same, kept) holds = absurd (cc same)
+noted_given tells held has_failed failing sinks outputs (Err own) (Err other) before after P (same, kept) holds = tt
 
 -- what a run notes of its sources it notes of the named files
 pub noted_files : (told : Told) (from : Files) (limit : ℤ) (notes : Notes) (owed : Owed Survey) (tolds : List (Option (List ℕ))) (result : Result (Unit {0}) Refusal)

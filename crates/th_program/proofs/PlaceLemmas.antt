@@ -5,7 +5,7 @@ use Rattle.std.specs.Prelude.{OnOk, Option, Result, is_some, slice_get}
 use Rattle.th_devices.specs.Devices.{IsMade, SinkState}
 use Rattle.th_devices.specs.Spots.{Spot}
 use Rattle.th_devices.specs.Transfer.{HasTaken}
-use Rattle.th_folders.specs.Folders.{ArePlaced, IsPlaced}
+use Rattle.th_folders.specs.Folders.{ArePlaced, Failing, IsPlaced}
 use Rattle.th_network.specs.Networks.{Survey}
 use Rattle.th_plans.specs.Asked.{Files}
 use Rattle.std.proofs.lemmas.Option.{get_or_from_slice_get, slice_get_within}
@@ -132,16 +132,16 @@ all_finished state_of (text ∷ texts) (old ∷ olds) (new ∷ news) written = (
 all_finished state_of texts olds news written = absurd written
 
 -- what a run that was begun and given back printed of its survey
-pub printed_given : {F K : Type 0} (tells : Bool) (held : F → Told) (has_failed may_fail : F → Spot → Bool) (from : Files) (prefix : List ℕ) (outputs : List Output)
+pub printed_given : {F K : Type 0} (tells : Bool) (held : F → Told) (has_failed : F → Spot → Bool) (failing : F → Failing) (from : Files) (prefix : List ℕ) (outputs : List Output)
     (AreOf : Survey → Texts → Type 0) (state_of : K → SinkState) (olds news : List K) (owed : Owed Survey) (answer result : Result (Unit {0}) Refusal) (before after : F)
-    → owed ≡ survey_owed (held before) (refused answer) from → AreApart (spots_of prefix outputs) → AreMade state_of tells (may_fail before) (spots_of prefix outputs) olds
+    → owed ≡ survey_owed (held before) (refused answer) from → AreApart (spots_of prefix outputs) → AreMade state_of tells (failing before).writing (spots_of prefix outputs) olds
     → ((survey : Survey) (texts : Texts) → AreOf survey texts → map (λ own. own.0) texts ≡ outputs)
     → (IsWritten answer → (survey : Survey) × Accepted (λ (own : Survey). own) owed survey
     × ((texts : Texts) × AreOf survey texts × AreWritten state_of (refused answer) texts olds news))
-    → AreGivenBack tells held has_failed may_fail (map state_of news) outputs answer result before after
+    → AreGivenBack tells held has_failed failing (map state_of news) outputs answer result before after
     → OnOk result (IsPrinted tells (held before) (held after) from prefix outputs AreOf None)
     × IfErr result (λ own. IsWrite own → IsPrinted tells (held before) (held after) from prefix outputs AreOf (Some own))
-printed_given tells held has_failed may_fail from prefix outputs AreOf state_of olds news owed (Ok x) (Ok y) before after is_owed apart made of_outputs written given =
+printed_given tells held has_failed failing from prefix outputs AreOf state_of olds news owed (Ok x) (Ok y) before after is_owed apart made of_outputs written given =
     let (survey, accepted, (texts, are_of, are_written)) = written tt in (
       record {
         survey = survey;
@@ -149,11 +149,11 @@ printed_given tells held has_failed may_fail from prefix outputs AreOf state_of 
         given = subst (λ (own : Owed Survey). Meets own (Ok survey)) is_owed accepted.given;
         network = accepted.network;
         printed = are_of;
-        left = placed_left state_of tells (may_fail before) held has_failed texts (spots_of prefix outputs) olds news before after apart made are_written given;
+        left = placed_left state_of tells (failing before).writing held has_failed texts (spots_of prefix outputs) olds news before after apart made are_written given;
       },
       tt,
     )
-printed_given tells held has_failed may_fail from prefix outputs AreOf state_of olds news owed (Ok x) (Err own) before after is_owed apart made of_outputs written
+printed_given tells held has_failed failing from prefix outputs AreOf state_of olds news owed (Ok x) (Err own) before after is_owed apart made of_outputs written
     (number, which, at, is, stopped) =
     let (survey, accepted, (texts, are_of, are_written)) = written tt in
     let there = ap (λ (all : List Output). slice_get all number) (of_outputs survey texts are_of) ∙ at in (
@@ -164,10 +164,10 @@ printed_given tells held has_failed may_fail from prefix outputs AreOf state_of 
         given = subst (λ (own : Owed Survey). Meets own (Ok survey)) (is_owed ∙ sym (survey_same (held before) (refusal.Write which) (λ input. refl) from)) accepted.given;
         network = accepted.network;
         printed = are_of;
-        left = inr (stopped_left state_of tells (may_fail before) held has_failed number which texts (spots_of prefix outputs) olds news before after there apart made are_written stopped.before);
+        left = inr (stopped_left state_of tells (failing before).writing held has_failed number which texts (spots_of prefix outputs) olds news before after there apart made are_written stopped.before);
       }),
     )
-printed_given tells held has_failed may_fail from prefix outputs AreOf state_of olds news owed (Err own) result before after is_owed apart made of_outputs written (same, kept) =
+printed_given tells held has_failed failing from prefix outputs AreOf state_of olds news owed (Err own) result before after is_owed apart made of_outputs written (same, kept) =
     subst (λ (known : Result (Unit {0}) Refusal). OnOk known (IsPrinted tells (held before) (held after) from prefix outputs AreOf None)
     × IfErr known (λ refusal. IsWrite refusal → IsPrinted tells (held before) (held after) from prefix outputs AreOf (Some refusal))) (sym same) (
       tt,
@@ -188,15 +188,15 @@ printed_given tells held has_failed may_fail from prefix outputs AreOf state_of 
     begun other write = absurd write
 
 -- the refusal of such a run
-pub refused_given : {F Y : Type 0} (tells : Bool) (held : F → Told) (has_failed may_fail : F → Spot → Bool) (run : Run) (from : Files) (survey_of : Y → Survey)
+pub refused_given : {F Y : Type 0} (tells : Bool) (held : F → Told) (has_failed : F → Spot → Bool) (failing : F → Failing) (run : Run) (from : Files) (survey_of : Y → Survey)
     (owed_at : Option Refusal → Owed Y) (HasLeft : Option Refusal → Type 0) (Caused : Refusal → Type 0) (sinks : List SinkState) (answer result : Result (Unit {0}) Refusal) (before after : F)
     → IfErr answer (IsNamed (length from.books) (is_some from.weights) run)
     → IfErr answer (λ own. UnlessWrite own (IsOwed survey_of (owed_at (refused answer)) own))
-    → AreGivenBack tells held has_failed may_fail sinks run.outputs answer result before after
+    → AreGivenBack tells held has_failed failing sinks run.outputs answer result before after
     → IfErr result (λ own. IsWrite own → HasLeft (Some own)) → IfErr result Caused
     → IfErr result (λ own. IsRefusedFor run from survey_of (owed_at (Some own)) HasLeft Caused own)
-refused_given tells held has_failed may_fail run from survey_of owed_at HasLeft Caused sinks (Ok x) (Ok y) before after named owes given left caused = tt
-refused_given tells held has_failed may_fail run from survey_of owed_at HasLeft Caused sinks (Ok x) (Err own) before after named owes (number, which, at, is, stopped) left caused =
+refused_given tells held has_failed failing run from survey_of owed_at HasLeft Caused sinks (Ok x) (Ok y) before after named owes given left caused = tt
+refused_given tells held has_failed failing run from survey_of owed_at HasLeft Caused sinks (Ok x) (Err own) before after named owes (number, which, at, is, stopped) left caused =
     record {
       named = subst (λ (refusal : Refusal). IsNamed (length from.books) (is_some from.weights) run refusal) (sym is)
           (number, slice_get_within run.outputs number which at, get_or_from_slice_get run.outputs number which which at);
@@ -204,8 +204,8 @@ refused_given tells held has_failed may_fail run from survey_of owed_at HasLeft 
       left = left;
       cause = caused;
     }
-refused_given tells held has_failed may_fail run from survey_of owed_at HasLeft Caused sinks (Err own) (Ok y) before after named owes (same, kept) left caused = tt
-refused_given tells held has_failed may_fail run from survey_of owed_at HasLeft Caused sinks (Err own) (Err other) before after named owes (same, kept) left caused =
+refused_given tells held has_failed failing run from survey_of owed_at HasLeft Caused sinks (Err own) (Ok y) before after named owes (same, kept) left caused = tt
+refused_given tells held has_failed failing run from survey_of owed_at HasLeft Caused sinks (Err own) (Err other) before after named owes (same, kept) left caused =
     let is : own ≡ other = cc same in
     record {
       named = subst (λ (refusal : Refusal). IsNamed (length from.books) (is_some from.weights) run refusal) is named;
@@ -226,23 +226,23 @@ unless_of (refusal.Read which) A known = known
 unless_of refusal.NoMemory A known = known
 
 -- such a refusal leaves the folder as it was, unless a write failed
-pub untouched_given : {F : Type 0} (tells : Bool) (held : F → Told) (has_failed may_fail : F → Spot → Bool) (sinks : List SinkState) (outputs : List Output)
-    (answer result : Result (Unit {0}) Refusal) (before after : F) → AreGivenBack tells held has_failed may_fail sinks outputs answer result before after
+pub untouched_given : {F : Type 0} (tells : Bool) (held : F → Told) (has_failed : F → Spot → Bool) (failing : F → Failing) (sinks : List SinkState) (outputs : List Output)
+    (answer result : Result (Unit {0}) Refusal) (before after : F) → AreGivenBack tells held has_failed failing sinks outputs answer result before after
     → IfErr result (λ own. UnlessWrite own (after ≡ before))
-untouched_given tells held has_failed may_fail sinks outputs (Ok x) (Ok y) before after given = tt
-untouched_given tells held has_failed may_fail sinks outputs (Ok x) (Err own) before after (number, which, at, is, stopped) =
+untouched_given tells held has_failed failing sinks outputs (Ok x) (Ok y) before after given = tt
+untouched_given tells held has_failed failing sinks outputs (Ok x) (Err own) before after (number, which, at, is, stopped) =
     subst (λ (refusal : Refusal). UnlessWrite refusal (after ≡ before)) (sym is) tt
-untouched_given tells held has_failed may_fail sinks outputs (Err own) (Ok y) before after given = tt
-untouched_given tells held has_failed may_fail sinks outputs (Err own) (Err other) before after (same, kept) = unless_of other (after ≡ before) kept
+untouched_given tells held has_failed failing sinks outputs (Err own) (Ok y) before after given = tt
+untouched_given tells held has_failed failing sinks outputs (Err own) (Err other) before after (same, kept) = unless_of other (after ≡ before) kept
 
 -- in any case what is elsewhere stays
-pub others_given : {F : Type 0} (tells : Bool) (held : F → Told) (has_failed may_fail : F → Spot → Bool) (sinks : List SinkState) (outputs : List Output)
-    (answer result : Result (Unit {0}) Refusal) (before after : F) → AreGivenBack tells held has_failed may_fail sinks outputs answer result before after
+pub others_given : {F : Type 0} (tells : Bool) (held : F → Told) (has_failed : F → Spot → Bool) (failing : F → Failing) (sinks : List SinkState) (outputs : List Output)
+    (answer result : Result (Unit {0}) Refusal) (before after : F) → AreGivenBack tells held has_failed failing sinks outputs answer result before after
     → (spot : Spot) → AllByRecursion (λ own. spot ≢ own.spot) sinks → held after spot ≡ held before spot
-others_given tells held has_failed may_fail sinks outputs (Ok x) (Ok y) before after placed spot apart = placed_others tells held has_failed sinks before after placed spot apart
-others_given tells held has_failed may_fail sinks outputs (Ok x) (Err own) before after (number, which, at, is, stopped) spot apart =
+others_given tells held has_failed failing sinks outputs (Ok x) (Ok y) before after placed spot apart = placed_others tells held has_failed sinks before after placed spot apart
+others_given tells held has_failed failing sinks outputs (Ok x) (Err own) before after (number, which, at, is, stopped) spot apart =
     placed_others tells held has_failed (take number sinks) before after stopped.before spot (apart_take number spot sinks apart)
-others_given tells held has_failed may_fail sinks outputs (Err own) result before after (same, kept) spot apart = ap (λ folder. held folder spot) kept
+others_given tells held has_failed failing sinks outputs (Err own) result before after (same, kept) spot apart = ap (λ folder. held folder spot) kept
 
 pub apart_map : {K : Type 0} (state_of : K → SinkState) (spot : Spot) (sinks : List K) → AllByRecursion (λ own. spot ≢ (state_of own).spot) sinks
     → AllByRecursion (λ own. spot ≢ own.spot) (map state_of sinks)

@@ -5,6 +5,7 @@ use Rattle.std.specs.List.{AllByRecursion, Contains}
 use Rattle.th_booking.specs.declared.conversions.Conversion.{Conversion}
 use Rattle.th_booking.specs.declared.conversions.Conversion.TheVariants.{Differences, Heights}
 use Rattle.th_devices.specs.Spots.{Spot, errors, file, input, is_file, output}
+use Rattle.th_folders.specs.Folders.{Failing}
 use Rattle.th_paging.specs.Paged.{paging}
 use Rattle.th_plans.specs.Plans.{files}
 use Rattle.th_plans.specs.declared.plans.Plan.{Plan}
@@ -12,7 +13,6 @@ use Rattle.th_plans.specs.declared.plans.Plan.TheVariants as plan
 use Rattle.th_files.proofs.OutputLemmas.{all_files, no_errors}
 use Rattle.th_program.proofs.RefusalLemmas.{refused-for-map}
 use Rattle.th_program.specs.Done.{IsBooked, IsDone, IsListed, IsOutputOf, IsRefused, IsPrinted}
-use Rattle.th_program.specs.Failing.{Failing}
 use Rattle.th_files.specs.Owed.{Told, survey_owed}
 use Rattle.th_files.specs.Outputs.{ending_of, spots_of, AreLeftAs}
 use Rattle.th_runs.specs.Adjusted.{adjusting}

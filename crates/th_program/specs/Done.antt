@@ -6,6 +6,7 @@ use Rattle.clap.specs.declared.error.kind.ErrorKind.TheVariants.{DisplayHelp, Di
 use Rattle.th_checker.specs.declared.verdicts.Verdict.{Verdict}
 use Rattle.th_book.specs.Observed.{Observed}
 use Rattle.th_devices.specs.Spots.{Spot, errors, file, input, output}
+use Rattle.th_folders.specs.Folders.{Failing}
 use Rattle.th_lines.specs.Shown.{shown}
 use Rattle.th_network.specs.Networks.{Survey}
 use Rattle.th_paging.specs.Paged.{AreOfPage, paging}
@@ -38,7 +39,7 @@ use Rattle.th_run_parts.specs.declared.refusals.Output.{Output}
 use Rattle.th_run_parts.specs.declared.refusals.Output.TheVariants as out
 use Rattle.th_run_parts.specs.declared.refusals.Refusal.{Refusal}
 use Rattle.th_run_parts.specs.declared.refusals.Refusal.TheVariants as refusal
-use Rattle.th_program.specs.Failing.{Failing, HasCause, IsInClaim, IsInFiles}
+use Rattle.th_program.specs.Failing.{HasCause, IsInClaim, IsInFiles}
 use Rattle.th_files.specs.Helped.{refused_lines}
 use Rattle.th_program.specs.Noted.{AreNotesOf, notes_lines}
 use Rattle.th_files.specs.Outputs.{AreLeft, spots_of}

@@ -1,6 +1,7 @@
--- Where the devices of a folder may fail, and what a failed device shows of the folder.
-use Rattle.std.specs.Prelude.{◌≡◌, ℕ, Bool, true, List}
+-- Where a run reads its inputs, and what a failed device shows of the folder.
+use Rattle.std.specs.Prelude.{◌≡◌, ℕ, true, List}
 use Rattle.th_devices.specs.Spots.{Spot, file}
+use Rattle.th_folders.specs.Folders.{Failing}
 use Rattle.th_plans.specs.Asked.{Files}
 use Rattle.th_files.specs.Outputs.{ending_of, spot_at}
 use Rattle.th_files.specs.Owed.{HasName}
@@ -8,15 +9,6 @@ use Rattle.th_run_parts.specs.declared.refusals.Input.{Input}
 use Rattle.th_run_parts.specs.declared.refusals.Input.TheVariants as input
 use Rattle.th_run_parts.specs.declared.refusals.Refusal.{Refusal}
 use Rattle.th_run_parts.specs.declared.refusals.Refusal.TheVariants as refusal
-
--- whether reading what is at a spot may fail, as it does where nothing is, and whether writing to it may
-pub record Failing : Type 0 where
-  pub reading : Spot → Bool
-  pub writing : Spot → Bool
-
--- both of a folder
-abbrev pub failing_of : {F : Type 0} → (F → Spot → Bool) → (F → Spot → Bool) → F → Failing
-failing_of reading writing folder = record { reading = reading folder; writing = writing folder }
 
 -- where a run reads its inputs
 abbrev pub Origins : Type 1

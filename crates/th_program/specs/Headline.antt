@@ -6,8 +6,9 @@ use Rattle.th_plans.specs.Asked.{Asked, Files}
 use Rattle.th_plans.specs.Plans.{AreTaken, asked}
 use Rattle.th_run_parts.specs.Inputs.{MakesNetwork}
 use Rattle.th_devices.specs.Spots.{Spot, file}
+use Rattle.th_folders.specs.Folders.{Failing}
 use Rattle.th_program.specs.Done.{IsAdjustOutput}
-use Rattle.th_program.specs.Failing.{Failing, Origins}
+use Rattle.th_program.specs.Failing.{Origins}
 use Rattle.th_files.specs.Owed.{HasName, Told, survey_owed}
 use Rattle.th_run_parts.specs.declared.refusals.Input.{Input}
 

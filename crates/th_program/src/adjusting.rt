@@ -2,7 +2,6 @@
 ghost use Rattle.std.specs.Prelude.{◌≡◌, ◌≤◌, IfErr, None, OnOk, length};
 ghost use Rattle.th_plans.specs.Limits.{max_books};
 ghost use Rattle.th_program.specs.Done.{IsAdjustOutput, IsAdjusted, IsRefusedAdjust};
-ghost use Rattle.th_program.specs.Failing.{failing_of};
 ghost use Rattle.th_plans.specs.Plans.{files};
 ghost use Rattle.th_program.specs.Noted.{AreNotesOfFiles};
 ghost use Rattle.th_runs.specs.Noted.{AreNone};
@@ -34,8 +33,7 @@ pub(crate) fn adjust<F: Folder>(
     ensures few { OnOk result (length notes.new.books.items ≤ max_books) }
     ensures adjusted { OnOk result (IsAdjusted F.tells (F.held folder.old) (F.held folder.new)
         (files inputs.now) limit prefix.now None) }
-    ensures refused { IfErr result (IsRefusedAdjust F.tells
-        (failing_of F.reading_may_fail F.writing_may_fail folder.old)
+    ensures refused { IfErr result (IsRefusedAdjust F.tells (F.failing folder.old)
         (F.held folder.old) (F.held folder.new) (files inputs.now) limit prefix.now) }
     ensures untouched { IfErr result (λ own. UnlessWrite own (folder.new ≡ folder.old)) }
     ensures others { (spot : _) → (IsAdjustOutput prefix.now spot → ⊥)

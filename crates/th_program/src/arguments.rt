@@ -3,7 +3,6 @@ ghost use Rattle.std.specs.Prelude.{◌≡◌, ◌≢◌, IfErr, IfOk, OnErr, fa
 ghost use Rattle.std.specs.IoError.{error_kind};
 ghost use Rattle.std.specs.declared.io.ErrorKind.TheVariants.{InvalidData};
 ghost use Rattle.th_devices.specs.Spots.{errors, output};
-ghost use Rattle.th_program.specs.Failing.{failing_of};
 ghost use Rattle.th_program.specs.Done.{AreDone, IsNoHelp};
 ghost use Rattle.th_program.specs.Inside.Usage.{IsUsageUnlessFull};
 ghost use Rattle.th_plans.specs.Plans.{IsFaultOf};
@@ -25,8 +24,7 @@ use th_runs::{NO_MEMORY, USAGE};
 ///
 /// Reading them fails only if one is not UTF-8, or if memory runs out.
 pub fn run_arguments<F: Folder>(alloc: Global, folder: &mut F, words: io::Result<Vec<String>>) -> u8
-    ensures done { IfOk words (λ own. AreDone F.tells F.held F.has_failed
-        (failing_of F.reading_may_fail F.writing_may_fail)
+    ensures done { IfOk words (λ own. AreDone F.tells F.held F.has_failed F.failing
         folder.old folder.new (map string_bytes own.items) result) }
     ensures no_text { IfErr words (λ error. error_kind error ≡ InvalidData → result ≡ USAGE) }
     ensures no_memory { IfErr words (λ error. error_kind error ≢ InvalidData → result ≡ NO_MEMORY) }
@@ -45,8 +43,7 @@ pub fn run_arguments<F: Folder>(alloc: Global, folder: &mut F, words: io::Result
 
 /// Runs the program with these arguments, the program's name first, and returns its exit status.
 pub fn run_words<F: Folder, S: AsStr>(alloc: Global, folder: &mut F, words: &[S]) -> u8
-    ensures { AreDone F.tells F.held F.has_failed
-        (failing_of F.reading_may_fail F.writing_may_fail)
+    ensures { AreDone F.tells F.held F.has_failed F.failing
         folder.old folder.new (map S.text words.now) result }
 {
     match plan(alloc, words) {

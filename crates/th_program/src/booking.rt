@@ -2,7 +2,6 @@
 ghost use Rattle.std.specs.Prelude.{◌≡◌, ◌≢◌, OnOk, IfErr};
 ghost use Rattle.th_devices.specs.Spots.{output};
 ghost use Rattle.th_program.specs.Done.{IsBooked, IsRefusedBook};
-ghost use Rattle.th_program.specs.Failing.{failing_of};
 ghost use Rattle.th_run_parts.specs.Writes.{UnlessWrite};
 
 use std::alloc::Global;
@@ -20,8 +19,7 @@ pub(crate) fn make_book<F: Folder>(
 ) -> Result<(), Refusal>
     ensures booked { OnOk result (IsBooked F.tells (F.held folder.old) (F.held folder.new)
         conversion name.now) }
-    ensures refused { IfErr result (IsRefusedBook
-        (failing_of F.reading_may_fail F.writing_may_fail folder.old)
+    ensures refused { IfErr result (IsRefusedBook (F.failing folder.old)
         (F.held folder.old) conversion name.now) }
     ensures untouched { IfErr result (λ own. UnlessWrite own (folder.new ≡ folder.old)) }
     ensures others { (spot : _) → spot ≢ output → F.held folder.new spot ≡ F.held folder.old spot }

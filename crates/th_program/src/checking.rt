@@ -3,7 +3,6 @@ ghost use Rattle.std.specs.Prelude.{◌≡◌, ◌≢◌, IfErr, IfOk};
 ghost use Rattle.th_devices.specs.Spots.{output};
 ghost use Rattle.th_plans.specs.Plans.{files};
 ghost use Rattle.th_program.specs.Done.{IsChecked, IsRefusedCheck};
-ghost use Rattle.th_program.specs.Failing.{failing_of};
 ghost use Rattle.th_run_parts.specs.Writes.{UnlessWrite};
 
 use std::alloc::Global;
@@ -22,8 +21,7 @@ pub fn check<F: Folder>(
 ) -> Result<Verdict, Refusal>
     ensures checked { IfOk result (IsChecked F.tells (F.held folder.old) (F.held folder.new)
         (files inputs.now) certificate.now) }
-    ensures refused { IfErr result (IsRefusedCheck
-        (failing_of F.reading_may_fail F.writing_may_fail folder.old)
+    ensures refused { IfErr result (IsRefusedCheck (F.failing folder.old)
         (F.held folder.old) (files inputs.now) certificate.now) }
     ensures untouched { IfErr result (λ own. UnlessWrite own (folder.new ≡ folder.old)) }
     ensures others { (spot : _) → spot ≢ output → F.held folder.new spot ≡ F.held folder.old spot }

@@ -3,7 +3,6 @@ ghost use Rattle.std.specs.Prelude.{◌≡◌, ◌≢◌, IfErr, OnOk};
 ghost use Rattle.th_devices.specs.Spots.{output};
 ghost use Rattle.th_plans.specs.Plans.{files};
 ghost use Rattle.th_program.specs.Done.{IsExplained, IsRefusedExplain, form_of};
-ghost use Rattle.th_program.specs.Failing.{failing_of};
 ghost use Rattle.th_run_parts.specs.Writes.{UnlessWrite};
 
 use std::alloc::Global;
@@ -23,8 +22,7 @@ pub(crate) fn explain<F: Folder>(
 ) -> Result<(), Refusal>
     ensures explained { OnOk result (IsExplained F.tells (F.held folder.old) (F.held folder.new)
         (files inputs.now) limit form) }
-    ensures refused { IfErr result (IsRefusedExplain
-        (failing_of F.reading_may_fail F.writing_may_fail folder.old)
+    ensures refused { IfErr result (IsRefusedExplain (F.failing folder.old)
         (F.held folder.old) (files inputs.now)) }
     ensures untouched { IfErr result (λ own. UnlessWrite own (folder.new ≡ folder.old)) }
     ensures others { (spot : _) → spot ≢ output → F.held folder.new spot ≡ F.held folder.old spot }

@@ -6,7 +6,7 @@ ghost use Rattle.th_network.specs.Networks.{Survey};
 ghost use Rattle.th_plans.specs.Asked.{Files, adjust, check};
 ghost use Rattle.th_plans.specs.declared.plans.Plan.{Plan};
 ghost use Rattle.th_program.specs.Done.{AreDone, IsAdjusted, IsInputOf, IsRun};
-ghost use Rattle.th_program.specs.Failing.{IsInClaim, IsInFiles, failing_of};
+ghost use Rattle.th_program.specs.Failing.{IsInClaim, IsInFiles};
 ghost use Rattle.th_program.specs.Headline.{AskFor, IsAccepted, IsUnlucky, NoneMayFail, SomeMayFail, SparesInputs};
 ghost use Rattle.th_files.specs.Outputs.{spots_of};
 ghost use Rattle.th_files.specs.Owed.{claim_owed};
@@ -35,29 +35,24 @@ use th_runs::laws::{
 pub fn headline<F: Folder>()
     ensures adjusted { (old new : _) (words : List (List ℕ)) (status : ℕ)
         (from : Files) (limit : ℤ) (prefix : List ℕ) (survey : Survey)
-        → AreDone F.tells F.held F.has_failed
-        (failing_of F.reading_may_fail F.writing_may_fail) old new words status
+        → AreDone F.tells F.held F.has_failed F.failing old new words status
         → AskFor words (adjust from limit prefix)
         → IsAccepted (F.held old) from survey
         → SparesInputs from prefix
-        → NoneMayFail (failing_of F.reading_may_fail F.writing_may_fail old)
-        (IsInFiles from) (spots_of prefix adjusting.outputs)
+        → NoneMayFail (F.failing old) (IsInFiles from) (spots_of prefix adjusting.outputs)
         → ((status ≡ 0) × IsAdjusted F.tells (F.held old) (F.held new) from limit prefix None)
         ⊎ (status ≡ 4) }
     ensures confirmed { (old new : _) (words : List (List ℕ)) (status : ℕ)
         (from : Files) (certificate : List ℕ) (survey : Survey) (limit : ℤ) (texts : OutTexts)
-        → AreDone F.tells F.held F.has_failed
-        (failing_of F.reading_may_fail F.writing_may_fail) old new words status
+        → AreDone F.tells F.held F.has_failed F.failing old new words status
         → AskFor words (check from certificate)
         → IsAccepted (F.held old) from survey
         → AreOutputs survey limit texts
         → F.held old (file certificate) ≡ Some texts.certificate
-        → NoneMayFail (failing_of F.reading_may_fail F.writing_may_fail old)
-        (IsInClaim from certificate) (spots_of [] checking.outputs)
+        → NoneMayFail (F.failing old) (IsInClaim from certificate) (spots_of [] checking.outputs)
         → (status ≡ 0) ⊎ (status ≡ 4) }
     ensures believed { (old new : _) (words : List (List ℕ)) (from : Files) (certificate : List ℕ)
-        → AreDone F.tells F.held F.has_failed
-        (failing_of F.reading_may_fail F.writing_may_fail) old new words 0
+        → AreDone F.tells F.held F.has_failed F.failing old new words 0
         → AskFor words (check from certificate)
         → (claim : Claim)
         × Meets (claim_owed (F.held old) None from certificate) (Ok claim)
@@ -70,24 +65,22 @@ pub fn headline<F: Folder>()
 pub fn headline_if_devices_may_fail<F: Folder>()
     ensures adjusted { (old new : _) (words : List (List ℕ)) (status : ℕ)
         (from : Files) (limit : ℤ) (prefix : List ℕ) (survey : Survey)
-        → AreDone F.tells F.held F.has_failed
-        (failing_of F.reading_may_fail F.writing_may_fail) old new words status
+        → AreDone F.tells F.held F.has_failed F.failing old new words status
         → AskFor words (adjust from limit prefix)
         → IsAccepted (F.held old) from survey
         → SparesInputs from prefix
         → ((status ≡ 0) × IsAdjusted F.tells (F.held old) (F.held new) from limit prefix None)
-        ⊎ IsUnlucky (SomeMayFail (failing_of F.reading_may_fail F.writing_may_fail old)
+        ⊎ IsUnlucky (SomeMayFail (F.failing old)
         (IsInFiles from) (spots_of prefix adjusting.outputs)) status }
     ensures confirmed { (old new : _) (words : List (List ℕ)) (status : ℕ)
         (from : Files) (certificate : List ℕ) (survey : Survey) (limit : ℤ) (texts : OutTexts)
-        → AreDone F.tells F.held F.has_failed
-        (failing_of F.reading_may_fail F.writing_may_fail) old new words status
+        → AreDone F.tells F.held F.has_failed F.failing old new words status
         → AskFor words (check from certificate)
         → IsAccepted (F.held old) from survey
         → AreOutputs survey limit texts
         → F.held old (file certificate) ≡ Some texts.certificate
         → (status ≡ 0)
-        ⊎ IsUnlucky (SomeMayFail (failing_of F.reading_may_fail F.writing_may_fail old)
+        ⊎ IsUnlucky (SomeMayFail (F.failing old)
         (IsInClaim from certificate) (spots_of [] checking.outputs)) status }
 {
     accepted_inputs_are_refused_for_memory_alone();
@@ -97,8 +90,7 @@ pub fn headline_if_devices_may_fail<F: Folder>()
 /// No run changes an input: each file that a plan reads holds what it held before.
 pub fn inputs_are_kept<F: Folder>()
     ensures { (old new : _) (asked : Plan) (status : ℕ)
-        → IsRun F.tells F.held F.has_failed
-        (failing_of F.reading_may_fail F.writing_may_fail) old new asked status
+        → IsRun F.tells F.held F.has_failed F.failing old new asked status
         → (which : Input) (name : List ℕ)
         → IsInputOf asked which name
         → F.held new (file name) ≡ F.held old (file name) }

@@ -3,7 +3,6 @@ ghost use Rattle.std.specs.Prelude.{◌≡◌, ◌≢◌, OnOk, IfErr};
 ghost use Rattle.th_folders.specs.Folders.{spot_of_origin};
 ghost use Rattle.th_devices.specs.Spots.{output};
 ghost use Rattle.th_program.specs.Done.{IsListed, IsRefusedList};
-ghost use Rattle.th_program.specs.Failing.{failing_of};
 ghost use Rattle.th_runs.specs.Noted.{AreNone, AreNotesOfList};
 ghost use Rattle.th_run_parts.specs.Writes.{UnlessWrite};
 
@@ -24,8 +23,7 @@ pub fn list<F: Folder>(
         (F.held folder.old (spot_of_origin book.entry)) notes.new) }
     ensures listed { OnOk result (IsListed F.tells (F.held folder.old) (F.held folder.new)
         (spot_of_origin book.entry)) }
-    ensures refused { IfErr result (IsRefusedList
-        (failing_of F.reading_may_fail F.writing_may_fail folder.old)
+    ensures refused { IfErr result (IsRefusedList (F.failing folder.old)
         (F.held folder.old) (spot_of_origin book.entry)) }
     ensures untouched { IfErr result (λ own. UnlessWrite own (folder.new ≡ folder.old)) }
     ensures others { (spot : _) → spot ≢ output → F.held folder.new spot ≡ F.held folder.old spot }

@@ -2,7 +2,6 @@
 ghost use Rattle.std.specs.Prelude.{◌≡◌, ◌≤◌, IfErr, IfOk, OnOk, length};
 ghost use Rattle.th_plans.specs.Limits.{max_books};
 ghost use Rattle.th_program.specs.Done.{IsCarriedOut, IsDone, IsOutputOf, IsRefused, IsRun};
-ghost use Rattle.th_program.specs.Failing.{failing_of};
 ghost use Rattle.th_program.specs.Noted.{AreNotesOf};
 ghost use Rattle.th_runs.specs.Noted.{AreNone};
 ghost use Rattle.th_run_parts.specs.Writes.{UnlessWrite};
@@ -26,9 +25,7 @@ use th_runs::{DONE, Notes, Refusal, status_of_verdict};
 /// Runs a plan, and returns the exit status. A refusal has its lines on standard error. A plan whose
 /// outputs would overwrite an input is refused before anything is read or written.
 pub fn run_plan<F: Folder>(alloc: Global, folder: &mut F, plan: &Plan<'_>) -> u8
-    ensures { IsRun F.tells F.held F.has_failed
-        (failing_of F.reading_may_fail F.writing_may_fail)
-        folder.old folder.new plan.now result }
+    ensures { IsRun F.tells F.held F.has_failed F.failing folder.old folder.new plan.now result }
 {
     match keep_inputs(alloc, folder, plan) {
         Ok(()) => run_apart(alloc, folder, plan),
@@ -39,8 +36,7 @@ pub fn run_plan<F: Folder>(alloc: Global, folder: &mut F, plan: &Plan<'_>) -> u8
 
 /// Runs a plan that overwrites no input, and answers the status to end with.
 fn run_apart<F: Folder>(alloc: Global, folder: &mut F, plan: &Plan<'_>) -> u8
-    ensures { IsCarriedOut F.tells F.held F.has_failed
-        (failing_of F.reading_may_fail F.writing_may_fail)
+    ensures { IsCarriedOut F.tells F.held F.has_failed F.failing
         folder.old folder.new plan.now result }
 {
     let mut notes = Notes::new(alloc);
@@ -65,8 +61,7 @@ fn carry_out<F: Folder>(
     ensures noted { OnOk result (AreNotesOf (F.held folder.old) plan.now notes.new) }
     ensures few { OnOk result (length notes.new.books.items ≤ max_books) }
     ensures done { IfOk result (IsDone F.tells (F.held folder.old) (F.held folder.new) plan.now) }
-    ensures refused { IfErr result (IsRefused F.tells
-        (failing_of F.reading_may_fail F.writing_may_fail folder.old)
+    ensures refused { IfErr result (IsRefused F.tells (F.failing folder.old)
         (F.held folder.old) (F.held folder.new) plan.now) }
     ensures untouched { IfErr result (λ own. UnlessWrite own (folder.new ≡ folder.old)) }
     ensures others { (spot : _) → (IsOutputOf plan.now spot → ⊥)

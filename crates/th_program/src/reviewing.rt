@@ -1,7 +1,6 @@
 //! Reviewing the network of files of a folder.
 ghost use Rattle.std.specs.Prelude.{◌≡◌, IfErr, None, OnOk};
 ghost use Rattle.th_program.specs.Done.{IsRefusedReview, IsReviewOutput, IsReviewed};
-ghost use Rattle.th_program.specs.Failing.{failing_of};
 ghost use Rattle.th_plans.specs.Plans.{files};
 ghost use Rattle.th_run_parts.specs.Writes.{UnlessWrite};
 
@@ -26,8 +25,7 @@ pub(crate) fn review<F: Folder>(
 ) -> Result<(), Refusal>
     ensures reviewed { OnOk result (IsReviewed F.tells (F.held folder.old) (F.held folder.new)
         (files inputs.now) limit prefix.now None) }
-    ensures refused { IfErr result (IsRefusedReview F.tells
-        (failing_of F.reading_may_fail F.writing_may_fail folder.old)
+    ensures refused { IfErr result (IsRefusedReview F.tells (F.failing folder.old)
         (F.held folder.old) (F.held folder.new) (files inputs.now) limit prefix.now) }
     ensures untouched { IfErr result (λ own. UnlessWrite own (folder.new ≡ folder.old)) }
     ensures others { (spot : _) → (IsReviewOutput prefix.now spot → ⊥)

@@ -2,10 +2,7 @@
 ghost use Rattle.std.specs.Prelude.{◌≡◌, ◌<◌, Bool, IfOk, length, map};
 ghost use Rattle.th_book.specs.Observed.{Observed};
 ghost use Rattle.th_network.specs.Networks.{vertices_of};
-ghost use Rattle.th_reliability.specs.Blunders.{weight_in};
-ghost use Rattle.th_reliability.specs.Effects.{IsEffect};
-ghost use Rattle.th_reliability.specs.Inside.Effects.{IsLeastDrained, Moves, of_less};
-ghost use Rattle.th_reliability.specs.Inside.Targets.{AreAtVertex};
+ghost use Rattle.th_reliability.specs.Inside.Effects.{IsFlowed, Moves, of_less};
 
 use crate::blames::{Blame, blame_of};
 use crate::ground::Ground;
@@ -57,17 +54,9 @@ pub(crate) fn effect_at(
 ) -> Result<Flowed, AllocError>
     requires each { length mistaken.now ≡ length ground.now.network.now.observations }
     requires start { start < vertices_of ground.now.network.now }
-    ensures effect { IfOk result (λ flowed. (group : Observed → Bool)
+    ensures { IfOk result (λ flowed. (group : Observed → Bool)
         → mistaken.now ≡ map group ground.now.network.now.observations
-        → AreAtVertex ground.now.network.now group start
-        → IsEffect ground.now.network.now group flowed.effect) }
-    ensures weight { IfOk result (λ flowed. (group : Observed → Bool)
-        → mistaken.now ≡ map group ground.now.network.now.observations
-        → flowed.weight ≡ weight_in ground.now.network.now.observations ground.now.network.now.weights group) }
-    ensures drained { IfOk result (λ flowed. (group : Observed → Bool)
-        → mistaken.now ≡ map group ground.now.network.now.observations
-        → AreAtVertex ground.now.network.now group start
-        → IsLeastDrained ground.now.network.now group flowed.drained) }
+        → IsFlowed ground.now.network.now group start flowed) }
 {
     let found = targets_of(alloc, ground, mistaken, start)?;
     let weight = found.weight;

@@ -1,13 +1,7 @@
 //! Observations that share a mistake at a point as flow sees them: from the vertex of the point to those
 //! of their other ends.
-ghost use Rattle.std.specs.Prelude.{◌≡◌, ◌<◌, ◌≤◌, All, Bool, IfOk, length, map};
-ghost use Rattle.th_book.specs.Observed.{Observed};
-ghost use Rattle.th_limits.specs.Limits.{max_total_weight};
-ghost use Rattle.th_network.specs.Networks.{vertices_of};
-ghost use Rattle.th_network.specs.Walks.{Anchored};
-ghost use Rattle.th_tables.specs.Rows.{weight_of};
-ghost use Rattle.th_reliability.specs.Blunders.{weight_in};
-ghost use Rattle.th_reliability.specs.Inside.Targets.{AreTargets, far_end};
+ghost use Rattle.std.specs.Prelude.{◌≡◌, IfOk, length};
+ghost use Rattle.th_reliability.specs.Inside.Targets.{AreTargetsOf, far_end};
 
 use crate::ground::Ground;
 use std::alloc::{AllocError, Global};
@@ -33,17 +27,7 @@ pub(crate) fn targets_of(
     start: u32,
 ) -> Result<Targets, AllocError>
     requires each { length mistaken.now ≡ length ground.now.network.now.observations }
-    ensures each { IfOk result (λ found. length found.rooms.items ≡ vertices_of ground.now.network.now) }
-    ensures light { IfOk result (λ found. found.weight ≤ max_total_weight) }
-    ensures weight { IfOk result (λ found. (group : Observed → Bool)
-        → mistaken.now ≡ map group ground.now.network.now.observations
-        → found.weight ≡ weight_in ground.now.network.now.observations ground.now.network.now.weights group) }
-    ensures weigh { IfOk result (λ _. All (λ o. 1 ≤ weight_of ground.now.network.now.weights o.station o.target)
-        ground.now.network.now.observations) }
-    ensures anchored { IfOk result (λ _. Anchored ground.now.network.now.observations ground.now.network.now.benchmarks) }
-    ensures targets { IfOk result (λ found. (group : Observed → Bool)
-        → mistaken.now ≡ map group ground.now.network.now.observations
-        → AreTargets ground.now.network.now group start found.rooms.items found.targets.items) }
+    ensures { IfOk result (AreTargetsOf ground.now.network.now mistaken.now start) }
 {
     let observations = ground.network.observations();
     let weights = ground.network.weights();

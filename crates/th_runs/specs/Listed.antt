@@ -1,10 +1,14 @@
 -- What a list of a book prints.
-use Rattle.std.specs.Prelude.{List, [], ◌∷◌}
+use Rattle.std.specs.Prelude.{IfErr, List, [], ◌∷◌, Ok, Result}
 use Rattle.std.specs.List.{Contains}
 use Rattle.th_book.specs.Observed.{Observed}
+use Rattle.th_devices.specs.Devices.{SinkState, SourceState}
 use Rattle.th_report.specs.Lists.{list_text}
-use Rattle.th_run_parts.specs.Reads.{IsOfBook}
-use Rattle.th_run_parts.specs.Writes.{Texts}
+use Rattle.th_run_parts.specs.Inputs.{Meets, MeetsRefusal, given, owed_for_book}
+use Rattle.th_run_parts.specs.Outcomes.{Outcome}
+use Rattle.th_run_parts.specs.Reads.{IsOfBook, IsReadFor, refused}
+use Rattle.th_run_parts.specs.Writes.{AreWritten, Texts}
+use Rattle.th_run_parts.specs.declared.refusals.Input.TheVariants as input
 use Rattle.th_run_parts.specs.declared.refusals.Output.{Output}
 use Rattle.th_run_parts.specs.declared.refusals.Output.TheVariants as output
 use Rattle.th_run_parts.specs.declared.refusals.Refusal.{Refusal}
@@ -22,3 +26,11 @@ listed observations = (output.List, list_text observations) ∷ []
 abbrev pub IsOfList : Refusal → Type 0
 IsOfList (refusal.Write which) = Contains listing which
 IsOfList own = IsOfBook 1 own
+
+-- What a list of a book leaves: its outcome, and how the book was read. A refusal names the book or the list.
+pub record ListedRun {S K X : Type 0} (of_book : S → SourceState) (of_out : K → SinkState) (result : Result X Refusal) (old_book new_book : S)
+    (old_outs new_outs : List K) : Type 0 where
+  pub outcome : Outcome (MeetsRefusal (owed_for_book 1 (given of_book old_book new_book))) (λ own. Meets (owed_for_book 1 (given of_book old_book new_book)) (Ok own))
+      (λ own. AreWritten of_out (refused result) (listed own) old_outs new_outs) result old_outs new_outs
+  pub named : IfErr result IsOfList
+  pub book : IsReadFor of_book (input.Book 1) (refused result) old_book new_book

@@ -1,12 +1,12 @@
 //! A run that explains what does not fit in the height network of books.
-ghost use Rattle.std.specs.Prelude.{◌≡◌, ◌≤◌, ◌∷◌, [], IfErr, IfOk, is_some, length};
+ghost use Rattle.std.specs.Prelude.{◌≡◌, ◌≤◌, ◌∷◌, [], IfErr, IfOk, length};
 ghost use Rattle.th_entries.specs.declared.reviews.BookReview.{BookReview};
 ghost use Rattle.th_limits.specs.Limits.{max_books};
 ghost use Rattle.th_runs.specs.Explained.{AreOfExplanation, ArePrintedOf, explaining, text_in};
-ghost use Rattle.th_run_parts.specs.Inputs.{owed_by_sources, told_by};
+ghost use Rattle.th_run_parts.specs.Inputs.{told_by};
 ghost use Rattle.th_run_parts.specs.Refused.{IsOfNetwork};
-ghost use Rattle.th_run_parts.specs.Outcomes.{PrintedOutcome};
-ghost use Rattle.th_run_parts.specs.Reads.{AreRead, AreReady, IsNamed, refused};
+ghost use Rattle.th_run_parts.specs.Outcomes.{PrintedRun};
+ghost use Rattle.th_run_parts.specs.Reads.{AreReady};
 ghost use Rattle.th_run_parts.specs.Writes.{AreWritable};
 
 use crate::reviews::ReviewReader;
@@ -48,16 +48,9 @@ pub fn run_explain<B: Source, T: Source, W: Source, K: Sink, P: Progress>(
 ) -> Result<(), Refusal>
     requires ready { AreReady B.state T.state W.state books.old benchmarks.old weights.old }
     requires outs { AreWritable K.state explaining.outputs outs.old }
-
-    // What the answer means.
-    ensures outcome { PrintedOutcome K.state (owed_by_sources B.state T.state W.state
-        books.old books.new benchmarks.old benchmarks.new weights.old weights.new)
-        (AreOfExplanation (told_by B.state books.old) limit form) result outs.old outs.new }
-    ensures named { IfErr result (IsNamed (length books.old) (is_some weights.old) explaining) }
-
-    // How the sources are read.
-    ensures sources { AreRead B.state T.state W.state (refused result) books.old books.new
-        benchmarks.old benchmarks.new weights.old weights.new }
+    ensures { PrintedRun B.state T.state W.state K.state explaining
+        (AreOfExplanation (told_by B.state books.old) limit form) result
+        books.old books.new benchmarks.old benchmarks.new weights.old weights.new outs.old outs.new }
 {
     let mut reader = ReviewReader::new(alloc);
     let survey = read_survey(alloc, &mut reader, books, benchmarks, weights)?;

@@ -1,18 +1,15 @@
 //! A run that lists the observations of one book.
-ghost use Rattle.std.specs.Prelude.{IfErr, Ok, OnOk};
+ghost use Rattle.std.specs.Prelude.{OnOk};
 ghost use Rattle.th_devices.specs.Devices.{IsReady};
-ghost use Rattle.th_run_parts.specs.Inputs.{Meets, MeetsRefusal, given, owed_for_book};
-ghost use Rattle.th_runs.specs.Listed.{IsOfList, listed, listing};
+ghost use Rattle.th_runs.specs.Listed.{ListedRun, listing};
 ghost use Rattle.th_runs.specs.Noted.{AreNone, AreNotesOfList};
-ghost use Rattle.th_run_parts.specs.Reads.{IsReadFor, refused};
-ghost use Rattle.th_run_parts.specs.Outcomes.{Outcome};
-ghost use Rattle.th_run_parts.specs.Writes.{AreWritable, AreWritten};
+ghost use Rattle.th_run_parts.specs.Writes.{AreWritable};
 
 use crate::notes::Notes;
 use std::alloc::Global;
 use th_devices::{Sink, Source};
 use th_report::list_text;
-use th_run_parts::{BookReader, Input, Output, OutputText, Refusal, write_outs};
+use th_run_parts::{BookReader, Output, OutputText, Refusal, write_outs};
 
 /// What a list of a book writes.
 pub const LISTED: [Output; 1] = [Output::List];
@@ -28,17 +25,7 @@ pub fn run_list<S: Source, K: Sink>(
 ) -> Result<(), Refusal>
     requires book { IsReady (S.state book.old).counts }
     requires outs { AreWritable K.state listing outs.old }
-
-    // What the answer means.
-    ensures outcome { Outcome
-        (MeetsRefusal (owed_for_book 1 (given S.state book.old book.new)))
-        (λ own. Meets (owed_for_book 1 (given S.state book.old book.new)) (Ok own))
-        (λ own. AreWritten K.state (refused result) (listed own) outs.old outs.new)
-        result outs.old outs.new }
-    ensures named { IfErr result IsOfList }
-
-    // How the book is read.
-    ensures book { IsReadFor S.state (Input.Book 1) (refused result) book.old book.new }
+    ensures { ListedRun S.state K.state result book.old book.new outs.old outs.new }
 {
     run_list_with_notes(alloc, book, outs, &mut Notes::new(alloc))
 }
@@ -53,19 +40,7 @@ pub fn run_list_with_notes<S: Source, K: Sink>(
     requires none { AreNone notes.old }
     requires book { IsReady (S.state book.old).counts }
     requires outs { AreWritable K.state listing outs.old }
-
-    // What the answer means.
-    ensures outcome { Outcome
-        (MeetsRefusal (owed_for_book 1 (given S.state book.old book.new)))
-        (λ own. Meets (owed_for_book 1 (given S.state book.old book.new)) (Ok own))
-        (λ own. AreWritten K.state (refused result) (listed own) outs.old outs.new)
-        result outs.old outs.new }
-    ensures named { IfErr result IsOfList }
-
-    // How the book is read.
-    ensures book { IsReadFor S.state (Input.Book 1) (refused result) book.old book.new }
-
-    // What is noted.
+    ensures listed { ListedRun S.state K.state result book.old book.new outs.old outs.new }
     ensures noted { OnOk result (AreNotesOfList (S.state book.old).left notes.new) }
 {
     let observations = notes.read(alloc, 1, book)?;

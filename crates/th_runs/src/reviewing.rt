@@ -1,5 +1,5 @@
 //! A run that reviews the height network of books: what a mistake in it would do.
-ghost use Rattle.std.specs.Prelude.{◌≡◌, ◌≤◌, All, IfErr, IfOk, List, [], is_some, length, map};
+ghost use Rattle.std.specs.Prelude.{◌≡◌, ◌≤◌, All, IfErr, IfOk, [], length, map};
 ghost use Rattle.std.specs.List.{AllZip};
 ghost use Rattle.th_entries.specs.Stations.{HasOneStation};
 ghost use Rattle.th_entries.specs.declared.reviews.BookReview.{BookReview};
@@ -10,11 +10,11 @@ ghost use Rattle.th_reliability.specs.Effects.{IsEffect};
 ghost use Rattle.th_reliability.specs.Sights.{in_sights};
 ghost use Rattle.th_review_rows.specs.Entries.{entries_of, sights_of};
 ghost use Rattle.th_review.specs.Texts.{bytes_of, found_in};
-ghost use Rattle.th_run_parts.specs.Inputs.{MakesNetwork, owed_by_sources, told_by};
+ghost use Rattle.th_run_parts.specs.Inputs.{MakesNetwork, told_by};
 ghost use Rattle.th_run_parts.specs.Refused.{IsOfNetwork};
-ghost use Rattle.th_run_parts.specs.Reads.{AreRead, AreReady, IsNamed, refused};
+ghost use Rattle.th_run_parts.specs.Reads.{AreReady};
 ghost use Rattle.th_runs.specs.Reviewed.{AreFound, AreOfReview, ArePrintedOf, in_order, reviewing};
-ghost use Rattle.th_run_parts.specs.Outcomes.{PrintedOutcome};
+ghost use Rattle.th_run_parts.specs.Outcomes.{PrintedRun};
 ghost use Rattle.th_run_parts.specs.Writes.{AreWritable};
 ghost use Rattle.th_tables.specs.Rows.{AreWeights};
 
@@ -63,16 +63,9 @@ pub fn run_review<B: Source, T: Source, W: Source, K: Sink, P: Progress>(
 ) -> Result<(), Refusal>
     requires ready { AreReady B.state T.state W.state books.old benchmarks.old weights.old }
     requires outs { AreWritable K.state reviewing.outputs outs.old }
-
-    // What the answer means.
-    ensures outcome { PrintedOutcome K.state (owed_by_sources B.state T.state W.state
-        books.old books.new benchmarks.old benchmarks.new weights.old weights.new)
-        (AreOfReview (told_by B.state books.old) limit) result outs.old outs.new }
-    ensures named { IfErr result (IsNamed (length books.old) (is_some weights.old) reviewing) }
-
-    // How the sources are read.
-    ensures sources { AreRead B.state T.state W.state (refused result) books.old books.new
-        benchmarks.old benchmarks.new weights.old weights.new }
+    ensures { PrintedRun B.state T.state W.state K.state reviewing
+        (AreOfReview (told_by B.state books.old) limit) result
+        books.old books.new benchmarks.old benchmarks.new weights.old weights.new outs.old outs.new }
 {
     entry_of_several_books_has_one_station();
     let mut reader = ReviewReader::new(alloc);

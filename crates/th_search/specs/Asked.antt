@@ -17,9 +17,13 @@ pub record Asked : Type 0 where
   pub arcs : List Arc
   pub potentials : Option (List ℤ)
 
+-- what a call asked that found this among so many vertices and these arcs
+abbrev pub asked_of : {E : Type 0} → ℕ → List Arc → Result Found E → Asked
+asked_of vertices arcs found = record { vertices = vertices; arcs = arcs; potentials = potentials_in found }
+
 -- what the last call was about
 abbrev pub asked_in : LastCall → Asked
-asked_in call = record { vertices = call.vertices; arcs = call.arcs.value.items; potentials = potentials_in call.found.value }
+asked_in call = asked_of call.vertices call.arcs.value.items call.found.value
 
 abbrev pub asked_last : Option LastCall → Option Asked
 asked_last None = None

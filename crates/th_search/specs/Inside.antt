@@ -4,4 +4,3 @@ pub mod Entries
 pub mod Labels
 pub mod Marks
 pub mod Passes
-pub mod Searched

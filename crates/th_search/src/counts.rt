@@ -1,6 +1,6 @@
 ghost use Rattle.std.specs.Prelude.{◌≡◌, ◌+◌, ◌<◌, ◌≤◌, Some};
 ghost use Rattle.th_search.specs.Answers.{cycles_in, refusals_in};
-ghost use Rattle.th_search.specs.Asked.{asked_last, potentials_in};
+ghost use Rattle.th_search.specs.Asked.{asked_last, asked_of};
 ghost use Rattle.th_search.specs.Limits.{max_calls};
 
 use crate::arcs::Arc;
@@ -44,11 +44,7 @@ impl SearchCounts {
         ensures calls { self.new.calls ≡ self.old.calls + 1 }
         ensures refusals { self.new.refusals ≡ self.old.refusals + refusals_in found.now }
         ensures cycles { self.new.cycles ≡ self.old.cycles + cycles_in found.now }
-        ensures asked { asked_last self.new.last ≡ Some (record {
-          vertices = n;
-          arcs = arcs.now.items;
-          potentials = potentials_in found.now;
-        }) }
+        ensures asked { asked_last self.new.last ≡ Some (asked_of n arcs.now.items found.now) }
     {
         self.last = Some(LastCall::of(n, arcs, found));
         self.calls += 1;

@@ -1,9 +1,8 @@
-ghost use Rattle.std.specs.Prelude.{◌≡◌, ◌+◌, ◌<◌, ◌≤◌, ℕ, All, IfSome, IsTrue, None, length};
-ghost use Rattle.th_search.specs.Limits.{max_vertices};
+ghost use Rattle.std.specs.Prelude.{◌≡◌, ◌+◌, ◌<◌, All, IfSome, IsTrue, None, length};
 ghost use Rattle.th_search.specs.Walks.{IsArc};
 ghost use Rattle.th_search.specs.Inside.Entries.{AreEntries, IsOnCycle, Meets};
 ghost use Rattle.th_search.specs.Inside.Labels.{IsForest};
-ghost use Rattle.th_search.specs.Inside.Marks.{AreMarked};
+ghost use Rattle.th_search.specs.Inside.Marks.{AreMarked, CanMark};
 
 use crate::arcs::Arc;
 
@@ -41,10 +40,7 @@ pub(crate) fn vertex_on_cycle(
     entries: &[Option<u32>],
     marks: &mut [u32],
 ) -> Option<u32>
-    requires arcs { All (IsArc (length entries.now)) arcs.now }
-    requires entries { AreEntries (length entries.now) arcs.now entries.now }
-    requires size { length entries.now ≤ max_vertices }
-    requires marks { length marks.old ≡ length entries.now }
+    requires { CanMark arcs.now entries.now marks.old }
     ensures some { IfSome result (λ vertex.
         (vertex < length entries.now) × IsOnCycle arcs.now entries.now vertex) }
     ensures none { result ≡ None → IsForest arcs.now entries.now }
@@ -62,10 +58,7 @@ pub(crate) fn vertex_on_cycle(
 /// Marks the vertices over which the entries lead back from a vertex, up to one that was marked
 /// before. Where that was on this very way, it is answered.
 fn mark_back(arcs: &[Arc], entries: &[Option<u32>], marks: &mut [u32], start: u32) -> Option<u32>
-    requires arcs { All (IsArc (length entries.now)) arcs.now }
-    requires entries { AreEntries (length entries.now) arcs.now entries.now }
-    requires size { length entries.now ≤ max_vertices }
-    requires marks { length marks.old ≡ length entries.now }
+    requires ready { CanMark arcs.now entries.now marks.old }
     requires start { start < length entries.now }
     requires marked { AreMarked arcs.now entries.now marks.old start }
     ensures some { IfSome result (λ vertex.

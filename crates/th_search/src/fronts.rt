@@ -1,5 +1,5 @@
 ghost use Rattle.std.specs.Prelude.{◌≡◌, ◌<ℤ◌, IfOk, IfSome, pos};
-ghost use Rattle.th_search.specs.Inside.Searched.{IsSearched};
+ghost use Rattle.th_search.specs.Searched.{IsSearched};
 ghost use Rattle.th_search.specs.Walks.{IsNegativeCycle};
 
 use crate::arcs::Arc;

@@ -1,7 +1,7 @@
 ghost use Rattle.std.specs.Prelude.{◌≡◌, IfOk};
 ghost use Rattle.th_search.specs.Answers.{IsAnswer};
 ghost use Rattle.th_search.specs.Asked.{asked_last};
-ghost use Rattle.th_search.specs.Inside.Searched.{IsSearched};
+ghost use Rattle.th_search.specs.Searched.{IsSearched};
 
 use crate::arcs::Arc;
 use crate::counts::SearchCounts;

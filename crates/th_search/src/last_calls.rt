@@ -1,5 +1,5 @@
 ghost use Rattle.std.specs.Prelude.{◌≡◌};
-ghost use Rattle.th_search.specs.Asked.{asked_in, potentials_in};
+ghost use Rattle.th_search.specs.Asked.{asked_in, asked_of};
 
 use crate::arcs::Arc;
 use crate::searches::Found;
@@ -19,11 +19,7 @@ pub struct LastCall {
 impl LastCall {
     /// The call with these arcs among so many vertices that found this.
     pub fn of(vertices: u32, arcs: &Vec<Arc>, found: &Result<Found, AllocError>) -> LastCall
-        ensures { asked_in result ≡ record {
-          vertices = vertices;
-          arcs = arcs.now.items;
-          potentials = potentials_in found.now;
-        } }
+        ensures { asked_in result ≡ asked_of vertices arcs.now.items found.now }
     {
         LastCall {
             vertices,

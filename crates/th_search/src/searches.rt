@@ -1,8 +1,8 @@
-ghost use Rattle.std.specs.Prelude.{◌≡◌, ◌+◌, ◌<◌, ◌≤◌, ℕ, Option, Some, All, IfOk, length};
-ghost use Rattle.th_search.specs.Limits.{max_vertices, max_arcs, max_calls};
-ghost use Rattle.th_search.specs.Walks.{IsArc};
+ghost use Rattle.std.specs.Prelude.{◌≡◌, ◌+◌, ◌<◌, ◌≤◌, ℕ, Option, Some, IfOk};
+ghost use Rattle.th_search.specs.Limits.{max_calls};
+ghost use Rattle.th_search.specs.Searched.{IsSearched};
 ghost use Rattle.th_search.specs.Answers.{IsAnswer, cycles_in, refusals_in};
-ghost use Rattle.th_search.specs.Asked.{Asked, potentials_in};
+ghost use Rattle.th_search.specs.Asked.{Asked, asked_of};
 
 use crate::arcs::Arc;
 use std::alloc::{AllocError, Global};
@@ -38,17 +38,10 @@ pub trait Search {
     /// contracts remember them, as a `Snapshot`. If memory runs out, the call counts as a refusal,
     /// and the search may be called again.
     fn search(&mut self, alloc: Global, n: u32, arcs: &Vec<Arc>) -> Result<Found, AllocError>
-        requires some { 1 ≤ n }
-        requires vertices { n ≤ max_vertices }
-        requires many { length arcs.now.items ≤ max_arcs }
-        requires arcs { All (IsArc n) arcs.now.items }
+        requires searched { IsSearched n arcs.now.items }
         requires calls { calls self.old < max_calls }
         ensures answer { IfOk result (IsAnswer n arcs.now.items) }
-        ensures asked { asked self.new ≡ Some (record {
-          vertices = n;
-          arcs = arcs.now.items;
-          potentials = potentials_in result;
-        }) }
+        ensures asked { asked self.new ≡ Some (asked_of n arcs.now.items result) }
         ensures calls { calls self.new ≡ calls self.old + 1 }
         ensures refusals { refusals self.new ≡ refusals self.old + refusals_in result }
         ensures cycles { cycles self.new ≡ cycles self.old + cycles_in result };

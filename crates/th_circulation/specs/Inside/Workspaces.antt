@@ -37,12 +37,6 @@ pub record GoesOn (graph : LinkGraph) (old new : Workspace) (steps : ℕ) : Type
   pub fits : Fits graph new.listing
   pub gained : (gain old.state.flows.items old.state.differences.items +ℤ pos steps) ≤ℤ gain new.state.flows.items old.state.differences.items
 
--- the flows show the heights, which are within the bounds of raised ones, for these differences
-pub record AreShownFor (graph : LinkGraph) (diffs : List ℤ) (work : Workspace) : Type 0 where
-  pub heights : AreWithin graph.vertices raised_bound work.state.heights.items
-  pub rises : HaveSmallRises graph.vertices work.state.heights.items
-  pub shown : ShowsLinks graph.weights.now work.state.flows.items (residuals graph.links.now diffs (value_at work.state.heights.items))
-
 -- a search was asked of these arcs last, and answered these potentials
 abbrev pub WasAsked : ℕ → List Arc → List ℤ → Option Asked → Type 0
 WasAsked vertices arcs potentials asked = asked ≡ Some (record { vertices = vertices; arcs = arcs; potentials = Some potentials })
@@ -59,10 +53,17 @@ pub record IsAskedFor (graph : LinkGraph) (diffs flows : List ℤ) (arcs : List 
   pub feasible : IsFeasible arcs potentials
   pub last : WasAsked graph.vertices arcs potentials asked
 
+-- for these differences the flows show the heights, which are within the bounds of raised ones, and a search was asked of the flows last
+pub record AreShownFor (graph : LinkGraph) (diffs : List ℤ) (work : Workspace) (asked : Option Asked) : Type 0 where
+  pub heights : AreWithin graph.vertices raised_bound work.state.heights.items
+  pub rises : HaveSmallRises graph.vertices work.state.heights.items
+  pub shown : ShowsLinks graph.weights.now work.state.flows.items (residuals graph.links.now diffs (value_at work.state.heights.items))
+  pub answered : IsAskedFor graph diffs work.state.flows.items work.listing.arcs.items asked
+
 -- the last phase is done: a flow shows the heights for the links' own differences
-pub record IsDone (graph : LinkGraph) (work : Workspace) : Type 0 where
+pub record IsDone (graph : LinkGraph) (work : Workspace) (asked : Option Asked) : Type 0 where
   pub flow : IsFlow graph.links.now graph.weights.now work.state.flows.items
-  pub shown : AreShownFor graph (differences_in 0 graph.links.now) work
+  pub shown : AreShownFor graph (differences_in 0 graph.links.now) work asked
 
 -- no flow gains more than these flows by over twice the sum of the weights
 abbrev pub IsNear : List Link → List ℕ → List ℤ → List ℤ → Type 0

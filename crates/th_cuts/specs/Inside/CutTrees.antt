@@ -1,4 +1,4 @@
-use Rattle.std.specs.Prelude.{◌≡◌, ℕ, ◌+◌, ◌-◌, ◌<◌, ◌≤◌, ◌==◌, Bool, true, List, if◌then◌else◌, length, slice_index_or, slice_set}
+use Rattle.std.specs.Prelude.{◌≡◌, ◌≢◌, ℕ, ◌+◌, ◌-◌, ◌<◌, ◌≤◌, ◌==◌, Bool, true, List, if◌then◌else◌, length, min, slice_index_or, slice_set}
 use Rattle.th_cuts.specs.declared.branches.Branch.{Branch}
 use Rattle.th_cuts.specs.declared.cuts.Cut.{Cut}
 use Rattle.th_graphs.specs.declared.edges.Edge.{Edge}
@@ -25,6 +25,18 @@ AreBranches vertices edges branches = (k : ℕ) (d : Branch) → k < length bran
 pub record AreLone (vertices : ℕ) (edges : List Edge) (lone : List ℕ) : Type 0 where
   pub each : length lone ≡ vertices
   pub weigh : (vertex : ℕ) → vertex < vertices → room_at lone vertex ≡ cut_weight (λ other. other == vertex) edges
+
+-- two different vertices of so many
+pub record IsPair (vertices u v : ℕ) : Type 0 where
+  pub first : u < vertices
+  pub second : v < vertices
+  pub apart : u ≢ v
+
+-- two vertices, and what the edges at the lighter one weigh
+pub record AreWeighed (vertices : ℕ) (edges : List Edge) (lone : List ℕ) (u v most : ℕ) : Type 0 where
+  pub weights : AreLone vertices edges lone
+  pub pair : IsPair vertices u v
+  pub lesser : most ≡ min (room_at lone u) (room_at lone v)
 
 -- this much more at a vertex
 abbrev pub raised : List ℕ → ℕ → ℕ → List ℕ

@@ -6,9 +6,12 @@ use Rattle.th_reliability.specs.Cuts.{IsFreeSet}
 use Rattle.th_reliability.specs.SharedMistakes.{own, rest}
 use Rattle.th_flows.specs.Drains.{on_side}
 use Rattle.th_reliability.specs.Blames.{IsBlame}
+use Rattle.th_reliability.specs.Effects.{IsEffect}
 use Rattle.th_reliability.specs.Inside.Sides.{names_beyond}
+use Rattle.th_reliability.specs.Inside.Targets.{AreAtVertex}
 use Rattle.th_reliability.specs.declared.blames.Blame.{Blame}
 use Rattle.th_reliability.specs.declared.effects.Effect.{Effect}
+use Rattle.th_reliability.specs.declared.effects.Flowed.{Flowed}
 use Rattle.th_reliability.specs.declared.mistakes.SharedMistake.{SharedMistake}
 use Rattle.th_reliability.specs.declared.mistakes.SharedMistake.TheVariants.{Drags, Unchecked}
 
@@ -25,3 +28,9 @@ of_less drained weight = if drained == weight then Unchecked else Drags
 pub record Moves (survey : Survey) (mistaken : List Bool) (mistake : SharedMistake) (side : List Bool) (effect : Effect) : Type 0 where
   pub word : effect.mistake ≡ mistake
   pub blame : (blame : Blame) × (effect.blame ≡ Some blame) × IsBlame survey mistaken (names_beyond survey (on_side side)) blame
+
+-- what flow finds of a mistake that a group shares, whose observations have an end at a vertex
+pub record IsFlowed (survey : Survey) (group : Observed → Bool) (start : ℕ) (flowed : Flowed) : Type 0 where
+  pub weight : flowed.weight ≡ weight_in survey.observations survey.weights group
+  pub effect : AreAtVertex survey group start → IsEffect survey group flowed.effect
+  pub drained : AreAtVertex survey group start → IsLeastDrained survey group flowed.drained

@@ -1,12 +1,15 @@
-use Rattle.std.specs.Prelude.{◌≡◌, ℕ, ◌+◌, ◌<◌, ◌≤◌, ◌⊎◌, ◌==◌, Bool, true, List, All, Contains, if◌then◌else◌, sum_by}
+use Rattle.std.specs.Prelude.{◌≡◌, ℕ, ◌+◌, ◌<◌, ◌≤◌, ◌⊎◌, ◌==◌, Bool, true, List, All, Contains, if◌then◌else◌, length, map, sum_by}
 use Rattle.th_limits.specs.Limits.{max_total_weight}
 use Rattle.th_book.specs.Observed.{Observed}
 use Rattle.th_tables.specs.Rows.{weight_of}
 use Rattle.th_network.specs.Networks.{Survey, vertices_of}
 use Rattle.th_network.specs.Vertices.{vertex_of}
+use Rattle.th_network.specs.Walks.{Anchored}
 use Rattle.th_flows.specs.Drains.{room_in}
 use Rattle.th_graphs.specs.declared.edges.Edge.{Edge}
+use Rattle.th_reliability.specs.Blunders.{weight_in}
 use Rattle.th_reliability.specs.Edges.{edge_of, edges_of}
+use Rattle.th_reliability.specs.declared.targets.Targets.{Targets}
 
 -- the vertex of a name
 abbrev pub vertex : Survey → List ℕ → ℕ
@@ -47,3 +50,12 @@ pub record AreTargets (survey : Survey) (group : Observed → Bool) (start : ℕ
   pub room : (inside : ℕ → Bool) → room_in rooms inside ≡ group_room survey group start inside survey.observations
   pub all : All (λ o. group o ≡ true → Contains targets (far_vertex survey start o)) survey.observations
   pub only : (target : ℕ) → Contains targets target → (o : Observed) × Contains survey.observations o × (group o ≡ true) × (far_vertex survey start o ≡ target)
+
+-- the targets of the observations that a list marks, and what those weigh, in a network whose weights are 1 or more
+pub record AreTargetsOf (survey : Survey) (mistaken : List Bool) (start : ℕ) (found : Targets) : Type 0 where
+  pub each : length found.rooms.items ≡ vertices_of survey
+  pub light : found.weight ≤ max_total_weight
+  pub weigh : All (λ o. 1 ≤ weight_of survey.weights o.station o.target) survey.observations
+  pub anchored : Anchored survey.observations survey.benchmarks
+  pub weight : (group : Observed → Bool) → mistaken ≡ map group survey.observations → found.weight ≡ weight_in survey.observations survey.weights group
+  pub targets : (group : Observed → Bool) → mistaken ≡ map group survey.observations → AreTargets survey group start found.rooms.items found.targets.items

@@ -29,4 +29,4 @@ pub returns-clause-asked : goal.returns-clause-asked
 returns-clause-asked g c =
     let graph = c.of-graph in
     let work = c.settle.new.self in
-    is_asked_last c.args.network.now graph.result work.state.flows.items work.listing.arcs.items (g.S.Search.asked c.settle.new.search) graph.ensures.vertices graph.ensures.links graph.ensures.weights c.in_ok-settle.ensures.asked
+    is_asked_last c.args.network.now graph.result work.state.flows.items work.listing.arcs.items (g.S.Search.asked c.settle.new.search) graph.ensures.vertices graph.ensures.links graph.ensures.weights c.in_ok-settle.ensures.done.shown.answered

@@ -9,8 +9,8 @@ returns-then-most-lone c =
     let side = c.in_ok-side.side.items in
     record {
       each = found.each;
-      apart = alone_apart graph.vertices graph.edges.items c.args.lone.now graph.graph.ends c.requires.lone c.args.source c.requires.source side c.args.sink c.requires.sink (λ e. c.requires.apart (sym e)) found.side;
-      weighs = alone_weighs graph.vertices graph.edges.items c.args.lone.now graph.graph.ends c.requires.lone c.args.source c.requires.source side found.side ∙ sym c.if-most-lone.true;
+      apart = alone_apart graph.vertices graph.edges.items c.args.lone.now graph.graph.ends c.requires.weighed.weights c.args.source c.requires.weighed.pair.first side c.args.sink c.requires.weighed.pair.second (λ e. c.requires.weighed.pair.apart (sym e)) found.side;
+      weighs = alone_weighs graph.vertices graph.edges.items c.args.lone.now graph.graph.ends c.requires.weighed.weights c.args.source c.requires.weighed.pair.first side found.side ∙ sym c.if-most-lone.true;
       least = c.requires.least;
     }
 
@@ -19,12 +19,12 @@ returns c =
     let graph = c.args.graph.now in
     let found = c.in_ok-side-2.ensures in
     let side = c.in_ok-side-2.side.items in
-    let is = c.requires.most in
+    let is = c.requires.weighed.lesser in
     let not = c.if-most-lone.false in
-    let weighs = all_but_weighs graph.vertices graph.edges.items c.args.lone.now graph.graph.ends c.requires.lone c.args.sink c.requires.sink side found.side in
+    let weighs = all_but_weighs graph.vertices graph.edges.items c.args.lone.now graph.graph.ends c.requires.weighed.weights c.args.sink c.requires.weighed.pair.second side found.side in
     record {
       each = found.each;
-      apart = all_but_apart graph.vertices graph.edges.items c.args.lone.now graph.graph.ends c.requires.lone c.args.sink c.requires.sink side c.args.source c.requires.source c.requires.apart found.side;
+      apart = all_but_apart graph.vertices graph.edges.items c.args.lone.now graph.graph.ends c.requires.weighed.weights c.args.sink c.requires.weighed.pair.second side c.args.source c.requires.weighed.pair.first c.requires.weighed.pair.apart found.side;
       weighs = omega arith;
       least = c.requires.least;
     }

@@ -15,7 +15,7 @@ loop-name-preserved g c =
     let shown : map (λ (name : Bor (List ℕ)). name.now) (take (i + 1) names) ≡ map (λ (name : Bor (List ℕ)). name.now) (take i names) ++ (get_or names i none).now ∷ [] =
     ap (map (λ (name : Bor (List ℕ)). name.now)) (take_more names i none c.loop-name-test.true)
     ∙ map-append (λ (name : Bor (List ℕ)). name.now) (take i names) (get_or names i none ∷ []) in
-    let opened = subst (λ (name : List ℕ). IsOpened (g.F.Folder.reading_may_fail c.loop-name.folder (file name)) (g.F.Folder.held c.loop-name.folder (file name))
+    let opened = subst (λ (name : List ℕ). IsOpened ((g.F.Folder.failing c.loop-name.folder).reading (file name)) (g.F.Folder.held c.loop-name.folder (file name))
     (g.F.In.Source.state c.in_ok-source.field-0)) one c.in_ok-source.ensures.opened in
-    let more = zip_more (λ (name : List ℕ) source. IsOpened (g.F.Folder.reading_may_fail c.args.folder.now (file name)) (g.F.Folder.held c.args.folder.now (file name)) (g.F.In.Source.state source)) _ c.loop-name.sources.items _ _ c.loop-name.invariant.1 (rw c.loop-name.invariant.0 at opened) in
+    let more = zip_more (λ (name : List ℕ) source. IsOpened ((g.F.Folder.failing c.args.folder.now).reading (file name)) (g.F.Folder.held c.args.folder.now (file name)) (g.F.In.Source.state source)) _ c.loop-name.sources.items _ _ c.loop-name.invariant.1 (rw c.loop-name.invariant.0 at opened) in
     (search rules, rw shown (rw c.in_ok-push.ensures.items more))

@@ -6,5 +6,5 @@ use Rattle.th_files.proofs.opening.sources_of.Goals as goal
 
 pub returns-clause-few_books : goal.returns-clause-few_books
 returns-clause-few_books g c =
-    let same = opened-length g.F.In.Source.state (g.F.Folder.reading_may_fail c.args.folder.now) (g.F.Folder.held c.args.folder.now) _ _ c.in_ok-books_of.ensures.opened in
+    let same = opened-length g.F.In.Source.state (g.F.Folder.failing c.args.folder.now).reading (g.F.Folder.held c.args.folder.now) _ _ c.in_ok-books_of.ensures.opened in
     omega (arith, same, length-map c.names.result.now (λ (name : Bor (List ℕ)). name.now), c.names.ensures.few)

@@ -9,7 +9,7 @@ pub loop-output-preserved : goal.loop-output-preserved
 loop-output-preserved g c =
     let sink = c.in_ok-sink_of.field-0 in
     let state = g.F.Out.Sink.state sink in
-    let writing = g.F.Folder.writing_may_fail c.args.folder.now in
+    let writing = (g.F.Folder.failing c.args.folder.now).writing in
     let made = subst (λ (ending : Option (List ℕ)). IsMade g.F.Folder.tells (writing (spot_at c.args.prefix.now ending)) (spot_at c.args.prefix.now ending) state)
     c.ending_of.ensures (rw c.loop-output.invariant.0 at c.in_ok-sink_of.ensures.made) in (
       search rules,

@@ -16,13 +16,13 @@ loop-sink-preserved g c =
     let step = c.in-Some.ensures.steps in
     let next = c.place_next-answer in
     let are : c.args.sinks.items ≡ done ++ sink ∷ rest = before.2 ∙ ap (λ left. done ++ left) step.0 in
-    let further = come-further folder.tells folder.held folder.has_failed folder.writing_may_fail (map state c.args.sinks.items) (map state done) (map state rest)
+    let further = come-further folder.tells folder.held folder.has_failed folder.failing (map state c.args.sinks.items) (map state done) (map state rest)
     (state sink) c.loop-sink.number _ _ _ _ _ (ap (map state) are ∙ map-append state done (sink ∷ rest)) (before.1 ∙ sym (length-map done state)) before.3 before.4
     next.ensures.next in (
       omega (arith, before.0, step.1),
       ap (λ count. count + 1) before.1 ∙ sym (length_push done sink),
       are ∙ sym (append_assoc done (sink ∷ []) rest),
-      (λ spot. next.ensures.fixed spot ∙ before.3 spot),
-      subst (λ (states : List SinkState). HaveCome folder.tells folder.held folder.has_failed folder.writing_may_fail (map state c.args.sinks.items) states
+      next.ensures.fixed ∙ before.3,
+      subst (λ (states : List SinkState). HaveCome folder.tells folder.held folder.has_failed folder.failing (map state c.args.sinks.items) states
           c.args.folder.now next.new.folder next.result) (sym (map-append state done (sink ∷ []))) further,
     )

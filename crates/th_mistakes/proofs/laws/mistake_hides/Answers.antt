@@ -5,6 +5,6 @@ use Rattle.th_mistakes.proofs.laws.mistake_hides.Goals as goal
 
 pub returns : goal.returns
 returns c = record {
-  hidden = hidden;
+  hidden = λ survey. hidden survey.observations survey.benchmarks survey.weights;
   unchecked = λ before after benchmarks weights heights o difference are. unblamed before after benchmarks weights heights o difference (heavy weights are);
 }

@@ -1,6 +1,6 @@
 use Rattle.th_mistakes.proofs.MoveLemmas.{blames, least_moved}
 use Rattle.th_mistakes.proofs.OneLemmas.{one_least}
-use Rattle.th_mistakes.proofs.WordLemmas.{found, unshown}
+use Rattle.th_mistakes.proofs.WordLemmas.{found, movable}
 use Rattle.th_mistakes.proofs.laws.mistake_moves_a_least_set.Goals as goal
 
 pub returns : goal.returns
@@ -8,6 +8,6 @@ returns c = record {
   least = least_moved;
   blames = blames;
   found = found;
-  unshown = unshown;
-  one = λ survey group place o control inside only at. one_least survey group place o only at control inside;
+  unshown = movable;
+  one = λ survey group o control inside only. one_least survey group o only control inside;
 }

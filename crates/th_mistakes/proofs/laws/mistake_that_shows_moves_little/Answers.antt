@@ -4,6 +4,6 @@ use Rattle.th_mistakes.proofs.laws.mistake_that_shows_moves_little.Goals as goal
 
 pub returns : goal.returns
 returns c = record {
-  near = moves_little;
-  one = λ survey truth heights group place o control point strength only at. one_near survey group place o only at truth heights control strength point;
+  near = λ survey. moves_little survey.observations survey.benchmarks survey.weights;
+  one = λ survey truth heights group o control point strength only. one_near survey group o only truth heights control strength point;
 }

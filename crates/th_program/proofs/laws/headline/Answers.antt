@@ -1,5 +1,4 @@
 use Rattle.th_program.proofs.HeadlineLemmas.{believed, sure}
-use Rattle.th_program.specs.Failing.{failing_of}
 use Rattle.th_program.proofs.laws.headline.Goals as goal
 
 pub returns-clause-adjusted : goal.returns-clause-adjusted
@@ -14,4 +13,4 @@ returns-clause-confirmed g c =
 
 pub returns-clause-believed : goal.returns-clause-believed
 returns-clause-believed g c =
-    believed g.F.Folder.tells g.F.Folder.held g.F.Folder.has_failed (failing_of g.F.Folder.reading_may_fail g.F.Folder.writing_may_fail)
+    believed g.F.Folder.tells g.F.Folder.held g.F.Folder.has_failed g.F.Folder.failing

@@ -1,8 +1,7 @@
 use Rattle.th_program.proofs.InputLemmas.{kept}
-use Rattle.th_program.specs.Failing.{failing_of}
 use Rattle.th_program.proofs.laws.inputs_are_kept.Goals as goal
 
 pub returns : goal.returns
 returns g c =
-    kept g.F.Folder.tells g.F.Folder.held g.F.Folder.has_failed (failing_of g.F.Folder.reading_may_fail g.F.Folder.writing_may_fail)
+    kept g.F.Folder.tells g.F.Folder.held g.F.Folder.has_failed g.F.Folder.failing
     g.met.F.Folder.tells_or_not

@@ -1,7 +1,6 @@
 use Rattle.std.proofs.Common.{◌∙◌, ap, inl, inr}
 use Rattle.th_program.proofs.RefusalLemmas.{unless-map}
 use Rattle.th_program.proofs.RunLemmas.{done-after, errors_apart, refused-after}
-use Rattle.th_program.specs.Failing.{failing_of}
 use Rattle.th_devices.specs.Spots.{errors}
 use Rattle.th_program.proofs.plans.run_apart.Goals as goal
 
@@ -11,7 +10,7 @@ returns g c =
     inr (
       own,
       record {
-        refused = refused-after g.F.Folder.tells (failing_of g.F.Folder.reading_may_fail g.F.Folder.writing_may_fail c.args.folder.now) (g.F.Folder.held c.args.folder.now) (g.F.Folder.held c.carry_out.new.folder) (g.F.Folder.held c.refuse.new.folder) c.args.plan.now own c.refuse.ensures.others c.in-Err.ensures.refused;
+        refused = refused-after g.F.Folder.tells (g.F.Folder.failing c.args.folder.now) (g.F.Folder.held c.args.folder.now) (g.F.Folder.held c.carry_out.new.folder) (g.F.Folder.held c.refuse.new.folder) c.args.plan.now own c.refuse.ensures.others c.in-Err.ensures.refused;
         status_is = c.refuse.ensures.status;
         reported = c.refuse.ensures.reported;
         untouched = unless-map own _ _ (λ same. λ spot apart. c.refuse.ensures.others spot apart ∙ ap (λ folder. g.F.Folder.held folder spot) same) c.in-Err.ensures.untouched;

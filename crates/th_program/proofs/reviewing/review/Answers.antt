@@ -10,7 +10,7 @@ use Rattle.th_files.proofs.OpenedLemmas.{named-opened, opened-are-ready, survey-
 use Rattle.th_files.proofs.OutputLemmas.{all_apart, all_files, lent, made_ready, none_among, not_among, of_map, spots_after}
 use Rattle.th_program.proofs.PlaceLemmas.{apart_map, finished_given, others_given, printed_given, refused_given, untouched_given}
 use Rattle.th_program.specs.Done.{IsReviewed}
-use Rattle.th_program.specs.Failing.{HasCause, IsInFiles, failing_of}
+use Rattle.th_program.specs.Failing.{HasCause, IsInFiles}
 use Rattle.th_files.specs.Opened.{AreMade, AreOpened}
 use Rattle.th_files.specs.Outputs.{ending_of, spots_of}
 use Rattle.th_files.specs.Owed.{survey_owed}
@@ -28,16 +28,16 @@ run_review-answer-requires-clause-ready g c =
 pub run_review-answer-requires-clause-outs : goal.run_review-answer-requires-clause-outs
 run_review-answer-requires-clause-outs g c =
     rw c.as_mut_slice-2.ensures.value
-    (made_ready g.F.Out.Sink.state g.F.Folder.tells (g.F.Folder.writing_may_fail c.sources_of.new.folder) c.args.prefix.now reviewing.outputs _ c.in_ok-outs.ensures.made)
+    (made_ready g.F.Out.Sink.state g.F.Folder.tells (g.F.Folder.failing c.sources_of.new.folder).writing c.args.prefix.now reviewing.outputs _ c.in_ok-outs.ensures.made)
 
 pub place_sinks-requires-clause-files : goal.place_sinks-requires-clause-files
 place_sinks-requires-clause-files g c =
     let run = c.run_review-answer in
     let prefix = c.args.prefix.now in
     let unopened : c.sources_of.new.folder ≡ c.args.folder.now = c.sources_of.ensures.same in
-    let made : AreMade g.F.Out.Sink.state g.F.Folder.tells (g.F.Folder.writing_may_fail c.args.folder.now) (spots_of prefix reviewing.outputs) c.as_mut_slice-2.result.now =
-    rw c.as_mut_slice-2.ensures.value (subst (λ folder. AreMade g.F.Out.Sink.state g.F.Folder.tells (g.F.Folder.writing_may_fail folder) (spots_of prefix reviewing.outputs) c.in_ok-outs.outs.items) unopened c.in_ok-outs.ensures.made) in
-    let there = spots_after g.F.Out.Sink.state g.F.Folder.tells (g.F.Folder.writing_may_fail c.args.folder.now) (spots_of prefix reviewing.outputs) _ _ _ run.result _ _ run.ensures.outcome made (λ survey has. (has.0, has.2)) in
+    let made : AreMade g.F.Out.Sink.state g.F.Folder.tells (g.F.Folder.failing c.args.folder.now).writing (spots_of prefix reviewing.outputs) c.as_mut_slice-2.result.now =
+    rw c.as_mut_slice-2.ensures.value (subst (λ folder. AreMade g.F.Out.Sink.state g.F.Folder.tells (g.F.Folder.failing folder).writing (spots_of prefix reviewing.outputs) c.in_ok-outs.outs.items) unopened c.in_ok-outs.ensures.made) in
+    let there = spots_after g.F.Out.Sink.state g.F.Folder.tells (g.F.Folder.failing c.args.folder.now).writing (spots_of prefix reviewing.outputs) _ _ _ run.result _ _ run.ensures.outcome made (λ survey has. (has.0, has.2)) in
     let back : take c.in_ok-outs.outs.len (run.new.outs ++ drop (length run.new.outs) c.in_ok-outs.outs.items) ≡ run.new.outs =
     lent c.in_ok-outs.outs.items run.new.outs c.in_ok-outs.outs.len (omega (arith, c.as_mut_slice-2.ensures.len, run.auto.outs)) in
     rw back (of_map (λ own. (g.F.Out.Sink.state own).spot) (λ spot. is_file spot ≡ true) _
@@ -55,9 +55,9 @@ place_sinks-requires-clause-as_many g c =
     let run = c.run_review-answer in
     let prefix = c.args.prefix.now in
     let unopened : c.sources_of.new.folder ≡ c.args.folder.now = c.sources_of.ensures.same in
-    let made : AreMade g.F.Out.Sink.state g.F.Folder.tells (g.F.Folder.writing_may_fail c.args.folder.now) (spots_of prefix reviewing.outputs) c.as_mut_slice-2.result.now =
-    rw c.as_mut_slice-2.ensures.value (subst (λ folder. AreMade g.F.Out.Sink.state g.F.Folder.tells (g.F.Folder.writing_may_fail folder) (spots_of prefix reviewing.outputs) c.in_ok-outs.outs.items) unopened c.in_ok-outs.ensures.made) in
-    let there = spots_after g.F.Out.Sink.state g.F.Folder.tells (g.F.Folder.writing_may_fail c.args.folder.now) (spots_of prefix reviewing.outputs) _ _ _ run.result _ _ run.ensures.outcome made (λ survey has. (has.0, has.2)) in
+    let made : AreMade g.F.Out.Sink.state g.F.Folder.tells (g.F.Folder.failing c.args.folder.now).writing (spots_of prefix reviewing.outputs) c.as_mut_slice-2.result.now =
+    rw c.as_mut_slice-2.ensures.value (subst (λ folder. AreMade g.F.Out.Sink.state g.F.Folder.tells (g.F.Folder.failing folder).writing (spots_of prefix reviewing.outputs) c.in_ok-outs.outs.items) unopened c.in_ok-outs.ensures.made) in
+    let there = spots_after g.F.Out.Sink.state g.F.Folder.tells (g.F.Folder.failing c.args.folder.now).writing (spots_of prefix reviewing.outputs) _ _ _ run.result _ _ run.ensures.outcome made (λ survey has. (has.0, has.2)) in
     let back : take c.in_ok-outs.outs.len (run.new.outs ++ drop (length run.new.outs) c.in_ok-outs.outs.items) ≡ run.new.outs =
     lent c.in_ok-outs.outs.items run.new.outs c.in_ok-outs.outs.len (omega (arith, c.as_mut_slice-2.ensures.len, run.auto.outs)) in
     rw back (sym (length-map run.new.outs (λ own. (g.F.Out.Sink.state own).spot)) ∙ ap length there)
@@ -68,18 +68,18 @@ returns-clause-reviewed g c =
     let from = files c.args.inputs.now in
     let told = g.F.Folder.held c.args.folder.now in
     let prefix = c.args.prefix.now in
-    let opened : AreOpened g.F.In.Source.state (g.F.Folder.reading_may_fail c.args.folder.now) told from c.as_mut_slice.result.now c.in_ok-sources.sources.benchmarks c.in_ok-sources.sources.weights =
+    let opened : AreOpened g.F.In.Source.state (g.F.Folder.failing c.args.folder.now).reading told from c.as_mut_slice.result.now c.in_ok-sources.sources.benchmarks c.in_ok-sources.sources.weights =
     rw c.as_mut_slice.ensures.value c.in_ok-sources.ensures.opened in
-    let owed = survey-opened g.F.In.Source.state (g.F.Folder.reading_may_fail c.args.folder.now) told from (refused run.result) _ _ _ _ _ _ opened run.ensures.sources in
-    let books = tells-opened g.F.In.Source.state (g.F.Folder.reading_may_fail c.args.folder.now) told _ _ opened.of_books in
+    let owed = survey-opened g.F.In.Source.state (g.F.Folder.failing c.args.folder.now).reading told from (refused run.result) _ _ _ _ _ _ opened run.ensures.sources in
+    let books = tells-opened g.F.In.Source.state (g.F.Folder.failing c.args.folder.now).reading told _ _ opened.of_books in
     let unopened : c.sources_of.new.folder ≡ c.args.folder.now = c.sources_of.ensures.same in
-    let made : AreMade g.F.Out.Sink.state g.F.Folder.tells (g.F.Folder.writing_may_fail c.args.folder.now) (spots_of prefix reviewing.outputs) c.as_mut_slice-2.result.now =
-    rw c.as_mut_slice-2.ensures.value (subst (λ folder. AreMade g.F.Out.Sink.state g.F.Folder.tells (g.F.Folder.writing_may_fail folder) (spots_of prefix reviewing.outputs) c.in_ok-outs.outs.items) unopened c.in_ok-outs.ensures.made) in
+    let made : AreMade g.F.Out.Sink.state g.F.Folder.tells (g.F.Folder.failing c.args.folder.now).writing (spots_of prefix reviewing.outputs) c.as_mut_slice-2.result.now =
+    rw c.as_mut_slice-2.ensures.value (subst (λ folder. AreMade g.F.Out.Sink.state g.F.Folder.tells (g.F.Folder.failing folder).writing (spots_of prefix reviewing.outputs) c.in_ok-outs.outs.items) unopened c.in_ok-outs.ensures.made) in
     let same : c.sinks_of.new.folder ≡ c.args.folder.now = c.sinks_of.ensures.same ∙ c.sources_of.ensures.same in
     let limit : to_z w64 (of_z w64 c.get.result) ≡ c.args.limit = search rules in
     let back : take c.in_ok-outs.outs.len (run.new.outs ++ drop (length run.new.outs) c.in_ok-outs.outs.items) ≡ run.new.outs =
     lent c.in_ok-outs.outs.items run.new.outs c.in_ok-outs.outs.len (omega (arith, c.as_mut_slice-2.ensures.len, run.auto.outs)) in
-    let printed = printed_given g.F.Folder.tells g.F.Folder.held g.F.Folder.has_failed g.F.Folder.writing_may_fail from prefix reviewing.outputs (AreOfReview (map (λ (name : List ℕ). told (file name)) from.books) c.args.limit)
+    let printed = printed_given g.F.Folder.tells g.F.Folder.held g.F.Folder.has_failed g.F.Folder.failing from prefix reviewing.outputs (AreOfReview (map (λ (name : List ℕ). told (file name)) from.books) c.args.limit)
     g.F.Out.Sink.state _ _ _ run.result c.place_sinks.result c.args.folder.now c.place_sinks.new.folder owed (all_apart prefix (map ending_of reviewing.outputs) refl) made
     (λ survey texts are. ap (λ (all : Texts). map (λ own. own.0) all) are.3.2) (rw (limit, books) at run.ensures.outcome.written) (rw (same, back) at c.place_sinks.ensures) in
     printed.0
@@ -90,34 +90,34 @@ returns-clause-refused g c =
     let from = files c.args.inputs.now in
     let told = g.F.Folder.held c.args.folder.now in
     let prefix = c.args.prefix.now in
-    let opened : AreOpened g.F.In.Source.state (g.F.Folder.reading_may_fail c.args.folder.now) told from c.as_mut_slice.result.now c.in_ok-sources.sources.benchmarks c.in_ok-sources.sources.weights =
+    let opened : AreOpened g.F.In.Source.state (g.F.Folder.failing c.args.folder.now).reading told from c.as_mut_slice.result.now c.in_ok-sources.sources.benchmarks c.in_ok-sources.sources.weights =
     rw c.as_mut_slice.ensures.value c.in_ok-sources.ensures.opened in
-    let owed = survey-opened g.F.In.Source.state (g.F.Folder.reading_may_fail c.args.folder.now) told from (refused run.result) _ _ _ _ _ _ opened run.ensures.sources in
-    let books = tells-opened g.F.In.Source.state (g.F.Folder.reading_may_fail c.args.folder.now) told _ _ opened.of_books in
+    let owed = survey-opened g.F.In.Source.state (g.F.Folder.failing c.args.folder.now).reading told from (refused run.result) _ _ _ _ _ _ opened run.ensures.sources in
+    let books = tells-opened g.F.In.Source.state (g.F.Folder.failing c.args.folder.now).reading told _ _ opened.of_books in
     let unopened : c.sources_of.new.folder ≡ c.args.folder.now = c.sources_of.ensures.same in
-    let made : AreMade g.F.Out.Sink.state g.F.Folder.tells (g.F.Folder.writing_may_fail c.args.folder.now) (spots_of prefix reviewing.outputs) c.as_mut_slice-2.result.now =
-    rw c.as_mut_slice-2.ensures.value (subst (λ folder. AreMade g.F.Out.Sink.state g.F.Folder.tells (g.F.Folder.writing_may_fail folder) (spots_of prefix reviewing.outputs) c.in_ok-outs.outs.items) unopened c.in_ok-outs.ensures.made) in
+    let made : AreMade g.F.Out.Sink.state g.F.Folder.tells (g.F.Folder.failing c.args.folder.now).writing (spots_of prefix reviewing.outputs) c.as_mut_slice-2.result.now =
+    rw c.as_mut_slice-2.ensures.value (subst (λ folder. AreMade g.F.Out.Sink.state g.F.Folder.tells (g.F.Folder.failing folder).writing (spots_of prefix reviewing.outputs) c.in_ok-outs.outs.items) unopened c.in_ok-outs.ensures.made) in
     let same : c.sinks_of.new.folder ≡ c.args.folder.now = c.sinks_of.ensures.same ∙ c.sources_of.ensures.same in
     let limit : to_z w64 (of_z w64 c.get.result) ≡ c.args.limit = search rules in
     let back : take c.in_ok-outs.outs.len (run.new.outs ++ drop (length run.new.outs) c.in_ok-outs.outs.items) ≡ run.new.outs =
     lent c.in_ok-outs.outs.items run.new.outs c.in_ok-outs.outs.len (omega (arith, c.as_mut_slice-2.ensures.len, run.auto.outs)) in
-    let printed = printed_given g.F.Folder.tells g.F.Folder.held g.F.Folder.has_failed g.F.Folder.writing_may_fail from prefix reviewing.outputs (AreOfReview (map (λ (name : List ℕ). told (file name)) from.books) c.args.limit)
+    let printed = printed_given g.F.Folder.tells g.F.Folder.held g.F.Folder.has_failed g.F.Folder.failing from prefix reviewing.outputs (AreOfReview (map (λ (name : List ℕ). told (file name)) from.books) c.args.limit)
     g.F.Out.Sink.state _ _ _ run.result c.place_sinks.result c.args.folder.now c.place_sinks.new.folder owed (all_apart prefix (map ending_of reviewing.outputs) refl) made
     (λ survey texts are. ap (λ (all : Texts). map (λ own. own.0) all) are.3.2) (rw (limit, books) at run.ensures.outcome.written) (rw (same, back) at c.place_sinks.ensures) in
-    let failing = failing_of g.F.Folder.reading_may_fail g.F.Folder.writing_may_fail c.args.folder.now in
-    let there = spots_after g.F.Out.Sink.state g.F.Folder.tells (g.F.Folder.writing_may_fail c.args.folder.now) (spots_of prefix reviewing.outputs) _ _ _ run.result _ _ run.ensures.outcome made (λ survey has. (has.0, has.2)) in
+    let failing = g.F.Folder.failing c.args.folder.now in
+    let there = spots_after g.F.Out.Sink.state g.F.Folder.tells (g.F.Folder.failing c.args.folder.now).writing (spots_of prefix reviewing.outputs) _ _ _ run.result _ _ run.ensures.outcome made (λ survey has. (has.0, has.2)) in
     let blamed = run_caused failing (IsInFiles from) prefix run.result
-    (files_caused g.F.In.Source.state (g.F.Folder.reading_may_fail c.args.folder.now) told from reviewing (IsInFiles from) run.result _ _ _ _ _ _ (λ own spot is. is) opened
+    (files_caused g.F.In.Source.state (g.F.Folder.failing c.args.folder.now).reading told from reviewing (IsInFiles from) run.result _ _ _ _ _ _ (λ own spot is. is) opened
     run.ensures.sources run.ensures.named (λ is has. absurd (cc has)))
-    (output_caused g.F.Out.Sink.state g.F.Folder.tells (g.F.Folder.writing_may_fail c.args.folder.now) prefix reviewing.outputs run.result _ _ made
+    (output_caused g.F.Out.Sink.state g.F.Folder.tells (g.F.Folder.failing c.args.folder.now).writing prefix reviewing.outputs run.result _ _ made
     (λ begun. let (survey, accepted, has) = run.ensures.outcome.written begun in (has.0, ap (λ (all : Texts). map (λ own. own.0) all) has.1.3.2, has.2))) in
-    let caused = given_caused g.F.Out.Sink.state g.F.Folder.tells g.F.Folder.held g.F.Folder.has_failed g.F.Folder.writing_may_fail failing (IsInFiles from) prefix reviewing.outputs
-    run.new.outs run.result c.place_sinks.result c.args.folder.now c.place_sinks.new.folder refl there (rw (same, back) at c.place_sinks.ensures) blamed in
-    refused_given g.F.Folder.tells g.F.Folder.held g.F.Folder.has_failed g.F.Folder.writing_may_fail reviewing from (λ (survey : Survey). survey)
+    let caused = given_caused g.F.Out.Sink.state g.F.Folder.tells g.F.Folder.held g.F.Folder.has_failed g.F.Folder.failing (IsInFiles from) prefix reviewing.outputs
+    run.new.outs run.result c.place_sinks.result c.args.folder.now c.place_sinks.new.folder there (rw (same, back) at c.place_sinks.ensures) blamed in
+    refused_given g.F.Folder.tells g.F.Folder.held g.F.Folder.has_failed g.F.Folder.failing reviewing from (λ (survey : Survey). survey)
     (λ answer. survey_owed told answer from) (IsReviewed g.F.Folder.tells told (g.F.Folder.held c.place_sinks.new.folder) from c.args.limit prefix)
     (HasCause failing (IsInFiles from) prefix) (map g.F.Out.Sink.state run.new.outs) run.result c.place_sinks.result
     c.args.folder.now c.place_sinks.new.folder
-    (named-opened g.F.In.Source.state (g.F.Folder.reading_may_fail c.args.folder.now) told from reviewing _ _ _ _ opened run.ensures.named)
+    (named-opened g.F.In.Source.state (g.F.Folder.failing c.args.folder.now).reading told from reviewing _ _ _ _ opened run.ensures.named)
     (subst (λ (known : Owed Survey). IfErr run.result (λ own. UnlessWrite own (IsOwed (λ survey. survey) known own))) owed run.ensures.outcome.refused)
     (rw (same, back) at c.place_sinks.ensures) printed.1 caused
 
@@ -127,7 +127,7 @@ returns-clause-untouched g c =
     let back : take c.in_ok-outs.outs.len (run.new.outs ++ drop (length run.new.outs) c.in_ok-outs.outs.items) ≡ run.new.outs =
     lent c.in_ok-outs.outs.items run.new.outs c.in_ok-outs.outs.len (omega (arith, c.as_mut_slice-2.ensures.len, run.auto.outs)) in
     let same : c.sinks_of.new.folder ≡ c.args.folder.now = c.sinks_of.ensures.same ∙ c.sources_of.ensures.same in
-    untouched_given g.F.Folder.tells g.F.Folder.held g.F.Folder.has_failed g.F.Folder.writing_may_fail (map g.F.Out.Sink.state run.new.outs) reviewing.outputs run.result c.place_sinks.result c.args.folder.now
+    untouched_given g.F.Folder.tells g.F.Folder.held g.F.Folder.has_failed g.F.Folder.failing (map g.F.Out.Sink.state run.new.outs) reviewing.outputs run.result c.place_sinks.result c.args.folder.now
     c.place_sinks.new.folder (rw (same, back) at c.place_sinks.ensures)
 
 pub returns-clause-others : goal.returns-clause-others
@@ -135,12 +135,12 @@ returns-clause-others g c =
     let run = c.run_review-answer in
     let prefix = c.args.prefix.now in
     let unopened : c.sources_of.new.folder ≡ c.args.folder.now = c.sources_of.ensures.same in
-    let made : AreMade g.F.Out.Sink.state g.F.Folder.tells (g.F.Folder.writing_may_fail c.args.folder.now) (spots_of prefix reviewing.outputs) c.as_mut_slice-2.result.now =
-    rw c.as_mut_slice-2.ensures.value (subst (λ folder. AreMade g.F.Out.Sink.state g.F.Folder.tells (g.F.Folder.writing_may_fail folder) (spots_of prefix reviewing.outputs) c.in_ok-outs.outs.items) unopened c.in_ok-outs.ensures.made) in
-    let there = spots_after g.F.Out.Sink.state g.F.Folder.tells (g.F.Folder.writing_may_fail c.args.folder.now) (spots_of prefix reviewing.outputs) _ _ _ run.result _ _ run.ensures.outcome made (λ survey has. (has.0, has.2)) in
+    let made : AreMade g.F.Out.Sink.state g.F.Folder.tells (g.F.Folder.failing c.args.folder.now).writing (spots_of prefix reviewing.outputs) c.as_mut_slice-2.result.now =
+    rw c.as_mut_slice-2.ensures.value (subst (λ folder. AreMade g.F.Out.Sink.state g.F.Folder.tells (g.F.Folder.failing folder).writing (spots_of prefix reviewing.outputs) c.in_ok-outs.outs.items) unopened c.in_ok-outs.ensures.made) in
+    let there = spots_after g.F.Out.Sink.state g.F.Folder.tells (g.F.Folder.failing c.args.folder.now).writing (spots_of prefix reviewing.outputs) _ _ _ run.result _ _ run.ensures.outcome made (λ survey has. (has.0, has.2)) in
     let same : c.sinks_of.new.folder ≡ c.args.folder.now = c.sinks_of.ensures.same ∙ c.sources_of.ensures.same in
     let back : take c.in_ok-outs.outs.len (run.new.outs ++ drop (length run.new.outs) c.in_ok-outs.outs.items) ≡ run.new.outs =
     lent c.in_ok-outs.outs.items run.new.outs c.in_ok-outs.outs.len (omega (arith, c.as_mut_slice-2.ensures.len, run.auto.outs)) in
-    λ spot none. others_given g.F.Folder.tells g.F.Folder.held g.F.Folder.has_failed g.F.Folder.writing_may_fail (map g.F.Out.Sink.state run.new.outs) reviewing.outputs run.result c.place_sinks.result c.args.folder.now
+    λ spot none. others_given g.F.Folder.tells g.F.Folder.held g.F.Folder.has_failed g.F.Folder.failing (map g.F.Out.Sink.state run.new.outs) reviewing.outputs run.result c.place_sinks.result c.args.folder.now
     c.place_sinks.new.folder (rw (same, back) at c.place_sinks.ensures) spot
     (apart_map g.F.Out.Sink.state spot run.new.outs (none_among g.F.Out.Sink.state run.new.outs (spots_of prefix reviewing.outputs) spot there (not_among (spots_of prefix reviewing.outputs) spot none)))

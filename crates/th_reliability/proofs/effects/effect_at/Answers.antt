@@ -15,8 +15,8 @@ found_targets : (survey : Survey) (group : Observed → Bool) (start : ℕ) (roo
 found_targets survey group start rooms rooms2 targets targets2 a b are =
     subst (λ (rs : List ℕ). AreTargets survey group start rs targets2) (sym a) (subst (λ (ts : List ℕ). AreTargets survey group start rooms ts) (sym b) are)
 
-pub returns-in-Less-clause-effect : goal.returns-in-Less-clause-effect
-returns-in-Less-clause-effect c group same at =
+pub returns-in-Less : goal.returns-in-Less
+returns-in-Less c group same =
     let survey = c.args.ground.now.network.now in
     let start = c.args.start in
     let weight = c.in_ok-found.found.weight in
@@ -30,24 +30,14 @@ returns-in-Less-clause-effect c group same at =
     let effect = c.in_ok-effect-in-Less.effect in
     let sided = subst (λ (side : List Bool). Moves survey c.args.mistaken.now c.of_less-mistake.result side effect) c.deref-in-Less.ensures.value c.in_ok-effect-in-Less.ensures in
     let moves = subst (λ (mistake : SharedMistake). Moves survey c.args.mistaken.now mistake c.in-Less.side.items effect) c.of_less-mistake.ensures sided in
-    less_effect survey group c.args.mistaken.now same start weight at rooms targets are graph is weighs c.in-Less.drained c.in-Less.side.items effect found.0 found.1 moves
+    record {
+      weight = weighs;
+      effect = λ at. less_effect survey group c.args.mistaken.now same start weight at rooms targets are graph is weighs c.in-Less.drained c.in-Less.side.items effect found.0 found.1 moves;
+      drained = λ at. side_drained survey group c.args.mistaken.now same start weight at rooms targets are graph is weighs c.in-Less.drained c.in-Less.side.items found.0;
+    }
 
-pub returns-in-Less-clause-drained : goal.returns-in-Less-clause-drained
-returns-in-Less-clause-drained c group same at =
-    let survey = c.args.ground.now.network.now in
-    let start = c.args.start in
-    let weight = c.in_ok-found.found.weight in
-    let rooms = c.deref.result.now in
-    let targets = c.deref-2.result.now in
-    let graph : Weighted = record { vertices = c.args.ground.now.graph.vertices; edges = c.args.ground.now.graph.edges.items } in
-    let is = c.args.ground.now.graphed in
-    let are : AreTargets survey group start rooms targets = found_targets survey group start c.in_ok-found.found.rooms.items rooms c.in_ok-found.found.targets.items targets c.deref.ensures.value c.deref-2.ensures.value (c.in_ok-found.ensures.targets group same) in
-    let weighs = c.in_ok-found.ensures.weight group same in
-    let found = subst (λ (d : Drained). IsDrained graph.edges rooms start (weight + weight) targets d) c.in-Less.is c.in_ok-drained.ensures in
-    side_drained survey group c.args.mistaken.now same start weight at rooms targets are graph is weighs c.in-Less.drained c.in-Less.side.items found.0
-
-pub returns-in-Just-clause-effect : goal.returns-in-Just-clause-effect
-returns-in-Just-clause-effect c group same at =
+pub returns-in-Just : goal.returns-in-Just
+returns-in-Just c group same =
     let survey = c.args.ground.now.network.now in
     let start = c.args.start in
     let weight = c.in_ok-found.found.weight in
@@ -60,24 +50,14 @@ returns-in-Just-clause-effect c group same at =
     let found = subst (λ (d : Drained). IsDrained graph.edges rooms start (weight + weight) targets d) c.in-Just.is c.in_ok-drained.ensures in
     let effect = c.in_ok-effect-in-Just.effect in
     let moves = subst (λ (side : List Bool). Moves survey c.args.mistaken.now Ties side effect) c.deref-in-Just.ensures.value c.in_ok-effect-in-Just.ensures in
-    just_effect survey group c.args.mistaken.now same start weight at rooms targets are graph is weighs c.in-Just.side.items effect found.0 found.1 moves
+    record {
+      weight = weighs;
+      effect = λ at. just_effect survey group c.args.mistaken.now same start weight at rooms targets are graph is weighs c.in-Just.side.items effect found.0 found.1 moves;
+      drained = λ at. side_drained survey group c.args.mistaken.now same start weight at rooms targets are graph is weighs (weight + weight) c.in-Just.side.items found.0;
+    }
 
-pub returns-in-Just-clause-drained : goal.returns-in-Just-clause-drained
-returns-in-Just-clause-drained c group same at =
-    let survey = c.args.ground.now.network.now in
-    let start = c.args.start in
-    let weight = c.in_ok-found.found.weight in
-    let rooms = c.deref.result.now in
-    let targets = c.deref-2.result.now in
-    let graph : Weighted = record { vertices = c.args.ground.now.graph.vertices; edges = c.args.ground.now.graph.edges.items } in
-    let is = c.args.ground.now.graphed in
-    let are : AreTargets survey group start rooms targets = found_targets survey group start c.in_ok-found.found.rooms.items rooms c.in_ok-found.found.targets.items targets c.deref.ensures.value c.deref-2.ensures.value (c.in_ok-found.ensures.targets group same) in
-    let weighs = c.in_ok-found.ensures.weight group same in
-    let found = subst (λ (d : Drained). IsDrained graph.edges rooms start (weight + weight) targets d) c.in-Just.is c.in_ok-drained.ensures in
-    side_drained survey group c.args.mistaken.now same start weight at rooms targets are graph is weighs (weight + weight) c.in-Just.side.items found.0
-
-pub returns-clause-effect : goal.returns-clause-effect
-returns-clause-effect c group same at =
+pub returns : goal.returns
+returns c group same =
     let survey = c.args.ground.now.network.now in
     let start = c.args.start in
     let weight = c.in_ok-found.found.weight in
@@ -88,18 +68,8 @@ returns-clause-effect c group same at =
     let are : AreTargets survey group start rooms targets = found_targets survey group start c.in_ok-found.found.rooms.items rooms c.in_ok-found.found.targets.items targets c.deref.ensures.value c.deref-2.ensures.value (c.in_ok-found.ensures.targets group same) in
     let weighs = c.in_ok-found.ensures.weight group same in
     let found = subst (λ (d : Drained). IsDrained graph.edges rooms start (weight + weight) targets d) c.in-More.is c.in_ok-drained.ensures in
-    more_effect survey group c.args.mistaken.now same start weight at rooms targets are graph is weighs found.0 c.shown.result c.shown.ensures c.in_ok-found.ensures.weigh c.in_ok-found.ensures.anchored found.1
-
-pub returns-clause-drained : goal.returns-clause-drained
-returns-clause-drained c group same at =
-    let survey = c.args.ground.now.network.now in
-    let start = c.args.start in
-    let weight = c.in_ok-found.found.weight in
-    let rooms = c.deref.result.now in
-    let targets = c.deref-2.result.now in
-    let graph : Weighted = record { vertices = c.args.ground.now.graph.vertices; edges = c.args.ground.now.graph.edges.items } in
-    let is = c.args.ground.now.graphed in
-    let are : AreTargets survey group start rooms targets = found_targets survey group start c.in_ok-found.found.rooms.items rooms c.in_ok-found.found.targets.items targets c.deref.ensures.value c.deref-2.ensures.value (c.in_ok-found.ensures.targets group same) in
-    let weighs = c.in_ok-found.ensures.weight group same in
-    let found = subst (λ (d : Drained). IsDrained graph.edges rooms start (weight + weight) targets d) c.in-More.is c.in_ok-drained.ensures in
-    more_drained survey group c.args.mistaken.now same start weight at rooms targets are graph is weighs found.0
+    record {
+      weight = weighs;
+      effect = λ at. more_effect survey group c.args.mistaken.now same start weight at rooms targets are graph is weighs found.0 c.shown.result c.shown.ensures c.in_ok-found.ensures.weigh c.in_ok-found.ensures.anchored found.1;
+      drained = λ at. more_drained survey group c.args.mistaken.now same start weight at rooms targets are graph is weighs found.0;
+    }

@@ -1,7 +1,8 @@
-use Rattle.std.proofs.Common.{◌≡◌, ◌<◌, ◌≤◌, ◌+◌, ◌∙◌, ℕ, List, Global, Vec, ap, get_or, length, replicate, subst, sym, arith}
+use Rattle.std.proofs.Common.{◌≡◌, ◌<◌, ◌≤◌, ◌+◌, ◌∙◌, ℕ, Bool, List, Global, Vec, ap, get_or, length, map, replicate, subst, sym, arith}
 use Rattle.std.specs.Prelude.{slice_set}
 use Rattle.std.proofs.lemmas.Grind.{get_or_default_zero}
 use Rattle.std.proofs.lemmas.List.{get_or_default}
+use Rattle.std.proofs.lemmas.List.Sums.{sum_by-take-le}
 use Rattle.th_graphs.specs.declared.edges.Edge.{Edge}
 use Rattle.th_book.specs.Observed.{Observed}
 use Rattle.th_network.specs.Networks.{vertices_of}
@@ -87,11 +88,21 @@ overflow_add-index_mut c =
     let light = is.light in
     omega arith
 
-pub returns-clause-weigh : goal.returns-clause-weigh
-returns-clause-weigh c = heavy_listed c.args.ground.now.network.now c.weights-weights.result.now c.weights-weights.ensures.weights c.weights-weights.ensures.in_range
-
-pub returns-clause-targets : goal.returns-clause-targets
-returns-clause-targets c group same =
+pub returns : goal.returns
+returns c =
     let survey = c.args.ground.now.network.now in
     let past : length survey.observations ≤ c.loop-i.i = omega (arith, ap length c.observations-observations.ensures.observations, c.loop-i-test.false) in
-    (found_all survey c.args.ground.now.edges.items c.args.ground.now.edged group c.args.start c.loop-i.i c.loop-i.weight c.loop-i.rooms.items c.loop-i.targets.items past (c.loop-i.invariant.found group same)).0
+    let sized = c.loop-i.invariant.sized in
+    let part = sum_by-take-le (λ (e : Edge). e.weight) c.args.ground.now.edges.items c.loop-i.i in
+    let most = sized.light in
+    let whole = c.args.ground.now.edged.light in
+    let all = λ (group : Observed → Bool) (same : c.args.mistaken.now ≡ map group survey.observations).
+    found_all survey c.args.ground.now.edges.items c.args.ground.now.edged group c.args.start c.loop-i.i c.loop-i.weight c.loop-i.rooms.items c.loop-i.targets.items past (c.loop-i.invariant.found group same) in
+    record {
+      each = sized.each;
+      light = omega arith;
+      weigh = heavy_listed survey c.weights-weights.result.now c.weights-weights.ensures.weights c.weights-weights.ensures.in_range;
+      anchored = c.observations-observations.ensures.network.anchored;
+      weight = λ group same. (all group same).1;
+      targets = λ group same. (all group same).0;
+    }

@@ -7,11 +7,11 @@ pub returns-in_default-clause-none : goal.returns-in_default-clause-none
 returns-in_default-clause-none c is = marking_root _ _ _ _ _ c.in_default.is c.loop-marks.invariant
 
 pub bounds-arcs-number : goal.bounds-arcs-number
-bounds-arcs-number c = (c.requires.entries.each c.loop-marks.vertex c.in-Some.number c.in-Some.is).within
+bounds-arcs-number c = (c.requires.ready.entered.each c.loop-marks.vertex c.in-Some.number c.in-Some.is).within
 
 pub loop-marks-preserved : goal.loop-marks-preserved
 loop-marks-preserved c =
-    let tail = tails_of _ _ _ c.requires.arcs c.requires.entries c.loop-marks.vertex c.in-Some.number c.in-Some.is in
+    let tail = tails_of _ _ _ c.requires.ready.ends c.requires.ready.entered c.loop-marks.vertex c.in-Some.number c.in-Some.is in
     let size : length c.loop-marks.marks ≡ length c.args.entries.now = omega arith in
     marking_next _ _ _ _ _ _ (omega arith) c.in-Some.is c.loop-marks.invariant (omega (arith, length-set c.loop-marks.marks c.loop-marks.vertex (c.args.start + 1)))
 

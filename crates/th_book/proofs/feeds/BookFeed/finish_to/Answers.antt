@@ -1,4 +1,4 @@
-use Rattle.std.proofs.Common.{◌≡◌, [], ◌∷◌, List, length, Result, Ok, sym, ap, ◌∙◌, subst}
+use Rattle.std.proofs.Common.{◌≡◌, [], ◌∷◌, List, length, Result, Err, Ok, sym, ap, ◌∙◌, rules, subst}
 use Rattle.std.proofs.lemmas.Result.{err_from_is_err_and}
 use Rattle.th_book.specs.Observed.{Observed}
 use Rattle.th_book.specs.Due.{BookState, EndsWithSight, due}
@@ -17,26 +17,27 @@ read-requires g c =
     let inside = c.self.inside in
     last_within (record { book = inside.book; lines = inside.lines; bytes = inside.bytes; wanting = inside.wanting }) c.in-Some-finish.line.now c.in_default.is c.if-bytes-gt-MAX_BOOK.false c.self.invariant c.in-Some-finish.ensures
 
-pub returns-in_err-read-clause-fault : goal.returns-in_err-read-clause-fault
-returns-in_err-read-clause-fault g c =
-    let p = err_from_is_err_and c.from_residual.result c.from_residual.ensures.1 in
+pub returns-in_err-read-clause-finished : goal.returns-in_err-read-clause-finished
+returns-in_err-read-clause-finished g c =
     let inside = c.self.inside in
-    let left = end_due (record { book = inside.book; lines = inside.lines; bytes = inside.bytes; wanting = inside.wanting }) (c.in-Some-finish.line.now ∷ []) c.if-bytes-gt-MAX_BOOK.false c.in-Some-finish.ensures in
-    rw (p.1, p.2) (λ kept. ap (λ (feed : FeedState). feed_due feed []) (sym c.self.view_is) ∙ left ∙ (c.in_err-read.ensures.answered.refused kept).was [])
+    let feed : FeedState = record { book = inside.book; lines = inside.lines; bytes = inside.bytes; wanting = inside.wanting } in
+    let left = end_due feed (c.in-Some-finish.line.now ∷ []) c.if-bytes-gt-MAX_BOOK.false c.in-Some-finish.ensures in
+    let is : c.from_residual.result ≡ Err c.in_err-read.field-0.0 = search rules in
+    rw is (record {
+      ok = search rules;
+      fault = λ kept. ap (λ (own : FeedState). feed_due own []) (sym c.self.view_is) ∙ left ∙ (c.in_err-read.ensures.answered.refused kept).was [];
+      lasting = search rules;
+      too_long = search rules;
+      wanting = λ wanting none.
+          subst
+          (λ (given : Result (List Observed) BookFault). EndsWithSight given c.in_err-read.field-0.0.line)
+          (sym (ap (λ (own : FeedState). feed_due own []) (sym c.self.view_is) ∙ left))
+          (c.in_err-read.ensures.answered.wanting wanting).observes;
+      full = search rules;
+    })
 
-pub returns-in_err-read-clause-wanting : goal.returns-in_err-read-clause-wanting
-returns-in_err-read-clause-wanting g c =
-    let p = err_from_is_err_and c.from_residual.result c.from_residual.ensures.1 in
-    let inside = c.self.inside in
-    let left = end_due (record { book = inside.book; lines = inside.lines; bytes = inside.bytes; wanting = inside.wanting }) (c.in-Some-finish.line.now ∷ []) c.if-bytes-gt-MAX_BOOK.false c.in-Some-finish.ensures in
-    rw (p.1, p.2) (λ wanting none.
-    subst
-    (λ (given : Result (List Observed) BookFault). EndsWithSight given c.in_err-read.field-0.0.line)
-    (sym (ap (λ (feed : FeedState). feed_due feed []) (sym c.self.view_is) ∙ left))
-    (c.in_err-read.ensures.answered.wanting wanting).observes)
-
-pub returns-clause-ok : goal.returns-clause-ok
-returns-clause-ok g c =
+pub returns-clause-finished : goal.returns-clause-finished
+returns-clause-finished g c =
     let inside = c.self.inside in
     let feed : FeedState = record { book = inside.book; lines = inside.lines; bytes = inside.bytes; wanting = inside.wanting } in
     let same : due c.match-finish.book [] ≡ feed_due c.args.self [] = elim c.match-finish.branch [
@@ -48,7 +49,14 @@ returns-clause-ok g c =
           ap (λ (book : BookState). due book []) w.book-is
           ∙ sym (ap (λ (own : FeedState). feed_due own []) (sym c.self.view_is) ∙ end_due feed [] c.if-bytes-gt-MAX_BOOK.false w.in_default-finish.ensures.0)
     ] in
-    finished_ok _ c.finish-2.result (feed_due c.args.self []) (c.finish-2.ensures.answer ∙ same)
+    record {
+      ok = finished_ok _ c.finish-2.result (feed_due c.args.self []) (c.finish-2.ensures.answer ∙ same);
+      fault = search rules;
+      lasting = search rules;
+      too_long = search rules;
+      wanting = search rules;
+      full = search rules;
+    }
 
 pub returns-clause-seen : goal.returns-clause-seen
 returns-clause-seen g c =

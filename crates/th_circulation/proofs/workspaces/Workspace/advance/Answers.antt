@@ -35,14 +35,22 @@ listed_before graph old new listing d f lists =
 abbrev asked_about : ℕ → List Arc → Option (List ℤ) → Asked
 asked_about vertices arcs potentials = record { vertices = vertices; arcs = arcs; potentials = potentials }
 
-pub search-requires-clause-arcs : goal.search-requires-clause-arcs
-search-requires-clause-arcs g c =
+pub search-requires-clause-searched : goal.search-requires-clause-searched
+search-requires-clause-searched g c =
     let graph = c.args.graph.now in
     let work = c.args.self.now in
     let next = c.list_next.new.self in
     let ready = c.requires.ready in
     let residual = listed_before graph work.state next.state next.listing c.list_next.ensures.differences c.list_next.ensures.flows c.list_next.ensures.listed in
-    arcs_are graph.vertices graph.links.now graph.weights.now work.state.differences.items next.state.heights.items work.state.flows.items next.listing.arcs.items next.listing.slots.items graph.graph ready.differences c.list_next.ensures.ready.heights residual
+    let few = c.list_next.ensures.few in
+    let links = graph.graph.few_links in
+    let long = ap (λ (listed : List Arc). length listed) residual.is ∙ length-map next.listing.slots.items (arc_of graph.links.now work.state.differences.items (value_at next.state.heights.items)) in
+    record {
+      some = graph.graph.some;
+      vertices = graph.graph.few_vertices;
+      many = omega arith;
+      arcs = arcs_are graph.vertices graph.links.now graph.weights.now work.state.differences.items next.state.heights.items work.state.flows.items next.listing.arcs.items next.listing.slots.items graph.graph ready.differences c.list_next.ensures.ready.heights residual;
+    }
 
 pub cancel-requires-clause-ready : goal.cancel-requires-clause-ready
 cancel-requires-clause-ready g c =
@@ -118,23 +126,9 @@ returns-in-Potentials-clause-answer g c =
     let all = all_listed next.listing.arcs.items c.in-Potentials.potentials.items (HasAllBefore graph.weights.now work.state.flows.items next.listing.slots.items (length graph.links.now)) c.list_next.ensures.next found.feasible in
     let raised_heights = take next.state.heights.len (c.raise.new.heights ++ drop (length c.raise.new.heights) next.state.heights.items) in
     let raised = λ (v : ℕ). ap (λ (hs : List ℤ). value_at hs v) back ∙ c.raise.ensures.each v ∙ ap (λ (z : ℤ). z -ℤ value_at c.deref-in-Potentials.result.now v) (old v) ∙ ap (λ (ps : List ℤ). value_at next.state.heights.items v -ℤ value_at ps v) c.deref-in-Potentials.ensures.value in
-    record {
-      heights = subst (AreWithin graph.vertices raised_bound) (sym back) c.raise.ensures.within;
-      rises = raised_rises graph.vertices next.state.heights.items c.in-Potentials.potentials.items raised_heights graph.graph.some c.list_next.ensures.ready.heights far found.high raised;
-      shown = subst (λ (fs : List ℤ). ShowsLinks graph.weights.now fs (residuals graph.links.now work.state.differences.items (value_at raised_heights))) (sym c.list_next.ensures.flows) (potentials_show graph.links.now graph.weights.now work.state.differences.items (value_at next.state.heights.items) work.state.flows.items next.listing.arcs.items next.listing.slots.items c.in-Potentials.potentials.items raised_heights c.requires.ready.flow c.requires.ready.differences.each residual all found.feasible raised);
-    }
-
-pub returns-in-Potentials-clause-asked : goal.returns-in-Potentials-clause-asked
-returns-in-Potentials-clause-asked g c =
-    let graph = c.args.graph.now in
-    let work = c.args.self.now in
-    let next = c.list_next.new.self in
-    let residual = listed_before graph work.state next.state next.listing c.list_next.ensures.differences c.list_next.ensures.flows c.list_next.ensures.listed in
-    let found = subst (IsAnswer graph.vertices next.listing.arcs.items) c.in-Potentials.is c.in_ok-cycle.ensures.answer in
-    let all = all_listed next.listing.arcs.items c.in-Potentials.potentials.items (HasAllBefore graph.weights.now work.state.flows.items next.listing.slots.items (length graph.links.now)) c.list_next.ensures.next found.feasible in
     let few = c.list_next.ensures.few in
     let links = graph.graph.few_links in
-    let long = ap (λ (listed : List Arc). length listed) residual.is ∙ length-map next.listing.slots.items (arc_of graph.links.now work.state.differences.items (value_at next.state.heights.items)) in
+    let listed = ap (λ (listed : List Arc). length listed) residual.is ∙ length-map next.listing.slots.items (arc_of graph.links.now work.state.differences.items (value_at next.state.heights.items)) in
     let asked : IsAskedFor graph work.state.differences.items work.state.flows.items next.listing.arcs.items (g.S.Search.asked c.search.new.self) = record {
       heights = next.state.heights.items;
       slots = next.listing.slots.items;
@@ -146,4 +140,9 @@ returns-in-Potentials-clause-asked g c =
       feasible = found.feasible;
       last = c.in_ok-cycle.ensures.asked ∙ ap (λ (f : Found). Some (asked_about graph.vertices next.listing.arcs.items (potentials_in {E = AllocError} (Ok f)))) c.in-Potentials.is;
     } in
-    λ e. subst (λ (fs : List ℤ). IsAskedFor graph work.state.differences.items fs next.listing.arcs.items (g.S.Search.asked c.search.new.self)) (sym c.list_next.ensures.flows) asked
+    record {
+      heights = subst (AreWithin graph.vertices raised_bound) (sym back) c.raise.ensures.within;
+      rises = raised_rises graph.vertices next.state.heights.items c.in-Potentials.potentials.items raised_heights graph.graph.some c.list_next.ensures.ready.heights far found.high raised;
+      shown = subst (λ (fs : List ℤ). ShowsLinks graph.weights.now fs (residuals graph.links.now work.state.differences.items (value_at raised_heights))) (sym c.list_next.ensures.flows) (potentials_show graph.links.now graph.weights.now work.state.differences.items (value_at next.state.heights.items) work.state.flows.items next.listing.arcs.items next.listing.slots.items c.in-Potentials.potentials.items raised_heights c.requires.ready.flow c.requires.ready.differences.each residual all found.feasible raised);
+      answered = subst (λ (fs : List ℤ). IsAskedFor graph work.state.differences.items fs next.listing.arcs.items (g.S.Search.asked c.search.new.self)) (sym c.list_next.ensures.flows) asked;
+    }

@@ -59,5 +59,5 @@ settle_by_halves-requires-clause-steps g c =
 
 pub ask_again-requires-clause-potentials : goal.ask_again-requires-clause-potentials
 ask_again-requires-clause-potentials g c =
-    let is = c.in_ok-settle_at_once.ensures.asked c.if-branch.false in
+    let is = (c.in_ok-settle_at_once.ensures.done c.if-branch.false).shown.answered in
     (is.potentials, is.feasible)

@@ -5,7 +5,7 @@ use Rattle.th_network.specs.declared.links.Link.{Link}
 use Rattle.th_circulation.specs.Inside.Flows.{IsFlow, ShowsLinks, gain, residuals}
 use Rattle.th_circulation.specs.Inside.Graphs.{IsLinkGraph}
 use Rattle.th_circulation.specs.Inside.Phases.{differences_in}
-use Rattle.th_circulation.specs.Inside.Workspaces.{AreShownFor, IsAskedFor, IsNear}
+use Rattle.th_circulation.specs.Inside.Workspaces.{AreShownFor, IsNear}
 use Rattle.th_circulation.proofs.PhaseStarts.{few_more, first_rise, next_near, none_near_replicate, phases_more, phases_most, weights_small}
 use Rattle.th_circulation.proofs.workspaces.Workspace.settle_by_halves.Goals as goal
 
@@ -56,7 +56,6 @@ phases-init g c =
       near = λ less. subst (IsNear links weights (differences_in (phases - 1) links)) (sym c.requires.none) (none_near_replicate graph.vertices links weights graph.graph);
       none = λ e. c.requires.none;
       shown = λ some. absurd (omega arith);
-      asked = λ some. absurd (omega arith);
       more = omega arith;
       few = omega arith;
       fewer = λ some. absurd (omega arith);
@@ -79,9 +78,8 @@ phases-preserved g c =
     let kept = ap (λ (ds : List ℤ). length ds) e.goes_on.differences in
     let long = c.start_phase.ensures.ready.differences.each in
     let after = few_after graph.vertices links weights c.phases.self.state.flows.items c.start_phase.new.self.state.flows.items c.settle_phase.new.self.state.flows.items c.start_phase.new.self.state.differences.items done c.args.steps.now c.phases.steps c.settle_phase.new.steps graph.graph c.start_phase.ensures.differences c.start_phase.ensures.flows i.none e.goes_on.flow e.goes_on.gained e.counts.more_steps e.few i.few i.fewer in
-    let shown : AreShownFor graph (differences_in (phases - 1 - done) links) c.settle_phase.new.self = subst (λ (ds : List ℤ). AreShownFor graph ds c.settle_phase.new.self) c.start_phase.ensures.differences c.in_ok-settle_phase.ensures.shown in
-    let Asked : List ℤ → Type 0 = λ ds. IsAskedFor graph ds c.settle_phase.new.self.state.flows.items c.settle_phase.new.self.listing.arcs.items (g.S.Search.asked c.settle_phase.new.search) in
-    let asked : Asked (differences_in (phases - 1 - done) links) = subst Asked c.start_phase.ensures.differences c.in_ok-settle_phase.ensures.asked in
+    let Shown : List ℤ → Type 0 = λ ds. AreShownFor graph ds c.settle_phase.new.self (g.S.Search.asked c.settle_phase.new.search) in
+    let shown : Shown (differences_in (phases - 1 - done) links) = subst Shown c.start_phase.ensures.differences c.in_ok-settle_phase.ensures.shown in
     let calls = c.in_ok-settle_phase.ensures.counts.all_calls in
     let cycles = e.counts.one_step_each in
     let refused = c.in_ok-settle_phase.ensures.counts.refused in
@@ -95,8 +93,7 @@ phases-preserved g c =
       };
       near = λ less. let earlier : phases - 1 - done ≡ suc (phases - 1 - (done + 1)) = omega arith in next_near links weights c.settle_phase.new.self.state.flows.items (value_at c.settle_phase.new.self.state.heights.items) (phases - 1 - (done + 1)) e.goes_on.flow (subst (λ (k : ℕ). ShowsLinks weights c.settle_phase.new.self.state.flows.items (residuals links (differences_in k links) (value_at c.settle_phase.new.self.state.heights.items))) earlier shown.shown);
       none = λ e. absurd (omega arith);
-      shown = λ some. let same : phases - 1 - done ≡ phases - (done + 1) = omega arith in subst (λ (k : ℕ). AreShownFor graph (differences_in k links) c.settle_phase.new.self) same shown;
-      asked = λ some. let same : phases - 1 - done ≡ phases - (done + 1) = omega arith in subst (λ (k : ℕ). Asked (differences_in k links)) same asked;
+      shown = λ some. let same : phases - 1 - done ≡ phases - (done + 1) = omega arith in subst (λ (k : ℕ). Shown (differences_in k links)) same shown;
       more = omega arith;
       few = omega arith;
       fewer = λ some. after;
