@@ -1,10 +1,10 @@
 //! What is reported on standard error. Nothing here allocates, so that each refusal has its own line,
 //! also where memory ran out.
 ghost use Rattle.std.specs.Prelude.{◌≡◌, ◌≢◌, ◌++◌, ◌∷◌, [], codes, decimal, false, string_bytes, true};
-ghost use Rattle.th_devices.specs.Spots.{errors};
+ghost use Rattle.th_devices.specs.Spots.{errors, output};
 ghost use Rattle.th_lines.specs.Lines.{HasRoom, IsPut};
 ghost use Rattle.th_lines.specs.Shown.{shown};
-ghost use Rattle.th_program.specs.Done.{IsReported, IsSaid, overwrite_text};
+ghost use Rattle.th_program.specs.Done.{IsOutputOf, IsReported, IsSaid, overwrite_text};
 ghost use Rattle.th_files.specs.Helped.{refused_lines};
 ghost use Rattle.th_tables.specs.Texts.{fault_text};
 ghost use Rattle.th_run_parts.specs.Refusals.{input_text, output_text, refusal_text, status_of};
@@ -46,7 +46,9 @@ pub(crate) fn refuse<F: Folder>(folder: &mut F, plan: &Plan<'_>, refusal: &Refus
 }
 
 /// Whether this is the refusal of a write to standard output.
-fn is_on_output(plan: &Plan<'_>, refusal: &Refusal) -> bool {
+fn is_on_output(plan: &Plan<'_>, refusal: &Refusal) -> bool
+    ensures { result ≡ true → (spot : _) → IsOutputOf plan.now spot → spot ≡ output }
+{
     match (plan, refusal) {
         (Plan::Adjust { .. } | Plan::Review { .. } | Plan::Page { .. }, _) => false,
         (_, Refusal::Write(_)) => true,
