@@ -102,6 +102,11 @@ fn is_right(n: u32, arcs: &[Arc], found: &Found) -> bool {
     }
 }
 
+/// Whether an answer is right, and a cycle of so many arcs, or of none for potentials.
+fn is_of_len(n: u32, arcs: &[Arc], found: &Found, len: usize) -> bool {
+    cycle_len(found) == len && is_right(n, arcs, found)
+}
+
 /// The potentials of an answer.
 fn potentials_of(found: &Found) -> Option<&[i64]> {
     match found {
@@ -110,24 +115,40 @@ fn potentials_of(found: &Found) -> Option<&[i64]> {
     }
 }
 
+/// What both searches find.
+fn by_both(
+    rt: &impl Abort,
+    alloc: Global,
+    n: u32,
+    arcs: &Vec<Arc>,
+) -> Result<[Found; 2], AllocError> {
+    Ok([
+        by_labels(rt, alloc, n, arcs)?,
+        by_levels(rt, alloc, n, arcs)?,
+    ])
+}
+
+/// Whether an answer is that of a row.
+fn is_answer_of(row: &Row, arcs: &[Arc], found: &Found) -> bool {
+    let (n, _, potentials) = row;
+    let len = if potentials.is_some() { 0 } else { arcs.len() };
+    potentials_of(found) == *potentials && is_of_len(*n, arcs, found, len)
+}
+
+/// The arcs of a row.
+fn arcs_of(alloc: Global, row: &Row) -> Result<Vec<Arc>, AllocError> {
+    row.1
+        .iter()
+        .map(|&(tail, head, cost)| arc(tail, head, cost))
+        .collect(alloc)
+}
+
 #[test]
 fn rows_are_answered_by_both(rt: HostRuntime) -> Result<(), Fail> {
-    for (row, (n, all, potentials)) in ROWS.iter().enumerate() {
-        let arcs: Vec<Arc> = all
-            .iter()
-            .map(|&(tail, head, cost)| arc(tail, head, cost))
-            .collect(rt.alloc())?;
-        let labels = by_labels(&rt, rt.alloc(), *n, &arcs)?;
-        let levels = by_levels(&rt, rt.alloc(), *n, &arcs)?;
-        assert_eq!(rt; potentials_of(&labels), *potentials, "labels of row {row}");
-        assert_eq!(rt; potentials_of(&levels), *potentials, "levels of row {row}");
-        assert!(rt;
-            is_right(*n, &arcs, &labels) && is_right(*n, &arcs, &levels),
-            "row {row}"
-        );
-        if potentials.is_none() {
-            assert_eq!(rt; cycle_len(&labels), arcs.len(), "labels of row {row}");
-            assert_eq!(rt; cycle_len(&levels), arcs.len(), "levels of row {row}");
+    for (place, row) in ROWS.iter().enumerate() {
+        let arcs = arcs_of(rt.alloc(), row)?;
+        for found in &by_both(&rt, rt.alloc(), row.0, &arcs)? {
+            assert!(rt; is_answer_of(row, &arcs, found), "row {place}");
         }
     }
     Ok(())
@@ -146,6 +167,13 @@ fn random_arcs(alloc: Global, random: &mut Random, n: u32) -> Result<Vec<Arc>, A
     Ok(arcs)
 }
 
+/// Whether both answers are right, and are the same potentials or both cycles.
+fn are_alike(n: u32, arcs: &[Arc], [labels, levels]: &[Found; 2]) -> bool {
+    is_right(n, arcs, labels)
+        && is_right(n, arcs, levels)
+        && potentials_of(labels) == potentials_of(levels)
+}
+
 #[test]
 fn small_graphs_are_answered_alike(rt: HostRuntime) -> Result<(), Fail> {
     let mut random = Random { state: 1 };
@@ -153,18 +181,9 @@ fn small_graphs_are_answered_alike(rt: HostRuntime) -> Result<(), Fail> {
     for graph in 0..600u32 {
         let n = 1 + random.below(7);
         let arcs = random_arcs(rt.alloc(), &mut random, n)?;
-        let labels = by_labels(&rt, rt.alloc(), n, &arcs)?;
-        let levels = by_levels(&rt, rt.alloc(), n, &arcs)?;
-        assert!(rt;
-            is_right(n, &arcs, &labels) && is_right(n, &arcs, &levels),
-            "graph {graph}"
-        );
-        assert_eq!(rt;
-            potentials_of(&labels),
-            potentials_of(&levels),
-            "graph {graph}"
-        );
-        if potentials_of(&labels).is_none() {
+        let both = by_both(&rt, rt.alloc(), n, &arcs)?;
+        assert!(rt; are_alike(n, &arcs, &both), "graph {graph}");
+        if potentials_of(&both[0]).is_none() {
             cycles = cycles.wrapping_add(1);
         }
     }
@@ -204,8 +223,7 @@ fn the_largest_graphs_are_answered(rt: HostRuntime) -> Result<(), Fail> {
         let mut arcs = largest(rt.alloc())?;
         arcs.push(arc(MAX_VERTICES - 1, 0, cost))?;
         let found = by_labels(&rt, rt.alloc(), MAX_VERTICES, &arcs)?;
-        assert!(rt; is_right(MAX_VERTICES, &arcs, &found));
-        assert_eq!(rt; cycle_len(&found), len);
+        assert!(rt; is_of_len(MAX_VERTICES, &arcs, &found, len));
     }
     Ok(())
 }
@@ -218,8 +236,7 @@ fn a_ring_in_front_is_named(rt: HostRuntime) -> Result<(), Fail> {
     }
     arcs.push(arc(5, 4, -100))?;
     let found = by_labels(&rt, rt.alloc(), MAX_VERTICES, &arcs)?;
-    assert!(rt; is_right(MAX_VERTICES, &arcs, &found));
-    assert_eq!(rt; cycle_len(&found), MAX_VERTICES as usize);
+    assert!(rt; is_of_len(MAX_VERTICES, &arcs, &found, MAX_VERTICES as usize));
     Ok(())
 }
 
@@ -229,8 +246,7 @@ fn a_table_of_many_levels_answers(rt: HostRuntime) -> Result<(), Fail> {
         let mut arcs = chain(rt.alloc(), 1_001)?;
         arcs.push(arc(1_000, 0, cost))?;
         let found = by_levels(&rt, rt.alloc(), 1_001, &arcs)?;
-        assert!(rt; is_right(1_001, &arcs, &found));
-        assert_eq!(rt; cycle_len(&found), len);
+        assert!(rt; is_of_len(1_001, &arcs, &found, len));
     }
     Ok(())
 }

@@ -20,19 +20,25 @@ fn settle_twice(rt: &impl Abort, alloc: Global, network: &Network, refused: u128
     }
     let counted = steps.count();
     let calls = search.counts.calls;
-    assert_eq!(rt; calls, refused.wrapping_add(1));
-    assert_eq!(rt; search.counts.refusals, 1);
-    assert_eq!(rt; search.counts.cycles, counted);
     assert!(rt; calls <= CALLS_BEFORE && counted <= CALLS_BEFORE);
+    compare_refused(rt, &search.counts, refused, counted);
     let settled = settle(alloc, network, &mut search, &mut steps).expect(rt, "memory");
-    let rise = steps.count().wrapping_sub(counted);
-    assert_eq!(rt;
-        search.counts.calls.wrapping_sub(calls),
-        rise.wrapping_add(44)
-    );
-    assert_eq!(rt; search.counts.cycles, steps.count());
+    assert!(rt; are_counted(&search.counts, steps.count(), calls, counted));
     assert_eq!(rt; settled.flows.as_slice(), [-1i64, -1, 0, 1, 1].as_slice());
     true
+}
+
+/// Compares the counts of a search of which one call was refused, after so many others.
+fn compare_refused(rt: &impl Abort, counts: &SearchCounts, others: u128, steps: u128) {
+    let found = [counts.calls, counts.refusals, counts.cycles];
+    assert_eq!(rt; found, [others.wrapping_add(1), 1, steps]);
+}
+
+/// Whether each cycle was a step, and the search was called 44 times more than there were steps since
+/// these counts.
+fn are_counted(counts: &SearchCounts, steps: u128, calls_before: u128, steps_before: u128) -> bool {
+    let rise = steps.wrapping_sub(steps_before);
+    counts.cycles == steps && counts.calls.wrapping_sub(calls_before) == rise.wrapping_add(44)
 }
 
 /// Each call of the search in turn is refused, until one is that never comes.
@@ -74,12 +80,7 @@ fn the_largest_counts_are_counted_on(rt: HostRuntime) {
     };
     let mut steps = Steps::after(CALLS_BEFORE);
     let settled = settle(rt.alloc(), &network, &mut search, &mut steps).expect(&rt, "memory");
-    let rise = steps.count().wrapping_sub(CALLS_BEFORE);
-    assert!(rt; 1 <= rise);
-    assert_eq!(rt; search.counts.cycles, steps.count());
-    assert_eq!(rt;
-        search.counts.calls.wrapping_sub(CALLS_BEFORE),
-        rise.wrapping_add(44)
-    );
+    assert!(rt; CALLS_BEFORE < steps.count());
+    assert!(rt; are_counted(&search.counts, steps.count(), CALLS_BEFORE, CALLS_BEFORE));
     assert_eq!(rt; settled.flows.as_slice(), [-1i64, 1].as_slice());
 }

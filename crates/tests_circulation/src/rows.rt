@@ -1,12 +1,10 @@
-use crate::settling::{Outcome, cost_of, settled_over};
+use crate::settling::{Outcome, cost_of, settled_over_both};
 use crate::surveys::{
     A_AT_100, BACK, LONGER, ONWARDS, SETUP, SIGHT, Survey, joined, network_of, tables_of,
 };
 use std::alloc::Global;
 use std::process::Abort;
-use tests_searches::LevelSearch;
 use th_network::Network;
-use th_search::LabelSearch;
 
 /// A survey and what it is settled to: the lowest and the highest best heights, their cost, the flows
 /// that are forced, and how many steps there are at most, 88 times the sum of the weights.
@@ -267,15 +265,24 @@ fn compare(rt: &impl Abort, network: &Network, row: &Row, outcome: &Outcome) {
     let heights = outcome.settled.heights.as_slice();
     assert_eq!(rt; outcome.spans.low.as_slice(), row.low);
     assert_eq!(rt; outcome.spans.high.as_slice(), row.high);
-    assert_eq!(rt; cost_of(network, heights), row.cost);
-    assert_eq!(rt; cost_of(network, row.low), row.cost);
-    assert_eq!(rt; cost_of(network, row.high), row.cost);
+    let costs = [
+        cost_of(network, heights),
+        cost_of(network, row.low),
+        cost_of(network, row.high),
+    ];
+    assert_eq!(rt; costs, [row.cost; 3]);
     assert!(rt; outcome.steps <= row.most_steps);
-    assert_eq!(rt; heights.len(), row.low.len());
-    for (height, (low, high)) in heights.iter().zip(row.low.iter().zip(row.high)) {
-        assert!(rt; low <= height && height <= high);
-    }
+    assert!(rt; are_between(row.low, heights, row.high));
     compare_flows(rt, outcome.settled.flows.as_slice(), row.flows);
+}
+
+/// Whether there are as many heights as lowest ones, and each is between its lowest and its highest.
+fn are_between(low: &[i64], heights: &[i64], high: &[i64]) -> bool {
+    heights.len() == low.len()
+        && heights
+            .iter()
+            .zip(low.iter().zip(high))
+            .all(|(height, (low, high))| low <= height && height <= high)
 }
 
 /// Compares flows with those that are forced.
@@ -291,10 +298,9 @@ fn settle_row(rt: &impl Abort, alloc: Global, row: &Row) {
     let book = joined(rt, alloc, row.survey.book);
     let tables = tables_of(rt, alloc, row.survey.benchmarks, row.survey.weights);
     let network = network_of(rt, alloc, &book, &tables);
-    let labels = settled_over(rt, alloc, &network, LabelSearch::new());
-    compare(rt, &network, row, &labels);
-    let levels = settled_over(rt, alloc, &network, LevelSearch::new());
-    compare(rt, &network, row, &levels);
+    for outcome in &settled_over_both(rt, alloc, &network) {
+        compare(rt, &network, row, outcome);
+    }
 }
 
 #[test]

@@ -1,13 +1,11 @@
 use crate::grids::{Best, MOST_VERTICES, best_on_grid};
 use crate::randoms::{Random, Sample};
 use crate::references::{Walk, are_lengths, shortest};
-use crate::settling::{Outcome, cost_of, settled_over};
+use crate::settling::{Outcome, are_alike, cost_of, settled_over_both};
 use crate::surveys::{network_of, tables_of};
 use std::alloc::Global;
 use std::process::Abort;
-use tests_searches::LevelSearch;
 use th_network::Network;
-use th_search::LabelSearch;
 
 /// Compares spans with the lengths of shortest walks.
 fn compare_walks(rt: &impl Abort, alloc: Global, network: &Network, outcome: &Outcome) {
@@ -18,14 +16,13 @@ fn compare_walks(rt: &impl Abort, alloc: Global, network: &Network, outcome: &Ou
     assert!(rt; are_lengths(network, &back, Walk::Back, outcome.spans.high.as_slice()));
 }
 
-/// Compares two outcomes: heights that cost as much, the same spans.
-fn compare_outcomes(rt: &impl Abort, network: &Network, one: &Outcome, other: &Outcome) {
+/// Compares two outcomes with each other, and what the ends of the spans cost with what the heights do.
+fn compare_outcomes(rt: &impl Abort, network: &Network, [one, other]: &[Outcome; 2]) {
+    assert!(rt; are_alike(network, one, other));
     let cost = cost_of(network, one.settled.heights.as_slice());
-    assert_eq!(rt; cost_of(network, other.settled.heights.as_slice()), cost);
-    assert_eq!(rt; cost_of(network, one.spans.low.as_slice()), cost);
-    assert_eq!(rt; cost_of(network, one.spans.high.as_slice()), cost);
-    assert_eq!(rt; one.spans.low.as_slice(), other.spans.low.as_slice());
-    assert_eq!(rt; one.spans.high.as_slice(), other.spans.high.as_slice());
+    let low = cost_of(network, one.spans.low.as_slice());
+    let high = cost_of(network, one.spans.high.as_slice());
+    assert_eq!(rt; [low, high], [cost, cost]);
 }
 
 /// Whether heights of the points that are no benchmarks are these.
@@ -55,16 +52,16 @@ fn compare_grid(rt: &impl Abort, network: &Network, outcome: &Outcome) {
 fn settle_sample(rt: &impl Abort, alloc: Global, sample: &Sample) -> bool {
     let tables = tables_of(rt, alloc, &sample.benchmarks, &sample.weights);
     let network = network_of(rt, alloc, &sample.book, &tables);
-    let labels = settled_over(rt, alloc, &network, LabelSearch::new());
-    let levels = settled_over(rt, alloc, &network, LevelSearch::new());
-    compare_outcomes(rt, &network, &labels, &levels);
-    compare_walks(rt, alloc, &network, &labels);
-    compare_walks(rt, alloc, &network, &levels);
-    if network.vertices() <= MOST_VERTICES {
-        compare_grid(rt, &network, &labels);
-        return true;
+    let both = settled_over_both(rt, alloc, &network);
+    compare_outcomes(rt, &network, &both);
+    for outcome in &both {
+        compare_walks(rt, alloc, &network, outcome);
     }
-    false
+    let is_tried = network.vertices() <= MOST_VERTICES;
+    if is_tried {
+        compare_grid(rt, &network, &both[0]);
+    }
+    is_tried
 }
 
 /// A thousand small networks; of some all heights are tried.

@@ -5,9 +5,10 @@ use crate::searches::{CountingSearch, Question};
 use gsi_word::Name;
 use std::alloc::Global;
 use std::process::Abort;
+use tests_searches::LevelSearch;
 use th_circulation::{Settled, Spans, Steps, settle, spans};
 use th_network::Network;
-use th_search::{Arc, Search};
+use th_search::{Arc, LabelSearch, Search};
 
 /// How many phases a settling has: for each the search is called once more than steps are counted.
 const PHASES: u128 = 44;
@@ -45,6 +46,22 @@ pub fn settled_over<S: Search + Drop>(
         steps,
         first: counting.first,
     }
+}
+
+/// Settles a network over each of the two searches.
+pub fn settled_over_both(rt: &impl Abort, alloc: Global, network: &Network) -> [Outcome; 2] {
+    [
+        settled_over(rt, alloc, network, LabelSearch::new()),
+        settled_over(rt, alloc, network, LevelSearch::new()),
+    ]
+}
+
+/// Whether two outcomes have heights that cost as much, and the same spans.
+pub fn are_alike(network: &Network, one: &Outcome, other: &Outcome) -> bool {
+    cost_of(network, one.settled.heights.as_slice())
+        == cost_of(network, other.settled.heights.as_slice())
+        && one.spans.low.as_slice() == other.spans.low.as_slice()
+        && one.spans.high.as_slice() == other.spans.high.as_slice()
 }
 
 /// Whether the arcs lead as the residual arcs of flows do, link by link.

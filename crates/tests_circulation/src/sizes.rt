@@ -1,8 +1,8 @@
-use crate::settling::{Outcome, cost_of, settled_over};
+use crate::settling::{Outcome, cost_of, settled_over, settled_over_both};
 use crate::surveys::{A_AT_100, LONGER, SETUP, SIGHT, joined, network_of, tables_of};
 use std::alloc::Global;
 use std::process::Abort;
-use tests_searches::LevelSearch;
+use th_network::Network;
 use th_search::LabelSearch;
 
 /// Adds a line to a book so many times.
@@ -20,7 +20,9 @@ fn are_all(heights: &[i64], points: usize, height: i64) -> bool {
 }
 
 /// Compares what flows where two thousand sights differ from two thousand others.
-fn compare_halves(rt: &impl Abort, outcome: &Outcome) {
+fn compare_halves(rt: &impl Abort, network: &Network, outcome: &Outcome) {
+    let heights = outcome.settled.heights.as_slice();
+    assert_eq!(rt; cost_of(network, heights), 400_000_000);
     assert!(rt; are_all(outcome.spans.low.as_slice(), 2, 10_254_500_000));
     assert!(rt; are_all(outcome.spans.high.as_slice(), 2, 10_254_700_000));
     assert!(rt; 2_000 <= outcome.steps && outcome.steps <= 352_000);
@@ -40,18 +42,9 @@ fn thousands_of_sights_are_settled(rt: HostRuntime) {
     add(&rt, &mut book, LONGER, 2_000);
     let tables = tables_of(&rt, rt.alloc(), A_AT_100, b"");
     let network = network_of(&rt, rt.alloc(), &book, &tables);
-    let labels = settled_over(&rt, rt.alloc(), &network, LabelSearch::new());
-    assert_eq!(rt;
-        cost_of(&network, labels.settled.heights.as_slice()),
-        400_000_000
-    );
-    compare_halves(&rt, &labels);
-    let levels = settled_over(&rt, rt.alloc(), &network, LevelSearch::new());
-    assert_eq!(rt;
-        cost_of(&network, levels.settled.heights.as_slice()),
-        400_000_000
-    );
-    compare_halves(&rt, &levels);
+    for outcome in &settled_over_both(&rt, rt.alloc(), &network) {
+        compare_halves(&rt, &network, outcome);
+    }
 }
 
 /// Compares what a book without residuals is settled to: nothing flows, and each point but A is at the
@@ -70,10 +63,9 @@ fn compare_exact(rt: &impl Abort, outcome: &Outcome, points: usize, observations
 fn settle_exact(rt: &impl Abort, alloc: Global, book: &[u8], points: usize, observations: usize) {
     let tables = tables_of(rt, alloc, A_AT_100, b"");
     let network = network_of(rt, alloc, book, &tables);
-    let labels = settled_over(rt, alloc, &network, LabelSearch::new());
-    compare_exact(rt, &labels, points, observations);
-    let levels = settled_over(rt, alloc, &network, LevelSearch::new());
-    compare_exact(rt, &levels, points, observations);
+    for outcome in &settled_over_both(rt, alloc, &network) {
+        compare_exact(rt, outcome, points, observations);
+    }
 }
 
 /// As many sights as a network takes, all of one pair and alike.
@@ -99,35 +91,39 @@ fn many_targets_are_settled(rt: HostRuntime) {
     settle_exact(&rt, rt.alloc(), &book, 4_000, 40_000);
 }
 
-/// A line of as many points as a network takes, each but the first sighted ten times from the one
-/// before it, 2.545 m below. The last point is more than 10 km above the first.
+/// Adds a setup at a point, and ten sights of the next one, 2.545 m below.
+fn add_leg(rt: &impl Abort, alloc: Global, book: &mut Vec<u8>, point: u32, next: u32) {
+    let setup = format!(in alloc; "110001+{point:08} 84..10+00000000 88..10+00001500 \n").expect(
+        rt, "memory",
+    );
+    add(rt, book, setup.as_bytes(), 1);
+    let sight = format!(in alloc; "110002+{next:08} 33..00+00002345 87..10+00001300 \n").expect(
+        rt, "memory",
+    );
+    add(rt, book, sight.as_bytes(), 10);
+}
+
+/// Compares what a line was settled to without a step: its last point is more than 10 km above the first.
+fn compare_line(rt: &impl Abort, outcome: &Outcome) {
+    let low = outcome.spans.low.as_slice();
+    assert_eq!(rt; outcome.steps, 0);
+    assert_eq!(rt; low, outcome.spans.high.as_slice());
+    assert_eq!(rt; low, outcome.settled.heights.as_slice());
+    assert_eq!(rt; (low.len(), low.last()), (4_000, Some(&1_027_745_500_000)));
+}
+
+/// A line of as many points as a network takes, each but the first sighted from the one before it.
 #[test]
 fn a_line_is_settled(rt: HostRuntime) {
     let mut book = Vec::new(rt.alloc());
     for point in 0..3_999u32 {
-        let next = point + 1;
-        let setup = format!(in rt.alloc();
-            "110001+{point:08} 84..10+00000000 88..10+00001500 \n"
-        ).expect(&rt, "memory");
-        let sight = format!(in rt.alloc();
-            "110002+{next:08} 33..00+00002345 87..10+00001300 \n"
-        ).expect(&rt, "memory");
-        add(&rt, &mut book, setup.as_bytes(), 1);
-        add(&rt, &mut book, sight.as_bytes(), 10);
+        add_leg(&rt, rt.alloc(), &mut book, point, point + 1);
     }
     let tables = tables_of(&rt, rt.alloc(), b"point,height\n0,100\n", b"");
     let network = network_of(&rt, rt.alloc(), &book, &tables);
-    let outcome = settled_over(&rt, rt.alloc(), &network, LabelSearch::new());
-    assert_eq!(rt; outcome.steps, 0);
-    assert_eq!(rt; outcome.spans.low.as_slice(), outcome.spans.high.as_slice());
-    assert_eq!(rt;
-        outcome.spans.low.as_slice(),
-        outcome.settled.heights.as_slice()
-    );
-    assert_eq!(rt; outcome.spans.low.as_slice().len(), 4_000);
-    assert_eq!(rt;
-        outcome.spans.low.as_slice().last(),
-        Some(&1_027_745_500_000)
+    compare_line(
+        &rt,
+        &settled_over(&rt, rt.alloc(), &network, LabelSearch::new()),
     );
 }
 

@@ -1,6 +1,6 @@
 use crate::randoms::{Random, Sample};
 use crate::searches::{Manner, StrangeSearch};
-use crate::settling::{cost_of, settled_over};
+use crate::settling::{are_alike, settled_over};
 use crate::surveys::{network_of, tables_of};
 use std::alloc::Global;
 use std::process::Abort;
@@ -15,24 +15,9 @@ fn settle_strangely(rt: &impl Abort, alloc: Global, sample: &Sample) {
     let tables = tables_of(rt, alloc, &sample.benchmarks, &sample.weights);
     let network = network_of(rt, alloc, &sample.book, &tables);
     let wanted = settled_over(rt, alloc, &network, LabelSearch::new());
-    let cost = cost_of(&network, wanted.settled.heights.as_slice());
     for manner in MANNERS {
         let given = settled_over(rt, alloc, &network, StrangeSearch::new(manner));
-        assert_eq!(rt;
-            cost_of(&network, given.settled.heights.as_slice()),
-            cost,
-            "{manner:?}"
-        );
-        assert_eq!(rt;
-            given.spans.low.as_slice(),
-            wanted.spans.low.as_slice(),
-            "{manner:?}"
-        );
-        assert_eq!(rt;
-            given.spans.high.as_slice(),
-            wanted.spans.high.as_slice(),
-            "{manner:?}"
-        );
+        assert!(rt; are_alike(&network, &given, &wanted), "{manner:?}");
     }
 }
 
