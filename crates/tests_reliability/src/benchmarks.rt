@@ -1,18 +1,15 @@
 use crate::entries::{Moved, Order, is_one_of};
 use crate::networks::{
     ALONE, BENCHMARKS_ALONE, BETWEEN_BENCHMARKS, BUILDING_SITE, DAM, NOTHING, RAILWAY_LINE,
-    THERE_AND_BACK, Worked, joined,
+    THERE_AND_BACK, Worked, network_of, observations_of, tables_of,
 };
 use std::alloc::Global;
 use std::process::Abort;
-use th_book::read_book;
-use th_network::Network;
 use th_reliability::{BenchmarkEffect, SharedMistake, benchmark_mistakes};
-use th_tables::{read_benchmarks, read_weights};
 
 /// How many observations have an end at a benchmark, their weight, the benchmark's strength, what a wrong
 /// height does, and what the least sets would move: one of them comes out.
-type Row = (
+pub(crate) type Row = (
     usize,
     u32,
     Option<u32>,
@@ -114,15 +111,14 @@ fn wrong_heights_of_benchmarks_are_told_by_cuts(rt: HostRuntime) {
 /// Tries each benchmark of a network.
 fn try_network(rt: &impl Abort, alloc: Global, network: &Worked, rows: &[Row]) {
     let (lines, benchmarks, weights, _, _) = *network;
-    let book = joined(rt, alloc, lines);
-    let observations = read_book(alloc, 1, &book).expect(rt, "observations");
-    let benchmarks = read_benchmarks(alloc, benchmarks).expect(rt, "benchmarks");
-    let weights = read_weights(alloc, weights).expect(rt, "weights");
-    let network = Network::build(alloc, observations, &benchmarks, &weights).expect(
-        rt,
-        "a network",
-    );
+    let tables = tables_of(rt, alloc, benchmarks, weights);
+    let network = network_of(rt, alloc, observations_of(rt, alloc, lines), &tables);
     let found = benchmark_mistakes(alloc, &network).expect(rt, "memory");
+    has_effects(rt, &found, rows);
+}
+
+/// Compares what wrong heights of the benchmarks do with their rows.
+pub(crate) fn has_effects(rt: &impl Abort, found: &[BenchmarkEffect], rows: &[Row]) {
     assert_eq!(rt; found.len(), rows.len());
     for (k, row) in rows.iter().enumerate() {
         assert!(rt; k < found.len());

@@ -1,13 +1,15 @@
 ghost use Rattle.th_reliability.specs.Numbers.{AreControls};
 
-use crate::networks::{BETWEEN_BENCHMARKS, BUILDING_SITE, DAM, THERE_AND_BACK, Worked};
+use crate::networks::{
+    BETWEEN_BENCHMARKS, BUILDING_SITE, DAM, THERE_AND_BACK, Worked, network_of, observations_of,
+    tables_of,
+};
 use std::alloc::Global;
 use std::process::Abort;
-use th_book::{Observation, read_book};
+use th_book::Observation;
 use th_network::Network;
 use th_progress::Silent;
 use th_reliability::{Blame, Effect, Reliability, SharedMistake, Sights, shared_mistakes};
-use th_tables::{read_benchmarks, read_weights};
 
 /// How many points move, how many observations are blamed, and the number of the heaviest of these.
 pub(crate) type Moved = (usize, usize, Option<usize>);
@@ -78,11 +80,7 @@ fn mistakes_in_entries_are_told_by_cuts(rt: HostRuntime) {
 /// Tries entries over the observations of a book, in their order and in the opposite one.
 fn try_entries(rt: &impl Abort, alloc: Global, row: &Worked, entries: &[Entry]) {
     let (lines, _, _, _, _) = row;
-    let mut book = Vec::new(alloc);
-    for line in *lines {
-        book.extend_from_slice(line).expect(rt, "memory");
-    }
-    let observations = read_book(alloc, 1, &book).expect(rt, "observations");
+    let observations = observations_of(rt, alloc, lines);
     let mut opposite = Vec::new(alloc);
     for o in observations.iter().rev() {
         opposite.push(*o).expect(rt, "memory");
@@ -100,12 +98,8 @@ fn try_observations(
     order: Order,
 ) {
     let (_, benchmarks, weights, _, _) = row;
-    let benchmarks = read_benchmarks(alloc, benchmarks).expect(rt, "benchmarks");
-    let weights = read_weights(alloc, weights).expect(rt, "weights");
-    let network = Network::build(alloc, observations, &benchmarks, &weights).expect(
-        rt,
-        "a network",
-    );
+    let tables = tables_of(rt, alloc, benchmarks, weights);
+    let network = network_of(rt, alloc, observations, &tables);
     let found = Reliability::of(alloc, &network, &mut Silent).expect(rt, "memory");
     let mut before = entries.last();
     for entry in entries {
@@ -138,9 +132,18 @@ fn try_two(
     let effects = shared_mistakes(alloc, network, &found.controls, &entries, &mut Silent).expect(
         rt, "memory",
     );
-    assert_eq!(rt; effects.len(), 4);
-    assert!(rt; is_effect(&effects[0], first, order) && is_effect(&effects[1], first, order));
-    assert!(rt; is_effect(&effects[2], second, order) && is_effect(&effects[3], second, order));
+    assert!(rt; are_effects(&effects, first, second, order));
+}
+
+/// Whether four effects are what two rows allow, each of them twice.
+fn are_effects(effects: &[Effect], first: &Entry, second: &Entry, order: Order) -> bool {
+    match effects {
+        [a, b, c, d] => is_effect(a, first, order)
+            && is_effect(b, first, order)
+            && is_effect(c, second, order)
+            && is_effect(d, second, order),
+        _ => false,
+    }
 }
 
 /// Whether an effect is what a row allows. In the opposite order other numbers are blamed.

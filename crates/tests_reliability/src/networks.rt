@@ -1,11 +1,11 @@
 use crate::entries::{Moved, Order, is_one_of};
 use std::alloc::Global;
 use std::process::Abort;
-use th_book::read_book;
+use th_book::{Observation, read_book};
 use th_network::Network;
 use th_progress::Silent;
 use th_reliability::{Mistake, Reliability};
-use th_tables::{read_benchmarks, read_weights};
+use th_tables::{Benchmarks, Weights, read_benchmarks, read_weights};
 
 /// A book line by line, the tables of its benchmarks and weights, and what they make: the points in
 /// point order with their strengths, and the controls of the observations.
@@ -245,27 +245,44 @@ fn networks_have_the_worked_strengths_and_controls(rt: HostRuntime) {
     }
 }
 
-/// The lines of a book, joined.
-pub(crate) fn joined(rt: &impl Abort, alloc: Global, lines: &[&[u8]]) -> Vec<u8> {
+/// The observations of a book line by line.
+pub(crate) fn observations_of(rt: &impl Abort, alloc: Global, lines: &[&[u8]]) -> Vec<Observation> {
     let mut book = Vec::new(alloc);
     for line in lines {
         book.extend_from_slice(line).expect(rt, "memory");
     }
-    book
+    read_book(alloc, 1, &book).expect(rt, "observations")
 }
 
-fn try_row(rt: &impl Abort, alloc: Global, row: &Worked) {
-    let (lines, benchmarks, weights, strengths, controls) = *row;
-    let book = joined(rt, alloc, lines);
-    let observations = read_book(alloc, 1, &book).expect(rt, "observations");
+/// The tables of these texts.
+pub(crate) fn tables_of(
+    rt: &impl Abort,
+    alloc: Global,
+    benchmarks: &[u8],
+    weights: &[u8],
+) -> (Benchmarks, Weights) {
     let benchmarks = read_benchmarks(alloc, benchmarks).expect(rt, "benchmarks");
     let weights = read_weights(alloc, weights).expect(rt, "weights");
-    let network = Network::build(alloc, observations, &benchmarks, &weights).expect(
-        rt,
-        "a network",
-    );
-    let found = Reliability::of(alloc, &network, &mut Silent).expect(rt, "memory");
+    (benchmarks, weights)
+}
+
+/// The network of observations and tables.
+pub(crate) fn network_of<'a>(
+    rt: &impl Abort,
+    alloc: Global,
+    observations: Vec<Observation>,
+    tables: &'a (Benchmarks, Weights),
+) -> Network<'a> {
+    Network::build(alloc, observations, &tables.0, &tables.1).expect(rt, "a network")
+}
+
+/// Tries the points, the strengths and the controls of a worked network.
+fn try_row(rt: &impl Abort, alloc: Global, row: &Worked) {
+    let (lines, benchmarks, weights, strengths, controls) = *row;
+    let tables = tables_of(rt, alloc, benchmarks, weights);
+    let network = network_of(rt, alloc, observations_of(rt, alloc, lines), &tables);
     has_points(rt, &network, strengths);
+    let found = Reliability::of(alloc, &network, &mut Silent).expect(rt, "memory");
     has_strengths(rt, &found, strengths);
     has_controls(rt, &found, controls);
 }
@@ -324,17 +341,16 @@ fn mistakes_move_the_sets_of_their_controls(rt: HostRuntime) {
     }
 }
 
+/// Tries what a mistake in each observation of a worked network moves.
 fn try_moves(rt: &impl Abort, alloc: Global, row: &Worked, moves: &[&[Moved]]) {
     let (lines, benchmarks, weights, _, _) = *row;
-    let book = joined(rt, alloc, lines);
-    let observations = read_book(alloc, 1, &book).expect(rt, "observations");
-    let benchmarks = read_benchmarks(alloc, benchmarks).expect(rt, "benchmarks");
-    let weights = read_weights(alloc, weights).expect(rt, "weights");
-    let network = Network::build(alloc, observations, &benchmarks, &weights).expect(
-        rt,
-        "a network",
-    );
+    let tables = tables_of(rt, alloc, benchmarks, weights);
+    let network = network_of(rt, alloc, observations_of(rt, alloc, lines), &tables);
     let found = Reliability::of(alloc, &network, &mut Silent).expect(rt, "memory");
+    has_blames(rt, &found, moves);
+}
+
+fn has_blames(rt: &impl Abort, found: &Reliability, moves: &[&[Moved]]) {
     assert_eq!(rt; found.blames.len(), moves.len());
     for (k, allowed) in moves.iter().enumerate() {
         assert!(rt; k < found.blames.len());

@@ -2,15 +2,16 @@
 //! takes.
 ghost use Rattle.th_reliability.specs.Numbers.{AreControls};
 
+use crate::benchmarks::{Row, has_effects};
+use crate::networks::{network_of, tables_of};
 use std::alloc::Global;
 use std::process::Abort;
 use th_book::{Observation, read_book};
 use th_network::Network;
 use th_progress::Silent;
 use th_reliability::{
-    Blame, Effect, Reliability, SharedMistake, Sights, benchmark_mistakes, shared_mistakes,
+    Effect, Reliability, SharedMistake, Sights, benchmark_mistakes, shared_mistakes,
 };
-use th_tables::{read_benchmarks, read_weights};
 
 /// How many sights a network takes.
 const SIGHTS: u32 = 40_000;
@@ -57,21 +58,36 @@ fn try_shared(
     let effects = shared_mistakes(alloc, network, &found.controls, &entries, &mut Silent).expect(
         rt, "memory",
     );
-    assert_eq!(rt; effects.len(), 1);
-    assert!(rt; effects[0].mistake == wanted, "{first} to {last}");
+    assert!(rt; is_one_effect(&effects, wanted), "{first} to {last}");
+}
+
+/// Whether there is one effect, of a mistake that does this.
+fn is_one_effect(effects: &[Effect], wanted: SharedMistake) -> bool {
+    match effects {
+        [effect] => effect.mistake == wanted,
+        _ => false,
+    }
 }
 
 #[test]
 fn one_pair_is_held_by_all_its_sights(rt: HostRuntime) {
     let alloc = rt.alloc();
-    let observations = one_pair(&rt, alloc);
-    let benchmarks = read_benchmarks(alloc, b"point,height\nA,100\n").expect(&rt, "benchmarks");
-    let weights = read_weights(alloc, b"from,to,weight\nA,B,1000\n").expect(&rt, "weights");
-    let network = Network::build(alloc, observations, &benchmarks, &weights).expect(
+    let tables = tables_of(
         &rt,
-        "a network",
+        alloc,
+        b"point,height\nA,100\n",
+        b"from,to,weight\nA,B,1000\n",
     );
+    let network = network_of(&rt, alloc, one_pair(&rt, alloc), &tables);
     let found = Reliability::of(alloc, &network, &mut Silent).expect(&rt, "memory");
+    has_numbers_of_one_pair(&rt, &found);
+    for row in &SHARED {
+        try_shared(&rt, alloc, &network, &found, row);
+    }
+}
+
+/// Looks at the strengths and the controls, which all sights have in common.
+fn has_numbers_of_one_pair(rt: &impl Abort, found: &Reliability) {
     assert!(rt; found.strengths.as_slice() == [None, Some(40_000_000)].as_slice());
     assert_eq!(rt; found.controls.len(), 40_000);
     assert!(rt;
@@ -80,9 +96,6 @@ fn one_pair_is_held_by_all_its_sights(rt: HostRuntime) {
             .iter()
             .all(|control| *control == Some(39_999_000))
     );
-    for row in &SHARED {
-        try_shared(&rt, alloc, &network, &found, row);
-    }
 }
 
 /// How many points are sighted from both benchmarks. With these they are as many as a network takes.
@@ -100,46 +113,42 @@ fn add_setup(rt: &impl Abort, alloc: Global, book: &mut Vec<u8>, setup: &[u8], t
     }
 }
 
-/// A sights B, and each of the points six times; B sights each of them four times. So A has 3,999
-/// neighbours, and with its wrong height go all that are no benchmarks.
-#[test]
-fn benchmark_moves_all_its_neighbours(rt: HostRuntime) {
-    let alloc = rt.alloc();
+/// The sights of two setups: A sights B, and each of the points six times; B sights each of them four
+/// times.
+fn two_setups(rt: &impl Abort, alloc: Global) -> Vec<Observation> {
     let mut book = Vec::new(alloc);
     let first =
         b"110001+0000000A 84..10+00000000 88..10+00001500 87..10+00001300 \n110002+0000000B 33..00+00002345 \n";
-    add_setup(&rt, alloc, &mut book, first, 6);
+    add_setup(rt, alloc, &mut book, first, 6);
     let second = b"110001+0000000B 84..10+00000000 88..10+00001500 87..10+00001300 \n";
-    add_setup(&rt, alloc, &mut book, second, 4);
-    let observations = read_book(alloc, 1, &book).expect(&rt, "observations");
-    let benchmarks = read_benchmarks(alloc, b"point,height\nA,100\nB,100\n").expect(
-        &rt,
-        "benchmarks",
-    );
-    let weights = read_weights(alloc, b"").expect(&rt, "weights");
-    let network = Network::build(alloc, observations, &benchmarks, &weights).expect(
-        &rt,
-        "a network",
-    );
+    add_setup(rt, alloc, &mut book, second, 4);
+    read_book(alloc, 1, &book).expect(rt, "observations")
+}
+
+/// What wrong heights of A and of B do.
+const OF_TWO_SETUPS: [Row; 2] = [
+    (
+        23_989,
+        23_989,
+        Some(15_993),
+        Some(SharedMistake::Drags),
+        &[(3_998, 15_992, Some(23_990))],
+    ),
+    (
+        15_993,
+        15_993,
+        Some(15_993),
+        Some(SharedMistake::Shows),
+        &[],
+    ),
+];
+
+/// A has 3,999 neighbours, and with its wrong height go all that are no benchmarks.
+#[test]
+fn benchmark_moves_all_its_neighbours(rt: HostRuntime) {
+    let alloc = rt.alloc();
+    let tables = tables_of(&rt, alloc, b"point,height\nA,100\nB,100\n", b"");
+    let network = network_of(&rt, alloc, two_setups(&rt, alloc), &tables);
     let found = benchmark_mistakes(alloc, &network).expect(&rt, "memory");
-    assert_eq!(rt; found.len(), 2);
-    let moved = Blame {
-        moves: 3_998,
-        blames: 15_992,
-        blamed: Some(23_990),
-    };
-    assert_eq!(rt; found[0].sights, 23_989);
-    assert_eq!(rt; found[0].strength, Some(15_993));
-    let drags = Effect {
-        mistake: SharedMistake::Drags,
-        blame: Some(moved),
-    };
-    assert!(rt; found[0].effect == Some(drags));
-    assert_eq!(rt; found[1].sights, 15_993);
-    assert_eq!(rt; found[1].strength, Some(15_993));
-    let shows = Effect {
-        mistake: SharedMistake::Shows,
-        blame: None,
-    };
-    assert!(rt; found[1].effect == Some(shows));
+    has_effects(&rt, &found, &OF_TWO_SETUPS);
 }
