@@ -289,33 +289,43 @@ pub fn fault_at(line: u32, kind: BookKind) -> BookFault {
     BookFault { line, kind }
 }
 
-/// The observations are those wanted, of book 7.
-pub fn are_seen(rt: &impl Abort, observations: &[Observation], wanted: &[Seen]) {
-    assert_eq!(rt; observations.len(), wanted.len());
+/// The observation is the one seen, of book 7.
+fn is_seen(observation: &Observation, seen: &Seen) -> bool {
+    let (station, target) = observation.ends();
+    station.as_bytes() == seen.0
+        && target.as_bytes() == seen.1
+        && observation.difference() == seen.2
+        && observation.line == seen.3
+        && observation.book == 7
+}
+
+/// The observations are those seen, of book 7.
+fn are_seen(observations: &[Observation], wanted: &[Seen]) -> bool {
     for (observation, seen) in observations.iter().zip(wanted) {
-        let (station, target) = observation.ends();
-        assert!(rt;
-            station.as_bytes() == seen.0 && target.as_bytes() == seen.1,
-            "at {}",
-            seen.3
-        );
-        assert_eq!(rt; observation.difference(), seen.2);
-        assert_eq!(rt; observation.line, seen.3);
-        assert_eq!(rt; observation.book, 7);
+        if !is_seen(observation, seen) {
+            return false;
+        }
+    }
+    observations.len() == wanted.len()
+}
+
+/// What a book gives.
+pub type Answer = Result<Vec<Observation>, BookFault>;
+
+/// The answer is the one wanted: observations of book 7, or a fault of a line.
+pub fn is_answer(answer: &Answer, wanted: &Result<&[Seen], (u32, BookKind)>) -> bool {
+    match (answer, wanted) {
+        (Ok(observations), Ok(seen)) => are_seen(observations, seen),
+        (Err(fault), Err((line, kind))) => *fault == fault_at(*line, *kind),
+        _ => false,
     }
 }
 
-/// The answer is the one wanted: observations of book 7, or a fault of a line.
-pub fn is_answer(
-    rt: &impl Abort,
-    answer: Result<Vec<Observation>, BookFault>,
-    wanted: &Result<&[Seen], (u32, BookKind)>,
-) {
-    match (answer, wanted) {
-        (Ok(observations), Ok(seen)) => are_seen(rt, &observations, seen),
-        (Err(fault), Err((line, kind))) => assert_eq!(rt; fault, fault_at(*line, *kind)),
-        (Err(fault), Ok(_)) => panic!(rt; "{fault:?}"),
-        (Ok(_), Err(wanted)) => panic!(rt; "no {wanted:?}"),
+/// The answer is as many observations.
+pub fn has_observations(answer: &Answer, count: usize) -> bool {
+    match answer {
+        Ok(observations) => observations.len() == count,
+        Err(_) => false,
     }
 }
 
@@ -331,11 +341,7 @@ fn take(rt: &impl Abort, book: &mut Book, line: &[u8]) -> Result<(), BookFault> 
     book.line(line)
 }
 
-fn line_by_line(
-    rt: &impl Abort,
-    alloc: Global,
-    lines: &[&[u8]],
-) -> Result<Vec<Observation>, BookFault> {
+fn line_by_line(rt: &impl Abort, alloc: Global, lines: &[&[u8]]) -> Answer {
     let mut book = Book::new(alloc, 7);
     for line in lines {
         let _ = take(rt, &mut book, line);
@@ -354,12 +360,7 @@ fn joined(rt: &impl Abort, alloc: Global, lines: &[&[u8]]) -> Vec<u8> {
 }
 
 /// Feeds a book in pieces of this size.
-pub fn fed(
-    rt: &impl Abort,
-    alloc: Global,
-    bytes: &[u8],
-    piece: usize,
-) -> Result<Vec<Observation>, BookFault> {
+pub fn fed(rt: &impl Abort, alloc: Global, bytes: &[u8], piece: usize) -> Answer {
     assert!(rt; piece >= 1);
     let mut feed = BookFeed::new(alloc, 7);
     for bytes in bytes.chunks(piece) {
@@ -369,32 +370,32 @@ pub fn fed(
 }
 
 /// A book gives what is wanted, line by line, whole and in pieces of 7 bytes.
-fn gives(rt: &impl Abort, alloc: Global, row: &Row) {
+fn gives(rt: &impl Abort, alloc: Global, row: &Row) -> bool {
     let (lines, wanted) = row;
-    is_answer(rt, line_by_line(rt, alloc, lines), wanted);
     let bytes = joined(rt, alloc, lines);
-    is_answer(rt, read_book(alloc, 7, &bytes), wanted);
-    is_answer(rt, fed(rt, alloc, &bytes, 7), wanted);
+    is_answer(&line_by_line(rt, alloc, lines), wanted)
+        && is_answer(&read_book(alloc, 7, &bytes), wanted)
+        && is_answer(&fed(rt, alloc, &bytes, 7), wanted)
 }
 
 #[test]
 fn books_and_their_differences(rt: HostRuntime) {
-    for row in &DIFFERENCES {
-        gives(&rt, rt.alloc(), row);
+    for (row, book) in DIFFERENCES.iter().enumerate() {
+        assert!(rt; gives(&rt, rt.alloc(), book), "in row {row}");
     }
 }
 
 #[test]
 fn names_in_sights(rt: HostRuntime) {
-    for row in &NAMES {
-        gives(&rt, rt.alloc(), row);
+    for (row, book) in NAMES.iter().enumerate() {
+        assert!(rt; gives(&rt, rt.alloc(), book), "in row {row}");
     }
 }
 
 #[test]
 fn books_and_their_faults(rt: HostRuntime) {
-    for row in &FAULTS {
-        gives(&rt, rt.alloc(), row);
+    for (row, book) in FAULTS.iter().enumerate() {
+        assert!(rt; gives(&rt, rt.alloc(), book), "in row {row}");
     }
 }
 
@@ -402,47 +403,35 @@ fn books_and_their_faults(rt: HostRuntime) {
 fn lines_that_are_no_blocks(rt: HostRuntime) {
     for (line, fault) in &LINES {
         let answer = line_by_line(&rt, rt.alloc(), &[S, line, P]);
-        is_answer(&rt, answer, &Err((2, BookKind::Block(*fault))));
+        let wanted = Err((2, BookKind::Block(*fault)));
+        assert!(rt; is_answer(&answer, &wanted), "{line:?}");
     }
 }
 
 #[test]
 fn lines_of_spaces(rt: HostRuntime) {
     let spaces = [b' '; 1_601];
-    is_answer(
-        &rt,
-        line_by_line(&rt, rt.alloc(), &[S, &spaces[..1_600], P]),
-        &Ok(&[(b"A", b"B", 254_500_000, 3)]),
+    assert!(rt;
+        is_answer(
+            &line_by_line(&rt, rt.alloc(), &[S, &spaces[..1_600], P]),
+            &Ok(&[(b"A", b"B", 254_500_000, 3)])
+        )
     );
-    is_answer(
-        &rt,
-        line_by_line(&rt, rt.alloc(), &[S, &spaces, P]),
-        &Err((2, BookKind::Block(BlockFault::LineTooLong))),
+    assert!(rt;
+        is_answer(
+            &line_by_line(&rt, rt.alloc(), &[S, &spaces, P]),
+            &Err((2, BookKind::Block(BlockFault::LineTooLong)))
+        )
     );
-}
-
-/// A book has no observations and no fault.
-pub fn is_empty(rt: &impl Abort, answer: Result<Vec<Observation>, BookFault>) {
-    match answer {
-        Ok(observations) => assert!(rt; observations.is_empty()),
-        Err(fault) => panic!(rt; "{fault:?}"),
-    }
-}
-
-/// A book is too long.
-pub fn is_too_long(rt: &impl Abort, answer: Result<Vec<Observation>, BookFault>) {
-    match answer {
-        Ok(_) => panic!(rt; "a book that is too long"),
-        Err(fault) => assert_eq!(rt; fault, fault_at(0, BookKind::BookTooLong)),
-    }
 }
 
 #[test]
 fn longest_book(rt: HostRuntime) {
     let mut bytes = vec![in rt.alloc(); b'\n'; 67_108_864].expect(&rt, "memory");
-    is_empty(&rt, read_book(rt.alloc(), 7, &bytes));
+    assert!(rt; is_answer(&read_book(rt.alloc(), 7, &bytes), &Ok(&[])));
     bytes.push(b'\n').expect(&rt, "memory");
-    is_too_long(&rt, read_book(rt.alloc(), 7, &bytes));
+    let too_long = Err((0, BookKind::BookTooLong));
+    assert!(rt; is_answer(&read_book(rt.alloc(), 7, &bytes), &too_long));
 }
 
 #[test]
@@ -452,13 +441,13 @@ fn fault_is_kept(rt: HostRuntime) {
         2,
         BookKind::Block(BlockFault::BadWord(1, WordFault::BadIndex)),
     );
-    assert_eq!(rt; take(&rt, &mut book, S), Ok(()));
-    assert_eq!(rt; book.lines(), 1);
-    assert_eq!(rt; take(&rt, &mut book, b" 110001+0000000A"), Err(fault));
-    assert_eq!(rt; book.lines(), 2);
-    assert_eq!(rt; take(&rt, &mut book, P), Err(fault));
-    assert_eq!(rt; book.lines(), 2);
-    is_answer(&rt, book.finish(), &Err((2, fault.kind)));
+    let taken = [
+        (take(&rt, &mut book, S), book.lines()),
+        (take(&rt, &mut book, b" 110001+0000000A"), book.lines()),
+        (take(&rt, &mut book, P), book.lines()),
+    ];
+    assert_eq!(rt; taken, [(Ok(()), 1), (Err(fault), 2), (Err(fault), 2)]);
+    assert!(rt; is_answer(&book.finish(), &Err((2, fault.kind))));
 }
 
 /// A setup and five sights.
@@ -470,25 +459,29 @@ pub const SIX_LINES: &[u8] = b"110001+0000000A 84..10+00000000 88..10+00001500
 110006+0000000B 33..00+00002345
 ";
 
+/// Takes the setup and the five sights, line by line.
+fn take_six_lines(rt: &impl Abort, book: &mut Book) {
+    let mut lines = LineCursor::new(SIX_LINES);
+    for _ in 0..6 {
+        let line = lines.next().expect(rt, "six lines");
+        assert_eq!(rt; take(rt, book, line), Ok(()));
+    }
+    assert_eq!(rt; book.lines(), 6);
+}
+
+/// The answer is five observations, or an allocation failure at a sight.
+pub fn is_five_or_wanting(answer: &Answer) -> bool {
+    match answer {
+        Ok(observations) => observations.len() == 5,
+        Err(fault) => fault.kind == BookKind::NoMemory && 2 <= fault.line && fault.line <= 6,
+    }
+}
+
 // With ample memory, and with each allocation refused in turn.
 #[test]
 fn want_of_memory_is_not_kept(rt: HostRuntime) {
     let mut book = Book::new(rt.alloc(), 7);
-    let mut lines = LineCursor::new(SIX_LINES);
-    for _ in 0..6 {
-        let line = lines.next().expect(&rt, "six lines");
-        assert_eq!(rt; take(&rt, &mut book, line), Ok(()));
-    }
-    assert_eq!(rt; book.lines(), 6);
-    match book.finish() {
-        Ok(observations) => assert_eq!(rt; observations.len(), 5),
-        Err(fault) => panic!(rt; "{fault:?}"),
-    }
-    match read_book(rt.alloc(), 7, SIX_LINES) {
-        Ok(observations) => assert_eq!(rt; observations.len(), 5),
-        Err(fault) => {
-            assert_eq!(rt; fault.kind, BookKind::NoMemory);
-            assert!(rt; 2 <= fault.line && fault.line <= 6);
-        }
-    }
+    take_six_lines(&rt, &mut book);
+    assert!(rt; has_observations(&book.finish(), 5));
+    assert!(rt; is_five_or_wanting(&read_book(rt.alloc(), 7, SIX_LINES)));
 }
