@@ -58,14 +58,10 @@ fn once<R: Clock + Files + Alloc<A = Global>>(
     inputs: [&str; 3],
     prefix: &str,
 ) -> Result<[Duration; 7]> {
-    let [book, benchmarks, weights] = inputs;
+    let [book, ..] = inputs;
     let listing = time_of_listing(rt, alloc, book, prefix)?;
     let watch = Watch::start(rt);
-    let texts = Texts {
-        book: fs::read(rt, book)?,
-        benchmarks: fs::read(rt, benchmarks)?,
-        weights: fs::read(rt, weights)?,
-    };
+    let texts = Texts::read(rt, inputs)?;
     let observations = texts.observations(alloc)?;
     let tables = texts.tables(alloc)?;
     let reading = watch.time(rt);

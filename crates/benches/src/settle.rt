@@ -4,7 +4,6 @@ use crate::texts::Texts;
 use crate::times::keep_least;
 use anyhow::{Result, anyhow};
 use std::alloc::Global;
-use std::fs;
 use std::rt::{Clock, Files};
 use std::time::Duration;
 use th_network::{Network, Settled};
@@ -32,11 +31,7 @@ pub fn measure<R: Clock + Files + Print + Alloc<A = Global>>(
     let [book, benchmarks, weights] = files else {
         return Err(anyhow!("a book, benchmarks and weights"));
     };
-    let texts = Texts {
-        book: fs::read(rt, book.as_str())?,
-        benchmarks: fs::read(rt, benchmarks.as_str())?,
-        weights: fs::read(rt, weights.as_str())?,
-    };
+    let texts = Texts::read(rt, [book.as_str(), benchmarks.as_str(), weights.as_str()])?;
     let run = best_run(rt, alloc, &texts, repeats)?;
     print_run(rt, &run)
 }

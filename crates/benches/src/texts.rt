@@ -1,5 +1,7 @@
 use anyhow::{Result, anyhow};
 use std::alloc::Global;
+use std::fs;
+use std::rt::Files;
 use th_book::{Observation, read_book};
 use th_network::Network;
 use th_tables::{Benchmarks, Weights, read_benchmarks, read_weights};
@@ -20,6 +22,16 @@ pub struct Tables {
 }
 
 impl Texts {
+    /// The texts in the files of a book, its benchmarks and its weights.
+    pub fn read<R: Files + Alloc<A = Global>>(rt: &R, files: [&str; 3]) -> Result<Texts> {
+        let [book, benchmarks, weights] = files;
+        Ok(Texts {
+            book: fs::read(rt, book)?,
+            benchmarks: fs::read(rt, benchmarks)?,
+            weights: fs::read(rt, weights)?,
+        })
+    }
+
     /// Reads the book.
     pub fn observations(&self, alloc: Global) -> Result<Vec<Observation>> {
         read_book(alloc, 1, &self.book).map_err(|_| anyhow!("the book"))
