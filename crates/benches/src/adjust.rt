@@ -10,9 +10,10 @@ use std::alloc::Global;
 use std::fs;
 use std::rt::{Clock, Files};
 use std::time::Duration;
-use th_book::{Observation, read_book};
+use th_book::read_book;
 use th_certificate::write_certificate;
 use th_network::{Network, Settled};
+use th_observations::Observation;
 use th_report::{heights_csv, heights_gsi, list_text, report_text};
 
 /// What is timed.

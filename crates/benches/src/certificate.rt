@@ -8,10 +8,10 @@ use std::alloc::Global;
 use std::fs;
 use std::rt::{Clock, Files};
 use std::time::Duration;
-use th_book::Observation;
 use th_certificate::{Certificate, read_certificate};
 use th_checker::{Verdict, check};
 use th_network::MAX_OBSERVATIONS;
+use th_observations::Observation;
 
 /// What is timed, in this order.
 const STEPS: [&str; 4] = [

@@ -2,8 +2,9 @@ use anyhow::{Result, anyhow};
 use std::alloc::Global;
 use std::fs;
 use std::rt::Files;
-use th_book::{Observation, read_book};
+use th_book::read_book;
 use th_network::Network;
+use th_observations::Observation;
 use th_tables::{Benchmarks, Weights, read_benchmarks, read_weights};
 
 /// The texts that a network is built from.

@@ -4,7 +4,8 @@ use gsi_block::{BlockFault, LineCursor};
 use gsi_word::WordFault;
 use std::alloc::Global;
 use std::process::Abort;
-use th_book::{Book, BookFault, BookFeed, BookKind, MAX_BOOK, Observation, read_book};
+use th_book::{Book, BookFault, BookFeed, BookKind, MAX_BOOK, read_book};
+use th_observations::Observation;
 
 /// A setup at A with an instrument height of 1.500 m.
 pub const S: &[u8] =

@@ -1,9 +1,10 @@
 use std::alloc::Global;
 use std::process::Abort;
-use th_book::{Observation, read_book};
+use th_book::read_book;
 use th_certificate::{Certificate, read_certificate};
 use th_checker::check;
 use th_network::MAX_OBSERVATIONS;
+use th_observations::Observation;
 use th_tables::{Benchmarks, Weights, read_benchmarks, read_weights};
 
 /// A book, and the tables of its benchmarks and its weights.

@@ -5,10 +5,10 @@ ghost use Rattle.th_network.specs.Heights.{LeastFine};
 ghost use Rattle.th_network.specs.Limits.{max_observations};
 
 use std::alloc::Global;
-use th_book::Observation;
 use th_certificate::{CertFault, Certificate, read_certificate};
 use th_checker::laws::yes_implies_least;
 use th_checker::{Reason, Verdict, check};
+use th_observations::Observation;
 use th_tables::{Benchmarks, Weights};
 
 /// The certificate of these bytes, or why it does not show that its heights are least.

@@ -3,8 +3,9 @@ use crate::settling::least_heights;
 use gsi_word::Name;
 use std::alloc::Global;
 use std::io;
-use th_book::{Observation, read_book};
+use th_book::read_book;
 use th_network::{MAX_OBSERVATIONS, Network};
+use th_observations::Observation;
 use th_tables::{Benchmarks, Weights, read_benchmarks, read_weights};
 
 /// A to B 2.545 m and A to C 1.380 m, then B to C -1.161 m: the loop closes up to 4 mm.

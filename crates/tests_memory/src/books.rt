@@ -1,7 +1,8 @@
 use gsi_block::LineCursor;
 use std::alloc::Global;
 use std::io;
-use th_book::{Book, BookFault, BookFeed, BookKind, Observation};
+use th_book::{Book, BookFault, BookFeed, BookKind};
+use th_observations::Observation;
 
 /// A setup on A, and seven sights to B, of which one is a metre too long.
 pub const BOOK: &[u8] =

@@ -1,8 +1,9 @@
 use gsi_word::name_of;
 use std::alloc::Global;
 use std::process::Abort;
-use th_book::{Observation, read_book};
+use th_book::read_book;
 use th_network::{Link, NetFault, Network};
+use th_observations::Observation;
 use th_tables::{Benchmarks, Weights, read_benchmarks, read_weights};
 
 /// A setup at A, and a sight from it to B.

@@ -2,7 +2,8 @@
 use gsi_word::{Name, name_of};
 use std::alloc::Global;
 use std::process::Abort;
-use th_book::{Observation, read_book};
+use th_book::read_book;
+use th_observations::Observation;
 use th_points::Points;
 use th_tables::{Benchmarks, read_benchmarks};
 

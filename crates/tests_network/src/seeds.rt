@@ -3,9 +3,10 @@
 use gsi_word::{Name, name_of};
 use std::alloc::Global;
 use std::process::Abort;
-use th_book::{Observation, read_book};
+use th_book::read_book;
 use th_hash::{HashSeed, NameMap, NameSet, insert_stated, reseed_set};
 use th_network::Network;
+use th_observations::Observation;
 use th_points::Points;
 use th_tables::{Benchmarks, TableFault, TableKind, Weights, read_benchmarks, read_weights};
 

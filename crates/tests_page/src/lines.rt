@@ -15,10 +15,11 @@ use crate::words::{
 };
 use anyhow::{Context, Result, bail};
 use std::alloc::Global;
-use th_book::{Observation, read_book};
+use th_book::read_book;
 use th_entries::{Entry, HeightKind};
 use th_explanations::{Kind, Row, Values};
 use th_html::{BenchmarkRow, EntryRow, Mistake, PointRow, SightRow};
+use th_observations::Observation;
 use th_picture::{End, Sight};
 
 /// What a page shows.

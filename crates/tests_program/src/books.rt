@@ -1,5 +1,5 @@
 //! Books of tables of differences: what is printed, and what remains where they are refused.
-use crate::folders::{ROOM, project, put, run, same, shown};
+use crate::folders::{ROOM, prints, project, put, reports, run, same, shown};
 
 /// Two height differences from one station.
 const TABLE: &[u8] = b"from,to,difference\nA,B,1.5\nA,C,-0.00001\n";
@@ -17,8 +17,7 @@ fn a_table_becomes_a_book(rt: HostRuntime) {
         let mut folder = project(&rt, ROOM);
         put(&rt, &mut folder, "table.csv", table);
         assert_eq!(rt; run(&rt, &mut folder, "book table.csv"), 0);
-        assert!(rt; same(shown(folder.output()), TABLE_BOOK));
-        assert!(rt; folder.errors().is_none());
+        assert!(rt; prints(&folder, TABLE_BOOK));
     }
 }
 
@@ -27,7 +26,7 @@ fn the_book_lists_the_table_again(rt: HostRuntime) {
     let mut folder = project(&rt, ROOM);
     put(&rt, &mut folder, "level.gsi", TABLE_BOOK);
     assert_eq!(rt; run(&rt, &mut folder, "list level.gsi"), 0);
-    assert!(rt; same(shown(folder.output()), TABLE_LIST));
+    assert!(rt; prints(&folder, TABLE_LIST));
 }
 
 #[test]
@@ -42,21 +41,14 @@ fn a_faulty_table_prints_no_book(rt: HostRuntime) {
     assert_eq!(rt; run(&rt, &mut folder, "book table.csv"), 2);
     let lines =
         b"differences record 3: E6 to itself\n  'table.csv': a difference leads from a point to another one; 007 and 7 are one name\n";
-    assert!(rt; same(shown(folder.errors()), lines));
-    assert!(rt; folder.output().is_none());
+    assert!(rt; reports(&folder, lines));
 }
 
 #[test]
 fn a_table_that_is_not_there_is_not_read(rt: HostRuntime) {
     let mut folder = project(&rt, ROOM);
     assert_eq!(rt; run(&rt, &mut folder, "book none.csv"), 5);
-    assert!(rt;
-        same(
-            shown(folder.errors()),
-            b"read failed: differences\n  'none.csv'\n"
-        )
-    );
-    assert!(rt; folder.output().is_none());
+    assert!(rt; reports(&folder, b"read failed: differences\n  'none.csv'\n"));
 }
 
 #[test]

@@ -1,6 +1,9 @@
 //! Runs that succeed.
-use crate::folders::{ADJUST_BACK, ADJUST_SITE, LIST, ROOM, file, project, put, run, same, shown};
+use crate::folders::{
+    ADJUST_BACK, ADJUST_SITE, LIST, ROOM, file, is_silent, prints, project, put, run, same, shown,
+};
 use crate::sure_folders::SureFolder;
+use th_folders::MemoryFolder;
 
 /// The heights file of one sight, and of two with the weights.
 const WEIGHTED: &[u8] =
@@ -14,34 +17,34 @@ const CERTIFICATE: &[u8] =
 fn standard_input_is_listed(rt: HostRuntime) {
     let mut folder = project(&rt, ROOM);
     assert_eq!(rt; run(&rt, &mut folder, ""), 0);
-    assert!(rt; same(shown(folder.output()), LIST));
-    assert!(rt; folder.errors().is_none());
+    assert!(rt; prints(&folder, LIST));
 }
 
 #[test]
 fn a_file_is_listed(rt: HostRuntime) {
     let mut folder = project(&rt, ROOM);
     assert_eq!(rt; run(&rt, &mut folder, "list site.gsi"), 0);
-    assert!(rt; same(shown(folder.output()), LIST));
-    assert!(rt; folder.errors().is_none());
+    assert!(rt; prints(&folder, LIST));
+}
+
+/// The files of the adjustment of two sights are there, and neither stream has anything.
+fn is_adjusted(folder: &MemoryFolder) -> bool {
+    same(file(folder, "out.heights.csv"), WEIGHTED)
+        && same(file(folder, "out.certificate.csv"), CERTIFICATE)
+        && file(folder, "out.report.txt").len() > 0
+        && file(folder, "out.heights.gsi").starts_with(b"*")
+        && is_silent(folder)
 }
 
 #[test]
 fn a_network_is_adjusted_and_its_certificate_is_accepted(rt: HostRuntime) {
     let mut folder = project(&rt, ROOM);
     assert_eq!(rt; run(&rt, &mut folder, ADJUST_BACK), 0);
-    assert!(rt; same(file(&folder, "out.heights.csv"), WEIGHTED));
-    assert!(rt; same(file(&folder, "out.certificate.csv"), CERTIFICATE));
-    assert!(rt; file(&folder, "out.report.txt").len() > 0);
-    assert!(rt; file(&folder, "out.heights.gsi").starts_with(b"*"));
-    assert!(rt; folder.output().is_none());
-    assert!(rt; folder.errors().is_none());
-
+    assert!(rt; is_adjusted(&folder));
     let check =
         "check --benchmarks heights --weights weights --certificate out.certificate.csv back.gsi";
     assert_eq!(rt; run(&rt, &mut folder, check), 0);
-    assert!(rt; same(shown(folder.output()), b"yes\n"));
-    assert!(rt; folder.errors().is_none());
+    assert!(rt; prints(&folder, b"yes\n"));
 }
 
 #[test]
@@ -51,8 +54,7 @@ fn weights_count(rt: HostRuntime) {
     put(&rt, &mut folder, "heavier", b"from,to,weight\nB,A,3\n");
     let check = "check --benchmarks heights --weights heavier --certificate certificate back.gsi";
     assert_eq!(rt; run(&rt, &mut folder, check), 1);
-    assert!(rt; shown(folder.output()).starts_with(b"no: "));
-    assert!(rt; folder.errors().is_none());
+    assert!(rt; shown(folder.output()).starts_with(b"no: ") && folder.errors().is_none());
 }
 
 #[test]

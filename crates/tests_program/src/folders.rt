@@ -89,6 +89,27 @@ pub fn shown(text: Option<&[u8]>) -> &[u8] {
     text.unwrap_or(NOTHING)
 }
 
+/// Standard output has this text, and standard error nothing.
+pub fn prints(folder: &MemoryFolder, text: &[u8]) -> bool {
+    same(shown(folder.output()), text) && folder.errors().is_none()
+}
+
+/// Standard error has these lines, and standard output nothing.
+pub fn reports(folder: &MemoryFolder, lines: &[u8]) -> bool {
+    same(shown(folder.errors()), lines) && folder.output().is_none()
+}
+
+/// Standard error begins so and ends with a line, and standard output has nothing.
+pub fn begins_to_report(folder: &MemoryFolder, line: &[u8]) -> bool {
+    let errors = shown(folder.errors());
+    errors.starts_with(line) && errors.ends_with(b"\n") && folder.output().is_none()
+}
+
+/// Neither stream has anything.
+pub fn is_silent(folder: &MemoryFolder) -> bool {
+    folder.output().is_none() && folder.errors().is_none()
+}
+
 /// Both have the same bytes.
 pub fn same(text: &[u8], wanted: &[u8]) -> bool {
     text == wanted

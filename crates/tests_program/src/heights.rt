@@ -1,5 +1,5 @@
 //! Books with heights: what is printed, and what remains where they are refused.
-use crate::folders::{ROOM, project, put, run, same, shown};
+use crate::folders::{ROOM, prints, project, put, reports, run, same, shown};
 
 /// A setup, and a sight with the height of its target.
 const HEIGHTS: &[u8] =
@@ -15,8 +15,7 @@ fn a_book_with_heights_is_printed_with_differences(rt: HostRuntime) {
         let mut folder = project(&rt, ROOM);
         put(&rt, &mut folder, "site.gsi", HEIGHTS);
         assert_eq!(rt; run(&rt, &mut folder, words), 0);
-        assert!(rt; same(shown(folder.output()), DIFFERENCES));
-        assert!(rt; folder.errors().is_none());
+        assert!(rt; prints(&folder, DIFFERENCES));
     }
 }
 
@@ -26,7 +25,7 @@ fn the_printed_book_has_the_difference_of_heights(rt: HostRuntime) {
     put(&rt, &mut folder, "site.gsi", DIFFERENCES);
     assert_eq!(rt; run(&rt, &mut folder, "list site.gsi"), 0);
     let list = b"number,from,to,difference\n1,A,B,1.27200000\n";
-    assert!(rt; same(shown(folder.output()), list));
+    assert!(rt; prints(&folder, list));
 }
 
 /// Books with heights that are refused, and both lines.
@@ -55,8 +54,7 @@ fn a_faulty_book_prints_nothing(rt: HostRuntime) {
         let mut folder = project(&rt, ROOM);
         put(&rt, &mut folder, "site.gsi", heights);
         assert_eq!(rt; run(&rt, &mut folder, "book --heights site.gsi"), 2);
-        assert!(rt; same(shown(folder.errors()), lines));
-        assert!(rt; folder.output().is_none());
+        assert!(rt; reports(&folder, lines));
     }
 }
 
@@ -64,13 +62,7 @@ fn a_faulty_book_prints_nothing(rt: HostRuntime) {
 fn a_book_that_is_not_there_is_not_read(rt: HostRuntime) {
     let mut folder = project(&rt, ROOM);
     assert_eq!(rt; run(&rt, &mut folder, "book --heights none.gsi"), 5);
-    assert!(rt;
-        same(
-            shown(folder.errors()),
-            b"read failed: book 1\n  'none.gsi'\n"
-        )
-    );
-    assert!(rt; folder.output().is_none());
+    assert!(rt; reports(&folder, b"read failed: book 1\n  'none.gsi'\n"));
 }
 
 #[test]

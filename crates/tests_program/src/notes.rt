@@ -1,5 +1,7 @@
 //! Notes of runs that are done.
 use crate::folders::{WIDE, project, put, run, same, shown};
+use std::process::Abort;
+use th_folders::MemoryFolder;
 
 /// A book of a recording mask that writes heights of targets, and no word 33.
 const MASK: &[u8] =
@@ -37,25 +39,28 @@ const NOTED: [(&str, &[u8]); 10] = [
     ("page --benchmarks heights --out out mask.gsi", b""),
 ];
 
+/// A folder with books that have no sight.
+fn sightless(rt: &(impl AllocGlobal + Abort)) -> MemoryFolder {
+    let mut folder = project(rt, WIDE);
+    put(rt, &mut folder, "mask.gsi", MASK);
+    put(rt, &mut folder, "blank.gsi", b"\n   \n");
+    put(rt, &mut folder, "code.gsi", b"410001+0000000A\n");
+    let level = b"110001+0000000A 331.08+00158231\n";
+    put(rt, &mut folder, "level.gsi", level);
+    folder
+}
+
+/// Standard error has these notes, and is not begun where there are none.
+fn has_notes(folder: &MemoryFolder, notes: &[u8]) -> bool {
+    same(shown(folder.errors()), notes) && folder.errors().is_none() == notes.is_empty()
+}
+
 #[test]
 fn a_list_and_an_adjustment_have_notes(rt: HostRuntime) {
     for (words, notes) in NOTED {
-        let mut folder = project(&rt, WIDE);
-        put(&rt, &mut folder, "mask.gsi", MASK);
-        put(&rt, &mut folder, "blank.gsi", b"\n   \n");
-        put(&rt, &mut folder, "code.gsi", b"410001+0000000A\n");
-        put(
-            &rt,
-            &mut folder,
-            "level.gsi",
-            b"110001+0000000A 331.08+00158231\n",
-        );
+        let mut folder = sightless(&rt);
         assert_eq!(rt; run(&rt, &mut folder, words), 0);
-        if notes.is_empty() {
-            assert!(rt; folder.errors().is_none());
-        } else {
-            assert!(rt; same(shown(folder.errors()), notes), "{words}");
-        }
+        assert!(rt; has_notes(&folder, notes), "{words}");
     }
 }
 

@@ -1,5 +1,9 @@
 //! Pages: what `page` leaves in its one file, and what remains where it is refused.
-use crate::folders::{ADJUST_BACK, ADJUSTED, WIDE, file, project, put, run, same, shown};
+use crate::folders::{
+    ADJUST_BACK, ADJUSTED, WIDE, begins_to_report, file, is_silent, project, put, run, same,
+};
+use std::process::Abort;
+use th_folders::MemoryFolder;
 
 /// The arguments that make the page of a sight there and one back, whose residual is -0.01 m.
 const BACK: &str = "page --benchmarks heights --weights weights --out out back.gsi";
@@ -18,19 +22,28 @@ const LINES: [&str; 9] = [
     "</footer>\n</body>\n</html>\n",
 ];
 
-#[test]
-fn a_network_is_shown(rt: HostRuntime) {
-    let mut folder = project(&rt, WIDE);
-    assert_eq!(rt; run(&rt, &mut folder, BACK), 0);
-    let mut left = str::from_utf8(file(&folder, "out.html")).unwrap_or("");
+/// A page has the lines, in order, and ends with the last of them.
+fn has_lines(rt: &impl Abort, page: &str) {
+    let mut left = page;
     for line in LINES {
         let found = left.split_once(line);
         assert!(rt; found.is_some(), "{line}");
         left = found.map(|(_, behind)| behind).unwrap_or("");
     }
     assert!(rt; left.is_empty());
-    assert!(rt; folder.output().is_none());
-    assert!(rt; folder.errors().is_none());
+}
+
+#[test]
+fn a_network_is_shown(rt: HostRuntime) {
+    let mut folder = project(&rt, WIDE);
+    assert_eq!(rt; run(&rt, &mut folder, BACK), 0);
+    has_lines(&rt, page_of(&folder));
+    assert!(rt; is_silent(&folder));
+}
+
+/// The page of a folder.
+fn page_of(folder: &MemoryFolder) -> &str {
+    str::from_utf8(file(folder, "out.html")).unwrap_or("")
 }
 
 /// Pages with a limit, and how many sights are marked above it.
@@ -50,8 +63,7 @@ fn a_residual_above_the_limit_is_marked(rt: HostRuntime) {
     for (page, marked) in MARKED {
         let mut folder = project(&rt, WIDE);
         assert_eq!(rt; run(&rt, &mut folder, page), 0);
-        let text = str::from_utf8(file(&folder, "out.html")).unwrap_or("");
-        assert!(rt; text.contains(marked), "{marked}");
+        assert!(rt; page_of(&folder).contains(marked), "{marked}");
     }
 }
 
@@ -62,10 +74,14 @@ fn an_adjustment_stays_beside_its_page(rt: HostRuntime) {
     assert_eq!(rt; run(&rt, &mut adjusted, ADJUST_BACK), 0);
     assert_eq!(rt; run(&rt, &mut folder, ADJUST_BACK), 0);
     assert_eq!(rt; run(&rt, &mut folder, BACK), 0);
-    for name in ADJUSTED {
-        assert!(rt; same(file(&folder, name), file(&adjusted, name)), "{name}");
-    }
-    assert!(rt; adjusted.file("out.html").is_none());
+    assert!(rt; are_alike(&folder, &adjusted) && adjusted.file("out.html").is_none());
+}
+
+/// Both folders have the same files of an adjustment.
+fn are_alike(folder: &MemoryFolder, other: &MemoryFolder) -> bool {
+    ADJUSTED
+        .iter()
+        .all(|name| same(file(folder, name), file(other, name)))
 }
 
 /// Command lines, the status, and how the line on standard error begins.
@@ -98,16 +114,25 @@ const REFUSED: [(&str, u8, &[u8]); 5] = [
     ),
 ];
 
+/// A folder with a faulty book, benchmarks of another place, an old page, and little room.
+fn old(rt: &(impl AllocGlobal + Abort)) -> MemoryFolder {
+    let mut folder = project(rt, 5_000);
+    put(rt, &mut folder, "faulty.gsi", b"no block\n");
+    put(rt, &mut folder, "elsewhere", b"point,height\nX,50\n");
+    put(rt, &mut folder, "out.html", b"old page");
+    folder
+}
+
+/// The old page is there, and standard error begins so.
+fn is_old(folder: &MemoryFolder, line: &[u8]) -> bool {
+    same(page_of(folder).as_bytes(), b"old page") && begins_to_report(folder, line)
+}
+
 #[test]
 fn a_run_that_is_refused_leaves_the_old_page(rt: HostRuntime) {
     for (page, status, line) in REFUSED {
-        let mut folder = project(&rt, 5_000);
-        put(&rt, &mut folder, "faulty.gsi", b"no block\n");
-        put(&rt, &mut folder, "elsewhere", b"point,height\nX,50\n");
-        put(&rt, &mut folder, "out.html", b"old page");
+        let mut folder = old(&rt);
         assert_eq!(rt; run(&rt, &mut folder, page), status);
-        assert!(rt; shown(folder.errors()).starts_with(line));
-        assert!(rt; same(file(&folder, "out.html"), b"old page"));
-        assert!(rt; folder.output().is_none());
+        assert!(rt; is_old(&folder, line), "{page}");
     }
 }

@@ -1,5 +1,8 @@
 //! Reviews: what they leave in the five files, and what remains where they are refused.
-use crate::folders::{ADJUST_BACK, ADJUSTED, REVIEWED, ROOM, file, project, put, run, same, shown};
+use crate::folders::{
+    ADJUST_BACK, ADJUSTED, REVIEWED, ROOM, begins_to_report, file, is_silent, project, put,
+    reports, run, same,
+};
 use std::process::Abort;
 use th_folders::MemoryFolder;
 
@@ -105,17 +108,17 @@ fn has_no_review(folder: &MemoryFolder) -> bool {
     REVIEWED.iter().all(|name| folder.file(name).is_none())
 }
 
+/// The files of the review of three sights.
+const WRITTEN: [&[u8]; 5] = [POINTS, OBSERVATIONS, ENTRIES, BENCHMARKS, REVIEW];
+
 #[test]
 fn a_network_is_reviewed(rt: HostRuntime) {
     let mut folder = five(&rt);
     assert_eq!(rt; run(&rt, &mut folder, FIVE), 0);
-    assert!(rt; same(file(&folder, "out.points.csv"), POINTS));
-    assert!(rt; same(file(&folder, "out.observations.csv"), OBSERVATIONS));
-    assert!(rt; same(file(&folder, "out.entries.csv"), ENTRIES));
-    assert!(rt; same(file(&folder, "out.benchmarks.csv"), BENCHMARKS));
-    assert!(rt; same(file(&folder, "out.review.txt"), REVIEW));
-    assert!(rt; folder.output().is_none());
-    assert!(rt; folder.errors().is_none());
+    for (name, text) in REVIEWED.iter().zip(WRITTEN) {
+        assert!(rt; same(file(&folder, name), text), "{name}");
+    }
+    assert!(rt; is_silent(&folder));
 }
 
 /// Reviews with a limit, and how the line of the sight back ends. Its residual is -0.01 m, so a limit of
@@ -148,14 +151,19 @@ fn an_adjustment_stays_beside_its_review(rt: HostRuntime) {
     assert_eq!(rt; run(&rt, &mut adjusted, ADJUST_BACK), 0);
     assert_eq!(rt; run(&rt, &mut folder, ADJUST_BACK), 0);
     assert_eq!(rt; run(&rt, &mut folder, BACK), 0);
-    for name in ADJUSTED {
-        assert!(rt; file(&folder, name).len() > 0, "{name}");
-        assert!(rt; same(file(&folder, name), file(&adjusted, name)), "{name}");
-    }
-    for name in REVIEWED {
-        assert!(rt; file(&folder, name).len() > 0, "{name}");
-        assert!(rt; adjusted.file(name).is_none(), "{name}");
-    }
+    assert!(rt; are_alike(&folder, &adjusted) && has_review(&folder) && has_no_review(&adjusted));
+}
+
+/// Both folders have the same files of an adjustment, and none of them is empty.
+fn are_alike(folder: &MemoryFolder, other: &MemoryFolder) -> bool {
+    ADJUSTED.iter().all(|name| {
+        file(folder, name).len() > 0 && same(file(folder, name), file(other, name))
+    })
+}
+
+/// All files of a review are there, and none of them is empty.
+fn has_review(folder: &MemoryFolder) -> bool {
+    REVIEWED.iter().all(|name| file(folder, name).len() > 0)
 }
 
 /// Command lines, the status, and how the line on standard error begins.
@@ -192,17 +200,23 @@ const REFUSED: [(&str, u8, &[u8]); 6] = [
     ),
 ];
 
+/// A folder with a faulty book, and with benchmarks of another place.
+fn faulty(rt: &(impl AllocGlobal + Abort)) -> MemoryFolder {
+    let mut folder = project(rt, ROOM);
+    put(rt, &mut folder, "faulty.gsi", b"no block\n");
+    put(rt, &mut folder, "elsewhere", b"point,height\nX,50\n");
+    folder
+}
+
 #[test]
 fn a_refused_input_leaves_no_review(rt: HostRuntime) {
     for (review, status, line) in REFUSED {
-        let mut folder = project(&rt, ROOM);
-        put(&rt, &mut folder, "faulty.gsi", b"no block\n");
-        put(&rt, &mut folder, "elsewhere", b"point,height\nX,50\n");
+        let mut folder = faulty(&rt);
         assert_eq!(rt; run(&rt, &mut folder, review), status);
-        assert!(rt; shown(folder.errors()).starts_with(line));
-        assert!(rt; shown(folder.errors()).ends_with(b"\n"));
-        assert!(rt; folder.output().is_none());
-        assert!(rt; has_no_review(&folder));
+        assert!(rt;
+            begins_to_report(&folder, line) && has_no_review(&folder),
+            "{review}"
+        );
     }
 }
 
@@ -225,7 +239,6 @@ fn a_write_that_fails_changes_no_file(rt: HostRuntime) {
     for (room, lines) in TOO_LITTLE {
         let mut folder = project(&rt, room);
         assert_eq!(rt; run(&rt, &mut folder, BACK), 5);
-        assert!(rt; same(shown(folder.errors()), lines));
-        assert!(rt; has_no_review(&folder));
+        assert!(rt; reports(&folder, lines) && has_no_review(&folder));
     }
 }

@@ -6,8 +6,8 @@ use crate::networks::{
 };
 use std::alloc::Global;
 use std::process::Abort;
-use th_book::Observation;
 use th_network::Network;
+use th_observations::Observation;
 use th_progress::Silent;
 use th_reliability::{Blame, Effect, Reliability, SharedMistake, Sights, shared_mistakes};
 

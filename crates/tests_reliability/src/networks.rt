@@ -1,8 +1,9 @@
 use crate::entries::{Moved, Order, is_one_of};
 use std::alloc::Global;
 use std::process::Abort;
-use th_book::{Observation, read_book};
+use th_book::read_book;
 use th_network::Network;
+use th_observations::Observation;
 use th_progress::Silent;
 use th_reliability::{Mistake, Reliability};
 use th_tables::{Benchmarks, Weights, read_benchmarks, read_weights};

@@ -6,8 +6,9 @@ use crate::benchmarks::{Row, has_effects};
 use crate::networks::{network_of, tables_of};
 use std::alloc::Global;
 use std::process::Abort;
-use th_book::{Observation, read_book};
+use th_book::read_book;
 use th_network::Network;
+use th_observations::Observation;
 use th_progress::Silent;
 use th_reliability::{
     Effect, Reliability, SharedMistake, Sights, benchmark_mistakes, shared_mistakes,

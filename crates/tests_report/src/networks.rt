@@ -4,8 +4,9 @@ ghost use Rattle.th_network.specs.Networks.{AreAtPoints};
 
 use std::alloc::Global;
 use std::process::Abort;
-use th_book::{Observation, read_book};
+use th_book::read_book;
 use th_network::Network;
+use th_observations::Observation;
 use th_tables::{Benchmarks, Weights, read_benchmarks, read_weights};
 
 /// A setup at A, a sight to B, and two more, which are 1 mm and 1 m off.

@@ -5,7 +5,8 @@ use gsi_block::{BlockFault, LineCursor};
 use gsi_word::WordFault;
 use std::alloc::Global;
 use std::process::Abort;
-use th_book::{Book, BookFault, BookFeed, BookKind, Observation, read_book};
+use th_book::{Book, BookFault, BookFeed, BookKind, read_book};
+use th_observations::Observation;
 
 /// More lines than the book has, however its bytes are changed.
 const MANY_LINES: u32 = 1_000;

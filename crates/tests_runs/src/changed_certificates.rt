@@ -2,10 +2,11 @@
 use crate::helpers::{put, source};
 use crate::projects::{A_AT_100, LOOP};
 use std::process::Abort;
-use th_book::{Observation, read_book};
+use th_book::read_book;
 use th_certificate::{Certificate, StatedHeights, read_certificate};
 use th_checker::Verdict;
 use th_devices::{TextSink, TextSource};
+use th_observations::Observation;
 use th_runs::run_check;
 
 /// What the best heights of the loop cost, in units of 10 nm.

@@ -4,7 +4,7 @@ use Rattle.std.specs.List.{enumerate_from}
 use Rattle.std.proofs.lemmas.List.{append-nil, get_or_push, length_push}
 use Rattle.std.proofs.lemmas.List.Elements.{filter-append}
 use Rattle.std.proofs.lemmas.Option.{slice_get_read}
-use Rattle.th_book.specs.Observed.{Observed}
+use Rattle.th_observations.specs.Observed.{Observed}
 use Rattle.th_blunders.specs.Opposites.{last_of, latest, opposite_of, opposite_to, runs_between}
 use Rattle.th_blunders.proofs.Numbered.{enumerate_from-more}
 

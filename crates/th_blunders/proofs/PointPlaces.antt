@@ -1,7 +1,7 @@
 -- The residuals of observations, from the heights at the places of their ends.
 use Rattle.std.proofs.Common.{◌≡◌, ℕ, ℤ, ◌+◌, ◌<◌, ◌-ℤ◌, pos, List, [], ◌∷◌, ◌++◌, get_or, length, map, take, sym, ap, ◌∙◌}
 use Rattle.std.proofs.lemmas.List.{get_or-map, map-append, take_more}
-use Rattle.th_book.specs.Observed.{Observed}
+use Rattle.th_observations.specs.Observed.{Observed}
 use Rattle.th_points.specs.Ends.{ends_in}
 use Rattle.th_network.specs.Heights.{heights_at, residual}
 use Rattle.th_blunders.specs.Residuals.{residuals}

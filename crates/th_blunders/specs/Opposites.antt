@@ -1,7 +1,7 @@
 use Rattle.std.specs.Prelude.{ℕ, ℤ, ◌-◌, ◌+ℤ◌, Bool, List, Option, filter, length, option_map, slice_get, take}
 use Rattle.std.specs.List.{enumerate_from, filter_map}
 use Rattle.gsi_word.specs.Names.{same_pair}
-use Rattle.th_book.specs.Observed.{Observed}
+use Rattle.th_observations.specs.Observed.{Observed}
 use Rattle.th_blunders.specs.declared.pairs.Opposite.{Opposite}
 
 -- the last item of a list

@@ -1,5 +1,5 @@
 use Rattle.std.specs.Prelude.{ℕ, ℤ, ◌*◌, List, map}
-use Rattle.th_book.specs.Observed.{Observed}
+use Rattle.th_observations.specs.Observed.{Observed}
 use Rattle.th_network.specs.Heights.{residual}
 use Rattle.th_network.specs.Limits.{height_limit}
 

@@ -1,9 +1,10 @@
-ghost use Rattle.std.specs.Prelude.{◌≡◌, ◌<◌, ◌≤◌, All, IfOk, length, unsigned_abs};
+ghost use Rattle.std.specs.Prelude.{◌≡◌, ◌<◌, ◌≤◌, All, IfOk, count_by, length, unsigned_abs};
 ghost use Rattle.th_network.specs.Limits.{max_observations};
 ghost use Rattle.th_blunders.specs.Blunders.{blunders as blunders_of, is_blunder};
 ghost use Rattle.th_blunders.specs.Residuals.{residual_limit};
 
 use std::alloc::{AllocError, Global};
+use th_observations::Observation;
 
 /// Whether a residual is above a limit in size. One that is just the limit in size is no blunder.
 pub fn is_blunder(residual: i64, limit: i64) -> bool
@@ -25,4 +26,19 @@ pub fn blunders(alloc: Global, residuals: &[i64], limit: i64) -> Result<Vec<u32>
         }
     }
     Ok(numbers)
+}
+
+/// How many of the residuals of some observations are blunders.
+pub fn blunder_count(observations: &[Observation], residuals: &[i64], limit: i64) -> u32
+    requires few { length observations.now ≤ max_observations }
+    requires each { length residuals.now ≡ length observations.now }
+    ensures { result ≡ count_by (is_blunder limit) residuals.now }
+{
+    let mut count = 0;
+    for residual in residuals {
+        if is_blunder(*residual, limit) {
+            count += 1;
+        }
+    }
+    count
 }

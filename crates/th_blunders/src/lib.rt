@@ -16,7 +16,7 @@ mod blunder;
 // Opposites.
 mod pairs;
 
-pub use blunder::{blunders, is_blunder};
+pub use blunder::{blunder_count, blunders, is_blunder};
 pub use costs::cost;
 pub use fits::Fit;
 pub use pairs::{Opposite, opposites};

@@ -1,14 +1,14 @@
 ghost use Rattle.std.specs.Prelude.{◌≡◌, ◌≤◌, ℕ, List, IfOk, IfSome, OnOk, Some, length, option_map, unsigned_abs, if◌then◌else◌};
 ghost use Rattle.indexmap.specs.IndexMap.{get};
 ghost use Rattle.gsi_word.specs.Names.{same_pair};
-ghost use Rattle.th_book.specs.Observed.{largest_difference};
+ghost use Rattle.th_observations.specs.Observed.{largest_difference};
 ghost use Rattle.th_network.specs.Limits.{max_observations};
 ghost use Rattle.th_blunders.specs.Opposites.{opposite_to, opposites as opposites_of};
 
 use gsi_word::Name;
 use indexmap::IndexMap;
 use std::alloc::{AllocError, Global};
-use th_book::Observation;
+use th_observations::Observation;
 
 /// An observation, and the last earlier one with its ends exchanged.
 #[derive(Clone, Copy, Debug, PartialEq, Eq)]

@@ -5,8 +5,8 @@ ghost use Rattle.th_network.specs.Networks.{points_of};
 ghost use Rattle.th_blunders.specs.Residuals.{residual_limit, residuals as residuals_of};
 
 use std::alloc::{AllocError, Global};
-use th_book::Observation;
 use th_network::Network;
+use th_observations::Observation;
 
 /// The residuals of a network's observations, in their order, at heights that are listed in the
 /// order of its points: the observed difference, less the height of the target above the station.

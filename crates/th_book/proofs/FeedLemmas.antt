@@ -6,7 +6,7 @@ use Rattle.std.proofs.lemmas.List.{take-append-drop}
 use Rattle.gsi_block.specs.Blocks.{block_at}
 use Rattle.gsi_block.specs.Lines.{lines_of}
 use Rattle.gsi_block.specs.Pieces.{LineState, cut_line, cut_lines, lines_due}
-use Rattle.th_book.specs.Observed.{Observed}
+use Rattle.th_observations.specs.Observed.{Observed}
 use Rattle.th_book.specs.Books.{answer_of, book_answer, lines_answer, too_long}
 use Rattle.th_book.specs.Limits.{max_book}
 use Rattle.th_book.specs.Due.{BookState, IsRefused, IsWanting, due}

@@ -6,7 +6,7 @@ use Rattle.gsi_word.specs.Words.{result_map}
 use Rattle.th_book.specs.declared.faults.BookKind.TheVariants.{NoMemory}
 use Rattle.std.proofs.lemmas.List.{append-nil, drop_more, take-append-drop, take_more}
 use Rattle.gsi_block.specs.Lines.{is_carriage_return, is_end_byte, is_line_feed, lines_of, onto_first}
-use Rattle.th_book.specs.Observed.{Observed}
+use Rattle.th_observations.specs.Observed.{Observed}
 use Rattle.th_book.specs.Books.{lines_answer}
 use Rattle.th_book.specs.Due.{EndsWithSight, BookState, IsRefused, IsTaken, IsWanting, due}
 use Rattle.th_book.specs.declared.faults.BookFault.{BookFault}

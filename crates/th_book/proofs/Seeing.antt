@@ -9,7 +9,7 @@ use Rattle.gsi_word.specs.declared.words.Word.{Word}
 use Rattle.gsi_block.specs.Blocks.{block_at, block_with}
 use Rattle.gsi_block.specs.Lines.{lines_of}
 use Rattle.gsi_block.specs.Pieces.{LineState, lines_due}
-use Rattle.th_book.specs.Observed.{Observed}
+use Rattle.th_observations.specs.Observed.{Observed}
 use Rattle.th_book.specs.Books.{IsFaultless, answer, book_answer, observations_of, parsed_of, too_long}
 use Rattle.th_book.specs.Due.{BookState, IsRefused, after_parsed, after_unless, due, empty, setup_after}
 use Rattle.th_book.specs.Entered.{entered_by}

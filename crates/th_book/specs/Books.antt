@@ -3,7 +3,7 @@ use Rattle.std.specs.List.{range_with_len}
 use Rattle.th_book.specs.Limits.{max_book}
 use Rattle.gsi_block.specs.Lines.{lines_of}
 use Rattle.gsi_block.specs.Blocks.{block_at}
-use Rattle.th_book.specs.Observed.{Observed}
+use Rattle.th_observations.specs.Observed.{Observed}
 use Rattle.th_book.specs.Lines.{ParsedLine, is_sight, length_in, point_name}
 use Rattle.th_book.specs.Places.{height_at, station_at, words_at}
 use Rattle.th_book.specs.Faults.{first_fault}

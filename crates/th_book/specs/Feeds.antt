@@ -1,6 +1,6 @@
 use Rattle.std.specs.Prelude.{◌≡◌, ◌≢◌, ◌<◌, ◌≤◌, ℕ, ◌+◌, List, [], ◌∷◌, ◌++◌, Option, Some, None, IfErr, IfOk, IfSome, Result, Err, Ok, Vec, if◌then◌else◌, length, nat_lt}
 use Rattle.gsi_block.specs.Pieces.{LineState, lines_due}
-use Rattle.th_book.specs.Observed.{Observed}
+use Rattle.th_observations.specs.Observed.{Observed}
 use Rattle.th_book.specs.Books.{too_long}
 use Rattle.th_book.specs.Limits.{max_book}
 use Rattle.th_book.specs.Due.{BookState, EndsWithSight, due}

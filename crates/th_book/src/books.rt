@@ -11,7 +11,6 @@ ghost use Rattle.th_book.specs.Inside.Witnesses.{IsSeenNext};
 
 use crate::faults::{BookFault, BookKind};
 use crate::limits::MAX_BOOK;
-use crate::observations::Observation;
 use crate::setups::Setup;
 use crate::steps::{Step, step_of_line};
 use crate::witnesses::Witness;
@@ -20,6 +19,7 @@ use gsi_block::{LineCursor, MAX_WORDS};
 use gsi_word::Word;
 use std::alloc::Global;
 use std::marker::Model;
+use th_observations::Observation;
 
 /// A book that is read line by line: it keeps the running setup, the observations and the first
 /// fault, but no line.

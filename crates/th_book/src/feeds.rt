@@ -11,7 +11,6 @@ ghost use Rattle.th_book.specs.Witnesses.{IsReadTo, IsSeeing};
 use crate::books::Book;
 use crate::faults::{BookFault, BookKind};
 use crate::limits::MAX_BOOK;
-use crate::observations::Observation;
 use crate::witnesses::Witness;
 use arrayvec::ArrayVec;
 use gsi_block::laws::cut_line_is_read_as_its_line;
@@ -19,6 +18,7 @@ use gsi_block::{Lines, MAX_WORDS};
 use gsi_word::Word;
 use std::alloc::{AllocError, Global};
 use std::marker::Model;
+use th_observations::Observation;
 
 /// A book that comes in pieces of any size. It keeps one line, and what a `Book` keeps.
 ///

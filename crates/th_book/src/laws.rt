@@ -9,7 +9,7 @@ ghost use Rattle.th_book.specs.Entered.{IsSound};
 ghost use Rattle.th_book.specs.Faults.{first_fault};
 ghost use Rattle.th_book.specs.Limits.{max_book};
 ghost use Rattle.th_book.specs.Lines.{ParsedLine, is_sight};
-ghost use Rattle.th_book.specs.Observed.{Observed};
+ghost use Rattle.th_observations.specs.Observed.{Observed};
 ghost use Rattle.th_book.specs.Places.{line_at, words_at};
 
 /// What a new book must return for the lines that follow is what these lines give as a whole.

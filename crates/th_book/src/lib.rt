@@ -26,9 +26,6 @@ mod setups;
 // The effect of a line.
 mod steps;
 
-// Observations.
-mod observations;
-
 // Who sees the lines of a book.
 mod witnesses;
 
@@ -47,6 +44,6 @@ pub use faults::{BookFault, BookKind};
 pub use feeds::BookFeed;
 pub use indexes::POINT_NUMBER;
 pub use limits::MAX_BOOK;
-pub use observations::Observation;
 pub use setups::Setup;
+pub use th_observations::Observation;
 pub use witnesses::Witness;

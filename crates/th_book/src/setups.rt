@@ -1,10 +1,10 @@
 ghost use Rattle.std.specs.Prelude.{◌≡◌, ◌≢◌, ◌≤◌, ℕ, IfOk, unsigned_abs};
-ghost use Rattle.th_book.specs.Observed.{largest_difference};
+ghost use Rattle.th_observations.specs.Observed.{largest_difference};
 
 use crate::entries::Entered;
 use crate::faults::BookKind;
-use crate::observations::Observation;
 use gsi_word::Name;
+use th_observations::Observation;
 use th_units::Len;
 
 /// The running setup: the name of its station, and the last heights since it began.

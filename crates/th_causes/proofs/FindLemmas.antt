@@ -4,14 +4,14 @@ use Rattle.std.specs.List.{AllZip}
 use Rattle.th_entries.specs.declared.entries.Entry.{Entry}
 use Rattle.th_entries.specs.declared.reviews.BookReview.{BookReview}
 use Rattle.th_changes.specs.Freed.{cost_of}
-use Rattle.th_explain.specs.Mended.{AreLowest}
+use Rattle.th_circulation.specs.Extremes.{AreLowest}
 use Rattle.th_explanations.specs.Ranks.{ranked}
 use Rattle.th_explanations.specs.declared.rows.Row.{Row}
 use Rattle.th_network.specs.Networks.{Survey}
 use Rattle.th_review_rows.specs.Entries.{entries_of}
 use Rattle.th_causes.specs.Explanations.{AreExplained, IsEnough, all_rows, summary_of}
 use Rattle.th_numbers.specs.Lists.{Listed, books_of, in_order, listed_of}
-use Rattle.th_causes.specs.Readings.{IsBookRowOrNone}
+use Rattle.th_readings.specs.Readings.{IsBookRowOrNone}
 use Rattle.th_causes.specs.Rows.{IsRowOrMore}
 use Rattle.th_numbers.specs.Ties.{AreTiedRows}
 use Rattle.th_numbers.specs.declared.books.SightedBook.{SightedBook}

@@ -1,6 +1,2 @@
 mod RowLemmas
-mod OrderLemmas
-mod PrintedLemmas
-mod RereadLemmas
-mod BookLemmas
 mod FindLemmas

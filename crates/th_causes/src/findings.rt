@@ -10,17 +10,17 @@ ghost use Rattle.th_causes.specs.Explanations.{AreExplained, IsEnough, all_rows,
 ghost use Rattle.th_causes.specs.Inside.Leading.{AreLeading, IsFreedOrMore, IsTighter};
 ghost use Rattle.th_numbers.specs.Lists.{in_order, listed_in};
 
-use crate::readings::book_rows;
 use crate::rows::{freed_or_more, rows_or_more};
 use std::alloc::{AllocError, Global};
-use th_blunders::{Fit, is_blunder};
+use th_blunders::{Fit, blunder_count, is_blunder};
 use th_circulation::{BestHeights, best_heights};
 use th_entries::BookReview;
-use th_explain::{Freed, Sieve, blunder_count};
+use th_explain::{Freed, Sieve};
 use th_explanations::{Row, Summary, ranked};
 use th_network::{NetFault, Network};
 use th_numbers::{Candidate, Kinds, Listing, books_of, listing_of};
 use th_progress::Progress;
+use th_readings::book_rows;
 use th_review_rows::entries_of;
 
 /// The most rows.

@@ -4,14 +4,10 @@
 //! definitions.
 #![tactic(auto)]
 
-// The row of a number, or none; and that of a book that is read from mark to mark.
-mod readings;
+// The row of a number, or none.
 mod rows;
 
 // All rows.
 mod findings;
-
-// Laws of the definitions.
-pub mod laws;
 
 pub use findings::{Explanations, explanations_of};

@@ -1,7 +1,7 @@
 //! The row of a number, where it explains what does not fit.
-ghost use Rattle.std.specs.Prelude.{◌≡◌, ◌≤◌, ◌↔◌, ◌++◌, ◌∷◌, [], IfErr, IfOk, OnOk, map, true, unsigned_abs};
+ghost use Rattle.std.specs.Prelude.{◌≡◌, ◌≤◌, ◌↔◌, IfErr, IfOk, map, true, unsigned_abs};
 ghost use Rattle.std.specs.List.{AllZip};
-ghost use Rattle.th_book.specs.Observed.{largest_difference};
+ghost use Rattle.th_observations.specs.Observed.{largest_difference};
 ghost use Rattle.th_circulation.specs.Best.{IsBest};
 ghost use Rattle.th_explain.specs.Explained.{Explains, IsMore};
 ghost use Rattle.th_changes.specs.Freed.{cost_of};
@@ -19,6 +19,7 @@ use th_explanations::{Row, Values};
 use th_network::{NetFault, Network};
 use th_numbers::{Candidate, Label, sight_count};
 use th_progress::Progress;
+use th_readings::add_found;
 
 /// What is left if each of some numbers is freed, where it explains what does not fit. Those that leave more
 /// than `most` may be missing, if it is given. The limit of blunders is in units of 10 nm. The only fault is
@@ -107,13 +108,6 @@ fn numbers_of(alloc: Global, candidates: &[Candidate]) -> Result<Vec<Number>, Al
         numbers.push(candidate.number())?;
     }
     Ok(numbers)
-}
-
-/// Adds what was found of one more number.
-pub(crate) fn add_found(rows: &mut Vec<Option<Row>>, found: Option<Row>) -> Result<(), AllocError>
-    ensures { OnOk result (rows.new.items ≡ rows.old.items ++ found ∷ []) }
-{
-    rows.extend_from_slice(&[found])
 }
 
 /// The row of a number, given what is left if it is freed, where it explains what does not fit and leaves

@@ -6,7 +6,7 @@ use Rattle.std.proofs.lemmas.Int.{ints}
 use Rattle.std.proofs.lemmas.List.Elements.{All-from_recursion, recursion_from_All}
 use Rattle.std.proofs.lemmas.List.Sums.{sum_by-le}
 use Rattle.std.proofs.lemmas.Slice.Eq.{bytes_eq-Decides}
-use Rattle.th_book.specs.Observed.{IsBetweenPoints, Observed, largest_difference}
+use Rattle.th_observations.specs.Observed.{IsBetweenPoints, Observed, largest_difference}
 use Rattle.th_tables.specs.Limits.{max_weight}
 use Rattle.th_tables.specs.Rows.{AreWeights, WeightRows}
 use Rattle.th_tables.proofs.WeightLemmas.{weight_is}

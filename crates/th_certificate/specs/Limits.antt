@@ -1,5 +1,5 @@
 use Rattle.std.specs.Prelude.{ℕ, ◌+◌, ◌*◌}
-use Rattle.th_book.specs.Observed.{largest_difference}
+use Rattle.th_observations.specs.Observed.{largest_difference}
 use Rattle.th_network.specs.Limits.{height_limit, max_observations}
 
 -- the most bytes that a certificate has: 8 MiB

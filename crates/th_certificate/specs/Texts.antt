@@ -3,7 +3,7 @@ use Rattle.std.specs.Prelude.{◌≡◌, ℕ, ℤ, List, None, Some, [], ◌∷�
 use Rattle.std.specs.Fmt.{signed_decimal}
 use Rattle.std.specs.List.{enumerate_from}
 use Rattle.gsi_word.specs.Names.{name_of}
-use Rattle.th_book.specs.Observed.{IsBetweenPoints}
+use Rattle.th_observations.specs.Observed.{IsBetweenPoints}
 use Rattle.th_tables.specs.Rows.{AreWeights}
 use Rattle.th_units.specs.Metres.{metres}
 use Rattle.th_csv.specs.Records.{Fields}

@@ -8,7 +8,7 @@ use Rattle.std.proofs.lemmas.List.Elements.{All-set}
 use Rattle.std.proofs.Math.IntN.{*ℤ_comm, *ℤ-zero, zero-*ℤ}
 use Rattle.std.proofs.Math.ListN.{set}
 use Rattle.std.specs.List.{AllZip, AllByRecursion}
-use Rattle.th_book.specs.Observed.{Observed}
+use Rattle.th_observations.specs.Observed.{Observed}
 use Rattle.th_tables.specs.Limits.{max_weight}
 use Rattle.th_tables.specs.Rows.{WeightRows, weight_of}
 use Rattle.th_points.specs.Points.{points}

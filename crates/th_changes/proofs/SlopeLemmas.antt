@@ -6,7 +6,7 @@ use Rattle.std.proofs.lemmas.List.Sums.{fold_more}
 use Rattle.std.proofs.lemmas.Slice.Zip.{get_or-zip, length-zip}
 use Rattle.std.specs.List.{zip}
 use Rattle.std.proofs.Math.IntN.{*ℤ_comm}
-use Rattle.th_book.specs.Observed.{Observed}
+use Rattle.th_observations.specs.Observed.{Observed}
 use Rattle.th_network.specs.Circulation.{Shows, total_by}
 use Rattle.th_network.specs.Networks.{AreOfObservations, Survey, at_points_of}
 use Rattle.th_network.proofs.Products.{times-minus}

@@ -8,7 +8,7 @@ use Rattle.std.proofs.Math.ListN.{length-map}
 use Rattle.std.proofs.lemmas.List.Elements.{All-nil, All-cons, All-get_or, All-head, All-tail, All-weaker}
 use Rattle.std.proofs.lemmas.List.Sums.{sum_by-cons}
 use Rattle.std.specs.List.{AllZip}
-use Rattle.th_book.specs.Observed.{Observed, largest_difference}
+use Rattle.th_observations.specs.Observed.{Observed, largest_difference}
 use Rattle.th_tables.specs.Rows.{BenchmarkRows, WeightRows, height_of, weight_of}
 use Rattle.th_points.specs.Points.{distinct, ends, points}
 use Rattle.th_network.specs.Faults.{HasFault, IsNetwork}

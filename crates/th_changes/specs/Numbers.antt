@@ -1,6 +1,6 @@
 -- The numbers of a survey that somebody read or typed, and what a change of one does.
 use Rattle.std.specs.Prelude.{ℕ, ℤ, pos, negsuc, ◌+ℤ◌, ◌-ℤ◌, ◌*ℤ◌, List, map, if◌then◌else◌, bytes_eq}
-use Rattle.th_book.specs.Observed.{Observed}
+use Rattle.th_observations.specs.Observed.{Observed}
 use Rattle.th_network.specs.Networks.{Survey, surveyed}
 use Rattle.th_reliability.specs.Sights.{in_sights}
 use Rattle.th_changes.specs.declared.numbers.Number.{Number}

@@ -1,7 +1,7 @@
 -- How far a number may change.
 use Rattle.std.specs.Prelude.{ℕ, ◌-◌, pos, List, fold, if◌then◌else◌, min, unsigned_abs}
 use Rattle.std.specs.Ordering.{int_eq}
-use Rattle.th_book.specs.Observed.{Observed, largest_difference}
+use Rattle.th_observations.specs.Observed.{Observed, largest_difference}
 use Rattle.th_changes.specs.declared.numbers.Number.{Number}
 use Rattle.th_changes.specs.Numbers.{touch}
 

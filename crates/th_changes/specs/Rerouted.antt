@@ -1,6 +1,6 @@
 -- Flows of a survey that are sent other ways, and what they then show.
 use Rattle.std.specs.Prelude.{◌≡◌, ℕ, ◌*◌, ◌<◌, ◌≤◌, ℤ, pos, ◌+ℤ◌, ◌-ℤ◌, ◌*ℤ◌, ◌≤ℤ◌, List, length, slice_index, slice_index_or, true, unsigned_abs, zip}
-use Rattle.th_book.specs.Observed.{Observed}
+use Rattle.th_observations.specs.Observed.{Observed}
 use Rattle.th_network.specs.Circulation.{total_by}
 use Rattle.th_network.specs.Heights.{residual}
 use Rattle.th_network.specs.Links.{base, link_difference}

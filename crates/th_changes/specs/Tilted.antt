@@ -1,6 +1,6 @@
 -- A survey in which the change of a number was moved to the differences that it touches. It costs the same.
 use Rattle.std.specs.Prelude.{ℤ, ◌+ℤ◌, ◌*ℤ◌, map}
-use Rattle.th_book.specs.Observed.{Observed}
+use Rattle.th_observations.specs.Observed.{Observed}
 use Rattle.th_network.specs.Networks.{Survey, surveyed}
 use Rattle.th_changes.specs.declared.numbers.Number.{Number}
 use Rattle.th_changes.specs.Numbers.{touch}

@@ -2,7 +2,7 @@ ghost use Rattle.std.specs.Prelude.{◌≡◌, ◌<◌, ◌≤◌, ◌^◌, pos,
 ghost use Rattle.th_changes.specs.Numbers.{sign, touch};
 
 use gsi_word::Name;
-use th_book::Observation;
+use th_observations::Observation;
 use th_reliability::Sights;
 
 /// A number of a survey that somebody read or typed.

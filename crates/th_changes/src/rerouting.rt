@@ -4,7 +4,7 @@
 //! walks instead, less flows through the number, and the flows show less by what the walks cost. Once
 //! none is left, or some flows the other way, they bound what the network costs if the number changes.
 ghost use Rattle.std.specs.Prelude.{◌≡◌, ◌<◌, ◌≤◌, ◌+◌, ◌*◌, ◌+ℤ◌, ◌-ℤ◌, ◌*ℤ◌, ◌≤ℤ◌, ◌<ℤ◌, IfOk, IfSome, length, pos, slice_index, slice_index_or, true, unsigned_abs};
-ghost use Rattle.th_book.specs.Observed.{Observed};
+ghost use Rattle.th_observations.specs.Observed.{Observed};
 ghost use Rattle.th_circulation.specs.Best.{IsBest};
 ghost use Rattle.th_changes.specs.Freed.{Costs, cost_of};
 ghost use Rattle.th_changes.specs.Rerouted.{HoldsNumber, IsCostlyBeyond, IsNext, IsRerouted, IsSteep, LeavesMore, priced};

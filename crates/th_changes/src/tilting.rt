@@ -1,6 +1,6 @@
 //! Networks in which the change of a number was moved to the differences that it touches.
 ghost use Rattle.std.specs.Prelude.{◌≡◌, ◌≢◌, ◌+◌, ◌≤◌, All, IfErr, IfOk, map, pos, unsigned_abs};
-ghost use Rattle.th_book.specs.Observed.{largest_difference};
+ghost use Rattle.th_observations.specs.Observed.{largest_difference};
 ghost use Rattle.th_changes.specs.Reach.{nearer, reach_of};
 ghost use Rattle.th_changes.specs.Tilted.{tilted, tilted_observation};
 ghost use Rattle.th_changes.specs.Numbers.{touch};
@@ -8,10 +8,10 @@ ghost use Rattle.th_network.specs.declared.faults.NetFault.TheVariants.{NoMemory
 
 use crate::numbers::Number;
 use std::alloc::{AllocError, Global};
-use th_book::Observation;
 use th_limits::MAX_LEN;
 use th_network::laws::faults_exclude_each_other;
 use th_network::{NetFault, Network};
+use th_observations::Observation;
 
 /// The largest size of an observed difference: three lengths.
 const LARGEST_DIFFERENCE: u64 = 3 * MAX_LEN;

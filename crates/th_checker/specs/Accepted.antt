@@ -1,6 +1,6 @@
 -- What `yes` means, in terms of circulations.
 use Rattle.std.specs.Prelude.{◌≡◌, ℤ, true, List, IfSome}
-use Rattle.th_book.specs.Observed.{Observed}
+use Rattle.th_observations.specs.Observed.{Observed}
 use Rattle.th_tables.specs.Rows.{BenchmarkRows, WeightRows}
 use Rattle.th_network.specs.Circulation.{Circulation, Shows}
 use Rattle.th_network.specs.Heights.{IsHeights, cost}

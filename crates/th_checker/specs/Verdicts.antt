@@ -3,7 +3,7 @@ use Rattle.std.specs.Prelude.{ℕ, ℤ, ◌*◌, ◌*ℤ◌, pos, ◌&&◌, ◌=
 use Rattle.std.specs.List.{list_all, list_any, position_from, zip}
 use Rattle.std.specs.Map.{keys_of}
 use Rattle.std.specs.Ordering.{int_eq}
-use Rattle.th_book.specs.Observed.{Observed}
+use Rattle.th_observations.specs.Observed.{Observed}
 use Rattle.th_tables.specs.Rows.{BenchmarkRows, WeightRows, height_of, weight_of}
 use Rattle.th_network.specs.Circulation.{arriving, leaving}
 use Rattle.th_network.specs.Heights.{cost, residual}

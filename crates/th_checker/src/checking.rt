@@ -10,8 +10,8 @@ use crate::maps::{Maps, all_keep, maps_at};
 use crate::observations::{Tested, weights_of};
 use crate::verdicts::{Reason, Verdict};
 use std::alloc::{AllocError, Global};
-use th_book::Observation;
 use th_certificate::Certificate;
+use th_observations::Observation;
 use th_points::Points;
 use th_tables::{Benchmarks, Weights};
 

@@ -1,7 +1,7 @@
 //! Laws that relate the definitions to one another. They compute nothing.
 
 ghost use Rattle.std.specs.Prelude.{◌≡◌, ℕ, ℤ, List, Ok, Some};
-ghost use Rattle.th_book.specs.Observed.{Observed};
+ghost use Rattle.th_observations.specs.Observed.{Observed};
 ghost use Rattle.th_tables.specs.Rows.{AreBenchmarks, BenchmarkRows, WeightRows};
 ghost use Rattle.th_network.specs.Heights.{LeastFine};
 ghost use Rattle.th_network.specs.Networks.{Survey};

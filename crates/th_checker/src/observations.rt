@@ -7,7 +7,7 @@ ghost use Rattle.th_checker.specs.Inside.Tests.{AreHeightsAt, AreTested, cost_at
 
 use crate::maps::SpanHeights;
 use std::alloc::{AllocError, Global};
-use th_book::Observation;
+use th_observations::Observation;
 use th_tables::Weights;
 
 /// What is tested: observations, and for each the places of its ends among the points, its weight and

@@ -1,6 +1,6 @@
 -- What two spans and a circulation that shows them answer.
 use Rattle.std.proofs.Common.{ℕ, ℤ, List}
-use Rattle.th_book.specs.Observed.{Observed}
+use Rattle.th_observations.specs.Observed.{Observed}
 use Rattle.th_network.specs.Circulation.{Circulation, Shows}
 use Rattle.th_network.specs.Heights.{IsHeights, LeastFine}
 use Rattle.th_network.specs.Networks.{Survey, at_points_of}

@@ -6,7 +6,7 @@ use Rattle.std.proofs.lemmas.Int.{ints}
 use Rattle.std.proofs.lemmas.List.Elements.{All-from_recursion, recursion_from_All}
 use Rattle.std.proofs.lemmas.List.Sums.{sum_by-cons}
 use lib.Signed.{lt_z}
-use Rattle.th_book.specs.Observed.{Observed}
+use Rattle.th_observations.specs.Observed.{Observed}
 use Rattle.th_tables.specs.Rows.{AreWeights, BenchmarkRows, WeightRows, weight_of}
 use Rattle.th_points.specs.Points.{points}
 use Rattle.th_network.specs.Heights.{IsHeights, Least, cost, residual}

@@ -1,8 +1,9 @@
 use Rattle.std.specs.Prelude.{ℕ, ℤ, ◌≤ℤ◌, List, All}
-use Rattle.th_book.specs.Observed.{Observed}
+use Rattle.th_observations.specs.Observed.{Observed}
 use Rattle.th_tables.specs.Rows.{BenchmarkRows, WeightRows}
 use Rattle.th_points.specs.Points.{points}
 use Rattle.th_network.specs.Heights.{Least}
+use Rattle.th_network.specs.Networks.{Survey}
 
 -- the lowest best heights: they cost least, and no heights that cost least are lower at any point
 pub record Low (observations : List Observed) (benchmarks : BenchmarkRows) (weights : WeightRows) (heights : List ℕ → ℤ) : Type 0 where
@@ -13,3 +14,7 @@ pub record Low (observations : List Observed) (benchmarks : BenchmarkRows) (weig
 pub record High (observations : List Observed) (benchmarks : BenchmarkRows) (weights : WeightRows) (heights : List ℕ → ℤ) : Type 0 where
   pub best : Least observations benchmarks weights heights
   pub highest : (others : List ℕ → ℤ) → Least observations benchmarks weights others → All (λ point. others point ≤ℤ heights point) (points observations benchmarks)
+
+-- the heights are the lowest best ones of the survey
+abbrev pub AreLowest : Survey → (List ℕ → ℤ) → Type 0
+AreLowest survey heights = Low survey.observations survey.benchmarks survey.weights heights

@@ -1,6 +1,6 @@
 use Rattle.std.specs.Prelude.{◌≡◌, ℕ, ℤ, pos, ◌≤ℤ◌, ◌<ℤ◌, List}
 use Rattle.std.specs.List.{AllZip}
-use Rattle.th_book.specs.Observed.{Observed}
+use Rattle.th_observations.specs.Observed.{Observed}
 use Rattle.th_network.specs.Heights.{residual}
 
 -- an observation between the same points that errs as before, or further to the same side; one that fits the heights stays as it is

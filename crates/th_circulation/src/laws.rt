@@ -2,7 +2,7 @@
 
 ghost use Rattle.std.specs.Prelude.{◌≡◌, ℕ, ℤ, Bool, true, false, List, All, IsSome};
 ghost use Rattle.std.specs.List.{AllZip};
-ghost use Rattle.th_book.specs.Observed.{Observed};
+ghost use Rattle.th_observations.specs.Observed.{Observed};
 ghost use Rattle.th_circulation.specs.Extremes.{High, Low};
 ghost use Rattle.th_circulation.specs.Inside.Cuts.{LeavesFull};
 ghost use Rattle.th_circulation.specs.Misreadings.{AreMisread};

@@ -4,7 +4,7 @@ use Rattle.std.specs.List.{enumerate_from}
 use Rattle.th_csv.specs.Records.{Fields}
 use Rattle.th_csv.specs.Texts.{csv_text}
 use Rattle.th_book.specs.Books.{book_answer}
-use Rattle.th_book.specs.Observed.{Observed}
+use Rattle.th_observations.specs.Observed.{Observed}
 use Rattle.th_report.specs.Lists.{list_header, list_record, list_text}
 use Rattle.th_conversions.specs.Books.{AreSeenAs, book_of_table, row_seen}
 use Rattle.th_conversions.specs.Lists.{row_record, rows_text}

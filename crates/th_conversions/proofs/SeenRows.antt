@@ -17,13 +17,13 @@ use Rattle.th_units.specs.Limits.{max_len}
 use Rattle.th_units.specs.Metres.{last_digits}
 use Rattle.gsi_word.specs.Names.{name_of, same_name}
 use Rattle.gsi_word.specs.Words.{Parts, parts}
-use Rattle.th_book.specs.Observed.{Observed}
+use Rattle.th_observations.specs.Observed.{Observed}
 use Rattle.th_book.specs.Due.{BookState, after_parsed, after_words, due_parsed, observation_in, setup_after, standing_in}
 use Rattle.th_book.specs.Faults.{Standing, block_faults, first_applying}
 use Rattle.th_book.specs.declared.setups.Setup.{Setup}
 use Rattle.th_report.specs.Gsi.{number_word, padded_name}
 use Rattle.th_report.proofs.NameLemmas.{zeros_before}
-use Rattle.th_report.proofs.WordLemmas.{last_digits-all}
+use Rattle.th_pages.proofs.DigitLemmas.{last_digits-all}
 use Rattle.th_conversions.specs.Limits.{hundredth}
 use Rattle.th_conversions.specs.Rows.{IsRow}
 use Rattle.th_conversions.specs.Books.{AreSeenAs, blocks_from, length_word, row_seen, setup_block, sight_block, stands_at, zero_easting}

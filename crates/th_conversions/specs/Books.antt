@@ -8,7 +8,7 @@ use Rattle.gsi_word.specs.Words.{Parts, parts}
 use Rattle.gsi_word.specs.declared.words.Width.TheVariants.{Sixteen}
 use Rattle.gsi_block.specs.Blocks.{BlockParts}
 use Rattle.gsi_block.specs.Writing.{block_text}
-use Rattle.th_book.specs.Observed.{Observed}
+use Rattle.th_observations.specs.Observed.{Observed}
 use Rattle.th_book.specs.Indexes.{height_difference, instrument_height, reflector_height, station_easting}
 use Rattle.th_report.specs.Gsi.{number_word}
 use Rattle.th_conversions.specs.Limits.{hundredth, max_book}

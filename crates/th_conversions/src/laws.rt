@@ -2,7 +2,7 @@
 
 ghost use Rattle.std.specs.Prelude.{◌≡◌, ℕ, List, Ok};
 ghost use Rattle.th_book.specs.Books.{book_answer};
-ghost use Rattle.th_book.specs.Observed.{Observed};
+ghost use Rattle.th_observations.specs.Observed.{Observed};
 ghost use Rattle.th_report.specs.Lists.{list_text};
 ghost use Rattle.th_conversions.specs.Lists.{rows_text};
 ghost use Rattle.th_conversions.specs.Books.{AreSeenAs, book_of_table};

@@ -15,7 +15,8 @@ use gsi_block::{Block, write_block};
 use gsi_word::laws::spelling_of_is_the_spelling;
 use gsi_word::{Name, Word};
 use std::alloc::AllocError;
-use th_report::{last_digits, number_word, padded_name, word_of};
+use th_pages::last_digits;
+use th_report::{number_word, padded_name, word_of};
 
 /// Appends the line of a setup at a station, with this number in its book. An easting of zero marks
 /// it, and its reflector and its instrument have the height zero.

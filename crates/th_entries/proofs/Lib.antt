@@ -2,6 +2,7 @@ mod ListedLemmas
 mod AnyLemmas
 mod BelowLemmas
 mod WatchLemmas
+mod MeasuredLemmas
 mod NumberLemmas
 mod Uses
 mod Continued

@@ -20,6 +20,8 @@ use Rattle.th_entries.specs.Listed.{IsListed}
 use Rattle.th_entries.specs.Reviews.{is_lookalike, is_measured, resembles_setup}
 use Rattle.th_entries.specs.Spellings.{Mention, mention_in, mentions_at}
 use Rattle.th_entries.specs.Seen.{AreSeenIn}
+use Rattle.th_entries.specs.Counts.{counts_below}
+use Rattle.th_entries.specs.Inside.Counts.{with_block, with_line}
 use Rattle.th_entries.specs.Inside.Running.{Entering, entering_after}
 use Rattle.th_entries.specs.Inside.Seen.{mention_by}
 use Rattle.th_entries.specs.Oddities.{changes_height, differ, height_before, is_direction}
@@ -31,7 +33,7 @@ use Rattle.th_entries.specs.declared.seen.SeenNames.{SeenNames}
 use Rattle.th_entries.specs.declared.sights.SightWatch.{SightWatch}
 use Rattle.th_entries.specs.declared.tallies.Tally.{Tally}
 use Rattle.th_entries.proofs.Entering.{entering-blank, entering-more}
-use Rattle.th_entries.proofs.WatchLemmas.{Law, few, sound_at}
+use Rattle.th_entries.proofs.WatchLemmas.{Law, blank-counted, block-counted, few, sound_at}
 
 -- what a block mentions by what it enters is what it mentions
 mention_same : (book line : ℕ) (words : List Parts) → mention_by book line (entered_by words) words ≡ mention_in book line words
@@ -89,22 +91,23 @@ changes_same parsed n running whole runs = go (setup_of parsed n) running runs
         ∙ ap (λ height. is_sight words && differ height (length_in instrument_height words)) r.instrument.length
 
 -- the next line is a block
-pub block-taken : (names : SeenNames) (number : ℕ) (parsed : List ParsedLine) (n : ℕ) (running : Option Setup) (old new : Tally) (watch : SightWatch) → n < 4294967295 → AreSound (words_at parsed n) → IsWatched parsed (suc n) watch → HasBlock running (words_at parsed n) (record old { watch = watch }) new → IsRunning parsed n (setup_of parsed n) running → IsTallied names number parsed n old → IsTallied names number parsed (suc n) new
-block-taken names number parsed n running old new watch small sound seen has runs was = record {
-  seen = λ before own. subst (λ (mentions : List Mention). AreSeenIn mentions new.names) (append_assoc before (mentioned n) (option_to_list (mention_by old.book watch.counts.lines entered words)) ∙ ap (λ (last : List Mention). before ++ (mentioned n ++ last)) (ap option_to_list mentions))
+pub block-taken : (names : SeenNames) (number : ℕ) (parsed : List ParsedLine) (n : ℕ) (running : Option Setup) (old new : Tally) (counts : BookCount) (watch : SightWatch) → n < 4294967295 → AreSound (words_at parsed n) → counts ≡ counts_below parsed (suc n) → IsWatched parsed (suc n) watch → HasBlock running (words_at parsed n) (record old { counts = counts; watch = watch }) new → IsRunning parsed n (setup_of parsed n) running → IsTallied names number parsed n old → IsTallied names number parsed (suc n) new
+block-taken names number parsed n running old new counts watch small sound counted seen has runs was = record {
+  seen = λ before own. subst (λ (mentions : List Mention). AreSeenIn mentions new.names) (append_assoc before (mentioned n) (option_to_list (mention_by old.book counts.lines entered words)) ∙ ap (λ (last : List Mention). before ++ (mentioned n ++ last)) (ap option_to_list mentions))
       (has.seen (before ++ mentioned n) (was.seen before own));
   book = has.book ∙ was.book;
+  counts = has.counts ∙ counted;
   watch = subst (IsWatched parsed (suc n)) (sym has.watch) seen;
   entered = subst (IsEntering number parsed (suc n)) (sym after) (entering-more number parsed n running (entering old) small sound.whole runs was.entered);
   lookalikes = subst (λ (lines : List ℕ). IsListed lines new.lookalikes)
-      (ap (λ own. lookalikes_below parsed n ++ line_if own watch.counts.lines) (looks_same parsed n station (station_same parsed n (setup_of parsed n) running runs) sound.whole)
+      (ap (λ own. lookalikes_below parsed n ++ line_if own counts.lines) (looks_same parsed n station (station_same parsed n (setup_of parsed n) running runs) sound.whole)
       ∙ ap (λ own. lookalikes_below parsed n ++ line_if (is_lookalike parsed n) own) line)
       (has.lookalikes (lookalikes_below parsed n) was.lookalikes);
   directions = subst (λ (lines : List ℕ). IsListed lines new.directions)
       (ap (λ own. directions_below parsed n ++ line_if (is_direction words) own) line)
       (has.directions (directions_below parsed n) was.directions);
   changes = subst (λ (lines : List ℕ). IsListed lines new.changes)
-      (ap (λ own. changes_below parsed n ++ line_if own watch.counts.lines) (changes_same parsed n running sound.whole runs)
+      (ap (λ own. changes_below parsed n ++ line_if own counts.lines) (changes_same parsed n running sound.whole runs)
       ∙ ap (λ own. changes_below parsed n ++ line_if (changes_height parsed n) own) line)
       (has.changes (changes_below parsed n) was.changes);
 }
@@ -118,28 +121,29 @@ block-taken names number parsed n running old new watch small sound seen has run
     station : Option (List ℕ)
     station = option_map (λ (setup : Setup). setup.station) running
 
-    line : watch.counts.lines ≡ n + 1
-    line = omega (arith, ap (λ (counts : BookCount). counts.lines) seen.counts)
+    line : counts.lines ≡ n + 1
+    line = omega (arith, ap (λ (own : BookCount). own.lines) counted)
 
     mentioned : ℕ → List Mention
     mentioned many = all_below (mentions_at number parsed) many
 
-    mentions : mention_by old.book watch.counts.lines entered words ≡ mention_in number (n + 1) words
-    mentions = ap (λ own. mention_by own watch.counts.lines entered words) was.book
+    mentions : mention_by old.book counts.lines entered words ≡ mention_in number (n + 1) words
+    mentions = ap (λ own. mention_by own counts.lines entered words) was.book
         ∙ ap (λ own. mention_by number own entered words) line
         ∙ mention_same number (n + 1) words
 
     after : entering new ≡ entering_after number (n + 1) running entered (entering old)
     after =
         has.entered
-        ∙ ap (λ book. entering_after book watch.counts.lines running entered (entering old)) was.book
+        ∙ ap (λ book. entering_after book counts.lines running entered (entering old)) was.book
         ∙ ap (λ own. entering_after number own running entered (entering old)) line
 
 -- the next line says nothing
-pub blank-taken : (names : SeenNames) (number : ℕ) (parsed : List ParsedLine) (n : ℕ) (old : Tally) (watch : SightWatch) → words_at parsed n ≡ [] → IsWatched parsed (suc n) watch → IsTallied names number parsed n old → IsTallied names number parsed (suc n) (record old { watch = watch })
-blank-taken names number parsed n old watch blank watched was = record {
+pub blank-taken : (names : SeenNames) (number : ℕ) (parsed : List ParsedLine) (n : ℕ) (old : Tally) (counts : BookCount) (watch : SightWatch) → words_at parsed n ≡ [] → counts ≡ counts_below parsed (suc n) → IsWatched parsed (suc n) watch → IsTallied names number parsed n old → IsTallied names number parsed (suc n) (record old { counts = counts; watch = watch })
+blank-taken names number parsed n old counts watch blank counted watched was = record {
   seen = λ before own. subst (λ (mentions : List Mention). AreSeenIn (before ++ mentions) old.names) (sym (append-nil mentioned) ∙ ap (λ own. mentioned ++ option_to_list (mention_in number (n + 1) own)) (sym blank)) (was.seen before own);
   book = was.book;
+  counts = counted;
   watch = watched;
   entered = entering-blank number parsed n (entering old) blank was.entered;
   lookalikes = subst (λ (lines : List ℕ). IsListed lines old.lookalikes) (sym (append-nil (lookalikes_below parsed n)) ∙ ap (λ own. lookalikes_below parsed n ++ line_if own (n + 1)) (sym none)) was.lookalikes;
@@ -161,6 +165,7 @@ pub empty-tallied : (names : SeenNames) (number : ℕ) (parsed : List ParsedLine
 empty-tallied names number parsed tally is = record {
   seen = λ before own. subst (λ (mentions : List Mention). AreSeenIn mentions tally.names) (sym (append-nil before)) (subst (AreSeenIn before) (sym is.seen) own);
   book = is.book;
+  counts = is.counts;
   watch = is.watch parsed;
   entered = subst (λ (own : Entering). IsEntering number parsed 0 own) (sym is.entered) (record { reflector = refl; instrument = refl; entries = refl });
   lookalikes = is.lookalikes;
@@ -169,14 +174,19 @@ empty-tallied names number parsed tally is = record {
 }
 
 -- the next line is blank
-pub blank-next : (names : SeenNames) (number : ℕ) (parsed : List ParsedLine) (n : ℕ) (old : Tally) (watch : SightWatch) → IsBlankAt parsed n → IsWatched parsed (suc n) watch → IsTallied names number parsed n old → IsTallied names number parsed (suc n) (record old { watch = watch })
-blank-next names number parsed n old watch is watched was = blank-taken names number parsed n old watch (ap words_in is.blank) watched was
+pub blank-next : (names : SeenNames) (number : ℕ) (parsed : List ParsedLine) (n : ℕ) (old : Tally) (counts : BookCount) (watch : SightWatch) → IsBlankAt parsed n → counts ≡ with_line old.counts → IsWatched parsed (suc n) watch
+    → IsTallied names number parsed n old → IsTallied names number parsed (suc n) (record old { counts = counts; watch = watch })
+blank-next names number parsed n old counts watch is more watched was =
+    blank-taken names number parsed n old counts watch (ap words_in is.blank) (blank-counted parsed n old.counts counts is more was.counts) watched was
 
 -- the next line is a block
-pub block-next : (names : SeenNames) (number : ℕ) (parsed : List ParsedLine) (n : ℕ) (old new : Tally) (watch : SightWatch) (setup : Option Setup) (entered : Entered) (words : List Parts) → Law → IsBlockAt parsed n setup entered words → IsWatched parsed (suc n) watch → (entered ≡ entered_by words → HasBlock setup words (record old { watch = watch }) new) → IsTallied names number parsed n old → IsTallied names number parsed (suc n) new
-block-next names number parsed n old new watch setup entered words law is watched has was =
+pub block-next : (names : SeenNames) (number : ℕ) (parsed : List ParsedLine) (n : ℕ) (old new : Tally) (counts : BookCount) (watch : SightWatch) (setup : Option Setup) (entered : Entered) (words : List Parts) → Law → IsBlockAt parsed n setup entered words
+    → counts ≡ with_block entered (with_line old.counts) → IsWatched parsed (suc n) watch → (entered ≡ entered_by words → HasBlock setup words (record old { counts = counts; watch = watch }) new)
+    → IsTallied names number parsed n old → IsTallied names number parsed (suc n) new
+block-next names number parsed n old new counts watch setup entered words law is more watched has was =
     let all : words_at parsed n ≡ words = ap words_in is.is ∙ sym is.says in
-    block-taken names number parsed n setup old new watch (few n (length parsed) is.here.short is.here.within) (sound_at parsed n setup entered words law is) watched
-    (subst (λ own. HasBlock setup own (record old { watch = watch }) new) (sym all) (has is.enters))
+    block-taken names number parsed n setup old new counts watch (few n (length parsed) is.here.short is.here.within) (sound_at parsed n setup entered words law is)
+    (block-counted parsed n old.counts counts setup entered words law is more was.counts) watched
+    (subst (λ own. HasBlock setup own (record old { counts = counts; watch = watch }) new) (sym all) (has is.enters))
     is.runs
     was

@@ -1,6 +1,7 @@
 -- What is known of the sights of a book after one more line.
-use Rattle.std.proofs.Common.{◌≡◌, ℕ, suc, ◌+◌, ◌<◌, ◌≤◌, Bool, true, false, cond, ◌||◌, List, [], ◌∷◌, Ok, None, length, map, take, refl, sym, ap, ◌∙◌, subst, arith}
+use Rattle.std.proofs.Common.{◌≡◌, ℕ, suc, ◌+◌, ◌<◌, ◌≤◌, Bool, true, false, cond, ◌==◌, ◌||◌, not, List, [], ◌∷◌, Ok, None, length, map, take, refl, sym, ap, ◌∙◌, subst, arith}
 use Rattle.std.specs.Prelude.{Option, is_some}
+use Rattle.std.proofs.Math.Nat.{add-zero}
 use Rattle.std.proofs.lemmas.List.{take_more}
 use Rattle.gsi_word.specs.Words.{Parts}
 use Rattle.th_book.specs.Entered.{AreSound, IsSound, entered_by}
@@ -14,7 +15,7 @@ use Rattle.th_book.specs.declared.setups.Setup.{Setup}
 use Rattle.th_entries.specs.Below.{count_below}
 use Rattle.th_entries.specs.Counts.{counts_below, is_block}
 use Rattle.th_entries.specs.Inside.Counts.{one_more, with_block, with_line}
-use Rattle.th_entries.specs.Inside.Watches.{IsWatched, with_words}
+use Rattle.th_entries.specs.Inside.Watches.{IsWatched, with_unsighted, with_words}
 use Rattle.th_entries.specs.Words.{has, has_word, measured}
 use Rattle.th_entries.specs.declared.counts.BookCount.{BookCount}
 use Rattle.th_entries.specs.declared.sights.SightWatch.{SightWatch}
@@ -76,15 +77,11 @@ none_more parsed n (number ∷ numbers) within none =
     (sym (word_more parsed n number within ∙ ap (λ words. has_word (take n parsed) number || has number words) none ∙ or_false (has_word (take n parsed) number)))
     ∙ ap (λ more. has_word (take (suc n) parsed) number ∷ more) (none_more parsed n numbers within none)
 
--- the next line is blank
-pub blank-watched : (parsed : List ParsedLine) (n : ℕ) (old : SightWatch) (counts : BookCount) → IsBlankAt parsed n → counts ≡ with_line old.counts → IsWatched parsed n old → IsWatched parsed (suc n) (record old { counts = counts })
-blank-watched parsed n old counts is more was =
-    let blank : words_at parsed n ≡ [] = ap words_in is.blank in
-    let small : n < 4294967295 = few n (length parsed) is.here.short is.here.within in
-    record {
-      counts = more ∙ ap with_line was.counts ∙ blank_counted parsed n small (ap is_block is.blank) blank;
-      words = λ none. was.words (sym (ap (λ (own : BookCount). own.sights) more) ∙ none) ∙ none_more parsed n measured is.here.within blank;
-    }
+-- the next line is blank: the counts are those with it
+pub blank-counted : (parsed : List ParsedLine) (n : ℕ) (old new : BookCount) → IsBlankAt parsed n → new ≡ with_line old → old ≡ counts_below parsed n → new ≡ counts_below parsed (suc n)
+blank-counted parsed n old new is more was =
+    more ∙ ap with_line was
+    ∙ blank_counted parsed n (few n (length parsed) is.here.short is.here.within) (ap is_block is.blank) (ap words_in is.blank)
 
 -- what the law of sound books says
 abbrev pub Law : Type 0
@@ -94,27 +91,50 @@ Law = (parsed : List ParsedLine) (place : ℕ) → first_fault parsed ≡ None �
 pub sound_at : (parsed : List ParsedLine) (n : ℕ) (setup : Option Setup) (entered : Entered) (words : List Parts) → Law → IsBlockAt parsed n setup entered words → AreSound (words_at parsed n)
 sound_at parsed n setup entered words law is = subst AreSound (sym (ap words_in is.is)) (subst IsSound is.is (law parsed n is.here.faultless is.here.within))
 
--- the next line is a block: its words are seen if no line so far is a sight
-pub block-watched : (parsed : List ParsedLine) (n : ℕ) (old new : SightWatch) (setup : Option Setup) (entered : Entered) (words : List Parts) → Law → IsBlockAt parsed n setup entered words
-    → new.counts ≡ with_block entered (with_line old.counts) → (new.counts.sights ≡ 0 → new.words ≡ with_words words old.words measured) → IsWatched parsed n old → IsWatched parsed (suc n) new
-block-watched parsed n old new setup entered words law is more seen was = record {
-  counts = after;
-  words = λ none.
-      let before : old.counts.sights ≡ 0 = omega (arith, none, ap (λ (own : BookCount). own.sights) after, ap (λ (own : BookCount). own.sights) was.counts) in
-      seen none ∙ ap (λ own. with_words own old.words measured) (sym all)
-      ∙ ap (λ own. with_words (words_at parsed n) own measured) (was.words before) ∙ seen_more parsed n measured is.here.within;
+-- a block enters what its words say
+enters_at : (parsed : List ParsedLine) (n : ℕ) (setup : Option Setup) (entered : Entered) (words : List Parts) → IsBlockAt parsed n setup entered words → entered ≡ entered_by (words_at parsed n)
+enters_at parsed n setup entered words is = is.enters ∙ ap entered_by (is.says ∙ sym (ap words_in is.is))
+
+-- and is a sight where it enters a target
+sight_at : (parsed : List ParsedLine) (n : ℕ) (setup : Option Setup) (entered : Entered) (words : List Parts) → Law → IsBlockAt parsed n setup entered words → is_some entered.target ≡ is_sight (words_at parsed n)
+sight_at parsed n setup entered words law is =
+    ap (λ (own : Entered). is_some own.target) (enters_at parsed n setup entered words is) ∙ (sound_at parsed n setup entered words law is).whole.target
+
+-- the next line is a block: the counts are those with it
+pub block-counted : (parsed : List ParsedLine) (n : ℕ) (old new : BookCount) (setup : Option Setup) (entered : Entered) (words : List Parts) → Law → IsBlockAt parsed n setup entered words
+    → new ≡ with_block entered (with_line old) → old ≡ counts_below parsed n → new ≡ counts_below parsed (suc n)
+block-counted parsed n old new setup entered words law is more was =
+    more ∙ ap (λ own. with_block entered (with_line own)) was
+    ∙ block_counted parsed n entered (few n (length parsed) is.here.short is.here.within) (ap is_block is.is)
+    (ap (λ (own : Entered). is_some own.station) (enters_at parsed n setup entered words is) ∙ (sound_at parsed n setup entered words law is).whole.station)
+    (sight_at parsed n setup entered words law is)
+
+-- a count with one more line
+more_at : (test : ℕ → Bool) (n : ℕ) (is : Bool) → test n ≡ is → count_below test (suc n) ≡ count_below test n + cond is 1 0
+more_at test n is e = omega (arith, ap {B = ℕ} (λ (own : Bool). cond own 1 0) e)
+
+blocks_more : (parsed : List ParsedLine) (n : ℕ) (is : Bool) → is_block (line_at parsed n) ≡ is → (counts_below parsed (suc n)).blocks ≡ (counts_below parsed n).blocks + cond is 1 0
+blocks_more parsed n is e = more_at (λ place. is_block (line_at parsed place)) n is e
+
+sights_more : (parsed : List ParsedLine) (n : ℕ) (is : Bool) → is_sight (words_at parsed n) ≡ is → (counts_below parsed (suc n)).sights ≡ (counts_below parsed n).sights + cond is 1 0
+sights_more parsed n is e = more_at (λ place. is_sight (words_at parsed place)) n is e
+
+-- the next line is blank: the watch is as it was
+pub blank-watched : (parsed : List ParsedLine) (n : ℕ) (watch : SightWatch) → IsBlankAt parsed n → IsWatched parsed n watch → IsWatched parsed (suc n) watch
+blank-watched parsed n watch is was =
+    let blank : words_at parsed n ≡ [] = ap words_in is.blank in
+    record {
+      sighted = was.sighted ∙ ap (λ many. not (many == 0)) (sym (sights_more parsed n false (ap is_sight blank) ∙ add-zero _));
+      blocks = λ none. was.blocks none ∙ sym (blocks_more parsed n false (ap is_block is.blank) ∙ add-zero _);
+      words = λ none. was.words none ∙ none_more parsed n measured is.here.within blank;
+    }
+
+-- the next line is a block that is no sight, before the first sight
+pub unsighted-block : (parsed : List ParsedLine) (n : ℕ) (watch : SightWatch) (setup : Option Setup) (entered : Entered) (words : List Parts) → Law → IsBlockAt parsed n setup entered words
+    → is_some entered.target ≡ false → watch.sighted ≡ false → IsWatched parsed n watch → IsWatched parsed (suc n) (with_unsighted words watch)
+unsighted-block parsed n watch setup entered words law is target unsighted was = record {
+  sighted = was.sighted ∙ ap (λ many. not (many == 0)) (sym (sights_more parsed n false (sym (sight_at parsed n setup entered words law is) ∙ target) ∙ add-zero _));
+  blocks = λ none. ap one_more (was.blocks unsighted) ∙ counted (λ place. is_block (line_at parsed place)) n true (few n (length parsed) is.here.short is.here.within) (ap is_block is.is);
+  words = λ none. ap (λ own. with_words words own measured) (was.words unsighted) ∙ ap (λ own. with_words own (map (has_word (take n parsed)) measured) measured) (is.says ∙ sym (ap words_in is.is))
+      ∙ seen_more parsed n measured is.here.within;
 }
-  where
-    all : words_at parsed n ≡ words
-    all = ap words_in is.is ∙ sym is.says
-
-    enters : entered ≡ entered_by (words_at parsed n)
-    enters = is.enters ∙ ap entered_by (sym all)
-
-    sound : AreSound (words_at parsed n)
-    sound = sound_at parsed n setup entered words law is
-
-    after : new.counts ≡ counts_below parsed (suc n)
-    after = more ∙ ap (λ own. with_block entered (with_line own)) was.counts
-        ∙ block_counted parsed n entered (few n (length parsed) is.here.short is.here.within) (ap is_block is.is)
-        (ap (λ (own : Entered). is_some own.station) enters ∙ sound.whole.station) (ap (λ (own : Entered). is_some own.target) enters ∙ sound.whole.target)

@@ -1,6 +1,6 @@
 -- Several books, numbered consecutively.
 use Rattle.std.specs.Prelude.{◌≡◌, ℕ, ◌+◌, List, [], ◌∷◌, ◌++◌, Ok, flat_map}
-use Rattle.th_book.specs.Observed.{Observed}
+use Rattle.th_observations.specs.Observed.{Observed}
 use Rattle.th_book.specs.Lines.{ParsedLine}
 use Rattle.th_book.specs.Books.{book_answer}
 use Rattle.th_entries.specs.Entries.{entries_of}

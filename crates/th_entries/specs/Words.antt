@@ -20,6 +20,10 @@ number_of word =
 abbrev pub is_numbered : ℕ → Parts → Bool
 is_numbered number word = option_map_or (λ own. own == number) (number_of word) false
 
+-- a word has one of some numbers
+abbrev pub is_one_of : List ℕ → Parts → Bool
+is_one_of numbers word = option_map_or (λ own. list_any (λ number. own == number) numbers) (number_of word) false
+
 -- one of some words has a number
 abbrev pub has : ℕ → List Parts → Bool
 has number words = list_any (is_numbered number) words

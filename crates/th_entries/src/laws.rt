@@ -3,7 +3,7 @@
 ghost use Rattle.std.specs.Prelude.{◌≡◌, ◌≢◌, ◌<◌, ◌≤◌, ◌++◌, [], All, Contains, ℕ, List, Ok, Some, true, length};
 ghost use Rattle.th_book.specs.Books.{book_answer, known};
 ghost use Rattle.th_book.specs.Lines.{ParsedLine, is_sight};
-ghost use Rattle.th_book.specs.Observed.{Observed};
+ghost use Rattle.th_observations.specs.Observed.{Observed};
 ghost use Rattle.th_book.specs.Places.{height_at, last_below, words_at};
 ghost use Rattle.th_entries.specs.declared.entries.Entry.{Entry};
 ghost use Rattle.th_entries.specs.Entries.{entries_of, length_at, uses};

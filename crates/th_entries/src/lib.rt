@@ -4,8 +4,7 @@
 //!
 //! A `Tally` is a witness of a `th_book::BookFeed`: it sees each line of a book while it is read, and
 //! gives the `BookReview` of a book that has no fault. The `SeenNames` pass from one book to the next.
-//! A `Tally` has a `SightWatch`, which is a witness too: it counts the lines of each kind, and notes a
-//! book without sights.
+//! A `Tally` has a `SightWatch`, which is a witness too: it notes a book without sights.
 #![tactic(auto)]
 
 // Limits, and lists that keep the first of many things.

@@ -1,11 +1,12 @@
-ghost use Rattle.std.specs.Prelude.{◌≡◌, ◌≤◌, ℕ, List, length};
+ghost use Rattle.std.specs.Prelude.{◌≡◌, ◌≤◌, ℕ, List, length, map};
 ghost use Rattle.th_book.specs.Lines.{ParsedLine};
+ghost use Rattle.gsi_word.specs.Words.{parts_of};
+ghost use Rattle.th_entries.specs.Inside.Watches.{with_unsighted};
 ghost use Rattle.th_entries.specs.Sights.{no_sight_in, numbers_in};
 ghost use Rattle.th_entries.specs.Watched.{HasWatched};
 ghost use Rattle.th_entries.specs.Words.{measured};
 
-use crate::counts::BookCount;
-use crate::words::{MEASURED, MEASURED_WORDS, see};
+use crate::words::{MEASURED, MEASURED_WORDS, see_measured};
 use arrayvec::ArrayVec;
 use gsi_word::Word;
 use th_book::laws::faultless_book_is_sound;
@@ -38,11 +39,12 @@ impl NoSight {
     }
 }
 
-/// How many of a book's lines are blocks, setups and sights, and what it has in place of sights: a
-/// witness of its reading. After the first sight it looks at no more words.
+/// What a book has in place of sights, as long as it has none: a witness of its reading. After the first
+/// sight it looks at nothing.
 #[derive(Drop)]
 pub struct SightWatch {
-    pub(crate) counts: BookCount,
+    sighted: bool,
+    blocks: u32,
     words: [bool; MEASURED_WORDS],
 }
 
@@ -52,7 +54,8 @@ impl SightWatch {
         ensures { (parsed : List ParsedLine) → HasWatched parsed 0 result }
     {
         SightWatch {
-            counts: BookCount::new(),
+            sighted: false,
+            blocks: 0,
             words: [false; MEASURED_WORDS],
         }
     }
@@ -63,14 +66,22 @@ impl SightWatch {
         ensures { (parsed : List ParsedLine) → HasWatched parsed (length parsed) self.now
             → result ≡ no_sight_in book parsed }
     {
-        if self.counts.sights > 0 || self.counts.blocks == 0 {
+        if self.sighted || self.blocks == 0 {
             return None;
         }
         Some(NoSight {
             book,
-            blocks: self.counts.blocks,
+            blocks: self.blocks,
             words: self.words,
         })
+    }
+
+    /// Sees a block that is no sight, before the first sight.
+    fn unsighted(&mut self, words: &[Word<'_>])
+        ensures { self.new ≡ with_unsighted (map parts_of words.now) self.old }
+    {
+        self.blocks = self.blocks.saturating_add(1);
+        see_measured(&mut self.words, words);
     }
 }
 
@@ -82,16 +93,19 @@ impl Witness for SightWatch {
 
     ghost has_seen = { λ start number parsed place watch. HasWatched parsed place watch };
 
-    fn blank(&mut self) {
-        self.counts.line();
-    }
+    #[inline(always)]
+    fn blank(&mut self) {}
 
+    #[inline(always)]
     fn block(&mut self, _: &Option<Setup>, entered: &Entered, words: &[Word<'_>]) {
         faultless_book_is_sound();
-        self.counts.line();
-        self.counts.block(entered);
-        if self.counts.sights == 0 {
-            see(&mut self.words, &MEASURED, words);
+        if self.sighted {
+            return;
+        }
+        if entered.target.is_some() {
+            self.sighted = true;
+        } else {
+            self.unsighted(words);
         }
     }
 }

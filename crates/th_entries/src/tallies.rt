@@ -6,6 +6,7 @@ ghost use Rattle.th_book.specs.Faults.{are_one};
 ghost use Rattle.th_entries.specs.Inside.Tallies.{looks};
 ghost use Rattle.th_entries.specs.Reviews.{is_measured};
 
+use crate::counts::BookCount;
 use crate::entries::Entry;
 use crate::listed::Listed;
 use crate::oddities::{changes_height, is_direction, list_if};
@@ -32,6 +33,7 @@ const HORIZONTAL_DISTANCE: u8 = 32;
 #[derive(Drop)]
 pub struct Tally {
     book: u32,
+    counts: BookCount,
     watch: SightWatch,
     latest: Latest,
     entries: Vec<Entry>,
@@ -57,6 +59,7 @@ impl Tally {
     {
         Tally {
             book,
+            counts: BookCount::new(),
             watch: SightWatch::new(),
             latest: Latest {
                 reflector: None,
@@ -81,6 +84,7 @@ impl Tally {
     {
         let Tally {
             book,
+            counts,
             watch,
             mut entries,
             lookalikes,
@@ -96,7 +100,7 @@ impl Tally {
         entries.retain(|entry| entry.sights > 0);
         entries.shrink_to_fit();
         let review = BookReview {
-            counts: watch.counts,
+            counts,
             no_sight: watch.note(book),
             entries,
             lookalikes,
@@ -106,7 +110,7 @@ impl Tally {
         Ok((review, names))
     }
 
-    /// Takes the words of a block that the watch has seen, which enter this in the running setup.
+    /// Takes the words of a block that was counted, which enter this in the running setup.
     fn take(
         &mut self,
         running: &Option<Setup>,
@@ -116,7 +120,7 @@ impl Tally {
         ensures { OnOk result (entered.now ≡ entered_by (map parts_of words.now)
             → HasBlock running.now (map parts_of words.now) self.old self.new) }
     {
-        let line = self.watch.counts.lines;
+        let line = self.counts.lines;
         let looks = is_lookalike(words, entered, &station_of(running));
         list_if(&mut self.lookalikes, looks, line)?;
         list_if(&mut self.directions, is_direction(entered, words), line)?;
@@ -142,11 +146,14 @@ impl Witness for Tally {
     ghost has_seen = { HasSeen };
 
     fn blank(&mut self) {
+        self.counts.line();
         self.watch.blank();
     }
 
     fn block(&mut self, running: &Option<Setup>, entered: &Entered, words: &[Word<'_>]) {
         faultless_book_is_sound();
+        self.counts.line();
+        self.counts.block(entered);
         self.watch.block(running, entered, words);
         if self.failed.is_none() {
             if let Err(error) = self.take(running, entered, words) {

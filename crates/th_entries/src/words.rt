@@ -1,7 +1,8 @@
 ghost use Rattle.std.specs.Prelude.{◌≡◌, map};
+ghost use Rattle.std.specs.List.{list_any};
 ghost use Rattle.gsi_word.specs.Words.{parts_of};
 ghost use Rattle.th_entries.specs.Inside.Watches.{with_words};
-ghost use Rattle.th_entries.specs.Words.{has, is_numbered, number_of};
+ghost use Rattle.th_entries.specs.Words.{has, is_numbered, is_one_of, measured, number_of};
 
 use gsi_word::Word;
 
@@ -48,8 +49,42 @@ fn has(words: &[Word<'_>], number: u16) -> bool
     found
 }
 
+/// Whether a word has one of the numbers `MEASURED`.
+fn is_measured(word: &Word<'_>) -> bool
+    ensures { result ≡ is_one_of measured (parts_of word.now) }
+{
+    match number_of(word) {
+        Some(own) => matches!(
+            own,
+            22 | 31 | 32 | 83 | 330 | 331 | 332 | 333 | 334 | 335 | 336 | 337 | 338 | 339
+        ),
+        None => false,
+    }
+}
+
+/// Whether one of some words has one of the numbers `MEASURED`.
+fn measures(words: &[Word<'_>]) -> bool
+    ensures { result ≡ list_any (is_one_of measured) (map parts_of words.now) }
+{
+    let mut measured = false;
+    for word in words {
+        measured = measured | is_measured(word);
+    }
+    measured
+}
+
+/// Notes which of the numbers `MEASURED` the words of a block have. Most blocks of a book that has them
+/// at all have none: those are passed by.
+pub(crate) fn see_measured(seen: &mut [bool], words: &[Word<'_>])
+    ensures { seen.new ≡ with_words (map parts_of words.now) seen.old measured }
+{
+    if measures(words) {
+        see(seen, &MEASURED, words);
+    }
+}
+
 /// Notes which of some numbers the words of a block have.
-pub(crate) fn see(seen: &mut [bool], numbers: &[u16], words: &[Word<'_>])
+fn see(seen: &mut [bool], numbers: &[u16], words: &[Word<'_>])
     ensures { seen.new ≡ with_words (map parts_of words.now) seen.old numbers.now }
 {
     let Some((own, later)) = seen.split_first_mut() else {

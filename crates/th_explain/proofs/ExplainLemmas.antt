@@ -1,7 +1,5 @@
 -- When a number does not explain what does not fit.
-use Rattle.std.proofs.Common.{◌≡◌, ℕ, Option, None, Bool, true, false, ◌<◌, ◌≤◌, ◌⊎◌, ◌&&◌, inl, inr, ℤ, pos, ◌-ℤ◌, ◌≤ℤ◌, ◌<ℤ◌, List, [], ◌∷◌, ◌++◌, ◌+◌, ap, get_or, if◌then◌else◌, int_lt, length, nat_lt, take, unsigned_abs, refl, sym, subst, ◌∙◌, arith}
-use Rattle.std.specs.List.{AllZip}
-use Rattle.std.proofs.lemmas.List.{take_more}
+use Rattle.std.proofs.Common.{◌≡◌, ℕ, Option, None, Bool, true, false, ◌<◌, ◌≤◌, ◌⊎◌, ◌&&◌, inl, inr, ℤ, pos, ◌-ℤ◌, ◌≤ℤ◌, ◌<ℤ◌, if◌then◌else◌, int_lt, nat_lt, unsigned_abs, refl, sym, subst, arith}
 use Rattle.std.proofs.lemmas.Int.{ints}
 use Rattle.std.proofs.lemmas.Bool.{ltb-true, lt-ltb}
 use Rattle.th_network.specs.Networks.{Survey, at_points_of}
@@ -170,15 +168,3 @@ none_if survey limit number freed exact fails other explains =
 -- ---- numbers that leave more
 pub or_more : (survey : Survey) (limit : ℕ) (most : Option ℕ) (number : Number) → IsNone survey limit number → IsExplainedOrMore survey limit most number None
 or_more survey limit most number none freed explains = absurd (none freed explains)
-
--- ---- one number more
-all_zip_push : {A B : Type 0} (R : A → B → Type 0) (xs : List A) (ys : List B) (x : A) (y : B) → AllZip R xs ys → R x y → AllZip R (xs ++ x ∷ []) (ys ++ y ∷ [])
-all_zip_push R [] [] x y all one = (one, tt)
-all_zip_push R [] (z ∷ ys) x y all one = absurd all
-all_zip_push R (z ∷ xs) [] x y all one = absurd all
-all_zip_push R (z ∷ xs) (v ∷ ys) x y all one = (all.0, all_zip_push R xs ys x y all.1 one)
-
-pub all_zip_next : {A B : Type 0} (R : A → B → Type 0) (xs : List A) (ys next : List B) (i : ℕ) (x : A) (y : B) → i < length xs → x ≡ get_or xs i x → next ≡ ys ++ y ∷ [] → AllZip R (take i xs) ys → R x y → AllZip R (take (i + 1) xs) next
-all_zip_next R xs ys next i x y within here more all one =
-    subst (λ own. AllZip R own next) (sym (take_more xs i x within ∙ ap (λ v. take i xs ++ v ∷ []) (sym here)))
-    (subst (AllZip R (take i xs ++ x ∷ [])) (sym more) (all_zip_push R (take i xs) ys x y all one))

@@ -2,9 +2,4 @@ pub mod BracketLemmas
 pub mod ExplainLemmas
 pub mod ReachLemmas
 pub mod MendedLemmas
-pub mod TieLemmas
 pub mod MistakeLemmas
-pub mod LeftOutLemmas
-pub mod EntryLemmas
-pub mod BenchmarkLemmas
-pub mod Examples

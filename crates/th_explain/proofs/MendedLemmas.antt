@@ -6,14 +6,15 @@ use Rattle.std.proofs.Math.Path.{fun_ext}
 use Rattle.std.specs.List.{count_by}
 use Rattle.th_blunders.specs.Blunders.{is_blunder}
 use Rattle.th_blunders.specs.Residuals.{residuals}
-use Rattle.th_book.specs.Observed.{Observed}
+use Rattle.th_observations.specs.Observed.{Observed}
 use Rattle.th_points.specs.Points.{distinct, ends, points}
 use Rattle.th_tables.specs.Rows.{BenchmarkRows}
 use Rattle.th_network.specs.Heights.{Least, cost, residual}
 use Rattle.th_network.specs.Networks.{Survey}
 use Rattle.th_changes.specs.declared.numbers.Number.{Number}
 use Rattle.th_changes.specs.Tilted.{tilted, tilted_observation}
-use Rattle.th_explain.specs.Mended.{AreLowest, LeavesBlunders}
+use Rattle.th_circulation.specs.Extremes.{AreLowest}
+use Rattle.th_explain.specs.Mended.{LeavesBlunders}
 use Rattle.th_changes.specs.Numbers.{changed, changed_observation, changed_row}
 use Rattle.th_changes.proofs.Changes.{keeps_lowered, keeps_raised, lowered, raised}
 use Rattle.th_changes.proofs.TiltLemmas.{cost_moved, points_tilted, residual_moved}

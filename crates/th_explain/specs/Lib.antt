@@ -1,5 +1,3 @@
-pub mod Ties
-pub mod Parted
 pub mod Explained
 pub mod Mended
 pub mod Inside

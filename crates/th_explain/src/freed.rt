@@ -3,7 +3,7 @@
 //! What a survey costs as one number grows is convex. So from two changes, one where the cost falls
 //! and one where it rises, the least cost is found between them, and how far it reaches.
 ghost use Rattle.std.specs.Prelude.{◌≡◌, ◌≤◌, ◌+ℤ◌, ◌<ℤ◌, pos, IfErr, IfOk, IfSome, unsigned_abs};
-ghost use Rattle.th_book.specs.Observed.{largest_difference};
+ghost use Rattle.th_observations.specs.Observed.{largest_difference};
 ghost use Rattle.th_explain.specs.Explained.{IsExact, mildest};
 ghost use Rattle.th_explain.specs.Inside.Brackets.{AreRound, IsAbove, IsBelow, IsHighest, IsLowest, IsNearest};
 ghost use Rattle.th_changes.specs.Slopes.{IsSloped};

@@ -21,7 +21,7 @@ pub mod laws;
 
 pub use explaining::{explanation, explanations};
 pub use freed::Freed;
-pub use mended::{blunder_count, blunders_left};
+pub use mended::blunders_left;
 pub use reaching::{least_in_reach, least_left};
 pub use sieve::Sieve;
 pub use th_changes::Number;

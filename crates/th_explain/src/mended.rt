@@ -1,14 +1,11 @@
 //! The blunders that are left after a number was changed.
-ghost use Rattle.std.specs.Prelude.{◌≡◌, ◌≤◌, IfErr, IfOk, count_by, length, unsigned_abs};
-ghost use Rattle.th_blunders.specs.Blunders.{is_blunder};
+ghost use Rattle.std.specs.Prelude.{◌≡◌, ◌≤◌, IfErr, IfOk, unsigned_abs};
 ghost use Rattle.th_explain.specs.Mended.{LeavesBlunders};
 ghost use Rattle.th_changes.specs.Reach.{reach_of};
-ghost use Rattle.th_network.specs.Limits.{max_observations};
 ghost use Rattle.th_network.specs.declared.faults.NetFault.TheVariants.{NoMemory};
 
 use std::alloc::Global;
-use th_blunders::{Fit, is_blunder};
-use th_book::Observation;
+use th_blunders::{Fit, blunder_count};
 use th_changes::{Number, tilted};
 use th_circulation::best_heights;
 use th_network::{NetFault, Network};
@@ -30,19 +27,4 @@ pub fn blunders_left(
     let best = best_heights(alloc, &own)?;
     let fit = Fit::of(alloc, &own, best.low())?;
     Ok(blunder_count(own.observations(), &fit.residuals, limit))
-}
-
-/// How many of the residuals of some observations are blunders.
-pub fn blunder_count(observations: &[Observation], residuals: &[i64], limit: i64) -> u32
-    requires few { length observations.now ≤ max_observations }
-    requires each { length residuals.now ≡ length observations.now }
-    ensures { result ≡ count_by (is_blunder limit) residuals.now }
-{
-    let mut count = 0;
-    for residual in residuals {
-        if is_blunder(*residual, limit) {
-            count += 1;
-        }
-    }
-    count
 }

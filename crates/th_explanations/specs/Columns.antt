@@ -1,8 +1,8 @@
 -- The head and the columns of the text for people.
 use Rattle.std.specs.Prelude.{ℕ, ℤ, List, [], ◌++◌, Option, codes, decimal, if◌then◌else◌, int_lt, length, option_map}
 use Rattle.std.specs.List.{flat_map}
-use Rattle.th_report.specs.Columns.{gap, left_in, line_end, right_in}
-use Rattle.th_report.specs.Reports.{label_line, limit_line}
+use Rattle.th_pages.specs.Columns.{gap, left_in, line_end, right_in}
+use Rattle.th_pages.specs.Labels.{label_line, limit_line}
 use Rattle.th_explanations.specs.Costs.{cost_metres}
 use Rattle.th_explanations.specs.Tables.{length_field, name_field, number_field}
 use Rattle.th_explanations.specs.Words.{since_mark, word_index}

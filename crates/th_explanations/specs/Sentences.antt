@@ -2,7 +2,7 @@
 use Rattle.std.specs.Prelude.{ℕ, ℤ, ◌==◌, ◌&&◌, Bool, List, [], ◌∷◌, ◌++◌, Option, None, Some, codes, decimal, filter, find, fold, if◌then◌else◌, length, min, nat_le, nat_lt}
 use Rattle.std.specs.List.{flat_map}
 use Rattle.th_units.specs.Metres.{metres}
-use Rattle.th_report.specs.Columns.{line_end}
+use Rattle.th_pages.specs.Columns.{line_end}
 use Rattle.th_explanations.specs.Costs.{cost_metres}
 use Rattle.th_explanations.specs.Tables.{name_field, number_field}
 use Rattle.th_explanations.specs.declared.rows.Kind.{Kind}

@@ -1,6 +1,6 @@
 -- The text for people.
 use Rattle.std.specs.Prelude.{ℕ, List, ◌++◌}
-use Rattle.th_report.specs.Columns.{line_end}
+use Rattle.th_pages.specs.Columns.{line_end}
 use Rattle.th_explanations.specs.Columns.{cost_lines, count_lines, row_lines}
 use Rattle.th_explanations.specs.Sentences.{sentences}
 use Rattle.th_explanations.specs.declared.rows.Row.{Row}

@@ -12,7 +12,7 @@ use crate::tables::{length_field, length_text, name_field, number_field};
 use crate::words::{since_mark, word_index};
 use itoa::Buffer;
 use std::alloc::{AllocError, Global};
-use th_report::{Page, write_count, write_label, write_limit};
+use th_pages::{Page, write_count, write_label, write_limit};
 
 /// Writes the cost, the limit of blunders, and how many are marked.
 #[tactic(auto, unfolding(crate::specs::Columns::cost_lines))]

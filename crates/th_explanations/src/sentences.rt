@@ -9,7 +9,7 @@ use crate::rows::{Kind, Row, Summary};
 use crate::tables::{name_field, number_field};
 use itoa::Buffer;
 use std::alloc::{AllocError, Global};
-use th_report::Page;
+use th_pages::Page;
 use th_units::metre_text;
 
 /// The most rows.

@@ -6,7 +6,7 @@ use crate::columns::{write_costs, write_counts, write_table};
 use crate::rows::{Row, Summary};
 use crate::sentences::write_sentences;
 use std::alloc::{AllocError, Global};
-use th_report::Page;
+use th_pages::Page;
 
 /// The text for people: what was looked at in numbers, the rows, and what they say.
 #[tactic(auto, unfolding(crate::specs::Texts::explanation_text))]

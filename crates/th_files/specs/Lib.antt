@@ -1,4 +1,4 @@
 pub mod Owed
 pub mod Outputs
-pub mod Helped
+pub mod Stops
 pub mod Opened

@@ -7,6 +7,10 @@ use Rattle.th_run_parts.specs.declared.refusals.Output.{Output}
 use Rattle.th_run_parts.specs.declared.refusals.Output.TheVariants as out
 use Rattle.th_run_parts.specs.declared.refusals.Refusal.{Refusal}
 
+-- the spot has this text, if the folder reports its bytes
+abbrev pub Holds : Bool → Told → Spot → List ℕ → Type 0
+Holds tells told spot text = tells ≡ true → told spot ≡ Some text
+
 -- how the name of an output's file ends, behind the prefix of its run; none for an output that goes to standard output
 abbrev pub ending_of : Output → Option (List ℕ)
 ending_of out.List = None

@@ -1,6 +1,6 @@
 -- What a run over a folder must return, given what is in the folder.
 use Rattle.std.specs.Prelude.{◌≡◌, ◌+◌, ℕ, List, [], ◌∷◌, Option, Some, option_map, slice_get}
-use Rattle.th_book.specs.Observed.{Observed}
+use Rattle.th_observations.specs.Observed.{Observed}
 use Rattle.th_booking.specs.Booked.{converted, input_of}
 use Rattle.th_booking.specs.declared.conversions.Conversion.{Conversion}
 use Rattle.th_devices.specs.Spots.{Spot, file}

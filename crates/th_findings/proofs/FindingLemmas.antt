@@ -11,7 +11,7 @@ use Rattle.std.specs.declared.cmp.Ordering.TheVariants.{Less, Equal, Greater}
 use Rattle.std.proofs.lemmas.Option.{get_or_from_slice_get, slice_get_within}
 use Rattle.std.proofs.lemmas.Map.Text.{is_eq-slice_cmp}
 use Rattle.gsi_word.specs.Names.{same_name, same_pair}
-use Rattle.th_report.proofs.RowLemmas.{drop-first}
+use Rattle.th_pages.proofs.RowLemmas.{drop-first}
 use Rattle.th_findings.specs.Inside.Sets.{has_name, has_pair}
 
 -- whether a key is there, after one more

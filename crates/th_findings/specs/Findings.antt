@@ -1,7 +1,7 @@
 -- The notes of a review on a survey, on its tables and on its books.
 use Rattle.std.specs.Prelude.{ℕ, ℤ, ◌-◌, ◌==◌, ◌++◌, Bool, List, Option, Some, None, if◌then◌else◌, map, option_map, sum, take}
 use Rattle.std.specs.List.{enumerate_from, filter_map, flat_map}
-use Rattle.th_book.specs.Observed.{Observed}
+use Rattle.th_observations.specs.Observed.{Observed}
 use Rattle.th_tables.specs.Rows.{BenchmarkRows, WeightRows}
 use Rattle.th_network.specs.Networks.{Survey, points_of}
 use Rattle.th_entries.specs.declared.counts.BookCount.{BookCount}

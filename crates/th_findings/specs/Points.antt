@@ -1,7 +1,7 @@
 -- The notes of a review on points.
 use Rattle.std.specs.Prelude.{ℕ, ◌||◌, ◌++◌, Bool, List, [], ◌∷◌, if◌then◌else◌, is_some}
 use Rattle.std.specs.List.{flat_map}
-use Rattle.th_book.specs.Observed.{Observed}
+use Rattle.th_observations.specs.Observed.{Observed}
 use Rattle.th_tables.specs.Rows.{BenchmarkRows, height_of}
 use Rattle.th_findings.specs.Limited.{limited}
 use Rattle.th_findings.specs.Uses.{all_ends, is_used_again}

@@ -4,7 +4,7 @@ use Rattle.std.specs.List.{filter, position_from, range_with_len}
 use Rattle.std.specs.Cmp.Lexicographic.{pointwise}
 use Rattle.std.specs.Ordering.{int_eq}
 use Rattle.gsi_word.specs.Names.{same_name}
-use Rattle.th_book.specs.Observed.{Observed}
+use Rattle.th_observations.specs.Observed.{Observed}
 
 -- the observations of a numbered book
 abbrev pub observations_in : List Observed → ℕ → List Observed

@@ -2,7 +2,7 @@
 use Rattle.std.specs.Prelude.{ℕ, ◌||◌, Bool, List}
 use Rattle.std.specs.List.{list_any}
 use Rattle.gsi_word.specs.Names.{same_name, same_pair}
-use Rattle.th_book.specs.Observed.{Observed}
+use Rattle.th_observations.specs.Observed.{Observed}
 
 -- whether a point is an end of an observation
 abbrev pub has_end : List ℕ → Observed → Bool

@@ -1,7 +1,7 @@
 -- Points that may be one: their names differ in one character, and their heights hardly at all.
 use Rattle.std.specs.Prelude.{ℕ, ℤ, ◌==◌, ◌&&◌, ◌||◌, ◌-ℤ◌, not, Bool, false, List, [], ◌∷◌, ◌++◌, Option, Some, None, if◌then◌else◌, bytes_eq, drop, length, map, nat_lt, option_to_list, take, unsigned_abs}
 use Rattle.std.specs.List.{flat_map}
-use Rattle.th_book.specs.Observed.{Observed}
+use Rattle.th_observations.specs.Observed.{Observed}
 use Rattle.th_network.specs.Networks.{Survey, points_of}
 use Rattle.th_entries.specs.Limits.{max_listed}
 use Rattle.th_entries.specs.Listed.{counted}

@@ -10,9 +10,9 @@ use crate::limited::add_limited;
 use crate::uses::UsedNames;
 use gsi_word::Name;
 use std::alloc::{AllocError, Global};
-use th_book::Observation;
 use th_entries::Listed;
 use th_notes::{Kind, Note};
+use th_observations::Observation;
 use th_tables::Benchmarks;
 
 /// Adds a note of each point that is no benchmark and has one observation: the first ones, and how many

@@ -7,9 +7,9 @@ ghost use Rattle.th_findings.specs.Repeats.{are_same, first_same, observations_i
 ghost use Rattle.th_notes.specs.declared.notes.Note.TheVariants.{SameObservations};
 
 use std::alloc::{AllocError, Global};
-use th_book::Observation;
 use th_entries::{BookCount, BookReview};
 use th_notes::Note;
+use th_observations::Observation;
 
 /// Adds a note of each book with a sight that has the same observations as an earlier one.
 ///

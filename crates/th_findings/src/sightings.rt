@@ -8,7 +8,7 @@ use crate::uses::UsedNames;
 use gsi_word::Name;
 use std::alloc::{AllocError, Global};
 use std::collections::BTreeSet;
-use th_book::Observation;
+use th_observations::Observation;
 
 /// How points are sighted: how often they are used, which are stations, and between which two an
 /// observation runs.
@@ -21,7 +21,7 @@ pub(crate) struct Sightings {
 
 impl Sightings {
     ghost use Rattle.std.specs.Prelude.{◌||◌};
-    ghost use Rattle.th_book.specs.Observed.{Observed};
+    ghost use Rattle.th_observations.specs.Observed.{Observed};
     ghost use Rattle.th_findings.specs.Inside.Sightings.{AreSightings};
     ghost use Rattle.th_findings.specs.Seen.{was_observed};
 

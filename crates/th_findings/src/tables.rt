@@ -8,9 +8,9 @@ use crate::limited::add_limited;
 use gsi_word::Name;
 use std::alloc::{AllocError, Global};
 use std::collections::BTreeSet;
-use th_book::Observation;
 use th_entries::Listed;
 use th_notes::{Kind, Note};
+use th_observations::Observation;
 use th_tables::{Benchmarks, Weights};
 
 /// The pairs of a station and a target that were observed, in order: each costs the logarithm of their

@@ -1,7 +1,7 @@
 //! The notes of points that may be one: their names differ in one character, and their heights hardly at
 //! all.
 ghost use Rattle.std.specs.Prelude.{◌≡◌, ◌++◌, [], List, IfOk, OnOk, map, option_to_list};
-ghost use Rattle.th_book.specs.Observed.{Observed};
+ghost use Rattle.th_observations.specs.Observed.{Observed};
 ghost use Rattle.th_entries.specs.Listed.{IsListed};
 ghost use Rattle.th_network.specs.Heights.{heights_at};
 ghost use Rattle.th_network.specs.Networks.{AreAtPoints, points_of};
@@ -16,10 +16,10 @@ use crate::limited::add_rest;
 use crate::sightings::Sightings;
 use gsi_word::Name;
 use std::alloc::{AllocError, Global};
-use th_book::Observation;
 use th_entries::Listed;
 use th_network::Network;
 use th_notes::{Kind, Note, Pair};
+use th_observations::Observation;
 
 /// Heights that are less than 0.05 m apart may be those of one point, in units of 10 nm.
 const TWIN_LIMIT: u64 = 5_000_000;

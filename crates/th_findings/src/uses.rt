@@ -7,7 +7,7 @@ ghost use Rattle.th_findings.specs.Uses.{goes_on};
 use gsi_word::Name;
 use std::alloc::{AllocError, Global};
 use std::collections::BTreeSet;
-use th_book::Observation;
+use th_observations::Observation;
 
 /// Names: all that are used, and those that are used at least twice.
 #[derive(Drop)]

@@ -12,7 +12,7 @@ use Rattle.th_book.specs.Books.{difference, known, known_name}
 use Rattle.th_book.specs.Due.{due_parsed, latest, observed_in, setup_after}
 use Rattle.th_book.specs.Due as book
 use Rattle.th_book.specs.Lines.{ParsedLine, holds, is_setup, is_sight, length_in, point_name, words_in}
-use Rattle.th_book.specs.Observed.{Observed}
+use Rattle.th_observations.specs.Observed.{Observed}
 use Rattle.th_book.specs.declared.faults.BookKind.{BookKind}
 use Rattle.th_book.specs.declared.setups.Setup.{Setup}
 use Rattle.th_height_books.specs.Printed.{Step, parsed_line, printed_from, printed_line, sight_line, sighted, sound_line, then_lines, unless_faulty}

@@ -9,7 +9,7 @@ use Rattle.gsi_block.proofs.WrittenBlocks.{WordHasOneSpelling}
 use Rattle.th_book.specs.Books.{book_answer, lines_answer, observations_of, parsed_of, too_long}
 use Rattle.th_book.specs.Due.{due, empty}
 use Rattle.th_book.specs.Limits.{max_book}
-use Rattle.th_book.specs.Observed.{Observed}
+use Rattle.th_observations.specs.Observed.{Observed}
 use Rattle.th_book.specs.declared.faults.BookFault.{BookFault}
 use Rattle.th_height_books.specs.Printed.{book_of_heights, checked, checked_lines, ended, printed_from}
 use Rattle.th_height_books.specs.Seen.{AreSeenAs, nowhere, sights_from}

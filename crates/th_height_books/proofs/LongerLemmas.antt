@@ -28,7 +28,7 @@ use Rattle.gsi_block.specs.Blocks.{BlockParts}
 use Rattle.th_book.specs.Books.{known}
 use Rattle.th_book.specs.Due.{latest}
 use Rattle.th_book.specs.Lines.{counts_for, holds, is_sight, length_in}
-use Rattle.th_report.proofs.WordLemmas.{last_digits-all}
+use Rattle.th_pages.proofs.DigitLemmas.{last_digits-all}
 use Rattle.th_height_books.specs.Printed.{longer}
 use Rattle.th_height_books.specs.Words.{Written, info_of, number_of, word_of, zero_height, zero_unless}
 use Rattle.th_height_books.specs.declared.running.Running.{Running}

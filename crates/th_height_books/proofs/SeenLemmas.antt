@@ -7,7 +7,7 @@ use Rattle.th_book.specs.Books.{known, known_name}
 use Rattle.th_book.specs.Due.{BookState, after_parsed, after_words, due_parsed, latest, observation_in, observed_in, setup_after, standing_in}
 use Rattle.th_book.specs.Faults.{fault_in, kind_of}
 use Rattle.th_book.specs.Lines.{ParsedLine, is_setup, is_sight, length_in, point_name, words_in}
-use Rattle.th_book.specs.Observed.{Observed}
+use Rattle.th_observations.specs.Observed.{Observed}
 use Rattle.th_book.specs.declared.faults.BookFault.{BookFault}
 use Rattle.th_book.specs.declared.faults.BookKind.{BookKind}
 use Rattle.th_book.specs.declared.setups.Setup.{Setup}

@@ -7,7 +7,7 @@ use Rattle.gsi_block.specs.Lines.{AreLines, is_in_line, lines_of}
 use Rattle.th_book.specs.Books.{answer, book_answer, lines_answer, observations_of, too_long}
 use Rattle.th_book.specs.Faults.{first_fault}
 use Rattle.th_book.specs.Limits.{max_book}
-use Rattle.th_book.specs.Observed.{Observed}
+use Rattle.th_observations.specs.Observed.{Observed}
 use Rattle.th_book.specs.declared.faults.BookFault.{BookFault}
 use Rattle.th_height_books.specs.Printed.{ended}
 

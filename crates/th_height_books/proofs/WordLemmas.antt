@@ -11,7 +11,7 @@ use Rattle.gsi_word.specs.declared.words.Width.{Width}
 use Rattle.gsi_word.proofs.WrittenWords.{Spells-spelling_of}
 use Rattle.gsi_block.specs.Blocks.{BlockParts}
 use Rattle.gsi_block.specs.Spelled.{AreSpelled}
-use Rattle.th_report.proofs.WordLemmas.{digit_is_data, last_digits-all}
+use Rattle.th_pages.proofs.DigitLemmas.{digit_is_data, last_digits-all}
 use Rattle.th_height_books.specs.Printed.{longer}
 use Rattle.th_height_books.specs.Words.{Written, info_of, number_of, word_of, zero_height, zero_unless}
 use Rattle.th_height_books.specs.declared.running.Running.{Running}

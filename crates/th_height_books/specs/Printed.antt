@@ -11,7 +11,7 @@ use Rattle.th_book.specs.Books.{book_answer, known, too_long}
 use Rattle.th_book.specs.Faults.{fault_in}
 use Rattle.th_book.specs.Limits.{max_book}
 use Rattle.th_book.specs.Lines.{ParsedLine, length_in}
-use Rattle.th_book.specs.Observed.{Observed}
+use Rattle.th_observations.specs.Observed.{Observed}
 use Rattle.th_book.specs.declared.faults.BookFault.{BookFault}
 use Rattle.th_book.specs.declared.faults.BookKind.{BookKind}
 use Rattle.th_book.specs.declared.faults.BookKind.TheVariants.{Block, NoInstrumentHeight, SightBeforeSetup}

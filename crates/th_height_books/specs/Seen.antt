@@ -3,7 +3,7 @@ use Rattle.std.specs.Prelude.{◌≡◌, ℕ, ℤ, ◌-ℤ◌, List, [], ◌∷�
 use Rattle.gsi_word.specs.Words.{Parts}
 use Rattle.th_book.specs.Books.{known, known_name}
 use Rattle.th_book.specs.Lines.{ParsedLine, is_setup, length_in, point_name, words_in}
-use Rattle.th_book.specs.Observed.{Observed}
+use Rattle.th_observations.specs.Observed.{Observed}
 use Rattle.th_height_books.specs.Indexes.{station_height, target_height}
 use Rattle.th_height_books.specs.Sights.{is_height_sight}
 

@@ -6,7 +6,7 @@ ghost use Rattle.th_units.specs.Units.{step};
 use gsi_word::{Width, Word};
 use std::marker::Model;
 use th_book::BookKind;
-use th_report::last_digits;
+use th_pages::last_digits;
 use th_units::{MAX_LEN, Unit, step};
 
 /// A length as a word writes it: its sign, and its number in a unit, in the data of each width.

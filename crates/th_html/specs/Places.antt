@@ -1,6 +1,6 @@
 -- Where a sight is in the books, and what it joins.
 use Rattle.std.specs.Prelude.{ℕ, List, ◌++◌, codes, decimal}
-use Rattle.th_book.specs.Observed.{Observed}
+use Rattle.th_observations.specs.Observed.{Observed}
 use Rattle.th_html.specs.declared.rows.SightRow.{SightRow}
 use Rattle.th_html.specs.Lengths.{signed_text}
 use Rattle.th_html.specs.Texts.{escaped}

@@ -12,7 +12,7 @@ use crate::words::number_words;
 use gsi_word::Name;
 use std::alloc::AllocError;
 use th_explanations::{Row, Values};
-use th_report::Page;
+use th_pages::Page;
 
 /// Writes the table of explanations.
 #[tactic(auto, unfolding(crate::specs::Tables::explanation_table))]

@@ -1,6 +1,6 @@
 use gsi_word::Name;
-use th_book::Observation;
 use th_entries::Entry;
+use th_observations::Observation;
 
 /// What a mistake would do.
 #[derive(Clone, Copy, Debug, PartialEq, Eq)]

@@ -1,7 +1,7 @@
 -- Least heights, lowered towards others: what the observations gain by it is at most what those that do not fit the others lose.
 use Rattle.std.proofs.Common.{◌≡◌, ℕ, Bool, true, false, ◌+◌, ◌*◌, ◌≤◌, ℤ, pos, negsuc, ◌-ℤ◌, List, Option, Some, None, IsSome, min, sum_by, unsigned_abs, refl, ap, subst, sym, ◌∙◌, mul-le-mul_left, arith}
 use Rattle.std.proofs.lemmas.Int.{ints}
-use Rattle.th_book.specs.Observed.{Observed}
+use Rattle.th_observations.specs.Observed.{Observed}
 use Rattle.th_tables.specs.Rows.{BenchmarkRows, WeightRows, height_of, weight_of}
 use Rattle.th_network.specs.Heights.{IsHeights, Least, residual}
 use Rattle.th_reliability.specs.Cuts.{IsFreeSet}

@@ -1,7 +1,7 @@
 -- A group of one observation: what its control tells of heights near it, and of what it moves.
 use Rattle.std.proofs.Common.{◌≡◌, ℕ, Bool, true, false, ◌+◌, ◌-◌, ◌*◌, ◌≤◌, ℤ, ◌-ℤ◌, List, if◌then◌else◌, leb, min, unsigned_abs, refl, ap, ◌∙◌, arith}
 use Rattle.std.proofs.lemmas.Bool.{leb-false, leb-true}
-use Rattle.th_book.specs.Observed.{Observed}
+use Rattle.th_observations.specs.Observed.{Observed}
 use Rattle.th_tables.specs.Rows.{weight_of}
 use Rattle.th_network.specs.Heights.{IsHeights, Least}
 use Rattle.th_network.specs.Networks.{Survey}

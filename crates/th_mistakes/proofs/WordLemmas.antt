@@ -1,7 +1,7 @@
 -- What a shared mistake does, from its word alone.
 use Rattle.std.proofs.Common.{◌≡◌, ℕ, zero, suc, Bool, ◌≤◌, ℤ, pos, negsuc, List, All, ◌⊎◌, inl, inr, refl, ◌∙◌, subst, arith}
 use Rattle.std.proofs.lemmas.Int.{ints}
-use Rattle.th_book.specs.Observed.{Observed}
+use Rattle.th_observations.specs.Observed.{Observed}
 use Rattle.th_network.specs.Heights.{Least, residual}
 use Rattle.th_network.specs.Networks.{Survey, points_of}
 use Rattle.th_reliability.specs.Blunders.{weight_in}

@@ -1,5 +1,5 @@
 use Rattle.std.specs.Prelude.{ℕ, ◌*◌, ℤ, Bool, List, if◌then◌else◌, min, sum_by, unsigned_abs}
-use Rattle.th_book.specs.Observed.{Observed}
+use Rattle.th_observations.specs.Observed.{Observed}
 use Rattle.th_tables.specs.Rows.{WeightRows, weight_of}
 use Rattle.th_network.specs.Heights.{residual}
 

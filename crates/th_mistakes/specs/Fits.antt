@@ -1,6 +1,6 @@
 -- What the laws suppose of true heights: what fits them, and how the rest errs.
 use Rattle.std.specs.Prelude.{◌≡◌, ℕ, ℤ, pos, Bool, true, false, List, All}
-use Rattle.th_book.specs.Observed.{Observed}
+use Rattle.th_observations.specs.Observed.{Observed}
 use Rattle.th_tables.specs.Rows.{BenchmarkRows}
 use Rattle.th_network.specs.Heights.{IsHeights, residual}
 use Rattle.th_network.specs.Networks.{Survey}

@@ -1,7 +1,7 @@
 //! Laws that relate the definitions to one another. A law is its contract: it computes nothing.
 
 ghost use Rattle.std.specs.Prelude.{◌≡◌, ◌≢◌, ℕ, ◌+◌, ◌-◌, ◌*◌, ◌<◌, ◌≤◌, ℤ, pos, ◌+ℤ◌, ◌-ℤ◌, Bool, true, false, List, ◌∷◌, ◌++◌, ◌⊎◌, ◌↔◌, All, Any, Contains, Option, map, min, unsigned_abs};
-ghost use Rattle.th_book.specs.Observed.{Observed};
+ghost use Rattle.th_observations.specs.Observed.{Observed};
 ghost use Rattle.th_graphs.specs.Cuts.{cut_weight};
 ghost use Rattle.th_network.specs.Heights.{IsHeights, Least, residual};
 ghost use Rattle.th_network.specs.Networks.{Survey, points_of, surveyed};

@@ -2,7 +2,7 @@
 use Rattle.std.proofs.Common.{◌≡◌, ℕ, ℤ, pos, neg_ℤ, List, [], ◌∷◌, Some, None, Contains, IsSome, bytes_eq, unwrap_or, if◌then◌else◌, inr, refl, ap, ◌∙◌, arith, Bool, true, false, not}
 use Rattle.std.proofs.lemmas.List.Elements.{All-from_recursion, All-nil}
 use Rattle.std.proofs.lemmas.Slice.Eq.{bytes_eq-Decides}
-use Rattle.th_book.specs.Observed.{Observed}
+use Rattle.th_observations.specs.Observed.{Observed}
 use Rattle.th_tables.specs.Rows.{BenchmarkRows, height_of, weight_of}
 use Rattle.th_points.specs.Points.{points}
 use Rattle.th_network.specs.Walks.{Walk, IsTied}

@@ -5,7 +5,7 @@ use Rattle.std.proofs.lemmas.List.{length-map, map-append, take_more, get_or-map
 use Rattle.std.proofs.lemmas.List.Elements.{All-get_or, All-push}
 use Rattle.std.proofs.lemmas.Option.{slice_get_within, get_or_from_slice_get}
 use Rattle.th_units.specs.Limits.{max_len}
-use Rattle.th_book.specs.Observed.{Observed, IsBetweenPoints, largest_difference}
+use Rattle.th_observations.specs.Observed.{Observed, IsBetweenPoints, largest_difference}
 use Rattle.th_tables.specs.Rows.{BenchmarkRows, height_of}
 use Rattle.th_points.specs.Points.{points}
 use Rattle.th_points.specs.Places.{place_of}

@@ -4,7 +4,7 @@ use Rattle.std.proofs.lemmas.List.{take_all, take-take, get_or-map, get_or-take,
 use Rattle.std.proofs.lemmas.List.Elements.{All-from_recursion, All-map}
 use Rattle.std.proofs.lemmas.List.Sums.{sum_by-take-le, count_by_more_yes}
 use Rattle.std.proofs.lemmas.Option.{slice_get_within, slice_get-get_or, get_or_from_slice_get}
-use Rattle.th_book.specs.Observed.{Observed}
+use Rattle.th_observations.specs.Observed.{Observed}
 use Rattle.th_tables.specs.Rows.{BenchmarkRows, height_of}
 use Rattle.th_points.specs.Points.{points}
 use Rattle.th_points.specs.Places.{place_of}

@@ -1,7 +1,7 @@
 -- Walks grow by one observation at a time, and a walk that crosses no boundary stays inside it.
 use Rattle.std.proofs.Common.{◌≡◌, ℕ, Bool, true, false, inl, inr, List, [], ◌∷◌, All, Contains, IsSome, refl, ap, ◌∙◌, sym, arith}
 use Rattle.std.proofs.lemmas.List.Elements.{All-nil, All-cons, All-head, All-tail, All-contains}
-use Rattle.th_book.specs.Observed.{Observed}
+use Rattle.th_observations.specs.Observed.{Observed}
 use Rattle.th_tables.specs.Rows.{BenchmarkRows, height_of}
 use Rattle.th_network.specs.Walks.{Leads, IsTied}
 

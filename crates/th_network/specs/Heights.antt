@@ -1,5 +1,5 @@
 use Rattle.std.specs.Prelude.{◌≡◌, ℕ, ◌*◌, ◌<◌, ◌≤◌, ℤ, pos, ◌-ℤ◌, ◌*ℤ◌, List, Some, slice_index_or, sum_by, unsigned_abs}
-use Rattle.th_book.specs.Observed.{Observed}
+use Rattle.th_observations.specs.Observed.{Observed}
 use Rattle.th_points.specs.Places.{place_of}
 use Rattle.th_tables.specs.Rows.{BenchmarkRows, WeightRows, height_of, weight_of}
 

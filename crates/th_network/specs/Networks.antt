@@ -1,5 +1,5 @@
 use Rattle.std.specs.Prelude.{◌≡◌, ◌<◌, ◌≤◌, ℕ, ℤ, pos, List, Option, All, length, map, unsigned_abs, unwrap_or}
-use Rattle.th_book.specs.Observed.{Observed, IsBetweenPoints}
+use Rattle.th_observations.specs.Observed.{Observed, IsBetweenPoints}
 use Rattle.th_tables.specs.Limits.{max_weight}
 use Rattle.th_tables.specs.Rows.{BenchmarkRows, WeightRows, height_of, weight_of}
 pub use Rattle.th_tables.specs.Rows.{IsWeight}

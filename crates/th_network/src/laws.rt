@@ -2,7 +2,7 @@
 
 ghost use Rattle.std.specs.Prelude.{◌≡◌, ◌↔◌, ◌⊎◌, bytes_eq, Contains, IsSome, ℕ, ℤ, ◌-ℤ◌, List, None, Some, slice_get};
 ghost use Rattle.std.specs.List.{IsDistinct};
-ghost use Rattle.th_book.specs.Observed.{Observed};
+ghost use Rattle.th_observations.specs.Observed.{Observed};
 ghost use Rattle.th_tables.specs.Rows.{BenchmarkRows, WeightRows, height_of};
 ghost use Rattle.th_network.specs.Faults.{HasFault, IsNetwork};
 ghost use Rattle.th_network.specs.declared.faults.NetFault.{NetFault};

@@ -1,6 +1,6 @@
 ghost use Rattle.std.specs.Prelude.{◌≡◌, ◌≢◌, ◌+◌, ◌<◌, ◌≤◌, All, Contains, Err, IfErr, IfOk, IfSome, IsSome, List, OnOk, Some, ℕ, bytes_eq, length, slice_get, unsigned_abs};
 ghost use Rattle.std.specs.List.{IsDistinct};
-ghost use Rattle.th_book.specs.Observed.{IsBetweenPoints};
+ghost use Rattle.th_observations.specs.Observed.{IsBetweenPoints};
 ghost use Rattle.th_network.specs.Faults.{HasFault, IsNetwork};
 ghost use Rattle.th_network.specs.Limits.{max_observations, max_points};
 ghost use Rattle.th_network.specs.Links.{largest_link_difference};
@@ -20,9 +20,9 @@ use crate::weights::weights_of;
 use gsi_word::Name;
 use std::alloc::Global;
 use std::marker::Model;
-use th_book::Observation;
 use th_hash::NameSet;
 use th_limits::{MAX_OBSERVATIONS, MAX_POINTS};
+use th_observations::Observation;
 use th_tables::{Benchmarks, Weights};
 
 /// The height network of some observations, over the tables of its benchmarks and weights, which it

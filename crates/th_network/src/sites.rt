@@ -6,7 +6,7 @@ ghost use Rattle.th_units.specs.Limits.{max_len};
 use gsi_word::Name;
 use std::alloc::{AllocError, Global};
 use std::marker::Model;
-use th_book::Observation;
+use th_observations::Observation;
 use th_points::Points;
 use th_tables::Benchmarks;
 

@@ -3,7 +3,7 @@ ghost use Rattle.th_network.specs.Networks.{IsWeight};
 ghost use Rattle.th_tables.specs.Rows.{weight_of};
 
 use std::alloc::{AllocError, Global};
-use th_book::Observation;
+use th_observations::Observation;
 use th_tables::Weights;
 
 /// The weights of some observations, in their order.

@@ -10,7 +10,7 @@ use gsi_word::Name;
 use itoa::Buffer;
 use std::alloc::{AllocError, Global};
 use th_entries::{NoSight, separator, words_lead};
-use th_report::{Page, write_count};
+use th_pages::{Page, write_count};
 use th_units::metre_text;
 
 /// Writes how many notes there are, and a line for each.

@@ -4,7 +4,7 @@ use Rattle.std.proofs.lemmas.Cmp.{nat_list_eq_equiv}
 use Rattle.std.proofs.lemmas.Map.Entries.{length-keys_of}
 use Rattle.std.proofs.lemmas.Map.Made.{length-le_from_is_member}
 use Rattle.std.specs.Map.{keys_of}
-use Rattle.th_book.specs.Observed.{Observed}
+use Rattle.th_observations.specs.Observed.{Observed}
 use Rattle.th_network.specs.Faults.{IsNetwork}
 use Rattle.th_network.specs.Limits.{max_points}
 use Rattle.th_points.specs.Points.{points}

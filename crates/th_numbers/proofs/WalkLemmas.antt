@@ -1,7 +1,7 @@
 -- Walks one after the other, and back.
 use Rattle.std.proofs.Common.{ℕ, inl, inr, List, [], ◌∷◌, All, Contains, refl, sym, subst}
 use Rattle.std.proofs.lemmas.List.Elements.{All-nil, All-cons, All-head, All-tail}
-use Rattle.th_book.specs.Observed.{Observed}
+use Rattle.th_observations.specs.Observed.{Observed}
 use Rattle.th_network.specs.Walks.{Leads, Walk}
 
 pub walk_none : (observations : List Observed) (a : List ℕ) → Walk observations a a

@@ -1,16 +1,16 @@
 //! A number that somebody read or typed, and where it is.
 ghost use Rattle.std.specs.Prelude.{◌≡◌, ◌≤◌, length, unsigned_abs};
-ghost use Rattle.th_book.specs.Observed.{largest_difference};
+ghost use Rattle.th_observations.specs.Observed.{largest_difference};
 ghost use Rattle.th_network.specs.Limits.{max_observations};
 ghost use Rattle.th_numbers.specs.Candidates.{count_in, entered_kind, entry_label, given_of, label_of, number_of, number_over, sight_count, sight_of, since_kind, sights_since, touches, whole_of};
 ghost use Rattle.th_network.specs.Links.{base};
 
 use gsi_word::Name;
-use th_book::Observation;
+use th_changes::Number;
 use th_entries::{Entry, HeightKind};
-use th_explain::Number;
 use th_explanations::Kind;
 use th_network::Network;
+use th_observations::Observation;
 use th_reliability::{Runs, Sights};
 use th_review_rows::sights_of;
 use th_tables::Benchmarks;

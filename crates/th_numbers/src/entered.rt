@@ -6,8 +6,8 @@ ghost use Rattle.th_numbers.specs.Lists.{entered, entered_at, forgotten, forgott
 use crate::candidates::{Candidate, count_in, sights_since};
 use crate::kinds::{Kinds, is_kind};
 use std::alloc::AllocError;
-use th_book::Observation;
 use th_entries::{Entry, HeightKind};
+use th_observations::Observation;
 use th_reliability::{Runs, Sights};
 use th_review_rows::sights_of;
 

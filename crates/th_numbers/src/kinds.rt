@@ -7,8 +7,8 @@ ghost use Rattle.th_numbers.specs.Inside.Kinds.{AreAround, FollowEachOther, is_e
 ghost use Rattle.th_numbers.specs.Lists.{is_kind, is_used};
 
 use std::alloc::{AllocError, Global};
-use th_book::Observation;
 use th_entries::{Entry, HeightKind};
+use th_observations::Observation;
 
 /// The entries of one kind, and whether each ends before the next one begins, as those of books do.
 #[derive(Drop)]

@@ -11,9 +11,9 @@ use crate::entered::{add_entered, add_forgotten};
 use crate::kinds::Kinds;
 use crate::ties::{TiedRow, tied_rows};
 use std::alloc::{AllocError, Global};
-use th_book::Observation;
 use th_entries::{Entry, HeightKind};
 use th_network::Network;
+use th_observations::Observation;
 use th_reliability::Runs;
 
 /// The record of a table's first row: the header is record 1.

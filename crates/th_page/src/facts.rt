@@ -5,7 +5,7 @@ ghost use Rattle.th_page.specs.Fronts.{book_item, count_items, fact_item, facts_
 
 use std::alloc::AllocError;
 use th_html::{PointRow, write_escaped, write_number, write_sized};
-use th_report::Page;
+use th_pages::Page;
 
 /// Writes the names of the books.
 pub(crate) fn write_books(page: &mut Page, books: &[&[u8]]) -> Result<(), AllocError>

@@ -6,8 +6,8 @@ use crate::fixed::{write_legend_text, write_picture_start, write_strip_start};
 use itoa::Buffer;
 use std::alloc::AllocError;
 use th_html::PointRow;
+use th_pages::Page;
 use th_picture::{Sight, undrawn_count, write_picture};
-use th_report::Page;
 use th_strip::write_strip;
 
 /// Writes the picture with its caption and its legend.

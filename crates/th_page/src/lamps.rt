@@ -5,8 +5,8 @@ ghost use Rattle.th_page.specs.Fronts.{benchmark_lamp, entry_lamp, lamp_class, l
 use crate::weak::{weak_benchmark_count, weak_entry_count, weak_sight_count};
 use std::alloc::AllocError;
 use th_html::{BenchmarkRow, EntryRow, write_number};
+use th_pages::Page;
 use th_picture::{MARKED, Sight, group_count};
-use th_report::Page;
 
 /// Writes the lamps.
 #[tactic(auto, unfolding(crate::specs::Fronts::lamps_text))]

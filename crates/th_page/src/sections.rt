@@ -14,8 +14,8 @@ use th_html::{
     BenchmarkRow, EntryRow, PointRow, SightRow, write_benchmarks, write_entries, write_escaped,
     write_explanations, write_heights, write_sights,
 };
+use th_pages::Page;
 use th_picture::Sight;
-use th_report::Page;
 
 /// Writes the sections of sights and points.
 #[tactic(auto, unfolding(crate::specs::Sections::sight_sections))]

@@ -10,10 +10,10 @@ use Rattle.th_causes.specs.declared.findings.Explanations.{Explanations}
 use Rattle.th_page.specs.Pages.{page_text}
 use Rattle.th_review.specs.Texts.{Found}
 use Rattle.th_run_parts.specs.Reads.{Run}
-use Rattle.th_runs.specs.Reviewed.{AreFound, AreReviewsOf}
+use Rattle.th_reviewing.specs.Reviewed.{AreFound, AreReviewsOf}
 use Rattle.th_run_parts.specs.Writes.{Texts}
 use Rattle.th_run_parts.specs.declared.refusals.Output.TheVariants as output
-use Rattle.th_paging.specs.Shown.{shown_of}
+use Rattle.th_shown.specs.Shown.{shown_of}
 
 -- a run that makes a page, and what it writes
 abbrev pub paging : Run
@@ -28,7 +28,7 @@ pub record IsPaged (survey : Survey) (names : List (List ℕ)) (books : List Boo
   pub finds : AreFound survey books found
   pub explained : Explanations
   pub explains : AreExplained survey books limit explained
-  pub printed : text ≡ page_text (shown_of survey (at_points_of survey answer.low) (at_points_of survey answer.high) found names books spellings explained limit)
+  pub printed : text ≡ page_text (shown_of survey (at_points_of survey answer.low) (at_points_of survey answer.high) found names books spellings explained.summary.cost explained.rows.items limit)
 
 -- the text of the output of a run whose books have these names and reviews
 abbrev pub ArePrintedOf : List (List ℕ) → List BookReview → Listed Spelling → ℤ → Survey → Texts → Type 0

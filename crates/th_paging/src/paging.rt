@@ -13,7 +13,6 @@ ghost use Rattle.th_run_parts.specs.Reads.{AreReady};
 ghost use Rattle.th_run_parts.specs.Writes.{AreWritable};
 ghost use Rattle.th_tables.specs.Rows.{AreWeights};
 
-use crate::pages::page_of;
 use std::alloc::Global;
 use th_causes::{Explanations, explanations_of};
 use th_circulation::best_heights;
@@ -22,8 +21,9 @@ use th_entries::laws::entry_of_several_books_has_one_station;
 use th_entries::{BookReview, Listed, Spelling};
 use th_network::{NetFault, Network};
 use th_progress::Progress;
+use th_reviewing::{ReviewReader, findings_of};
 use th_run_parts::{Output, OutputText, Refusal, Survey, network_of, read_survey, write_outs};
-use th_runs::{ReviewReader, findings_of};
+use th_shown::page_of;
 
 /// What a run that makes a page writes.
 pub const PAGED: [Output; 1] = [Output::Page];
@@ -113,7 +113,17 @@ fn page_of_network<P: Progress>(
     let low = best.low();
     let high = best.high();
     let page = page_of(
-        alloc, network, low, high, &findings, names, reviews, spellings, &explained, limit,
+        alloc,
+        network,
+        low,
+        high,
+        &findings,
+        names,
+        reviews,
+        spellings,
+        explained.summary.cost,
+        &explained.rows,
+        limit,
     )?;
     Ok(page)
 }

@@ -1,7 +1,7 @@
 -- The gaps of marked sights.
 use Rattle.std.specs.Prelude.{ℕ, ℤ, ◌+◌, ◌-◌, List, [], ◌++◌, codes, decimal, if◌then◌else◌, min, nat_le, nat_lt}
 use Rattle.std.specs.List.{flat_map}
-use Rattle.th_book.specs.Observed.{Observed}
+use Rattle.th_observations.specs.Observed.{Observed}
 use Rattle.th_html.specs.Places.{place_text}
 use Rattle.th_picture.specs.Curves.{end_x, end_y, middle_x, middle_y, target_y}
 use Rattle.th_picture.specs.Groups.{group_count, is_in, many}

@@ -7,7 +7,7 @@ use crate::scales::{Frame, moved, raised, x_of};
 use crate::sights::{End, Sight};
 use std::alloc::AllocError;
 use th_html::write_number;
-use th_report::Page;
+use th_pages::Page;
 
 /// Writes two coordinates behind a text.
 #[tactic(auto, unfolding(crate::specs::Lines::pair_text))]

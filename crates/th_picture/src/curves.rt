@@ -9,7 +9,7 @@ use crate::scales::Frame;
 use crate::sights::Sight;
 use std::alloc::AllocError;
 use th_html::write_found;
-use th_report::Page;
+use th_pages::Page;
 
 /// Writes all groups of sights that are drawn.
 pub(crate) fn write_groups(

@@ -7,7 +7,7 @@ use crate::coordinates::write_pair;
 use crate::scales::{Frame, x_of};
 use std::alloc::AllocError;
 use th_html::{PointRow, write_escaped, write_number};
-use th_report::Page;
+use th_pages::Page;
 
 /// Fewer than twice so many names are written.
 const NAMES: u64 = 30;

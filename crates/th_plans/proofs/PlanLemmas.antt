@@ -10,7 +10,8 @@ use Rattle.clap.specs.declared.error.kind.ErrorKind.TheVariants.{MissingRequired
 use Rattle.clap.specs.declared.parser.matches.ArgMatches.{ArgMatches}
 use Rattle.clap.proofs.OnLiterals.{clap_on_literals}
 use Rattle.th_plans.specs.Limits.{max_books}
-use Rattle.th_plans.specs.Plans.{AreTaken, IsFaultOf, IsPlanOf, asked, books_named, command_line, name_no_files, said_by}
+use Rattle.th_plans.specs.Plans.{AreTaken, IsFaultOf, IsPlanOf, asked, books_named, name_no_files, said_by}
+use Rattle.th_commands.specs.Commands.{command_line}
 use Rattle.th_plans.specs.Asked.{Asked, asked_by, book_count, has_bad_prefix}
 use Rattle.th_plans.specs.declared.plans.Plan.{Plan}
 use Rattle.th_plans.specs.declared.plans.Plan.TheVariants as plan

@@ -3,4 +3,3 @@ pub mod Prefixes
 pub mod Asked
 pub mod Books
 pub mod Plans
-pub mod Inside

@@ -1,8 +1,8 @@
 ghost use Rattle.std.specs.Prelude.{◌≡◌};
 ghost use Rattle.th_plans.specs.Asked.{limit_of};
 
-use crate::limits::MAX_BLUNDER;
 use std::marker::Model;
+use th_commands::MAX_BLUNDER;
 
 /// The units of 10 nm in a micrometre.
 const UNITS_IN_MICROMETRE: i64 = 100;

@@ -8,7 +8,6 @@ ghost use Rattle.th_plans.specs.Plans.{IsFaultOf, IsPlanOf, files, said_by};
 
 use crate::blunder_limits::Limit;
 use crate::books::Books;
-use crate::commands::command_line;
 use crate::faults::PlanFault;
 use crate::plans::{Inputs, Plan};
 use crate::prefixes::names_files;
@@ -16,6 +15,7 @@ use clap::ArgMatches;
 use clap::error::ErrorKind;
 use std::alloc::Global;
 use std::convert::AsStr;
+use th_commands::command_line;
 use th_limits::MAX_BOOKS;
 
 /// The plan of a command line, whose first word is the program's own name.

@@ -6,8 +6,6 @@
 //! not empty, `.` or `..`.
 #![tactic(auto)]
 
-mod limits;
-
 // Plans, and what they consist of.
 mod blunder_limits;
 mod books;
@@ -15,15 +13,13 @@ mod faults;
 mod plans;
 mod prefixes;
 
-// The commands, and reading a command line.
+// Reading a command line.
 mod command_lines;
-mod commands;
 
 pub use blunder_limits::Limit;
 pub use books::Books;
 pub use command_lines::plan;
-pub use commands::VERSION;
 pub use faults::PlanFault;
-pub use limits::MAX_BLUNDER;
 pub use plans::{Inputs, Plan};
+pub use th_commands::{MAX_BLUNDER, VERSION};
 pub use th_limits::MAX_BOOKS;

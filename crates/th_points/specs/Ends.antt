@@ -1,6 +1,6 @@
 -- Where the ends of the observations are among the points.
 use Rattle.std.specs.Prelude.{◌≡◌, ◌<◌, ℕ, List, map}
-use Rattle.th_book.specs.Observed.{Observed}
+use Rattle.th_observations.specs.Observed.{Observed}
 use Rattle.th_tables.specs.Rows.{BenchmarkRows}
 use Rattle.th_points.specs.Points.{points}
 use Rattle.th_points.specs.Places.{place_of}

@@ -2,7 +2,7 @@
 
 ghost use Rattle.std.specs.Prelude.{◌↔◌, ◌⊎◌, bytes_eq, Contains, IsSome, ℕ, List};
 ghost use Rattle.std.specs.List.{IsDistinct};
-ghost use Rattle.th_book.specs.Observed.{Observed};
+ghost use Rattle.th_observations.specs.Observed.{Observed};
 ghost use Rattle.th_points.specs.Points.{ends, points};
 ghost use Rattle.th_tables.specs.Rows.{BenchmarkRows, height_of};
 

@@ -7,8 +7,8 @@ ghost use Rattle.th_points.specs.Points.{ends};
 
 use gsi_word::Name;
 use std::alloc::{AllocError, Global};
-use th_book::Observation;
 use th_hash::{FEW_NAMES, HashSeed, NameSet, reseed_set};
+use th_observations::Observation;
 use th_tables::Benchmarks;
 
 /// The points of a network in order of first sight, and where among them each observation ends.

@@ -7,7 +7,8 @@ use Rattle.th_checker.specs.declared.verdicts.Verdict.TheVariants as verdict
 use Rattle.th_devices.specs.Devices.{SinkState}
 use Rattle.th_devices.specs.Spots.{Spot, output}
 use Rattle.th_plans.specs.Asked.{Files}
-use Rattle.th_program.specs.Done.{Holds, IsChecked}
+use Rattle.th_program.specs.Done.{IsChecked}
+use Rattle.th_files.specs.Outputs.{Holds}
 use Rattle.th_files.specs.Owed.{Told, claim_owed}
 use Rattle.th_files.specs.Opened.{AreMade, IsTaken}
 use Rattle.th_files.proofs.OutputLemmas.{all_whole}

@@ -11,7 +11,8 @@ use Rattle.th_folders.specs.Folders.{Failing}
 use Rattle.th_network.specs.Networks.{Survey}
 use Rattle.th_plans.specs.Asked.{Asked, Files, adjust, check}
 use Rattle.th_plans.specs.Limits.{max_books}
-use Rattle.th_plans.specs.Plans.{AreTaken, IsFaultOf, IsPlanOf, asked, books_named, command_line, name_no_files, said_by}
+use Rattle.th_plans.specs.Plans.{AreTaken, IsFaultOf, IsPlanOf, asked, books_named, name_no_files, said_by}
+use Rattle.th_commands.specs.Commands.{command_line}
 use Rattle.th_plans.specs.declared.faults.PlanFault.{PlanFault}
 use Rattle.th_plans.specs.declared.faults.PlanFault.TheVariants as fault
 use Rattle.th_plans.specs.declared.plans.Plan.{Plan}

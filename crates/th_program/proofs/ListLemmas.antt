@@ -1,7 +1,7 @@
 -- What a list over a folder comes to.
 use Rattle.std.proofs.Common.{◌≡◌, ◌∷◌, [], Bool, List, Ok, Err, IfErr, subst, refl}
 use Rattle.std.specs.Prelude.{OnOk, Result}
-use Rattle.th_book.specs.Observed.{Observed}
+use Rattle.th_observations.specs.Observed.{Observed}
 use Rattle.std.specs.List.{AllByRecursion}
 use Rattle.th_devices.specs.Devices.{SinkState}
 use Rattle.th_devices.specs.Spots.{Spot, output}

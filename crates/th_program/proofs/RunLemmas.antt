@@ -16,7 +16,7 @@ use Rattle.th_program.specs.Done.{IsBooked, IsDone, IsListed, IsOutputOf, IsRefu
 use Rattle.th_files.specs.Owed.{Told, survey_owed}
 use Rattle.th_files.specs.Outputs.{ending_of, spots_of, AreLeftAs}
 use Rattle.th_runs.specs.Adjusted.{adjusting}
-use Rattle.th_runs.specs.Reviewed.{reviewing}
+use Rattle.th_reviewing.specs.Reviewed.{reviewing}
 use Rattle.th_run_parts.specs.declared.refusals.Refusal.{Refusal}
 use Rattle.std.specs.Prelude.{Option}
 use Rattle.th_network.specs.Networks.{Survey}

@@ -1,13 +1,13 @@
 -- What the program does, in terms of what a folder reports before and after.
-use Rattle.std.specs.Prelude.{◌⊎◌, ◌≢◌, ◌≡◌, ◌++◌, ◌∷◌, [], ℕ, ℤ, Bool, true, false, List, Option, Some, None, Ok, codes, is_some, length, map}
+use Rattle.th_messages.specs.Said.{IsReported, IsSaid, overwrite_text}
+use Rattle.std.specs.Prelude.{◌⊎◌, ◌≢◌, ◌≡◌, ◌∷◌, [], ℕ, ℤ, Bool, true, false, List, Option, Some, None, Ok, codes, is_some, length, map}
 use Rattle.std.specs.List.{Contains}
 use Rattle.clap.specs.Words.{kind_of}
 use Rattle.clap.specs.declared.error.kind.ErrorKind.TheVariants.{DisplayHelp, DisplayVersion}
 use Rattle.th_checker.specs.declared.verdicts.Verdict.{Verdict}
-use Rattle.th_book.specs.Observed.{Observed}
+use Rattle.th_observations.specs.Observed.{Observed}
 use Rattle.th_devices.specs.Spots.{Spot, errors, file, input, output}
 use Rattle.th_folders.specs.Folders.{Failing}
-use Rattle.th_lines.specs.Shown.{shown}
 use Rattle.th_network.specs.Networks.{Survey}
 use Rattle.th_paging.specs.Paged.{AreOfPage, paging}
 use Rattle.th_plans.specs.Asked.{Files}
@@ -22,32 +22,28 @@ use Rattle.th_booking.specs.declared.conversions.Conversion.{Conversion}
 use Rattle.th_booking.specs.declared.conversions.Conversion.TheVariants.{Differences, Heights}
 use Rattle.th_runs.specs.Adjusted.{AreOfAdjustment, adjusting}
 use Rattle.th_runs.specs.Checked.{IsRight, checking, verdict_line, verdict_on}
-use Rattle.th_runs.specs.Explained.{AreOfExplanation, explaining}
+use Rattle.th_explaining.specs.Explained.{AreOfExplanation, explaining}
 use Rattle.th_run_parts.specs.Inputs.{Claim, IsOwed, MakesNetwork, Meets, MeetsRefusal, Owed}
 use Rattle.th_runs.specs.Listed.{IsOfList}
 use Rattle.th_runs.specs.Noted.{AreNone}
 use Rattle.th_run_parts.specs.Reads.{IsNamed, Run}
-use Rattle.th_run_parts.specs.Refusals.{input_text, status_of, status_of_verdict}
-use Rattle.th_runs.specs.Reviewed.{AreOfReview, reviewing}
+use Rattle.th_run_parts.specs.Refusals.{status_of, status_of_verdict}
+use Rattle.th_reviewing.specs.Reviewed.{AreOfReview, reviewing}
 use Rattle.th_run_parts.specs.Writes.{Texts, UnlessWrite}
 use Rattle.th_runs.specs.declared.notes.Notes.{Notes}
 use Rattle.th_run_parts.specs.declared.refusals.Input.{Input}
 use Rattle.th_run_parts.specs.declared.refusals.Input.TheVariants as source
-use Rattle.th_runs.specs.declared.explaining.Form.{Form}
-use Rattle.th_runs.specs.declared.explaining.Form.TheVariants as form
+use Rattle.th_explaining.specs.declared.explaining.Form.{Form}
+use Rattle.th_explaining.specs.declared.explaining.Form.TheVariants as form
 use Rattle.th_run_parts.specs.declared.refusals.Output.{Output}
 use Rattle.th_run_parts.specs.declared.refusals.Output.TheVariants as out
 use Rattle.th_run_parts.specs.declared.refusals.Refusal.{Refusal}
 use Rattle.th_run_parts.specs.declared.refusals.Refusal.TheVariants as refusal
 use Rattle.th_program.specs.Failing.{HasCause, IsInClaim, IsInFiles}
-use Rattle.th_files.specs.Helped.{refused_lines}
-use Rattle.th_program.specs.Noted.{AreNotesOf, notes_lines}
-use Rattle.th_files.specs.Outputs.{AreLeft, spots_of}
+use Rattle.th_program.specs.Noted.{AreNotesOf}
+use Rattle.th_messages.specs.Noted.{notes_lines}
+use Rattle.th_files.specs.Outputs.{AreLeft, Holds, spots_of}
 use Rattle.th_files.specs.Owed.{HasName, Told, book_owed, claim_owed, converted_owed, survey_owed}
-
--- the spot has this text, if the folder reports its bytes
-abbrev pub Holds : Bool → Told → Spot → List ℕ → Type 0
-Holds tells told spot text = tells ≡ true → told spot ≡ Some text
 
 -- standard output has the list of the book at this spot
 pub record IsListed (tells : Bool) (old new : Told) (book : Spot) : Type 0 where
@@ -226,18 +222,6 @@ pub record WouldOverwrite (tells : Bool) (asked : Plan) (written : List ℕ) (wh
   pub is_written : IsOutputOf asked (file written)
   pub is_read : IsInputOf asked which name
   pub same : tells ≡ true → written ≡ name
-
--- the line that reports this, without its line feed; names are shown so that they send nothing to a terminal
-abbrev pub overwrite_text : List ℕ → Input → List ℕ → List ℕ
-overwrite_text written which name = codes "error: output " ++ shown written ++ codes " would overwrite " ++ input_text which ++ codes " " ++ shown name
-
--- standard error has this line and nothing else
-abbrev pub IsSaid : Bool → Told → List ℕ → Type 0
-IsSaid tells told line = Holds tells told errors (line ++ 10 ∷ [])
-
--- standard error has the lines of a refusal, without a reason: a folder that reports its bytes knows none
-abbrev pub IsReported : Bool → Told → Plan → Refusal → Type 0
-IsReported tells told asked own = Holds tells told errors (refused_lines asked own None)
 
 -- A plan was refused: the status is that of the refusal, and unless standard error failed, its lines are
 -- there. Only standard error changes, and after a failed write the plan's outputs too.

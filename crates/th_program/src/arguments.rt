@@ -5,10 +5,8 @@ ghost use Rattle.std.specs.declared.io.ErrorKind.TheVariants.{InvalidData};
 ghost use Rattle.th_devices.specs.Spots.{errors, output};
 ghost use Rattle.th_program.specs.Done.{AreDone, IsNoHelp};
 ghost use Rattle.th_program.specs.Inside.Usage.{IsUsageUnlessFull};
-ghost use Rattle.th_plans.specs.Plans.{IsFaultOf};
 
 use crate::plans::run_plan;
-use crate::refusals::{refuse_memory, report};
 use std::alloc::{AllocError, Global};
 use std::convert::AsStr;
 use std::io;
@@ -16,6 +14,7 @@ use std::io::ErrorKind;
 use th_devices::write_all;
 use th_folders::{Folder, Target};
 use th_lines::shown_text;
+use th_messages::{refuse_memory, report};
 use th_plans::{PlanFault, plan};
 use th_runs::{NO_MEMORY, USAGE};
 

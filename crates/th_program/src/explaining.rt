@@ -6,10 +6,11 @@ ghost use Rattle.th_program.specs.Done.{IsExplained, IsRefusedExplain, form_of};
 ghost use Rattle.th_run_parts.specs.Writes.{UnlessWrite};
 
 use std::alloc::Global;
+use th_explaining::{EXPLAINED, Form, run_explain};
 use th_files::{close_sinks, sinks_of, sources_of};
 use th_folders::Folder;
 use th_plans::{Inputs, Limit};
-use th_runs::{EXPLAINED, Form, Refusal, run_explain};
+use th_runs::Refusal;
 
 /// Prints on standard output which one number of the named files, if it were wrong, would explain what
 /// does not fit.

@@ -17,7 +17,6 @@ mod reviewing;
 
 // The program: a refusal is reported, a plan that overwrites no input is run, arguments become a plan.
 mod arguments;
-mod noting;
 mod overwrites;
 mod plans;
 mod refusals;

@@ -11,14 +11,15 @@ use crate::booking::make_book;
 use crate::checking::check;
 use crate::explaining::{explain, form_of};
 use crate::listing::list;
-use crate::noting::tell_notes;
-use crate::overwrites::{Stop, keep_inputs};
+use crate::overwrites::keep_inputs;
 use crate::paging::page;
-use crate::refusals::{refuse, refuse_memory, refuse_overwrite};
+use crate::refusals::refuse;
 use crate::reviewing::review;
 use std::alloc::Global;
 use th_booking::Conversion;
+use th_files::Stop;
 use th_folders::{Folder, Origin};
+use th_messages::{refuse_memory, refuse_overwrite, tell_notes};
 use th_plans::Plan;
 use th_runs::{DONE, Notes, Refusal, status_of_verdict};
 

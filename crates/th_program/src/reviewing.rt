@@ -9,7 +9,8 @@ use th_files::{place_sinks, sinks_of, sources_of};
 use th_folders::Folder;
 use th_plans::{Inputs, Limit};
 use th_progress::Progress;
-use th_runs::{REVIEWED, Refusal, run_review};
+use th_reviewing::{REVIEWED, run_review};
+use th_runs::Refusal;
 
 /// Reviews the network of the named files: what a mistake in them would do. Writes four files whose
 /// names begin with the prefix. That they are none of the inputs, the caller has made sure.

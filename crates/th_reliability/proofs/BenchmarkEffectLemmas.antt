@@ -6,7 +6,7 @@ use Rattle.std.proofs.lemmas.List.Elements.{All-head, All-tail}
 use Rattle.std.proofs.lemmas.List.Sums.{sum_by-cons}
 use Rattle.std.proofs.lemmas.Option.{get_or_from_slice_get, slice_get_within}
 use Rattle.std.proofs.lemmas.Slice.Eq.{bytes_eq-Decides}
-use Rattle.th_book.specs.Observed.{IsBetweenPoints, Observed}
+use Rattle.th_observations.specs.Observed.{IsBetweenPoints, Observed}
 use Rattle.th_tables.specs.Rows.{BenchmarkRows, WeightRows, height_of, weight_of}
 use Rattle.th_network.specs.Networks.{Survey}
 use Rattle.th_reliability.specs.BenchmarkEffects.{HasBenchmarkEffect, HasBenchmarkStrength, IsBenchmarkStrength, IsOwnSet}

@@ -1,6 +1,6 @@
 -- What a flow shows of each group with the same observations.
 use Rattle.std.proofs.Common.{◌≡◌, ◌≢◌, ℕ, ◌+◌, ◌<◌, ◌≤◌, Bool, true, false, List, map, None, All, Contains, eqb, if◌then◌else◌, refl, sym, ap, subst}
-use Rattle.th_book.specs.Observed.{Observed}
+use Rattle.th_observations.specs.Observed.{Observed}
 use Rattle.th_network.specs.Networks.{Survey}
 use Rattle.th_network.specs.Walks.{Anchored}
 use Rattle.th_cuts.specs.Cuts.{Weighted}

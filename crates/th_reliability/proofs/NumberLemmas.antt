@@ -7,7 +7,7 @@ use Rattle.std.proofs.lemmas.List.Sums.{sum_by-append, sum_by-cons, get_or-le-su
 use Rattle.std.proofs.lemmas.List.Elements.{All-push}
 use Rattle.std.proofs.lemmas.Option.{get_or_from_slice_get, slice_get-get_or, slice_get_within}
 use Rattle.th_tables.specs.Limits.{max_weight}
-use Rattle.th_book.specs.Observed.{IsBetweenPoints, Observed}
+use Rattle.th_observations.specs.Observed.{IsBetweenPoints, Observed}
 use Rattle.th_tables.specs.Rows.{BenchmarkRows, height_of, weight_of}
 use Rattle.th_points.specs.Points.{points}
 use Rattle.th_points.specs.Places.{place_of}

@@ -2,7 +2,7 @@
 use Rattle.std.proofs.Common.{◌≡◌, ℕ, ◌≤◌, Bool, true, false, List, get_or, slice_get, Some, sym, ap, ◌∙◌, subst, arith}
 use Rattle.std.proofs.lemmas.Bool.{false≢true}
 use Rattle.std.proofs.lemmas.Option.{get_or_from_slice_get, slice_get_within}
-use Rattle.th_book.specs.Observed.{IsBetweenPoints, Observed}
+use Rattle.th_observations.specs.Observed.{IsBetweenPoints, Observed}
 use Rattle.th_tables.specs.Rows.{weight_of}
 use Rattle.th_network.specs.Networks.{Survey}
 use Rattle.th_cuts.specs.Cuts.{IsLeastSide, Weighted}

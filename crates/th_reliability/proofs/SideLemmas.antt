@@ -1,7 +1,7 @@
 -- The names whose vertices a side separates from vertex 0: a free set that crosses what the side does.
 use Rattle.std.proofs.Common.{◌≡◌, ℕ, Bool, true, false, List, [], ◌∷◌, if◌then◌else◌, refl, ap, arith}
 use Rattle.std.proofs.lemmas.List.Sums.{sum_by-cons}
-use Rattle.th_book.specs.Observed.{Observed}
+use Rattle.th_observations.specs.Observed.{Observed}
 use Rattle.th_network.specs.Networks.{Survey}
 use Rattle.th_cuts.specs.Cuts.{Weighted}
 use Rattle.th_graphs.specs.Cuts.{crosses as edge_crosses, cut_weight, separates}

@@ -6,7 +6,7 @@ use Rattle.std.specs.List.{list_any}
 use Rattle.std.proofs.lemmas.List.Folds.{list_any_at, list_any_none}
 use Rattle.std.proofs.lemmas.List.Sums.{sum_by-cons}
 use Rattle.std.proofs.lemmas.Option.{slice_get-get_or}
-use Rattle.th_book.specs.Observed.{Observed}
+use Rattle.th_observations.specs.Observed.{Observed}
 use Rattle.th_tables.specs.Rows.{BenchmarkRows, WeightRows, height_of, weight_of}
 use Rattle.th_points.specs.Points.{points}
 use Rattle.th_points.proofs.PlaceLemmas.{ends_contained}

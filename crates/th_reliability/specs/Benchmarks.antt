@@ -1,5 +1,5 @@
 use Rattle.std.specs.Prelude.{ℕ, Bool, ◌||◌, List, bytes_eq}
-use Rattle.th_book.specs.Observed.{Observed}
+use Rattle.th_observations.specs.Observed.{Observed}
 
 -- an observation has an end at the point
 abbrev pub has_end : List ℕ → Observed → Bool

@@ -1,7 +1,7 @@
 -- What a mistake that does not show would move, and what would be blamed for it.
 use Rattle.std.specs.Prelude.{◌≡◌, ℕ, ◌+◌, ◌<◌, ◌≤◌, Bool, List, Option, Some, None, count_by, if◌then◌else◌, map, nat_lt, slice_index}
 use Rattle.std.specs.List.{zip}
-use Rattle.th_book.specs.Observed.{Observed}
+use Rattle.th_observations.specs.Observed.{Observed}
 use Rattle.th_tables.specs.Rows.{weight_of}
 use Rattle.th_network.specs.Networks.{Survey, points_of}
 use Rattle.th_reliability.specs.Cuts.{crosses}

@@ -1,7 +1,7 @@
 -- What a mistake does, with what it moves and what is blamed for it.
 use Rattle.std.specs.Prelude.{◌≡◌, ◌≢◌, ℕ, ◌+◌, ◌<◌, ◌≤◌, ◌==◌, Bool, true, List, Option, Some, None, length, map, slice_get, slice_index_or}
 use Rattle.std.specs.List.{range_with_len}
-use Rattle.th_book.specs.Observed.{Observed}
+use Rattle.th_observations.specs.Observed.{Observed}
 use Rattle.th_tables.specs.Rows.{weight_of}
 use Rattle.th_network.specs.Networks.{Survey}
 use Rattle.th_reliability.specs.Blames.{IsBlame}

@@ -1,5 +1,5 @@
 use Rattle.std.specs.Prelude.{◌≡◌, ℕ, List, Option, Some, None, IsSome, length, slice_get, slice_index_or}
-use Rattle.th_book.specs.Observed.{Observed}
+use Rattle.th_observations.specs.Observed.{Observed}
 use Rattle.th_tables.specs.Rows.{height_of}
 use Rattle.th_network.specs.Networks.{Survey, points_of}
 use Rattle.th_reliability.specs.Cuts.{IsControl, IsStrength}

@@ -1,6 +1,6 @@
 -- Where the sights of an entry are among observations.
 use Rattle.std.specs.Prelude.{◌≡◌, ℕ, ◌<◌, ◌≤◌, false, true, List, length, slice_index_or}
-use Rattle.th_book.specs.Observed.{Observed}
+use Rattle.th_observations.specs.Observed.{Observed}
 use Rattle.th_reliability.specs.Sights.{in_sights}
 use Rattle.th_reliability.specs.declared.sights.Sights.{Sights}
 

@@ -1,7 +1,7 @@
 //! What a wrong height of each benchmark would do.
 ghost use Rattle.std.specs.Prelude.{◌≡◌, ◌-◌, All, IfOk, IsSome, None, Some, count_by, if◌then◌else◌, map, nat_lt};
 ghost use Rattle.std.specs.List.{AllZip};
-ghost use Rattle.th_book.specs.Observed.{IsBetweenPoints};
+ghost use Rattle.th_observations.specs.Observed.{IsBetweenPoints};
 ghost use Rattle.th_points.specs.Places.{place_of};
 ghost use Rattle.th_reliability.specs.BenchmarkEffects.{IsBenchmarkEffect};
 ghost use Rattle.th_reliability.specs.Benchmarks.{has_end};

@@ -1,5 +1,5 @@
 ghost use Rattle.std.specs.Prelude.{◌≡◌, ◌<◌, ℕ, All, IfOk, Some, length, slice_get};
-ghost use Rattle.th_book.specs.Observed.{IsBetweenPoints, Observed};
+ghost use Rattle.th_observations.specs.Observed.{IsBetweenPoints, Observed};
 ghost use Rattle.th_reliability.specs.Inside.Graphs.{IsGraphOf};
 ghost use Rattle.th_reliability.specs.Numbers.{AreControls, HasControl};
 

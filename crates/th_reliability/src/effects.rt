@@ -1,6 +1,6 @@
 //! What a mistake does that observations share: by one flow through the network.
 ghost use Rattle.std.specs.Prelude.{◌≡◌, ◌<◌, Bool, IfOk, length, map};
-ghost use Rattle.th_book.specs.Observed.{Observed};
+ghost use Rattle.th_observations.specs.Observed.{Observed};
 ghost use Rattle.th_network.specs.Networks.{vertices_of};
 ghost use Rattle.th_reliability.specs.Inside.Effects.{IsFlowed, Moves, of_less};
 

@@ -1,6 +1,6 @@
 //! What a mistake in each observation would move.
 ghost use Rattle.std.specs.Prelude.{◌≡◌, ◌<◌, All, IfOk, Some, length, slice_get};
-ghost use Rattle.th_book.specs.Observed.{IsBetweenPoints, Observed};
+ghost use Rattle.th_observations.specs.Observed.{IsBetweenPoints, Observed};
 ghost use Rattle.th_reliability.specs.Effects.{AreBlames, HasOwnBlame};
 ghost use Rattle.th_reliability.specs.Inside.Graphs.{IsGraphOf};
 ghost use Rattle.th_reliability.specs.Inside.Targets.{AreEdges};

@@ -7,8 +7,8 @@ ghost use Rattle.th_reliability.specs.Runs.{AreTheSights, HoldsSights};
 ghost use Rattle.th_reliability.specs.Sights.{in_sights};
 
 use crate::sights::Sights;
-use th_book::Observation;
 use th_network::Network;
+use th_observations::Observation;
 
 /// Observations, and whether they are in the order of books and lines, as those of a survey are.
 #[derive(Drop)]

@@ -1,10 +1,10 @@
 ghost use Rattle.std.specs.Prelude.{◌≡◌, ◌≢◌, ◌↔◌, All, Contains, IfSome, None, false, true};
-ghost use Rattle.th_book.specs.Observed.{Observed};
+ghost use Rattle.th_observations.specs.Observed.{Observed};
 ghost use Rattle.th_reliability.specs.Sights.{IsOfOneStation, in_sights};
 
 use gsi_word::Name;
-use th_book::Observation;
 use th_network::Network;
+use th_observations::Observation;
 
 /// Some sights of one station: the observations of a book from one line to another, both included.
 /// The number of the book and the lines in it count from 1.

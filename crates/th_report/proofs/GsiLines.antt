@@ -14,7 +14,8 @@ use Rattle.th_network.specs.Networks.{Survey, points_of}
 use Rattle.th_report.specs.Gsi.{gsi_text, has_minus, height_word, hundredths, name_on, name_read, number_word, padded_name, point_block, text_of_point}
 use Rattle.th_report.proofs.LineLemmas.{both, data_printable, last_digits_visible, printable, printable-append, visible-printable}
 use Rattle.th_report.proofs.NameLemmas.{name_printable, name_short, zeros_before}
-use Rattle.th_report.proofs.WordLemmas.{digit_is_data, last_digits-all, spelled_83, spelled_number, two_words}
+use Rattle.th_report.proofs.WordLemmas.{spelled_83, spelled_number, two_words}
+use Rattle.th_pages.proofs.DigitLemmas.{digit_is_data, last_digits-all}
 
 -- the line of a numbered point, without its end
 line_at : (List ℕ → ℤ) → ℕ × List ℕ → List ℕ

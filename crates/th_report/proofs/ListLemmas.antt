@@ -1,6 +1,6 @@
 use Rattle.std.proofs.Common.{ℕ, List, map}
 use Rattle.std.specs.List.{enumerate_from}
-use Rattle.th_book.specs.Observed.{Observed}
+use Rattle.th_observations.specs.Observed.{Observed}
 use Rattle.th_csv.specs.Texts.{csv_text}
 use Rattle.th_report.specs.Lists.{list_record}
 

@@ -2,12 +2,12 @@
 use Rattle.std.proofs.Common.{◌≡◌, ◌<◌, ◌+◌, ◌++◌, ◌∷◌, ℕ, ℤ, Bool, true, false, pos, List, Some, drop, filter, get_or, if◌then◌else◌, length, slice_get, sym, ap, ◌∙◌, arith}
 use Rattle.std.specs.List.{enumerate_from, flat_map, zip}
 use Rattle.std.proofs.lemmas.List.{get_or_default}
-use Rattle.th_book.specs.Observed.{Observed}
+use Rattle.th_observations.specs.Observed.{Observed}
 use Rattle.th_tables.specs.Rows.{weight_of}
 use Rattle.th_network.specs.Networks.{Survey, weights_of}
 use Rattle.th_blunders.specs.Blunders.{is_blunder}
 use Rattle.th_report.specs.Reports.{line_in, residual_line}
-use Rattle.th_report.proofs.RowLemmas.{found_there, further, paired-first}
+use Rattle.th_pages.proofs.RowLemmas.{found_there, further, paired-first}
 
 module _ (survey : Survey) (residuals : List ℤ) (limit : ℤ) where
   -- the rows from a place on

@@ -10,20 +10,9 @@ use Rattle.gsi_word.specs.Words.{Parts, Spells, parts, spelling_len, spelling_of
 use Rattle.gsi_word.specs.declared.words.Width.{Width}
 use Rattle.gsi_word.specs.declared.words.Width.TheVariants.{Eight, Sixteen}
 use Rattle.gsi_block.specs.Blocks.{BlockParts, IsBlockOf, SpellsRow}
+use Rattle.th_pages.proofs.DigitLemmas.{last_digits-all}
 
--- each of the last digits of a number is a digit
-pub last_digits-all : (allowed : ℕ → Bool) → ((digit : ℕ) → digit < 10 → allowed (48 + digit) ≡ true) → (count n : ℕ) → list_all allowed (last_digits count n) ≡ true
-unfolding last_digits
-last_digits-all allowed digits zero n = refl
-last_digits-all allowed digits (suc count) n =
-    list_all-append allowed (last_digits count (n / 10)) ((48 + n % 10) ∷ [])
-    ∙ ap (λ front. front && (allowed (48 + n % 10) && true)) (last_digits-all allowed digits count (n / 10))
-    ∙ ap (λ last. last && true) (digits (n % 10) (omega arith))
-
--- a digit may stand in a word's data, and in its information
-pub digit_is_data : (digit : ℕ) → digit < 10 → is_data (48 + digit) ≡ true
-digit_is_data digit small = grind (arith, nat_tests)
-
+-- a digit may stand in a word's information
 pub digit_is_info : (digit : ℕ) → digit < 10 → is_info (48 + digit) ≡ true
 digit_is_info digit small = grind (arith, nat_tests)
 

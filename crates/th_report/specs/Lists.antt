@@ -3,7 +3,7 @@ use Rattle.std.specs.List.{enumerate_from}
 use Rattle.th_units.specs.Metres.{metres}
 use Rattle.th_csv.specs.Records.{Fields}
 use Rattle.th_csv.specs.Texts.{csv_text}
-use Rattle.th_book.specs.Observed.{Observed}
+use Rattle.th_observations.specs.Observed.{Observed}
 
 -- the header of the list
 abbrev pub list_header : Fields

@@ -3,7 +3,7 @@ use Rattle.std.specs.Prelude.{ℕ, ℤ, ◌-◌, Bool, List, [], ◌++◌, codes
 use Rattle.std.specs.List.{enumerate_from, flat_map, zip}
 use Rattle.std.specs.Option.{option_map_or}
 use Rattle.th_units.specs.Metres.{metres}
-use Rattle.th_book.specs.Observed.{Observed}
+use Rattle.th_observations.specs.Observed.{Observed}
 use Rattle.th_tables.specs.Rows.{height_of, weight_of}
 use Rattle.th_network.specs.Heights.{cost}
 use Rattle.th_network.specs.Networks.{Survey, points_of}
@@ -11,11 +11,8 @@ use Rattle.th_blunders.specs.Residuals.{residuals}
 use Rattle.th_blunders.specs.Blunders.{blunders, is_blunder}
 use Rattle.th_blunders.specs.Opposites.{opposites}
 use Rattle.th_blunders.specs.declared.pairs.Opposite.{Opposite}
-use Rattle.th_report.specs.Columns.{gap, left_in, line_end, right_in}
-
--- a line with a label and its value
-unfoldable pub label_line : List ℕ → List ℕ → List ℕ
-label_line label value = left_in 14 label ++ right_in 26 value ++ line_end
+use Rattle.th_pages.specs.Columns.{gap, left_in, line_end, right_in}
+use Rattle.th_pages.specs.Labels.{label_line, limit_line}
 
 -- whether a point is a benchmark
 abbrev pub is_benchmark : Survey → List ℕ → Bool
@@ -35,10 +32,6 @@ count_lines survey =
     label_line (codes "points") (decimal (length (points_of survey)))
     ++ label_line (codes "benchmarks") (decimal (benchmark_count survey))
     ++ label_line (codes "observations") (decimal (length survey.observations))
-
--- the limit of blunders, in metres
-abbrev pub limit_line : ℤ → List ℕ
-limit_line limit = label_line (codes "blunder limit") (metres limit)
 
 -- the title, and the numbers of the adjustment: the counts, the cost in units of 10 nm, and the limit of blunders
 unfoldable pub head_lines : Survey → ℕ → ℤ → List ℕ

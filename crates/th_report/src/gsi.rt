@@ -15,6 +15,7 @@ use gsi_block::{Block, write_block};
 use gsi_word::{Name, Word};
 use std::alloc::{AllocError, Global};
 use th_network::Network;
+use th_pages::last_digits;
 
 /// A GSI-16 block for each point of a network. Word 11 has the point's number from 1 and its name.
 /// Word 83 has the height in 1/100 mm, rounded to the nearest, halves away from zero. Heights are
@@ -102,20 +103,6 @@ pub fn padded_name(name: &Name) -> [u8; 16]
     let mut data = [b'0'; 16];
     data[16 - bytes.len()..].copy_from_slice(bytes);
     data
-}
-
-/// The last `N` digits of a number, with zeros before a shorter number.
-pub fn last_digits<const N: usize>(number: u64) -> [u8; N]
-    ensures value { result ≡ last_digits N number }
-    ensures data { list_all is_data result ≡ true }
-{
-    let mut digits = [b'0'; N];
-    let mut rest = number;
-    for count in 0..N {
-        digits[N - 1 - count] = b'0' + (rest % 10) as u8;
-        rest /= 10;
-    }
-    digits
 }
 
 /// The size of a height in 1/100 mm.

@@ -1,12 +1,12 @@
 //! The first lines of the report, and the lines that count what follows.
 ghost use Rattle.std.specs.Prelude.{◌≡◌, ◌++◌, OnOk, codes, decimal};
-ghost use Rattle.th_report.specs.Reports.{benchmark_count, count_lines, head_lines, label_line, limit_line, title_line};
+ghost use Rattle.th_pages.specs.Labels.{label_line};
+ghost use Rattle.th_report.specs.Reports.{benchmark_count, count_lines, head_lines, title_line};
 
-use crate::columns::Page;
 use itoa::Buffer;
 use std::alloc::AllocError;
 use th_network::Network;
-use th_units::metre_text;
+use th_pages::{Page, write_count, write_label, write_limit};
 
 /// Writes the title, the counts, the cost in units of 10 nm, and the limit in metres.
 #[tactic(auto, unfolding(crate::specs::Reports::head_lines))]
@@ -48,33 +48,6 @@ fn write_cost(page: &mut Page, cost: u128) -> Result<(), AllocError>
 {
     let mut digits = Buffer::new();
     write_label(page, b"cost", digits.format(cost).as_bytes())
-}
-
-/// Writes the limit above which a residual is a blunder. It is given in units of 10 nm and written in
-/// metres.
-pub fn write_limit(page: &mut Page, limit: i64) -> Result<(), AllocError>
-    ensures { OnOk result (page.new ≡ page.old ++ limit_line limit) }
-{
-    let text = metre_text(limit);
-    write_label(page, b"blunder limit", text.as_bytes())
-}
-
-/// Writes a label and a count.
-pub fn write_count(page: &mut Page, label: &[u8], count: usize) -> Result<(), AllocError>
-    ensures { OnOk result (page.new ≡ page.old ++ label_line label.now (decimal count)) }
-{
-    let mut digits = Buffer::new();
-    write_label(page, label, digits.format(count).as_bytes())
-}
-
-/// Writes a label and the value that it stands for.
-#[tactic(auto, unfolding(crate::specs::Reports::label_line))]
-pub fn write_label(page: &mut Page, label: &[u8], value: &[u8]) -> Result<(), AllocError>
-    ensures { OnOk result (page.new ≡ page.old ++ label_line label.now value.now) }
-{
-    page.left(14, label)?;
-    page.right(26, value)?;
-    page.end_line()
 }
 
 /// How many points are benchmarks.

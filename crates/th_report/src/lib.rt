@@ -12,8 +12,7 @@ mod lists;
 mod gsi;
 mod heights;
 
-// The report: its columns, its parts in order, and the whole.
-mod columns;
+// The report: its parts in order, and the whole.
 mod heads;
 mod opposite_lists;
 mod point_tables;
@@ -24,10 +23,9 @@ mod reports;
 // Laws of the definitions.
 pub mod laws;
 
-// For texts of other crates: columns, label lines, the columns of observations, and words of GSI-16.
-pub use columns::{LINE, Page};
-pub use gsi::{heights_gsi, last_digits, number_word, padded_name, word_of};
-pub use heads::{benchmark_count, write_count, write_label, write_limit};
+// For texts of other crates: the columns of observations, and words of GSI-16.
+pub use gsi::{heights_gsi, number_word, padded_name, word_of};
+pub use heads::benchmark_count;
 pub use heights::heights_csv;
 pub use lists::list_text;
 pub use reports::{report_on_fit, report_text};

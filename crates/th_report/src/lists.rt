@@ -5,8 +5,8 @@ ghost use Rattle.th_report.specs.Lists.{list_record, list_text};
 
 use itoa::Buffer;
 use std::alloc::{AllocError, Global};
-use th_book::Observation;
 use th_csv::RowWriter;
+use th_observations::Observation;
 use th_units::metre_text;
 
 /// The text of the list: a header, and a row for each observation with its number from 1, its

@@ -4,12 +4,11 @@ ghost use Rattle.std.specs.List.{flat_map};
 ghost use Rattle.th_network.specs.Limits.{max_observations};
 ghost use Rattle.th_report.specs.Reports.{number_columns, opposite_columns, opposite_line, opposite_lines};
 
-use crate::columns::Page;
-use crate::heads::write_count;
 use crate::residual_tables::write_ends;
 use std::alloc::{AllocError, Global};
 use th_blunders::{Opposite, opposites};
-use th_book::Observation;
+use th_observations::Observation;
+use th_pages::{Page, write_count};
 
 /// Writes the count of the opposites among some observations, and a line for each.
 #[tactic(auto, unfolding(crate::specs::Reports::opposite_lines))]

@@ -6,10 +6,10 @@ ghost use Rattle.th_network.specs.Networks.{AreAtPoints, points_of};
 ghost use Rattle.th_units.specs.Metres.{metres};
 ghost use Rattle.th_report.specs.Reports.{benchmark_mark, point_columns, point_line, point_lines};
 
-use crate::columns::Page;
 use gsi_word::Name;
 use std::alloc::AllocError;
 use th_network::Network;
+use th_pages::Page;
 use th_units::metre_text;
 
 /// Writes the table of points, with their heights, which are listed in point order.

@@ -5,7 +5,6 @@ ghost use Rattle.th_blunders.specs.Fits.{IsFit};
 ghost use Rattle.th_blunders.specs.Residuals.{residual_limit};
 ghost use Rattle.th_report.specs.Reports.{adjusted_part, observed_part, report_text};
 
-use crate::columns::{LINE, Page};
 use crate::heads::write_head;
 use crate::opposite_lists::write_opposites;
 use crate::point_tables::write_points;
@@ -13,6 +12,7 @@ use crate::residual_tables::{write_blunders, write_residuals};
 use std::alloc::{AllocError, Global};
 use th_blunders::Fit;
 use th_network::Network;
+use th_pages::{LINE, Page};
 
 /// The report on the heights of a network, which are in point order and in units of 10 nm: counts,
 /// the points with their heights, the observations with their residuals, those whose residual is

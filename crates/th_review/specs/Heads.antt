@@ -1,8 +1,9 @@
 -- The first lines of a review.
 use Rattle.std.specs.Prelude.{ℕ, ◌-◌, Bool, true, false, List, ◌++◌, Option, None, Some, codes, count_by, decimal, fold, length, min}
 use Rattle.th_network.specs.Networks.{Survey, points_of}
-use Rattle.th_report.specs.Columns.{line_end}
-use Rattle.th_report.specs.Reports.{benchmark_count, label_line}
+use Rattle.th_pages.specs.Columns.{line_end}
+use Rattle.th_report.specs.Reports.{benchmark_count}
+use Rattle.th_pages.specs.Labels.{label_line}
 use Rattle.th_review_rows.specs.Words.{number_or_dash}
 use Rattle.th_reliability.specs.declared.effects.Effect.{Effect}
 use Rattle.th_reliability.specs.declared.mistakes.Mistake.{Mistake}

@@ -5,8 +5,9 @@ use Rattle.std.specs.Ordering.{int_eq}
 use Rattle.th_units.specs.Metres.{metres}
 use Rattle.th_network.specs.Networks.{Survey, weights_of}
 use Rattle.th_blunders.specs.Blunders.{is_blunder}
-use Rattle.th_report.specs.Columns.{gap, left_in, line_end, right_in}
-use Rattle.th_report.specs.Reports.{blunder_mark, end_columns, ends_of, label_line, limit_line, place_columns, place_of}
+use Rattle.th_pages.specs.Columns.{gap, left_in, line_end, right_in}
+use Rattle.th_report.specs.Reports.{blunder_mark, end_columns, ends_of, place_columns, place_of}
+use Rattle.th_pages.specs.Labels.{label_line, limit_line}
 use Rattle.th_review.specs.Heads.{head_lines}
 use Rattle.th_review.specs.Largest.{largest}
 use Rattle.th_notes.specs.Notes.{note_lines}

@@ -8,7 +8,7 @@ ghost use Rattle.th_review_rows.specs.Words.{number_or_dash};
 use crate::moves::{write_moved, write_moved_columns};
 use itoa::Buffer;
 use std::alloc::AllocError;
-use th_report::Page;
+use th_pages::Page;
 use th_review_rows::{BenchmarkRow, blame_in, effect_mark, number_or_dash};
 use th_units::metre_text;
 

@@ -7,7 +7,7 @@ ghost use Rattle.th_review.specs.Reviews.{book_columns, book_line, book_lines};
 use itoa::Buffer;
 use std::alloc::AllocError;
 use th_entries::{BookCount, BookReview};
-use th_report::Page;
+use th_pages::Page;
 
 /// Writes the table of books.
 #[tactic(auto, unfolding(crate::specs::Reviews::book_lines))]

@@ -9,7 +9,7 @@ use crate::moves::{write_moved, write_moved_columns};
 use itoa::Buffer;
 use std::alloc::AllocError;
 use th_entries::Entry;
-use th_report::Page;
+use th_pages::Page;
 use th_review_rows::{EntryRow, kind_word, shared_mistake_mark};
 use th_units::metre_text;
 

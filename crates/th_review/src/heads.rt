@@ -1,14 +1,15 @@
 //! The first lines of a review.
 ghost use Rattle.std.specs.Prelude.{◌≡◌, ◌++◌, OnOk, codes, count_by};
-ghost use Rattle.th_report.specs.Reports.{label_line};
+ghost use Rattle.th_pages.specs.Labels.{label_line};
 ghost use Rattle.th_review.specs.Heads.{entry_count_lines, head_lines, is_hidden, is_tie, is_unchecked, is_weak, is_weak_effect, lesser, loop_count, mistake_lines, survey_lines, title_line, weak_benchmark_line, weakest};
 ghost use Rattle.th_review_rows.specs.Words.{number_or_dash};
 
 use itoa::Buffer;
 use std::alloc::AllocError;
 use th_network::Network;
+use th_pages::{Page, write_count, write_label};
 use th_reliability::{Effect, Mistake, SharedMistake};
-use th_report::{Page, benchmark_count, write_count, write_label};
+use th_report::benchmark_count;
 use th_review_rows::{BenchmarkRow, EntryRow, ObservationRow, PointRow, number_or_dash};
 
 /// Writes the title and the counts.

@@ -5,8 +5,8 @@ ghost use Rattle.th_review_rows.specs.Words.{blames_of, moves_of, number_or_dash
 
 use itoa::Buffer;
 use std::alloc::AllocError;
+use th_pages::Page;
 use th_reliability::Blame;
-use th_report::Page;
 use th_review_rows::{blames_of, count_or_dash, moves_of};
 
 /// Writes how many points a mistake would move, how many observations would be blamed for it, and a

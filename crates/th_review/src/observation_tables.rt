@@ -9,10 +9,8 @@ use crate::largest::largest;
 use crate::moves::{write_moved, write_moved_columns};
 use itoa::Buffer;
 use std::alloc::{AllocError, Global};
-use th_report::{
-    Page, blunder_mark, write_count, write_end_columns, write_ends, write_limit, write_place,
-    write_place_columns,
-};
+use th_pages::{Page, write_count, write_limit};
+use th_report::{blunder_mark, write_end_columns, write_ends, write_place, write_place_columns};
 use th_review_rows::{ObservationRow, mistake_mark, number_or_dash};
 use th_units::metre_text;
 

@@ -6,7 +6,7 @@ ghost use Rattle.th_review.specs.Reviews.{largest_weight, point_columns, point_l
 use itoa::Buffer;
 use std::alloc::AllocError;
 use th_network::Network;
-use th_report::Page;
+use th_pages::Page;
 use th_review_rows::{PointRow, number_or_dash, point_mark};
 use th_units::metre_text;
 

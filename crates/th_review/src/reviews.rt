@@ -13,7 +13,7 @@ use std::alloc::{AllocError, Global};
 use th_entries::BookReview;
 use th_network::Network;
 use th_notes::{Note, write_notes};
-use th_report::Page;
+use th_pages::Page;
 use th_review_rows::{BenchmarkRow, EntryRow, ObservationRow, PointRow};
 
 /// The review of a network for people: what was reviewed in numbers, the books, the largest

@@ -1,7 +1,7 @@
 -- What the texts of a review state for each point, observation, entry and benchmark.
 use Rattle.std.specs.Prelude.{ℕ, ℤ, ◌-ℤ◌, ◌==◌, Bool, false, List, Option, None, Some, map}
 use Rattle.std.specs.List.{enumerate_from, zip}
-use Rattle.th_book.specs.Observed.{Observed}
+use Rattle.th_observations.specs.Observed.{Observed}
 use Rattle.th_tables.specs.Rows.{WeightRows, weight_of}
 use Rattle.th_network.specs.Networks.{Survey, points_of}
 use Rattle.th_blunders.specs.Residuals.{residuals}

@@ -8,8 +8,8 @@ ghost use Rattle.th_review_rows.specs.Rows.{observation_row_of, observation_rows
 use crate::rows::ObservationRow;
 use std::alloc::{AllocError, Global};
 use th_blunders::residuals;
-use th_book::Observation;
 use th_network::Network;
+use th_observations::Observation;
 use th_reliability::{Blame, Mistake};
 
 /// The rows of a network's observations, with the lowest best heights, which are listed in point

@@ -1,6 +1,6 @@
 use gsi_word::Name;
-use th_book::Observation;
 use th_entries::Entry;
+use th_observations::Observation;
 use th_reliability::{BenchmarkEffect, Blame, Effect, Mistake};
 
 /// A point of a network, and what was found of it. Heights are in units of 10 nm.

@@ -5,7 +5,7 @@ use Rattle.std.proofs.lemmas.List.{length-take, take_all}
 use Rattle.std.specs.Prelude.{IfOk, OnOk, Option, Result, map}
 use Rattle.th_book.specs.Books.{book_answer}
 use Rattle.th_book.specs.Limits.{max_book}
-use Rattle.th_book.specs.Observed.{Observed}
+use Rattle.th_observations.specs.Observed.{Observed}
 use Rattle.th_run_parts.proofs.Fronts.{book_long}
 use Rattle.th_run_parts.specs.Readers.{HasReadBooks}
 

@@ -1,8 +1,9 @@
 -- What a run is owed by its inputs: the first fault in the order of its sources, or what they say.
 use Rattle.std.specs.Prelude.{◌≡◌, ◌≢◌, ◌+◌, ℕ, List, [], ◌∷◌, ◌++◌, Option, Some, None, IfSome, Result, Ok, Err, if◌then◌else◌, map, nat_lt}
+use Rattle.std.specs.List.{AllZip}
 use Rattle.th_book.specs.Books.{book_answer}
 use Rattle.th_book.specs.Limits.{max_book}
-use Rattle.th_book.specs.Observed.{Observed}
+use Rattle.th_observations.specs.Observed.{Observed}
 use Rattle.th_devices.specs.Devices.{SourceState}
 use Rattle.th_tables.specs.Limits.{max_table}
 use Rattle.th_tables.specs.Rows.{BenchmarkRows, WeightRows}
@@ -54,6 +55,10 @@ givens state_of olds news = []
 -- what sources told before a run
 abbrev pub told_by : {S : Type 0} → (S → SourceState) → List S → List (Option (List ℕ))
 told_by state_of sources = map (λ source. (state_of source).left) sources
+
+-- for each source the text that it gave: the one that it reported, if it reported one
+abbrev pub AreTold : List (Option (List ℕ)) → List (List ℕ) → Type 0
+AreTold tolds texts = AllZip (λ told text. IfSome told (λ own. own ≡ text)) tolds texts
 
 -- what a source gave that may be absent
 abbrev pub given_if_any : {S : Type 0} → (S → SourceState) → Option S → Option S → Option Given

@@ -1,6 +1,6 @@
 //! The books of a run, read one after the other.
 ghost use Rattle.std.specs.Prelude.{◌≡◌, ◌∷◌, ◌++◌, ◌+◌, ◌-◌, ◌<◌, ◌≤◌, List, IfErr, OnOk, Ok, [], All, false, length};
-ghost use Rattle.th_book.specs.Observed.{Observed};
+ghost use Rattle.th_observations.specs.Observed.{Observed};
 ghost use Rattle.th_run_parts.specs.Inputs.{Meets, MeetsRefusal, given, givens, owed_for_book, owed_for_books, told_by};
 ghost use Rattle.th_run_parts.specs.Readers.{HasReadBooks};
 ghost use Rattle.th_run_parts.specs.Reads.{EachBook, IsOfInputs, IsReadFor, IsWithin, place, refused};
@@ -9,8 +9,8 @@ ghost use Rattle.th_devices.specs.Devices.{IsReady};
 use crate::readers::BookReader;
 use crate::refusals::{Input, Refusal};
 use std::alloc::{AllocError, Global};
-use th_book::Observation;
 use th_devices::Source;
+use th_observations::Observation;
 
 /// Reads books one after the other, up to the first that is refused, and puts their observations
 /// behind those of the books before. The first of them has this number.

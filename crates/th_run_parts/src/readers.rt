@@ -1,6 +1,6 @@
 //! What a run reads of its books.
 ghost use Rattle.std.specs.Prelude.{◌≡◌, ◌≢◌, ℕ, List, Option, IfErr, IfOk, Ok};
-ghost use Rattle.th_book.specs.Observed.{Observed};
+ghost use Rattle.th_observations.specs.Observed.{Observed};
 ghost use Rattle.th_run_parts.specs.Inputs.{Meets, MeetsRefusal, given, owed_for_book};
 ghost use Rattle.th_run_parts.specs.Reads.{IsOfBook, IsReadFor, refused};
 ghost use Rattle.th_devices.specs.Devices.{IsReady};
@@ -8,8 +8,9 @@ ghost use Rattle.th_devices.specs.Devices.{IsReady};
 use crate::feeds::feed_from;
 use crate::refusals::{Input, Refusal};
 use std::alloc::Global;
-use th_book::{BookFault, BookFeed, BookKind, Observation};
+use th_book::{BookFault, BookFeed, BookKind};
 use th_devices::Source;
+use th_observations::Observation;
 
 /// What reads the books of a run, one after the other: their observations, and what else the run needs.
 pub trait BookReader {

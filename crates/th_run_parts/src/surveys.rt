@@ -13,9 +13,9 @@ use crate::readers::BookReader;
 use crate::refusals::{Input, Refusal};
 use std::alloc::Global;
 use std::marker::Model;
-use th_book::Observation;
 use th_devices::Source;
 use th_network::{NetFault, Network};
+use th_observations::Observation;
 use th_tables::{Benchmarks, Weights};
 
 /// The tables of a run.

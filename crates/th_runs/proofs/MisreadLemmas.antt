@@ -2,7 +2,7 @@
 use Rattle.std.proofs.Common.{◌≡◌, inl, inr, ℕ, ℤ, zero, suc, [], ◌∷◌, ◌++◌, List, All, Contains, bytes_eq, length, map, take, refl, ap, sym, subst, ◌∙◌, arith}
 use Rattle.std.specs.List.{AllByRecursion, IsDistinct, enumerate_from, flat_map}
 use Rattle.std.proofs.lemmas.List.Elements.{All-from_recursion, recursion_from_All}
-use Rattle.th_book.specs.Observed.{Observed}
+use Rattle.th_observations.specs.Observed.{Observed}
 use Rattle.th_circulation.specs.Best.{Best, IsBest}
 use Rattle.th_circulation.specs.Extremes.{Low}
 use Rattle.th_circulation.specs.Misreadings.{AreMisread}

@@ -1,7 +1,7 @@
 -- What is noted of books that were read one after the other.
 use Rattle.std.proofs.Common.{◌≡◌, ◌∙◌, ◌+◌, ℕ, List, [], ◌∷◌, ◌++◌, Ok, Err, ap, append-nil, append_assoc, sym}
 use Rattle.std.specs.Prelude.{OnOk, Option, Result, option_to_list}
-use Rattle.th_book.specs.Observed.{Observed}
+use Rattle.th_observations.specs.Observed.{Observed}
 use Rattle.th_entries.specs.Reviews.{parsed_of}
 use Rattle.th_entries.specs.Several.{numbered}
 use Rattle.th_entries.specs.Sights.{no_sight_in}
@@ -9,7 +9,7 @@ use Rattle.th_entries.specs.declared.sights.NoSight.{NoSight}
 use Rattle.th_run_parts.specs.Readers.{HasReadBooks}
 use Rattle.th_runs.specs.Inside.Readers.{IsNotedNext}
 use Rattle.th_runs.specs.Noted.{AreNone, AreNotesOfList, AreSightless, sightless}
-use Rattle.th_runs.specs.Reviewed.{AreTold}
+use Rattle.th_run_parts.specs.Inputs.{AreTold}
 use Rattle.th_runs.specs.declared.notes.Notes.{Notes}
 
 -- books were read: what their texts are, and which of them were noted behind others

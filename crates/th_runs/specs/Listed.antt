@@ -1,7 +1,7 @@
 -- What a list of a book prints.
 use Rattle.std.specs.Prelude.{IfErr, List, [], ◌∷◌, Ok, Result}
 use Rattle.std.specs.List.{Contains}
-use Rattle.th_book.specs.Observed.{Observed}
+use Rattle.th_observations.specs.Observed.{Observed}
 use Rattle.th_devices.specs.Devices.{SinkState, SourceState}
 use Rattle.th_report.specs.Lists.{list_text}
 use Rattle.th_run_parts.specs.Inputs.{Meets, MeetsRefusal, given, owed_for_book}

@@ -8,7 +8,7 @@ use Rattle.th_entries.specs.declared.sights.NoSight.{NoSight}
 use Rattle.th_network.specs.Networks.{Survey}
 use Rattle.th_remarks.specs.Heights.{IsHeightsNote}
 use Rattle.th_remarks.specs.declared.heights.ManyHeights.{ManyHeights}
-use Rattle.th_runs.specs.Reviewed.{AreTold}
+use Rattle.th_run_parts.specs.Inputs.{AreTold}
 use Rattle.th_runs.specs.declared.notes.Notes.{Notes}
 
 -- nothing is noted yet

@@ -3,9 +3,10 @@ ghost use Rattle.std.specs.Prelude.{◌≡◌, ◌++◌, OnOk, option_to_list};
 ghost use Rattle.th_runs.specs.Noted.{AreNone};
 
 use std::alloc::{AllocError, Global};
-use th_book::{BookFeed, Observation};
+use th_book::BookFeed;
 use th_devices::Source;
 use th_entries::{NoSight, SightWatch};
+use th_observations::Observation;
 use th_remarks::ManyHeights;
 use th_run_parts::{BookReader, Refusal, SeenFeed, feed_from, refusal_of};
 

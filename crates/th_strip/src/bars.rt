@@ -6,8 +6,8 @@ ghost use Rattle.th_strip.specs.Strips.{bar_down, bar_group, bar_in, bar_lines, 
 use crate::strips::{middle, offset, sight_x};
 use std::alloc::AllocError;
 use th_html::write_number;
+use th_pages::Page;
 use th_picture::{GROUPS, Sight, is_in, write_pair};
-use th_report::Page;
 
 /// Writes the bars of all groups.
 #[tactic(auto, unfolding(crate::specs::Strips::bar_lines))]

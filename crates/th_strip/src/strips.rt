@@ -6,8 +6,8 @@ ghost use Rattle.th_strip.specs.Strips.{farther, label_lines, label_of, lines_at
 use crate::bars::write_bars;
 use std::alloc::AllocError;
 use th_html::{write_number, write_place, write_sized};
+use th_pages::Page;
 use th_picture::{Sight, is_written, write_label_end, write_line, x_of};
-use th_report::Page;
 
 /// The sizes at which the strip has lines, in units of 10 nm: from 1 mm on.
 const POWERS: [u64; 13] = [

@@ -4,7 +4,7 @@ use Rattle.gsi_word.specs.Words.{Parts, parts_of}
 use Rattle.gsi_word.specs.declared.words.Width.{Width}
 use Rattle.gsi_word.specs.declared.words.Word.{Word}
 use Rattle.gsi_block.specs.Blocks.{block_with}
-use Rattle.th_book.specs.Observed.{Observed}
+use Rattle.th_observations.specs.Observed.{Observed}
 use Rattle.th_book.specs.Lines.{ParsedLine, words_in}
 use Rattle.th_book.specs.Faults.{Standing, block_faults, fault_in, first_applying, kind_of, sight_faults}
 use Rattle.th_book.specs.Books.{difference, known, known_name}

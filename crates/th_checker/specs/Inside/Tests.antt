@@ -1,7 +1,7 @@
 -- The tests of observations, using the places of their ends among the points.
 use Rattle.std.specs.Prelude.{◌≡◌, ◌<◌, ◌≤◌, ◌==◌, ◌&&◌, ℕ, ℤ, ◌*◌, pos, ◌-ℤ◌, ◌*ℤ◌, not, Bool, List, [], ◌∷◌, All, IfSome, Option, Some, None, ⊤, map, nat_lt, sum_by, length, get_or, if◌then◌else◌, is_none, unsigned_abs}
 use Rattle.std.specs.Ordering.{int_eq}
-use Rattle.th_book.specs.Observed.{Observed}
+use Rattle.th_observations.specs.Observed.{Observed}
 use Rattle.th_tables.specs.Rows.{BenchmarkRows, height_of}
 use Rattle.th_points.specs.Ends.{AreBelow}
 use Rattle.th_network.specs.Circulation.{total_by}

@@ -1,5 +1,5 @@
 use Rattle.std.specs.Prelude.{◌≡◌, ℕ, Bool, true, false, ℤ, pos, ◌-ℤ◌, List}
-use Rattle.th_book.specs.Observed.{Observed}
+use Rattle.th_observations.specs.Observed.{Observed}
 use Rattle.th_tables.specs.Rows.{WeightRows, weight_of}
 
 -- an observation that leads out of a set of names has its whole weight as flow, and one that leads into it has its whole weight backwards

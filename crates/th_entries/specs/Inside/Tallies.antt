@@ -12,6 +12,7 @@ use Rattle.th_book.specs.Indexes.{reflector_height, instrument_height}
 use Rattle.th_book.specs.declared.entries.Entered.{Entered}
 use Rattle.th_book.specs.declared.setups.Setup.{Setup}
 use Rattle.th_entries.specs.Below.{all_below, count_below}
+use Rattle.th_entries.specs.Counts.{counts_below}
 use Rattle.th_entries.specs.Entries.{begins, begins_from, index_of, length_at, uses}
 use Rattle.th_entries.specs.Listed.{IsListed}
 use Rattle.th_entries.specs.Reviews.{is_lookalike, is_measured}
@@ -19,6 +20,7 @@ use Rattle.th_entries.specs.Spellings.{Mention, mentions_at}
 use Rattle.th_entries.specs.Seen.{AreSeenIn}
 use Rattle.th_entries.specs.Watched.{HasWatched}
 use Rattle.th_entries.specs.Oddities.{changes_height, is_direction}
+use Rattle.th_entries.specs.Inside.Counts.{no_lines}
 use Rattle.th_entries.specs.Inside.Oddities.{changes, line_if, points}
 use Rattle.th_entries.specs.Inside.Running.{Entering, entering_after}
 use Rattle.th_entries.specs.Inside.Seen.{IsSeenNext, mention_by}
@@ -42,6 +44,7 @@ entering tally = record { latest = tally.latest; entries = tally.entries.items }
 pub record IsEmpty (names : SeenNames) (number : ℕ) (tally : Tally) : Type 0 where
   pub seen : tally.names ≡ names
   pub book : tally.book ≡ number
+  pub counts : tally.counts ≡ no_lines
   pub watch : (parsed : List ParsedLine) → HasWatched parsed 0 tally.watch
   pub entered : entering tally ≡ record { latest = record { reflector = None; instrument = None }; entries = [] }
   pub lookalikes : IsListed [] tally.lookalikes
@@ -50,14 +53,15 @@ pub record IsEmpty (names : SeenNames) (number : ℕ) (tally : Tally) : Type 0 w
 
 -- a block without a fault was taken in a running setup, after it was counted
 pub record HasBlock (running : Option Setup) (words : List Parts) (old new : Tally) : Type 0 where
-  pub seen : IsSeenNext (mention_by old.book old.watch.counts.lines (entered_by words) words) old.names new.names
+  pub seen : IsSeenNext (mention_by old.book old.counts.lines (entered_by words) words) old.names new.names
   pub book : new.book ≡ old.book
+  pub counts : new.counts ≡ old.counts
   pub watch : new.watch ≡ old.watch
-  pub entered : entering new ≡ entering_after old.book old.watch.counts.lines running (entered_by words) (entering old)
+  pub entered : entering new ≡ entering_after old.book old.counts.lines running (entered_by words) (entering old)
   pub lookalikes : (before : List ℕ) → IsListed before old.lookalikes
-      → IsListed (before ++ line_if (looks words (entered_by words) (option_map (λ own. own.station) running)) old.watch.counts.lines) new.lookalikes
-  pub directions : (before : List ℕ) → IsListed before old.directions → IsListed (before ++ line_if (points (entered_by words) words) old.watch.counts.lines) new.directions
-  pub changes : (before : List ℕ) → IsListed before old.changes → IsListed (before ++ line_if (changes running (entered_by words)) old.watch.counts.lines) new.changes
+      → IsListed (before ++ line_if (looks words (entered_by words) (option_map (λ own. own.station) running)) old.counts.lines) new.lookalikes
+  pub directions : (before : List ℕ) → IsListed before old.directions → IsListed (before ++ line_if (points (entered_by words) words) old.counts.lines) new.directions
+  pub changes : (before : List ℕ) → IsListed before old.changes → IsListed (before ++ line_if (changes running (entered_by words)) old.counts.lines) new.changes
 
 -- the place of the last entry of an index that begins before place `n`, in the setup that runs there
 abbrev pub open_at : ℕ → List ParsedLine → ℕ → Option ℕ
@@ -121,6 +125,7 @@ AreSeenBelow number parsed n old new =
 pub record IsTallied (names : SeenNames) (number : ℕ) (parsed : List ParsedLine) (n : ℕ) (tally : Tally) : Type 0 where
   pub seen : AreSeenBelow number parsed n names tally.names
   pub book : tally.book ≡ number
+  pub counts : tally.counts ≡ counts_below parsed n
   pub watch : HasWatched parsed n tally.watch
   pub entered : IsEntering number parsed n (entering tally)
   pub lookalikes : IsListed (lookalikes_below parsed n) tally.lookalikes

@@ -1,6 +1,6 @@
 -- How points are sighted, in sets.
 use Rattle.std.specs.Prelude.{◌≡◌, ℕ, List}
-use Rattle.th_book.specs.Observed.{Observed}
+use Rattle.th_observations.specs.Observed.{Observed}
 use Rattle.th_findings.specs.Inside.Sets.{has_name, has_pair}
 use Rattle.th_findings.specs.Seen.{is_station, was_observed}
 use Rattle.th_findings.specs.Uses.{AreUsed, uses_of}

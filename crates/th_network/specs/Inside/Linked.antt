@@ -1,6 +1,6 @@
 -- The links of observations.
 use Rattle.std.specs.Prelude.{◌≡◌, ◌≤◌, List, All, map, unsigned_abs}
-use Rattle.th_book.specs.Observed.{Observed, IsBetweenPoints}
+use Rattle.th_observations.specs.Observed.{Observed, IsBetweenPoints}
 use Rattle.th_tables.specs.Rows.{BenchmarkRows}
 use Rattle.th_network.specs.Links.{largest_link_difference, link_of}
 use Rattle.th_network.specs.declared.links.Link.{Link}

@@ -1,6 +1,6 @@
 -- The points of a network under construction, and their heights.
 use Rattle.std.specs.Prelude.{◌≡◌, ◌≤◌, ℕ, ℤ, pos, List, Option, All, map, unsigned_abs, unwrap_or}
-use Rattle.th_book.specs.Observed.{Observed}
+use Rattle.th_observations.specs.Observed.{Observed}
 use Rattle.th_tables.specs.Rows.{BenchmarkRows, height_of}
 use Rattle.th_points.specs.Ends.{ArePoints}
 use Rattle.th_units.specs.Limits.{max_len}

@@ -1,6 +1,6 @@
 -- The parts of a network, whose points have one label.
 use Rattle.std.specs.Prelude.{◌≡◌, ◌≢◌, ◌<◌, ◌==◌, ℕ, ℤ, List, Contains, Some, get_or, if◌then◌else◌, length, slice_get}
-use Rattle.th_book.specs.Observed.{Observed}
+use Rattle.th_observations.specs.Observed.{Observed}
 use Rattle.th_network.specs.Networks.{Survey, heights_of, points_of}
 use Rattle.th_network.specs.Walks.{Walk}
 use Rattle.th_points.specs.Places.{place_of}

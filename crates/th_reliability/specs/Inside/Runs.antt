@@ -1,6 +1,6 @@
 -- Observations in the order of books and lines.
 use Rattle.std.specs.Prelude.{◌≡◌, ℕ, ◌+◌, ◌<◌, ◌≤◌, ◌==◌, ◌&&◌, ◌||◌, Bool, List, length, nat_lt, slice_index_or}
-use Rattle.th_book.specs.Observed.{Observed}
+use Rattle.th_observations.specs.Observed.{Observed}
 
 -- whether an observation comes before a line of a book
 abbrev pub is_before : ℕ → ℕ → Observed → Bool

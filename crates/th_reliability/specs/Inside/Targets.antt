@@ -1,6 +1,6 @@
 use Rattle.std.specs.Prelude.{◌≡◌, ℕ, ◌+◌, ◌<◌, ◌≤◌, ◌⊎◌, ◌==◌, Bool, true, List, All, Contains, if◌then◌else◌, length, map, sum_by}
 use Rattle.th_limits.specs.Limits.{max_total_weight}
-use Rattle.th_book.specs.Observed.{Observed}
+use Rattle.th_observations.specs.Observed.{Observed}
 use Rattle.th_tables.specs.Rows.{weight_of}
 use Rattle.th_network.specs.Networks.{Survey, vertices_of}
 use Rattle.th_network.specs.Vertices.{vertex_of}

@@ -2,7 +2,7 @@ use Rattle.std.proofs.Common.{◌≡◌, ◌≤◌, ◌+ℤ◌, w64, to_z, of_z,
 use Rattle.std.proofs.lemmas.Int.{ints}
 use Rattle.indexmap.specs.IndexMap.{get}
 use Rattle.gsi_word.specs.Names.{same_pair}
-use Rattle.th_book.specs.Observed.{largest_difference}
+use Rattle.th_observations.specs.Observed.{largest_difference}
 use Rattle.th_blunders.specs.Opposites.{opposite_to}
 use Rattle.th_blunders.proofs.pairs.opposite_in.Goals as goal
 

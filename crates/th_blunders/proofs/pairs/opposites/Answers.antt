@@ -4,7 +4,7 @@ use Rattle.std.proofs.lemmas.Int.{ints}
 use Rattle.std.proofs.lemmas.List.{append-nil}
 use Rattle.indexmap.specs.IndexMap.{get}
 use Rattle.gsi_word.specs.Names.{same_pair}
-use Rattle.th_book.specs.Observed.{Observed, largest_difference}
+use Rattle.th_observations.specs.Observed.{Observed, largest_difference}
 use Rattle.th_blunders.specs.Opposites.{latest, opposite_of, opposite_to, runs_between}
 use Rattle.th_blunders.proofs.LatestOnes.{latest-more, opposite_of-seen, seen, seen-more}
 use Rattle.th_blunders.proofs.Numbered.{filter_map-found}

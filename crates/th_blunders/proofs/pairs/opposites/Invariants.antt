@@ -2,7 +2,7 @@ use Rattle.std.proofs.Common.{◌≡◌, ◌≤◌, ℕ, List, IfSome, option_ma
 use Rattle.std.specs.List.{enumerate_from, filter_map}
 use Rattle.indexmap.specs.IndexMap.{get}
 use Rattle.gsi_word.specs.Names.{same_pair}
-use Rattle.th_book.specs.Observed.{largest_difference}
+use Rattle.th_observations.specs.Observed.{largest_difference}
 use Rattle.th_blunders.specs.Opposites.{latest, opposite_of}
 use Rattle.th_blunders.proofs.LatestOnes.{seen}
 use Rattle.th_blunders.proofs.pairs.opposites.Given as goal

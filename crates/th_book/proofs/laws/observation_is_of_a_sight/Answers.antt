@@ -4,7 +4,7 @@ use Rattle.std.specs.List.{range_with_len}
 use Rattle.std.proofs.lemmas.List.Elements.{All-contains, All-map, All-weaker, filter_passes}
 use Rattle.gsi_block.specs.Blocks.{block_at}
 use Rattle.gsi_block.specs.Lines.{lines_of}
-use Rattle.th_book.specs.Observed.{Observed}
+use Rattle.th_observations.specs.Observed.{Observed}
 use Rattle.th_book.specs.Books.{answer, book_answer, observations_of, observed_at, too_long}
 use Rattle.th_book.specs.Faults.{first_fault}
 use Rattle.th_book.specs.Limits.{max_book}

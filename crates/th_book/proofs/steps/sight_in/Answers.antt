@@ -1,6 +1,6 @@
 use Rattle.std.proofs.Common.{◌≡◌, ℕ, ℤ, ◌&&◌, cond, List, Option, Some, None, sym, ap, ◌∙◌}
 use Rattle.std.specs.Prelude.{is_some}
-use Rattle.th_book.specs.Observed.{Observed}
+use Rattle.th_observations.specs.Observed.{Observed}
 use Rattle.th_book.specs.Books.{known, known_name}
 use Rattle.th_book.specs.Inside.Entries.{setup_by}
 use Rattle.th_book.specs.Inside.Steps.{observed_from}

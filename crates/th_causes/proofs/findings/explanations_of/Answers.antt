@@ -6,14 +6,14 @@ use Rattle.th_blunders.specs.Blunders.{is_blunder}
 use Rattle.th_blunders.specs.Residuals.{residuals}
 use Rattle.th_entries.specs.declared.entries.Entry.{Entry}
 use Rattle.th_changes.specs.Freed.{cost_of}
-use Rattle.th_explain.specs.Mended.{blunders_at}
+use Rattle.th_blunders.specs.Blunders.{blunders_at}
 use Rattle.th_explanations.specs.declared.rows.Row.{Row}
 use Rattle.th_network.specs.Heights.{residual}
 use Rattle.th_network.specs.Networks.{at_points_of}
 use Rattle.th_causes.specs.Explanations.{IsEnough, summary_with}
 use Rattle.th_causes.specs.Inside.Leading.{AreLeading}
 use Rattle.th_numbers.specs.Lists.{listed_in, listed_of}
-use Rattle.th_causes.specs.Readings.{IsBookRowOrNone}
+use Rattle.th_readings.specs.Readings.{IsBookRowOrNone}
 use Rattle.th_causes.specs.Rows.{IsRowOrMore}
 use Rattle.th_causes.proofs.FindLemmas.{explained_of}
 use Rattle.th_causes.proofs.findings.explanations_of.Goals as goal

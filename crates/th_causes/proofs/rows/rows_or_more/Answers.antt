@@ -3,7 +3,7 @@ use Rattle.std.proofs.lemmas.Int.{to_z-of_z}
 use Rattle.std.proofs.lemmas.List.{take_all}
 use Rattle.std.proofs.lemmas.Slice.Zip.{AllZip-long}
 use Rattle.std.specs.List.{AllZip}
-use Rattle.th_explain.proofs.ExplainLemmas.{all_zip_next}
+use Rattle.th_reliability.proofs.ZipLemmas.{zip_next}
 use Rattle.th_causes.specs.Inside.Leading.{IsFreedOrMore}
 use Rattle.th_causes.specs.Rows.{IsRowOrMore}
 use Rattle.th_numbers.specs.declared.candidates.Candidate.{Candidate}
@@ -23,7 +23,7 @@ row_or_more-requires-clause-found c =
 
 pub loop-k-preserved : goal.loop-k-preserved
 loop-k-preserved c = record {
-  rows = all_zip_next (IsRowOrMore c.args.network.now c.args.cost (to_z w64 (of_z w64 c.args.limit)) c.args.most) c.args.candidates.now c.loop-k.rows.items c.add_found.new.rows.items c.loop-k.k c.index-candidates-k.result c.in_ok-row.row
+  rows = zip_next (IsRowOrMore c.args.network.now c.args.cost (to_z w64 (of_z w64 c.args.limit)) c.args.most) c.args.candidates.now c.loop-k.rows.items c.add_found.new.rows.items c.loop-k.k c.index-candidates-k.result c.in_ok-row.row
       c.loop-k-test.true c.index-candidates-k.is c.in_ok-add_found.ensures c.loop-k.invariant.rows c.in_ok-row.ensures.row;
   network = c.in_ok-row.ensures.sieve;
   same_cost = c.in_ok-row.ensures.same_cost;

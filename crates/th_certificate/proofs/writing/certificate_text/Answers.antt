@@ -1,6 +1,6 @@
 use Rattle.std.proofs.Common.{◌≡◌, ◌++◌, ◌∷◌, [], ℕ, ℤ, All, List, OnOk, Result, Some, Ok, Err, codes, length, map, ap, rules, ◌∙◌}
 use Rattle.gsi_word.specs.Names.{name_of}
-use Rattle.th_book.specs.Observed.{IsBetweenPoints}
+use Rattle.th_observations.specs.Observed.{IsBetweenPoints}
 use Rattle.th_tables.specs.Rows.{AreWeights}
 use Rattle.th_network.specs.Faults.{IsNetwork}
 use Rattle.std.specs.List.{enumerate_from}

@@ -1,7 +1,7 @@
 use Rattle.std.proofs.Common.{◌≡◌, ◌<◌, ◌≤◌, ◌+◌, ℤ, pos, ◌+ℤ◌, ◌*ℤ◌, List, ap, get_or, length, of_z, sym, to_z, unsigned_abs, w64, refl, ◌∙◌, arith}
 use Rattle.std.proofs.lemmas.Int.{fits_signed_from_abs, ints, to_z-of_z}
 use Rattle.std.proofs.lemmas.List.Elements.{All-get_or}
-use Rattle.th_book.specs.Observed.{Observed}
+use Rattle.th_observations.specs.Observed.{Observed}
 use Rattle.th_tables.specs.Limits.{max_weight}
 use Rattle.th_changes.specs.Numbers.{touch}
 use Rattle.th_changes.proofs.NetLemmas.{net_before, net_behind, net_to}

@@ -1,5 +1,5 @@
 use Rattle.std.proofs.Common.{◌≡◌, ◌≤◌, fold, take}
-use Rattle.th_book.specs.Observed.{largest_difference}
+use Rattle.th_observations.specs.Observed.{largest_difference}
 use Rattle.th_changes.specs.Reach.{nearer}
 use Rattle.th_changes.proofs.tilting.reach_of.Given as goal
 

@@ -1,5 +1,5 @@
 use Rattle.std.proofs.Common.{List, sym, subst, to_z, of_z, w64}
-use Rattle.th_book.specs.Observed.{Observed}
+use Rattle.th_observations.specs.Observed.{Observed}
 use Rattle.th_network.specs.Faults.{IsNetwork}
 use Rattle.th_changes.proofs.TiltLemmas.{network_tilted, only_memory}
 use Rattle.th_changes.proofs.tilting.tilted.Goals as goal

@@ -1,6 +1,6 @@
 use Rattle.std.proofs.Common.{◌≡◌, ℤ, ◌*ℤ◌, w64, ap, sym, ◌∙◌, arith}
 use Rattle.std.proofs.lemmas.Int.{ints, to_z-of_z}
-use Rattle.th_book.specs.Observed.{Observed}
+use Rattle.th_observations.specs.Observed.{Observed}
 use Rattle.th_changes.specs.Tilted.{tilted_observation}
 use Rattle.th_changes.specs.Numbers.{touch}
 use Rattle.th_changes.proofs.TiltLemmas.{moved_in_range, observed_same}

@@ -1,7 +1,7 @@
 use Rattle.std.proofs.Common.{◌++◌, ◌∷◌, [], ℤ, List, ap, map, sym, take, to_z, of_z, unsigned_abs, w64, ◌∙◌, arith}
 use Rattle.std.proofs.lemmas.Int.{ints, to_z-of_z}
 use Rattle.std.proofs.lemmas.List.{map_more, take_all}
-use Rattle.th_book.specs.Observed.{Observed}
+use Rattle.th_observations.specs.Observed.{Observed}
 use Rattle.th_changes.specs.Tilted.{tilted_observation}
 use Rattle.th_changes.proofs.TiltLemmas.{reach_small, room_at}
 use Rattle.th_changes.proofs.tilting.tilted_observations.Goals as goal

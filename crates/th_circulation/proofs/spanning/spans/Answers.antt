@@ -2,7 +2,7 @@ use Rattle.std.proofs.Common.{ℤ, List, length, map, ap, sym, ◌∙◌, subst,
 use Rattle.std.proofs.lemmas.List.{length-map}
 use Rattle.std.proofs.lemmas.Slice.Zip.{AllZip-long}
 use Rattle.std.specs.Prelude.{◌≤◌, unsigned_abs}
-use Rattle.th_book.specs.Observed.{Observed}
+use Rattle.th_observations.specs.Observed.{Observed}
 use Rattle.th_tables.specs.Rows.{weight_of}
 use Rattle.th_network.specs.Links.{link_of}
 use Rattle.th_network.specs.Networks.{at_points_of, vertices_of}

@@ -6,7 +6,7 @@ use Rattle.gsi_word.specs.declared.words.Width.TheVariants.{Sixteen}
 use Rattle.gsi_block.specs.Blocks.{BlockParts, block_parts}
 use Rattle.gsi_block.specs.Writing.{block_text}
 use Rattle.th_report.specs.Gsi.{number_word}
-use Rattle.th_report.proofs.RowLemmas.{same_units}
+use Rattle.th_blunders.proofs.HeightLemmas.{same_units}
 use Rattle.th_conversions.specs.Limits.{hundredth}
 use Rattle.th_conversions.specs.Books.{length_word, sight_block}
 use Rattle.th_conversions.proofs.words.write_sight.Goals as goal

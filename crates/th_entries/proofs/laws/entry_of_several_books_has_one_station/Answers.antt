@@ -1,6 +1,6 @@
 use Rattle.std.proofs.Common.{◌<◌, []}
 use Rattle.std.proofs.lemmas.List.Elements.{All-nil}
-use Rattle.th_book.specs.Observed.{Observed}
+use Rattle.th_observations.specs.Observed.{Observed}
 use Rattle.th_entries.proofs.SeveralLemmas.{one-of-several}
 use Rattle.th_entries.proofs.laws.entry_of_several_books_has_one_station.Goals as goal
 

@@ -1,6 +1,6 @@
 use Rattle.std.proofs.Common.{FitsSigned, ℤ, ◌++◌, ap, codes, decimal, rules, w64, ◌∙◌}
 use Rattle.std.proofs.lemmas.Int.{to_z-of_z}
-use Rattle.th_report.specs.Reports.{label_line, limit_line}
+use Rattle.th_pages.specs.Labels.{label_line, limit_line}
 use Rattle.th_explanations.specs.Columns.{cost_line, cost_lines}
 use Rattle.th_explanations.proofs.TextLemmas.{on_ok, three_parts}
 use Rattle.th_explanations.proofs.columns.write_costs.Goals as goal

@@ -1,5 +1,5 @@
 use Rattle.std.proofs.Common.{codes}
-use Rattle.th_report.specs.Columns.{line_end}
+use Rattle.th_pages.specs.Columns.{line_end}
 use Rattle.th_explanations.specs.Sentences.{few_line, joined}
 use Rattle.th_explanations.proofs.TextLemmas.{on_ok, three_parts_and_end}
 use Rattle.th_explanations.proofs.sentences.write_few.Goals as goal

@@ -1,5 +1,5 @@
 use Rattle.std.proofs.Common.{codes}
-use Rattle.th_report.specs.Columns.{line_end}
+use Rattle.th_pages.specs.Columns.{line_end}
 use Rattle.th_explanations.specs.Sentences.{count_called, many_line}
 use Rattle.th_explanations.proofs.TextLemmas.{on_ok, two_parts}
 use Rattle.th_explanations.proofs.sentences.write_many.Goals as goal

@@ -1,6 +1,6 @@
 use Rattle.std.proofs.Common.{ℕ, List, ◌++◌, ap, codes, w64, ◌∙◌}
 use Rattle.std.proofs.lemmas.Int.{to_z-of_z}
-use Rattle.th_report.specs.Columns.{line_end}
+use Rattle.th_pages.specs.Columns.{line_end}
 use Rattle.th_units.specs.Metres.{metres}
 use Rattle.th_explanations.specs.Sentences.{unmarked_line}
 use Rattle.th_explanations.proofs.TextLemmas.{on_ok, three_parts_and_end}

@@ -6,7 +6,7 @@ use Rattle.th_tables.specs.Rows.{BenchmarkRows, height_of}
 use Rattle.th_findings.specs.Inside.Sets.{has_name}
 use Rattle.th_findings.specs.Parts.{mark_if, mark_of, marks_of}
 use Rattle.th_findings.specs.Seen.{was_seen}
-use Rattle.th_report.proofs.RowLemmas.{zipped-first}
+use Rattle.th_pages.proofs.RowLemmas.{zipped-first}
 use Rattle.th_findings.proofs.FindingLemmas.{given_rest}
 use Rattle.th_findings.proofs.PartLemmas.{length-parts}
 use Rattle.th_findings.proofs.parts.marks_of.Goals as goal

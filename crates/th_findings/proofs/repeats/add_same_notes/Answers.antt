@@ -2,8 +2,8 @@ use Rattle.std.proofs.Common.{◌≡◌, ◌+◌, ◌-◌, ◌++◌, ◌∷◌, 
 use Rattle.std.proofs.lemmas.List.{length_push, map-append}
 use Rattle.std.proofs.lemmas.List.FromFn.{map-range_with_len_more}
 use Rattle.std.proofs.lemmas.Option.{slice_get-map, slice_get_read}
-use Rattle.th_book.specs.declared.observations.Observation.{Observation}
-use Rattle.th_book.specs.Observed.{Observed}
+use Rattle.th_observations.specs.declared.observations.Observation.{Observation}
+use Rattle.th_observations.specs.Observed.{Observed}
 use Rattle.th_entries.specs.declared.counts.BookCount.{BookCount}
 use Rattle.th_entries.specs.declared.reviews.BookReview.{BookReview}
 use Rattle.th_findings.specs.Books.{counts_of_books}

@@ -2,7 +2,7 @@ use Rattle.std.proofs.Common.{◌≡◌, ◌||◌, Bool, List, get_or, take, sym
 use Rattle.std.specs.List.{list_any}
 use Rattle.std.proofs.lemmas.List.Folds.{list_any_more}
 use Rattle.gsi_word.specs.Names.{same_name}
-use Rattle.th_book.specs.Observed.{Observed}
+use Rattle.th_observations.specs.Observed.{Observed}
 use Rattle.th_findings.specs.Inside.Sets.{has_name}
 use Rattle.th_findings.proofs.FindingLemmas.{one_more_name}
 use Rattle.th_findings.proofs.sightings.stations_of.Goals as goal

@@ -3,7 +3,7 @@ use Rattle.std.proofs.lemmas.List.{get_or_default}
 use Rattle.std.proofs.lemmas.Option.{slice_get_read}
 use Rattle.std.proofs.lemmas.Result.{on_ok_weaker}
 use Rattle.std.specs.List.{enumerate_from, filter_map}
-use Rattle.th_book.specs.Observed.{Observed}
+use Rattle.th_observations.specs.Observed.{Observed}
 use Rattle.th_entries.specs.Listed.{IsListed}
 use Rattle.th_tables.specs.Rows.{BenchmarkRows}
 use Rattle.th_findings.specs.Findings.{benchmark_note, name_note}

@@ -3,7 +3,7 @@ use Rattle.std.specs.List.{list_any}
 use Rattle.std.proofs.lemmas.List.{take_all}
 use Rattle.std.proofs.lemmas.List.Folds.{list_any_more}
 use Rattle.gsi_word.specs.Names.{same_pair}
-use Rattle.th_book.specs.Observed.{Observed}
+use Rattle.th_observations.specs.Observed.{Observed}
 use Rattle.th_findings.specs.Seen.{was_observed}
 use Rattle.th_findings.specs.Inside.Sets.{has_pair}
 use Rattle.th_findings.proofs.FindingLemmas.{one_more_pair}

@@ -1,6 +1,6 @@
 use Rattle.std.proofs.Common.{◌≡◌, ◌+◌, ◌++◌, ◌∷◌, [], List, drop, take, sym, ap, ◌∙◌, append_assoc}
 use Rattle.std.proofs.lemmas.List.{take_more}
-use Rattle.th_report.proofs.RowLemmas.{drop-first}
+use Rattle.th_pages.proofs.RowLemmas.{drop-first}
 use Rattle.th_findings.specs.Twins.{pairs_after, pairs_with}
 use Rattle.th_notes.specs.declared.notes.Pair.{Pair}
 use Rattle.th_findings.specs.declared.twins.Spot.{Spot}

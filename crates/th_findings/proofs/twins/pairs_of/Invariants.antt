@@ -1,5 +1,5 @@
 use Rattle.std.proofs.Common.{◌≡◌, ◌++◌, [], List, drop, take}
-use Rattle.th_book.specs.Observed.{Observed}
+use Rattle.th_observations.specs.Observed.{Observed}
 use Rattle.th_entries.specs.Listed.{IsListed}
 use Rattle.th_findings.specs.Inside.Sightings.{AreSightings}
 use Rattle.th_findings.specs.Twins.{pairs_after}

@@ -3,7 +3,7 @@ use Rattle.std.specs.List.{IsDistinct}
 use Rattle.std.proofs.lemmas.List.{map_push, take_more}
 use Rattle.th_network.specs.Heights.{heights_at}
 use Rattle.th_network.specs.Networks.{points_of}
-use Rattle.th_report.proofs.RowLemmas.{height_there}
+use Rattle.th_blunders.proofs.HeightLemmas.{height_there}
 use Rattle.th_findings.specs.Twins.{spot_at}
 use Rattle.th_findings.specs.declared.twins.Spot.{Spot}
 use Rattle.th_findings.proofs.twins.spots_of.Goals as goal

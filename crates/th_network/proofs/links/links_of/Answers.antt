@@ -1,5 +1,5 @@
 use Rattle.std.proofs.Common.{◌≡◌, ◌<◌, ◌≤◌, ◌-ℤ◌, ◌+ℤ◌, ℤ, pos, List, Option, length, get_or, unsigned_abs, unwrap_or, sym, ap, ◌∙◌, subst, arith}
-use Rattle.th_book.specs.Observed.{IsBetweenPoints, Observed}
+use Rattle.th_observations.specs.Observed.{IsBetweenPoints, Observed}
 use Rattle.th_units.specs.Limits.{max_len}
 use Rattle.th_network.specs.Inside.Sites.{AreSites, Looked}
 use Rattle.th_network.specs.Links.{base, largest_link_difference}

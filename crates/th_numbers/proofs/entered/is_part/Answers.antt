@@ -1,5 +1,5 @@
 use Rattle.std.proofs.Common.{ap, ◌∙◌}
-use Rattle.th_book.specs.Observed.{Observed}
+use Rattle.th_observations.specs.Observed.{Observed}
 use Rattle.th_reliability.specs.declared.sights.Sights.{Sights}
 use Rattle.th_numbers.specs.Candidates.{sights_since}
 use Rattle.th_numbers.specs.Lists.{is_part_of}

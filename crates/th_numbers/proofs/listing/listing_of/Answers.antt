@@ -1,5 +1,5 @@
 use Rattle.std.proofs.Common.{◌∙◌, ◌++◌, List, ap, map}
-use Rattle.th_book.specs.Observed.{Observed}
+use Rattle.th_observations.specs.Observed.{Observed}
 use Rattle.th_entries.specs.declared.entries.HeightKind.TheVariants as height
 use Rattle.th_numbers.specs.Lists.{changes, entered}
 use Rattle.th_numbers.specs.declared.candidates.Candidate.TheVariants.{Sight}

@@ -2,7 +2,7 @@ use Rattle.std.proofs.Common.{refl, subst, sym, ◌∙◌, arith}
 use Rattle.std.proofs.lemmas.Option.{get_or_from_slice_get, slice_get_within}
 use Rattle.std.proofs.lemmas.Slice.Zip.{AllZip-long}
 use Rattle.std.specs.List.{AllZip}
-use Rattle.th_explain.proofs.ExplainLemmas.{all_zip_next}
+use Rattle.th_reliability.proofs.ZipLemmas.{zip_next}
 use Rattle.th_points.proofs.PointOrder.{no_row_more}
 use Rattle.th_tables.specs.Rows.{AreBenchmarks, BenchmarkRows}
 use Rattle.th_numbers.specs.Ties.{IsTold}
@@ -16,7 +16,7 @@ rows-preserved c =
     let within = slice_get_within rows c.rows.k c.in-Some.row (sym at) in
     record {
       within = omega (arith, within);
-      told = all_zip_next (IsTold c.args.network.now) rows c.rows.rows.items c.push.new.self.items c.rows.k c.in-Some.row (record { name = c.in-Some.row.0; tied = c.is_tied-tied.result }) within
+      told = zip_next (IsTold c.args.network.now) rows c.rows.rows.items c.push.new.self.items c.rows.k c.in-Some.row (record { name = c.in-Some.row.0; tied = c.is_tied-tied.result }) within
           (sym (get_or_from_slice_get rows c.rows.k c.in-Some.row c.in-Some.row (sym at))) c.in_ok-push.ensures.items c.rows.invariant.told (record { name = refl; tied = c.is_tied-tied.ensures });
     }
 

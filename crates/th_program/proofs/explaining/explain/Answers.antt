@@ -12,7 +12,7 @@ use Rattle.th_program.specs.Failing.{HasCause, IsInFiles}
 use Rattle.th_files.specs.Opened.{AreApart, AreMade, AreOpened, IsTaken, IsUntouched}
 use Rattle.th_files.specs.Outputs.{spots_of}
 use Rattle.th_files.specs.Owed.{survey_owed}
-use Rattle.th_runs.specs.Explained.{explaining}
+use Rattle.th_explaining.specs.Explained.{explaining}
 use Rattle.th_run_parts.specs.Inputs.{IsOwed, Owed}
 use Rattle.th_run_parts.specs.Reads.{refused}
 use Rattle.th_run_parts.specs.Writes.{Texts, UnlessWrite}

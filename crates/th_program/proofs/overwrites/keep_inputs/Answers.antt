@@ -10,7 +10,7 @@ use Rattle.th_files.specs.Outputs.{spots_of}
 use Rattle.th_program.proofs.OverwriteLemmas.{stop_of}
 use Rattle.th_program.proofs.overwrites.keep_inputs.Goals as goal
 use Rattle.th_runs.specs.Adjusted.{adjusting}
-use Rattle.th_runs.specs.Reviewed.{reviewing}
+use Rattle.th_reviewing.specs.Reviewed.{reviewing}
 
 pub returns-in-Adjust-clause-apart : goal.returns-in-Adjust-clause-apart
 returns-in-Adjust-clause-apart g c =

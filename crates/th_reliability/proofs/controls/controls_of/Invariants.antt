@@ -1,5 +1,5 @@
 use Rattle.std.proofs.Common.{◌≡◌, ℕ, Option, Some, ◌<◌, length, slice_get, slice_index_or}
-use Rattle.th_book.specs.Observed.{Observed}
+use Rattle.th_observations.specs.Observed.{Observed}
 use Rattle.th_reliability.specs.Numbers.{HasControl}
 use Rattle.th_reliability.proofs.controls.controls_of.Given as goal
 

@@ -1,5 +1,5 @@
 use Rattle.std.proofs.Common.{◌<◌, ◌+◌, ℕ, get_or}
-use Rattle.th_book.specs.Observed.{Observed}
+use Rattle.th_observations.specs.Observed.{Observed}
 use Rattle.th_reliability.specs.Inside.Runs.{IsNoLater}
 use Rattle.th_reliability.proofs.runs.are_in_order.Given as goal
 

@@ -1,5 +1,5 @@
 use Rattle.std.proofs.Common.{◌≡◌, ◌<◌, ℕ, false, get_or}
-use Rattle.th_book.specs.Observed.{Observed}
+use Rattle.th_observations.specs.Observed.{Observed}
 use Rattle.th_reliability.specs.Sights.{in_sights}
 use Rattle.th_reliability.proofs.shared.start_of.Given as goal
 

@@ -4,7 +4,7 @@ use Rattle.std.proofs.lemmas.Grind.{get_or_default_zero}
 use Rattle.std.proofs.lemmas.List.{get_or_default}
 use Rattle.std.proofs.lemmas.List.Sums.{sum_by-take-le}
 use Rattle.th_graphs.specs.declared.edges.Edge.{Edge}
-use Rattle.th_book.specs.Observed.{Observed}
+use Rattle.th_observations.specs.Observed.{Observed}
 use Rattle.th_network.specs.Networks.{vertices_of}
 use Rattle.th_graphs.specs.Graphs.{edge_at}
 use Rattle.th_flows.specs.Drains.{room_at}

@@ -1,5 +1,5 @@
 use Rattle.std.proofs.Common.{◌≡◌, Bool, map}
-use Rattle.th_book.specs.Observed.{Observed}
+use Rattle.th_observations.specs.Observed.{Observed}
 use Rattle.th_reliability.proofs.TargetLemmas.{AreFound, AreSized}
 use Rattle.th_reliability.proofs.targets.targets_of.Given as goal
 

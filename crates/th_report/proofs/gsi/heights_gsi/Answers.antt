@@ -3,7 +3,8 @@ use Rattle.std.specs.List.{IsDistinct, enumerate_from}
 use Rattle.th_network.specs.Heights.{heights_at}
 use Rattle.th_network.specs.Networks.{points_of}
 use Rattle.th_report.specs.Gsi.{point_text, text_of_point}
-use Rattle.th_report.proofs.RowLemmas.{further, height_there, numbered-first}
+use Rattle.th_pages.proofs.RowLemmas.{further, numbered-first}
+use Rattle.th_blunders.proofs.HeightLemmas.{height_there}
 use Rattle.th_report.proofs.gsi.heights_gsi.Goals as goal
 
 pub loop-k-preserved : goal.loop-k-preserved

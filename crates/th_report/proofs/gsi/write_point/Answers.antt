@@ -4,7 +4,7 @@ use Rattle.gsi_word.specs.Words.{Parts, parts, parts_of}
 use Rattle.gsi_block.specs.Blocks.{BlockParts, block_parts}
 use Rattle.gsi_block.specs.Writing.{block_text}
 use Rattle.th_report.specs.Gsi.{has_minus, height_word, hundredths, number_word, point_block}
-use Rattle.th_report.proofs.RowLemmas.{same_units}
+use Rattle.th_blunders.proofs.HeightLemmas.{same_units}
 use Rattle.th_report.proofs.WordLemmas.{block_of_two}
 use Rattle.th_report.proofs.gsi.write_point.Goals as goal
 

@@ -1,9 +1,9 @@
 use Rattle.std.proofs.Common.{◌≡◌, ◌<◌, ◌++◌, ◌+◌, ℕ, true, false, pos, List, get_or, length, of_z, to_z, w64, sym, ap, ◌∙◌, arith}
 use Rattle.std.specs.List.{flat_map}
-use Rattle.th_book.specs.Observed.{Observed}
+use Rattle.th_observations.specs.Observed.{Observed}
 use Rattle.th_blunders.specs.Blunders.{is_blunder}
 use Rattle.th_report.specs.Reports.{line_in, residual_line}
-use Rattle.th_report.proofs.RowLemmas.{same_units}
+use Rattle.th_blunders.proofs.HeightLemmas.{same_units}
 use Rattle.th_report.proofs.ResidualLemmas.{blunders-further, blunders-passed, blunders_left, residuals-further}
 use Rattle.th_report.proofs.residual_tables.write_rows.Goals as goal
 use Rattle.th_report.proofs.residual_tables.write_rows.Goals.{then-is_blunder+in_ok-add-2, else-is_blunder}

@@ -3,7 +3,7 @@ use Rattle.std.specs.List.{IsDistinct, zip}
 use Rattle.std.proofs.lemmas.List.{get_or_default}
 use Rattle.th_network.specs.Heights.{heights_at}
 use Rattle.th_network.specs.Networks.{points_of}
-use Rattle.th_report.proofs.RowLemmas.{height_there}
+use Rattle.th_blunders.proofs.HeightLemmas.{height_there}
 use Rattle.th_review_rows.specs.declared.rows.PointRow.{PointRow}
 use Rattle.th_review_rows.specs.Rows.{point_row, point_row_of, point_rows}
 use Rattle.th_review_rows.proofs.RowLemmas.{pushed, zipped-first3}

@@ -1,6 +1,6 @@
 use Rattle.std.proofs.Common.{ℕ, map, List, ap, ◌∙◌}
 use Rattle.gsi_block.specs.Blocks.{block_at}
-use Rattle.th_book.specs.Observed.{Observed}
+use Rattle.th_observations.specs.Observed.{Observed}
 use Rattle.th_book.specs.Due.{due, empty}
 use Rattle.th_book.proofs.Keeping.{new_book_due}
 use Rattle.th_book.proofs.books.Book.new.Goals as goal

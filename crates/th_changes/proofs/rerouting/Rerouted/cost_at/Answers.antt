@@ -1,7 +1,7 @@
 use Rattle.std.proofs.Common.{◌≡◌, ◌<◌, ◌∙◌, ℕ, ℤ, List, ap, get_or, length, of_z, subst, sum_by, sym, take, to_z, w64, arith}
 use Rattle.std.proofs.lemmas.Int.{to_z-of_z}
 use Rattle.std.proofs.lemmas.List.{get_or_default, take_all}
-use Rattle.th_book.specs.Observed.{Observed}
+use Rattle.th_observations.specs.Observed.{Observed}
 use Rattle.th_changes.specs.Freed.{Costs}
 use Rattle.th_changes.specs.Rerouted.{priced}
 use Rattle.th_changes.proofs.PriceLemmas.{costs_over, nowhere, price_more}

@@ -9,7 +9,7 @@ use Rattle.th_entries.proofs.tallies.Tally.review.Goals as goal
 
 pub returns-clause-review : goal.returns-clause-review
 returns-clause-review c = λ names number parsed seen. let is = seen c.in_default.is in record {
-  counts = is.watch.counts;
+  counts = is.counts;
   no_sight = c.note.ensures parsed is.watch ∙ ap (λ own. no_sight_in own parsed) is.book;
   entries = c.shrink_to_fit.ensures.items ∙ filter_same _ is_used _ (λ x b f' k. search rules) _ _ c.retain.ensures.filtered ∙ ap (filter is_used) is.entered.entries ∙ kept number parsed;
   lookalikes = is.lookalikes;

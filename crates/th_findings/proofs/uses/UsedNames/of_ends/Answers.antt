@@ -1,6 +1,6 @@
 use Rattle.std.proofs.Common.{◌∷◌, [], ◌++◌, List, ℕ, take, sym, subst, ap, ◌∙◌, append_assoc}
 use Rattle.std.proofs.lemmas.List.{take_all}
-use Rattle.th_book.specs.Observed.{Observed}
+use Rattle.th_observations.specs.Observed.{Observed}
 use Rattle.th_findings.specs.Uses.{AreUsed, all_ends}
 use Rattle.th_findings.proofs.FindingLemmas.{given_more}
 use Rattle.th_findings.proofs.uses.UsedNames.of_ends.Goals as goal

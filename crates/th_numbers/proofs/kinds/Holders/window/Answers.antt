@@ -1,5 +1,5 @@
 use Rattle.std.proofs.Common.{◌≡◌, ℕ, true, false, List, get_or, subst, sym, ap, arith}
-use Rattle.th_book.specs.Observed.{Observed}
+use Rattle.th_observations.specs.Observed.{Observed}
 use Rattle.th_entries.specs.declared.entries.Entry.{Entry}
 use Rattle.th_numbers.specs.Inside.Kinds.{AreAround, FollowEachOther, is_ended}
 use Rattle.th_numbers.proofs.KindLemmas.{one_around}

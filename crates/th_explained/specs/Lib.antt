@@ -1,0 +1,3 @@
+pub mod Ties
+pub mod Parted
+pub mod Printed

@@ -1,0 +1,7 @@
+use Rattle.std.proofs.Common.{arith}
+use Rattle.th_lines.proofs.LineLemmas.{put_then}
+use Rattle.th_messages.proofs.refusals.put_failed_write.Goals as goal
+
+pub returns : goal.returns
+returns g c =
+    put_then _ _ _ _ _ _ _ _ _ _ (rw c.in_ok-put.was at c.put.ensures) (rw c.text_of_output.ensures at c.put-2.ensures) (omega arith)

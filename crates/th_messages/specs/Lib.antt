@@ -1,0 +1,3 @@
+pub mod Helped
+pub mod Said
+pub mod Noted

@@ -1,0 +1,23 @@
+-- What standard error has after a run.
+use Rattle.std.specs.Prelude.{◌++◌, ◌∷◌, [], ℕ, Bool, List, None, codes}
+use Rattle.th_devices.specs.Spots.{errors}
+use Rattle.th_files.specs.Outputs.{Holds}
+use Rattle.th_files.specs.Owed.{Told}
+use Rattle.th_lines.specs.Shown.{shown}
+use Rattle.th_messages.specs.Helped.{refused_lines}
+use Rattle.th_plans.specs.declared.plans.Plan.{Plan}
+use Rattle.th_run_parts.specs.Refusals.{input_text}
+use Rattle.th_run_parts.specs.declared.refusals.Input.{Input}
+use Rattle.th_run_parts.specs.declared.refusals.Refusal.{Refusal}
+
+-- standard error has this line and nothing else
+abbrev pub IsSaid : Bool → Told → List ℕ → Type 0
+IsSaid tells told line = Holds tells told errors (line ++ 10 ∷ [])
+
+-- standard error has the lines of a refusal, without a reason: a folder that reports its bytes knows none
+abbrev pub IsReported : Bool → Told → Plan → Refusal → Type 0
+IsReported tells told asked own = Holds tells told errors (refused_lines asked own None)
+
+-- the line that an output would overwrite an input, without its line feed; names are shown so that they send nothing to a terminal
+abbrev pub overwrite_text : List ℕ → Input → List ℕ → List ℕ
+overwrite_text written which name = codes "error: output " ++ shown written ++ codes " would overwrite " ++ input_text which ++ codes " " ++ shown name

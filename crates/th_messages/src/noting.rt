@@ -1,0 +1,70 @@
+//! What is noted on standard error of a run that was not refused. Nothing here allocates.
+ghost use Rattle.std.specs.Prelude.{◌≡◌, ◌≢◌, ◌≤◌, ◌*◌, false, flat_map, length};
+ghost use Rattle.th_devices.specs.Spots.{errors};
+ghost use Rattle.th_help.specs.Notes.{no_sight_note};
+ghost use Rattle.th_lines.specs.Lines.{HasRoom, IsPut};
+ghost use Rattle.th_plans.specs.Limits.{max_books};
+ghost use Rattle.th_files.specs.Outputs.{Holds};
+ghost use Rattle.th_messages.specs.Noted.{heights_line, notes_lines};
+ghost use Rattle.th_runs.specs.Noted.{AreNone};
+
+use th_devices::{Failed, Sink};
+use th_entries::NoSight;
+use th_folders::Folder;
+use th_help::{put_many_heights, put_no_sight};
+use th_lines::{Line, begin_line, end_line};
+use th_remarks::ManyHeights;
+use th_runs::Notes;
+
+/// Writes a line on standard error for each note, if there are notes. Whether standard error takes them,
+/// the run was done.
+pub fn tell_notes<F: Folder>(folder: &mut F, notes: &Notes)
+    requires few { length notes.now.books.items ≤ max_books }
+    ensures silent { AreNone notes.now → folder.new ≡ folder.old }
+    ensures noted { (AreNone notes.now → ⊥) → F.has_failed folder.new errors ≡ false
+        → Holds F.tells (F.held folder.new) errors (notes_lines notes.now) }
+    ensures others { (spot : _) → spot ≢ errors → F.held folder.new spot ≡ F.held folder.old spot }
+{
+    if notes.books.is_empty() && notes.heights.is_none() {
+        return;
+    }
+    let mut line = begin_line(folder);
+    let _ = put_notes(&mut line, notes);
+    end_line(folder, line);
+}
+
+/// Puts the lines of notes.
+#[tactic(auto, using(th_lines::proofs::LineLemmas::appended))]
+fn put_notes<K: Sink>(line: &mut Line<K>, notes: &Notes) -> Result<(), Failed>
+    requires few { length notes.now.books.items ≤ max_books }
+    requires room { HasRoom 1000 line.old }
+    ensures { IsPut 1000 (notes_lines notes.now) line.old line.new result }
+{
+    put_books(line, notes.books.as_slice())?;
+    put_heights(line, &notes.heights)
+}
+
+/// Puts the lines of books without a sight.
+#[tactic(auto, using(th_lines::proofs::LineLemmas::appended))]
+fn put_books<K: Sink>(line: &mut Line<K>, books: &[NoSight]) -> Result<(), Failed>
+    requires { HasRoom (40 * length books.now) line.old }
+    ensures { IsPut (40 * length books.now) (flat_map no_sight_note books.now)
+        line.old line.new result }
+{
+    let Some((book, later)) = books.split_first() else {
+        return Ok(());
+    };
+    put_no_sight(line, book)?;
+    put_books(line, later)
+}
+
+/// Puts the line of heights that are not unique, if they are noted.
+fn put_heights<K: Sink>(line: &mut Line<K>, note: &Option<ManyHeights>) -> Result<(), Failed>
+    requires { HasRoom 8 line.old }
+    ensures { IsPut 8 (heights_line note.now) line.old line.new result }
+{
+    match note {
+        Some(note) => put_many_heights(line, note),
+        None => Ok(()),
+    }
+}

@@ -1,0 +1,260 @@
+//! What is reported on standard error. Nothing here allocates, so that each refusal has its own line,
+//! also where memory ran out.
+ghost use Rattle.std.specs.Prelude.{◌≡◌, ◌≢◌, ◌++◌, ◌∷◌, [], codes, decimal, false, string_bytes};
+ghost use Rattle.th_devices.specs.Spots.{errors};
+ghost use Rattle.th_lines.specs.Lines.{HasRoom, IsPut};
+ghost use Rattle.th_lines.specs.Shown.{shown};
+ghost use Rattle.th_messages.specs.Helped.{refused_lines};
+ghost use Rattle.th_messages.specs.Said.{IsSaid, overwrite_text};
+ghost use Rattle.th_tables.specs.Texts.{fault_text};
+ghost use Rattle.th_run_parts.specs.Refusals.{input_text, output_text, refusal_text};
+
+use crate::helping::put_second_line;
+use th_book::BookFault;
+use th_certificate::CertFault;
+use th_conversions::DifferenceFault;
+use th_devices::{Failed, Reason, Sink};
+use th_files::Overwrite;
+use th_folders::Folder;
+use th_help::{
+    put_book_fault, put_certificate_fault, put_difference_fault, put_network_fault, put_table_fault,
+};
+use th_lines::{Line, begin_line, end_line};
+use th_network::NetFault;
+use th_plans::Plan;
+use th_run_parts::{Input, NO_MEMORY, Output, Refusal, USAGE};
+use th_tables::TableFault;
+
+/// Reports on standard error that memory ran out, and returns the exit status.
+pub fn refuse_memory<F: Folder>(folder: &mut F) -> u8
+    ensures status { result ≡ 4 }
+    ensures reported { F.has_failed folder.new errors ≡ false
+        → IsSaid F.tells (F.held folder.new) (codes "out of memory") }
+    ensures others { (spot : _) → spot ≢ errors → F.held folder.new spot ≡ F.held folder.old spot }
+{
+    let mut line = begin_line(folder);
+    let _ = line.put("out of memory\n");
+    end_line(folder, line);
+    NO_MEMORY
+}
+
+/// Reports on standard error that an output would overwrite an input, and answers the status to end
+/// with.
+pub fn refuse_overwrite<F: Folder>(folder: &mut F, overwrite: &Overwrite<'_>) -> u8
+    ensures status { result ≡ 3 }
+    ensures reported { F.has_failed folder.new errors ≡ false → IsSaid F.tells (F.held folder.new)
+        (overwrite_text (string_bytes overwrite.now.output) overwrite.now.input
+        overwrite.now.name.now) }
+    ensures others { (spot : _) → spot ≢ errors → F.held folder.new spot ≡ F.held folder.old spot }
+{
+    let mut line = begin_line(folder);
+    let _ = put_overwrite(&mut line, overwrite);
+    end_line(folder, line);
+    USAGE
+}
+
+/// Writes a text of several lines to standard error, as its bytes are shown.
+pub fn report<F: Folder>(folder: &mut F, text: &str)
+    ensures { (spot : _) → spot ≢ errors → F.held folder.new spot ≡ F.held folder.old spot }
+{
+    let mut line = begin_line(folder);
+    let _ = line.put_shown_lines(text);
+    end_line(folder, line);
+}
+
+/// Puts the lines of a refusal: its own, and the second, which names the file and what helps.
+///
+/// The reason is what the system told of a failed device.
+pub fn put_refusal<K: Sink>(
+    line: &mut Line<K>,
+    plan: &Plan<'_>,
+    refusal: &Refusal,
+    reason: Option<Reason>,
+) -> Result<(), Failed>
+    requires { HasRoom 24 line.old }
+    ensures { IsPut 24 (refused_lines plan.now refusal.now reason) line.old line.new result }
+{
+    put_first_line(line, refusal)?;
+    put_second_line(line, plan, refusal, reason)
+}
+
+/// Puts the first line of a refusal.
+#[tactic(auto, using(th_lines::proofs::LineLemmas::appended))]
+fn put_first_line<K: Sink>(line: &mut Line<K>, refusal: &Refusal) -> Result<(), Failed>
+    requires { HasRoom 16 line.old }
+    ensures { IsPut 16 (refusal_text refusal.now ++ 10 ∷ []) line.old line.new result }
+{
+    put_refusal_text(line, refusal)?;
+    line.put("\n")
+}
+
+/// Puts the text of a refusal.
+fn put_refusal_text<K: Sink>(line: &mut Line<K>, refusal: &Refusal) -> Result<(), Failed>
+    requires { HasRoom 12 line.old }
+    ensures { IsPut 12 (refusal_text refusal.now) line.old line.new result }
+{
+    match refusal {
+        Refusal::Book(number, fault) => put_book(line, *number, fault),
+        Refusal::Benchmarks(fault) => put_table(line, "benchmarks ", fault),
+        Refusal::Weights(fault) => put_table(line, "weights ", fault),
+        Refusal::Certificate(fault) => put_certificate(line, fault),
+        Refusal::Differences(fault) => put_differences(line, fault),
+        Refusal::Network(fault) => put_network(line, fault),
+        Refusal::Read(input) => put_failed_read(line, *input),
+        Refusal::Write(output) => put_failed_write(line, *output),
+        Refusal::NoMemory => line.put("out of memory"),
+    }
+}
+
+/// Puts the text of a refused book.
+#[tactic(auto, using(th_lines::proofs::LineLemmas::appended))]
+fn put_book<K: Sink>(line: &mut Line<K>, number: u32, fault: &BookFault) -> Result<(), Failed>
+    requires { HasRoom 12 line.old }
+    ensures { IsPut 12 (refusal_text (Refusal.Book number fault.now)) line.old line.new result }
+{
+    put_number_of_book(line, number)?;
+    line.put(" ")?;
+    put_book_fault(line, fault)
+}
+
+/// Puts the text of a refused table behind its name.
+#[tactic(auto, using(th_lines::proofs::LineLemmas::appended))]
+fn put_table<K: Sink>(line: &mut Line<K>, name: &str, fault: &TableFault) -> Result<(), Failed>
+    requires { HasRoom 12 line.old }
+    ensures { IsPut 12 (name.now ++ fault_text fault.now) line.old line.new result }
+{
+    line.put(name)?;
+    put_table_fault(line, fault)
+}
+
+/// Puts the text of a refused certificate.
+#[tactic(auto, using(th_lines::proofs::LineLemmas::appended))]
+fn put_certificate<K: Sink>(line: &mut Line<K>, fault: &CertFault) -> Result<(), Failed>
+    requires { HasRoom 12 line.old }
+    ensures { IsPut 12 (refusal_text (Refusal.Certificate fault.now)) line.old line.new result }
+{
+    line.put("certificate ")?;
+    put_certificate_fault(line, fault)
+}
+
+/// Puts the text of a refused table of differences.
+#[tactic(auto, using(th_lines::proofs::LineLemmas::appended))]
+fn put_differences<K: Sink>(line: &mut Line<K>, fault: &DifferenceFault) -> Result<(), Failed>
+    requires { HasRoom 12 line.old }
+    ensures { IsPut 12 (refusal_text (Refusal.Differences fault.now)) line.old line.new result }
+{
+    line.put("differences ")?;
+    put_difference_fault(line, fault)
+}
+
+/// Puts the text of a refused network.
+#[tactic(auto, using(th_lines::proofs::LineLemmas::appended))]
+fn put_network<K: Sink>(line: &mut Line<K>, fault: &NetFault) -> Result<(), Failed>
+    requires { HasRoom 12 line.old }
+    ensures { IsPut 12 (refusal_text (Refusal.Network fault.now)) line.old line.new result }
+{
+    line.put("network: ")?;
+    put_network_fault(line, fault)
+}
+
+/// Puts the text of a failed read.
+#[tactic(auto, using(th_lines::proofs::LineLemmas::appended))]
+fn put_failed_read<K: Sink>(line: &mut Line<K>, input: Input) -> Result<(), Failed>
+    requires { HasRoom 12 line.old }
+    ensures { IsPut 12 (refusal_text (Refusal.Read input)) line.old line.new result }
+{
+    line.put("read failed: ")?;
+    put_input(line, input)
+}
+
+/// Puts the text of a failed write.
+#[tactic(auto, using(th_lines::proofs::LineLemmas::appended))]
+fn put_failed_write<K: Sink>(line: &mut Line<K>, output: Output) -> Result<(), Failed>
+    requires { HasRoom 12 line.old }
+    ensures { IsPut 12 (refusal_text (Refusal.Write output)) line.old line.new result }
+{
+    line.put("write failed: ")?;
+    line.put(text_of_output(output))
+}
+
+/// Puts the line that an output would overwrite an input.
+#[tactic(auto, using(th_lines::proofs::LineLemmas::appended))]
+fn put_overwrite<K: Sink>(line: &mut Line<K>, overwrite: &Overwrite<'_>) -> Result<(), Failed>
+    requires { HasRoom 16 line.old }
+    ensures { IsPut 16 (overwrite_text (string_bytes overwrite.now.output) overwrite.now.input
+        overwrite.now.name.now ++ 10 ∷ []) line.old line.new result }
+{
+    put_overwrite_text(line, overwrite)?;
+    line.put("\n")
+}
+
+/// Puts the text that an output would overwrite an input.
+#[tactic(auto, using(th_lines::proofs::LineLemmas::appended))]
+fn put_overwrite_text<K: Sink>(line: &mut Line<K>, overwrite: &Overwrite<'_>) -> Result<(), Failed>
+    requires { HasRoom 12 line.old }
+    ensures { IsPut 12 (overwrite_text (string_bytes overwrite.now.output) overwrite.now.input
+        overwrite.now.name.now) line.old line.new result }
+{
+    put_overwriting(line, overwrite.output.as_str())?;
+    put_input(line, overwrite.input)?;
+    line.put(" ")?;
+    line.put_shown(overwrite.name)
+}
+
+/// Puts how that text begins.
+#[tactic(auto, using(th_lines::proofs::LineLemmas::appended))]
+fn put_overwriting<K: Sink>(line: &mut Line<K>, output: &str) -> Result<(), Failed>
+    requires { HasRoom 4 line.old }
+    ensures { IsPut 4 (codes "error: output " ++ shown output.now ++ codes " would overwrite ")
+        line.old line.new result }
+{
+    line.put("error: output ")?;
+    line.put_shown(output)?;
+    line.put(" would overwrite ")
+}
+
+/// Puts the text that names an input.
+fn put_input<K: Sink>(line: &mut Line<K>, input: Input) -> Result<(), Failed>
+    requires { HasRoom 2 line.old }
+    ensures { IsPut 2 (input_text input) line.old line.new result }
+{
+    match input {
+        Input::Book(number) => put_number_of_book(line, number),
+        Input::Benchmarks => line.put("benchmarks"),
+        Input::Weights => line.put("weights"),
+        Input::Certificate => line.put("certificate"),
+        Input::Differences => line.put("differences"),
+    }
+}
+
+/// Puts the text that names a book.
+#[tactic(auto, using(th_lines::proofs::LineLemmas::appended))]
+fn put_number_of_book<K: Sink>(line: &mut Line<K>, number: u32) -> Result<(), Failed>
+    requires { HasRoom 2 line.old }
+    ensures { IsPut 2 (codes "book " ++ decimal number) line.old line.new result }
+{
+    line.put("book ")?;
+    line.put_number(number)
+}
+
+/// The text that names an output.
+fn text_of_output(output: Output) -> &'static str
+    ensures { result.now ≡ output_text output }
+{
+    match output {
+        Output::List => "list",
+        Output::Heights => "heights",
+        Output::Certificate => "certificate",
+        Output::Report => "report",
+        Output::Gsi => "gsi",
+        Output::Verdict => "verdict",
+        Output::Points => "points",
+        Output::Observations => "observations",
+        Output::Entries => "entries",
+        Output::Benchmarks => "reviewed benchmarks",
+        Output::Review => "review",
+        Output::Explanations => "explanations",
+        Output::Book => "book",
+        Output::Page => "page",
+    }
+}

@@ -1,6 +1,0 @@
-use Rattle.std.proofs.Common.{arith}
-use Rattle.th_lines.proofs.LineLemmas.{put_then}
-use Rattle.th_program.proofs.refusals.put_differences.Goals as goal
-
-pub returns : goal.returns
-returns g c = put_then _ _ _ _ _ _ _ _ _ _ (rw c.in_ok-put.was at c.put.ensures) c.put_difference_fault.ensures (omega arith)

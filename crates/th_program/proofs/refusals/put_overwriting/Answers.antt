@@ -1,9 +1,0 @@
-use Rattle.std.proofs.Common.{◌*◌, arith}
-use Rattle.th_lines.proofs.LineLemmas.{put_then}
-use Rattle.th_lines.specs.Lines.{part_calls}
-use Rattle.th_program.proofs.refusals.put_overwriting.Goals as goal
-
-pub returns : goal.returns
-returns g c =
-    let named = put_then _ _ _ _ (2 * part_calls) _ _ _ _ _ (rw c.in_ok-put.was at c.put.ensures) (rw c.in_ok-put_shown.was at c.put_shown.ensures) (omega arith) in
-    put_then _ _ _ _ _ _ _ _ _ _ named c.put-2.ensures (omega arith)

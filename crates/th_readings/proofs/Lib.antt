@@ -1,0 +1,2 @@
+mod RereadLemmas
+mod BookLemmas
