@@ -5,14 +5,15 @@ use Rattle.std.specs.List.{list_all}
 use Rattle.std.proofs.lemmas.Bool.{false≢true, and_parts}
 use Rattle.std.proofs.lemmas.Option.{none-some, same_Some}
 use Rattle.std.specs.Result.{IfErr, OnErr, OnOk}
+use Rattle.gsi_word.specs.Words.{Parts}
 use Rattle.gsi_block.specs.Blocks.{block_at}
 use Rattle.th_book.specs.Lines.{ParsedLine, is_sight, point_name, words_in}
 use Rattle.th_book.specs.Faults.{Row, Standing, block_faults, fault_in, first_applying, kind_of, own_faults, sight_faults}
 use Rattle.th_book.specs.Books.{answer}
-use Rattle.th_book.specs.Due.{BookState, EndsWithSight, IsRefused, IsTaken, IsWanting, after, after_parsed, after_unless, after_words, due, due_parsed, standing_in}
+use Rattle.th_book.specs.Due.{BookState, EndsWithSight, IsRefused, IsTaken, IsWanting, after, after_parsed, after_unless, after_words, due, due_parsed, setup_after, standing_in}
 use Rattle.th_book.specs.Entered.{nothing}
 use Rattle.th_book.specs.Inside.Entries.{setup_by}
-use Rattle.th_book.specs.Inside.Steps.{IsLeft, line_fault, no_step, stamped, state_refusing, state_with}
+use Rattle.th_book.specs.Inside.Steps.{IsLeft, block_fault, line_fault, no_step, stamped, state_refusing, state_with}
 use Rattle.th_book.specs.declared.setups.Setup.{Setup}
 use Rattle.th_book.specs.declared.setups.Sight.{Sight}
 use Rattle.th_book.specs.declared.steps.Step.{Step}
@@ -50,6 +51,14 @@ kind_kept standing (Ok (Some block)) kind e = row_kept (block_faults standing bl
 -- no line has a want of memory as its fault
 pub kind_lasts : (standing : Standing) (parsed : ParsedLine) (kind : BookKind) → Some kind ≡ kind_of standing parsed → kind ≢ NoMemory
 kind_lasts standing parsed kind e = λ wanting. false≢true (sym (ap is_kept wanting) ∙ kind_kept standing parsed kind (sym e))
+
+-- and no block has it
+pub kind_lasts_of_block : (running : Option Setup) (words : List Parts) (kind : BookKind) → Some kind ≡ block_fault running words → kind ≢ NoMemory
+kind_lasts_of_block running words kind e = λ wanting. false≢true (sym (ap is_kept wanting) ∙ row_kept (block_faults (standing_in running words) words) kind (all (is_sight words)) (sym e))
+  where
+    all : (sight : Bool) → are_kept (own_faults words ++ cond sight (sight_faults (standing_in running words) (point_name words)) []) ≡ true
+    all true = refl
+    all false = refl
 
 -- what is due does not depend on the room
 due_any_room : (state : BookState) (room : ℕ) (lines : List ParsedLine) → due_parsed (record state { room = room }) lines ≡ due_parsed state lines
@@ -93,20 +102,32 @@ IsTaken-step state line step room sound none left more = record {
   room = more;
 }
 
--- a line without a fault that has no effect is taken when it is counted
-pub IsTaken-none : (state : BookState) (line : List ℕ) → state.fault ≡ None → None ≡ line_fault state.setup (block_at line) → IsLeft state.setup (words_in (block_at line)) no_step → IsTaken state (record state { lines = state.lines + 1 }) line
-IsTaken-none state line sound none left =
-    subst (λ (own : BookState). IsTaken state own line) counted (IsTaken-step state line no_step state.room sound none left (omega arith))
+-- a line that has no effect is counted
+pub counted_none : (state : BookState) → state_with state no_step state.room ≡ record state { lines = state.lines + 1 }
+counted_none state =
+    let setup = unchanged state.setup in
+    let observations = append-nil state.observations in
+    cc
   where
     unchanged : (running : Option Setup) → setup_by nothing running ≡ running
     unchanged None = refl
     unchanged (Some setup) = refl
 
-    counted : state_with state no_step state.room ≡ record state { lines = state.lines + 1 }
-    counted =
-        let setup = unchanged state.setup in
-        let observations = append-nil state.observations in
-        cc
+-- and so it is taken, if it has no fault
+pub IsTaken-none : (state : BookState) (line : List ℕ) → state.fault ≡ None → None ≡ line_fault state.setup (block_at line) → IsLeft state.setup (words_in (block_at line)) no_step → IsTaken state (record state { lines = state.lines + 1 }) line
+IsTaken-none state line sound none left =
+    subst (λ (own : BookState). IsTaken state own line) (counted_none state) (IsTaken-step state line no_step state.room sound none left (omega arith))
+
+-- a blank line has no effect
+pub IsTaken-blank : (state : BookState) (line : List ℕ) → state.fault ≡ None → block_at line ≡ Ok None → IsTaken state (record state { lines = state.lines + 1 }) line
+IsTaken-blank state line sound blank =
+    IsTaken-none state line sound
+    (subst (λ (parsed : ParsedLine). None ≡ line_fault state.setup parsed) (sym blank) refl)
+    (subst (λ (parsed : ParsedLine). IsLeft state.setup (words_in parsed) no_step) (sym blank) (record { setup = same state.setup; sight = λ book place. refl }))
+  where
+    same : (running : Option Setup) → setup_by nothing running ≡ setup_after running []
+    same None = refl
+    same (Some setup) = refl
 
 -- the fault of a line is answered
 pub IsRefused-step : (state : BookState) (line : List ℕ) (kind : BookKind) → state.fault ≡ None → Some kind ≡ line_fault state.setup (block_at line) → IsRefused state (state_refusing state kind) line (fault_in state.lines kind)

@@ -12,19 +12,19 @@ use Rattle.gsi_block.specs.Pieces.{LineState, lines_due}
 use Rattle.th_observations.specs.Observed.{Observed}
 use Rattle.th_book.specs.Books.{IsFaultless, answer, book_answer, observations_of, parsed_of, too_long}
 use Rattle.th_book.specs.Due.{BookState, IsRefused, after_parsed, after_unless, due, empty, setup_after}
-use Rattle.th_book.specs.Entered.{entered_by}
+use Rattle.th_book.specs.Entered.{entered_by, nothing}
 use Rattle.th_book.specs.Faults.{first_fault}
 use Rattle.th_book.specs.Feeds.{FeedState, feed_due}
 use Rattle.th_book.specs.Limits.{max_book}
 use Rattle.th_book.specs.Lines.{ParsedLine, words_in}
 use Rattle.th_book.specs.Places.{line_at}
 use Rattle.th_book.specs.Witnesses.{IsBlankAt, IsBlockAt, IsPlace, IsSeeing, IsSeenTo, Keeps}
-use Rattle.th_book.specs.Inside.Steps.{IsLeft, IsReadAs, line_fault, state_with}
+use Rattle.th_book.specs.Inside.Steps.{IsBlockLine, IsLeft, line_fault, no_step, state_with}
 use Rattle.th_book.specs.Inside.Witnesses.{AreSeen, IsSeenNext}
 use Rattle.th_book.specs.declared.setups.Setup.{Setup}
 use Rattle.th_book.specs.declared.steps.Step.{Step}
 use Rattle.th_book.specs.declared.faults.BookFault.{BookFault}
-use Rattle.th_book.proofs.Holding.{after-taken}
+use Rattle.th_book.proofs.Holding.{after-taken, counted_none}
 use Rattle.th_book.proofs.Keeping.{Keeps-more}
 use Rattle.th_book.proofs.Reading.{length-lines_of}
 use Rattle.th_book.proofs.Soundness.{no_kind}
@@ -100,21 +100,29 @@ after_blank state sound = ap (λ (fault : Option BookFault). after_unless fault 
         cc
 
 -- a block is taken and seen
-pub seen_block : {S W A : Type 0} → (has_seen : S → ℕ → List ParsedLine → ℕ → W → Type 0) (given : Result A BookFault) (state new : BookState) (line : List ℕ) (step : Step) (words own : List Word) (before after : W) → state.fault ≡ None → None ≡ line_fault state.setup (block_at line) → IsLeft state.setup (words_in (block_at line)) step → IsReadAs (block_at line) words (Some step) → own ≡ words → ((start : S) (number : ℕ) (parsed : List ParsedLine) (place : ℕ) → IsBlockAt parsed place state.setup step.entry (map parts_of own) → has_seen start number parsed place before → has_seen start number parsed (suc place) after) → OnOk given (new ≡ state_with state step new.room) → OnOk given (IsSeenNext has_seen state new line before after)
-seen_block has_seen (Ok value) state new line step words own before after sound none left read same sees with_step = λ start number parsed place here is keeps seen. (
+pub seen_block : {S W A : Type 0} → (has_seen : S → ℕ → List ParsedLine → ℕ → W → Type 0) (given : Result A BookFault) (state new : BookState) (line : List ℕ) (step : Step) (words : List Word) (before after : W) → state.fault ≡ None → None ≡ line_fault state.setup (block_at line) → IsLeft state.setup (words_in (block_at line)) step → IsBlockLine words line → step.entry ≡ entered_by (map parts_of words) → ((start : S) (number : ℕ) (parsed : List ParsedLine) (place : ℕ) → IsBlockAt parsed place state.setup step.entry (map parts_of words) → has_seen start number parsed place before → has_seen start number parsed (suc place) after) → OnOk given (new ≡ state_with state step new.room) → OnOk given (IsSeenNext has_seen state new line before after)
+seen_block has_seen (Ok value) state new line step words before after sound none left read enters sees with_step = λ start number parsed place here is keeps seen. (
   keeps_step number parsed place state new line step sound none left here is keeps with_step,
   sees start number parsed place
       (record {
         here = here;
         block = block_with words read.0;
         is = is ∙ read.1;
-        says = ap (map parts_of) same;
-        enters = read.2 ∙ ap (λ (given : List Word). entered_by (map parts_of given)) (sym same);
+        says = refl;
+        enters = enters;
         runs = keeps.setup;
       })
       seen,
 )
-seen_block has_seen (Err fault) state new line step words own before after sound none left read same sees with_step = tt
+seen_block has_seen (Err fault) state new line step words before after sound none left read enters sees with_step = tt
+
+-- and so is one that enters nothing
+pub seen_idle : {S W : Type 0} → (has_seen : S → ℕ → List ParsedLine → ℕ → W → Type 0) (state : BookState) (line : List ℕ) (words : List Word) (before after : W) → state.fault ≡ None → None ≡ line_fault state.setup (block_at line) → IsLeft state.setup (words_in (block_at line)) no_step → IsBlockLine words line → nothing ≡ entered_by (map parts_of words) → ((start : S) (number : ℕ) (parsed : List ParsedLine) (place : ℕ) → IsBlockAt parsed place state.setup nothing (map parts_of words) → has_seen start number parsed place before → has_seen start number parsed (suc place) after) → IsSeenNext has_seen state (record state { lines = state.lines + 1 }) line before after
+seen_idle has_seen state line words before after sound none left read enters sees =
+    seen_block has_seen given state (record state { lines = state.lines + 1 }) line no_step words before after sound none left read enters sees (sym (counted_none state))
+  where
+    given : Result ℕ BookFault
+    given = Ok 0
 
 -- a blank line is taken and seen
 pub seen_blank : {S W : Type 0} → (has_seen : S → ℕ → List ParsedLine → ℕ → W → Type 0) (state : BookState) (line : List ℕ) (before after : W) → block_at line ≡ Ok None → ((start : S) (number : ℕ) (parsed : List ParsedLine) (place : ℕ) → IsBlankAt parsed place → has_seen start number parsed place before → has_seen start number parsed (suc place) after) → IsSeenNext has_seen state (record state { lines = state.lines + 1 }) line before after

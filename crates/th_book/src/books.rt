@@ -1,21 +1,24 @@
-ghost use Rattle.std.specs.Prelude.{◌≡◌, ◌≢◌, ◌<◌, ◌≤◌, [], List, ℕ, None, length, take, IfErr, IfOk, IsSome, OnErr, OnOk};
+ghost use Rattle.std.specs.Prelude.{◌≡◌, ◌≢◌, ◌<◌, ◌≤◌, [], List, ℕ, None, length, map, take, IfErr, IfOk, IsSome, OnErr, OnOk};
 ghost use Rattle.gsi_block.specs.Lines.{lines_of};
-ghost use Rattle.gsi_word.specs.Words.{result_map};
+ghost use Rattle.gsi_word.specs.Words.{parts_of, result_map};
 ghost use Rattle.th_book.specs.Books.{lines_answer, book_answer, too_long};
 ghost use Rattle.th_book.specs.Limits.{max_book};
 ghost use Rattle.th_book.specs.Faults.{fault_in};
 ghost use Rattle.th_book.specs.Due.{due, empty, EndsWithSight, IsAnswered};
+ghost use Rattle.th_book.specs.Inside.Countings.{counted_in};
 ghost use Rattle.th_book.specs.Inside.Feeds.{IsGiven};
-ghost use Rattle.th_book.specs.Inside.Steps.{state_refusing, state_with};
+ghost use Rattle.th_book.specs.Inside.Steps.{IsBlockLine, state_refusing, state_with};
 ghost use Rattle.th_book.specs.Inside.Witnesses.{IsSeenNext};
 
+use crate::countings::Counted;
+use crate::entries::Entered;
 use crate::faults::{BookFault, BookKind};
 use crate::limits::MAX_BOOK;
 use crate::setups::Setup;
-use crate::steps::{Step, step_of_line};
+use crate::steps::{Step, step_of_block};
 use crate::witnesses::Witness;
 use arrayvec::ArrayVec;
-use gsi_block::{LineCursor, MAX_WORDS};
+use gsi_block::{LineCursor, MAX_WORDS, read_words};
 use gsi_word::Word;
 use std::alloc::Global;
 use std::marker::Model;
@@ -92,15 +95,62 @@ impl Book {
         if let Some(fault) = self.fault {
             return Err(fault);
         }
-        match step_of_line(&self.setup, line, words) {
-            Ok(Some(step)) => {
-                witness.block(&self.setup, &step.entry, words.as_slice());
-                self.take(&step)
-            }
+        match read_words(line, words) {
+            Ok(Some(_)) => self.read_block(words.as_slice(), witness),
             Ok(None) => {
                 witness.blank();
                 self.lines += 1;
                 Ok(())
+            }
+            Err(fault) => Err(self.refuse(BookKind::Block(fault))),
+        }
+    }
+
+    /// Takes the next line, a block of these words, which a witness sees.
+    #[inline(always)]
+    fn read_block<W: Witness>(
+        &mut self,
+        words: &[Word<'_>],
+        witness: &mut W,
+    ) -> Result<(), BookFault>
+        requires room { self.old.lines < max_book }
+        requires sound { self.old.fault ≡ None }
+        ensures answered { (line : List ℕ) → IsBlockLine words.now line →
+            IsAnswered self.old self.new line result }
+        ensures seen { (line : List ℕ) → IsBlockLine words.now line →
+            OnOk result (IsSeenNext W.has_seen self.old self.new line witness.old witness.new) }
+    {
+        let mut counted = Counted::nothing();
+        counted.count(words);
+        if counted.is_nothing() {
+            witness.block(&self.setup, &Entered::nothing(), words);
+            self.lines += 1;
+            return Ok(());
+        }
+        self.take_block(&counted, words, witness)
+    }
+
+    // Not inlined, so that a block of which no word counts is passed in few steps.
+    /// Takes the next line, a block of these words that count for this, which a witness sees.
+    #[inline(never)]
+    fn take_block<W: Witness>(
+        &mut self,
+        counted: &Counted,
+        words: &[Word<'_>],
+        witness: &mut W,
+    ) -> Result<(), BookFault>
+        requires room { self.old.lines < max_book }
+        requires sound { self.old.fault ≡ None }
+        requires counted { counted.now ≡ counted_in (map parts_of words.now) }
+        ensures answered { (line : List ℕ) → IsBlockLine words.now line →
+            IsAnswered self.old self.new line result }
+        ensures seen { (line : List ℕ) → IsBlockLine words.now line →
+            OnOk result (IsSeenNext W.has_seen self.old self.new line witness.old witness.new) }
+    {
+        match step_of_block(&self.setup, counted, words) {
+            Ok(step) => {
+                witness.block(&self.setup, &step.entry, words);
+                self.take(&step)
             }
             Err(kind) => Err(self.refuse(kind)),
         }

@@ -1,4 +1,4 @@
-ghost use Rattle.std.specs.Prelude.{◌≡◌, map};
+ghost use Rattle.std.specs.Prelude.{◌≡◌, ◌↔◌, IsTrue, map};
 ghost use Rattle.gsi_word.specs.Words.{parts_of};
 
 use crate::faults::BookKind;
@@ -29,13 +29,14 @@ pub struct Counted {
 impl Counted {
     ghost use Rattle.std.specs.Result.{result_err};
     ghost use Rattle.gsi_word.specs.Values.{length_of};
-    ghost use Rattle.th_book.specs.Inside.Countings.{counted_fault, counted_in, counted_with, counts_setup, counts_sight, with_defect};
+    ghost use Rattle.th_book.specs.Inside.Countings.{counted_fault, counted_in, counted_with, counts_setup, counts_sight, nothing_counted, with_defect};
 
-    /// The counting words among these.
-    pub fn of(words: &[Word<'_>]) -> Counted
-        ensures { result ≡ counted_in (map parts_of words.now) }
+    /// What is counted before the first word.
+    #[inline(always)]
+    pub fn nothing() -> Counted
+        ensures { result ≡ nothing_counted }
     {
-        let mut counted = Counted {
+        Counted {
             sighted: None,
             easting: false,
             northing: false,
@@ -46,11 +47,30 @@ impl Counted {
             bad_number: false,
             bad_unit: false,
             too_large: false,
-        };
-        for word in words {
-            counted.take(word);
         }
-        counted
+    }
+
+    /// Counts the words of a block, where nothing was counted before.
+    #[inline(always)]
+    pub fn count(&mut self, words: &[Word<'_>])
+        requires { self.old ≡ nothing_counted }
+        ensures { self.new ≡ counted_in (map parts_of words.now) }
+    {
+        for word in words {
+            self.take(word);
+        }
+    }
+
+    /// Whether no word counts.
+    #[inline(always)]
+    pub fn is_nothing(&self) -> bool
+        ensures { IsTrue result ↔ (self.now ≡ nothing_counted) }
+    {
+        self.sighted.is_none()
+            && self.reflector.is_none()
+            && self.instrument.is_none()
+            && !(self.easting || self.northing || self.height)
+            && !(self.repeated || self.bad_number || self.bad_unit || self.too_large)
     }
 
     /// Whether the block is a sight: a height difference counts.

@@ -22,16 +22,30 @@ pub struct Entered {
 }
 
 impl Entered {
-    ghost use Rattle.th_book.specs.Entered.{entered_by};
-    ghost use Rattle.th_book.specs.Inside.Countings.{lengths_with};
+    ghost use Rattle.th_book.specs.Entered.{entered_by, nothing};
+    ghost use Rattle.th_book.specs.Inside.Countings.{counted_in, lengths_with};
 
-    /// What a block enters, or the first kind of fault that its own words have.
+    /// What a blank line enters, and a block of which no word counts.
     #[inline(always)]
-    pub fn of(words: &[Word<'_>]) -> Result<Entered, BookKind>
+    pub fn nothing() -> Entered
+        ensures { result ≡ nothing }
+    {
+        Entered {
+            sighted: None,
+            reflector: None,
+            instrument: None,
+            station: None,
+            target: None,
+        }
+    }
+
+    /// What a block enters, by what its words count, or the first kind of fault that they have.
+    #[inline(always)]
+    pub(crate) fn of(counted: &Counted, words: &[Word<'_>]) -> Result<Entered, BookKind>
+        requires { counted.now ≡ counted_in (map parts_of words.now) }
         ensures fault { result_err result ≡ first_applying (own_faults (map parts_of words.now)) }
         ensures entry { IfOk result (λ entry. entry ≡ entered_by (map parts_of words.now)) }
     {
-        let counted = Counted::of(words);
         if counted.repeated {
             return Err(BookKind::RepeatedWord);
         }
@@ -40,14 +54,14 @@ impl Entered {
         let named = is_sight | is_setup;
         if !named {
             counted.check_lengths()?;
-            return Ok(Entered::with_names(&counted, None, None));
+            return Ok(Entered::with_names(counted, None, None));
         }
         let point = point_name(words);
         check_point(&point, words)?;
         counted.check_lengths()?;
         let station = if is_setup { point } else { None };
         let target = if is_sight { point } else { None };
-        Ok(Entered::with_names(&counted, station, target))
+        Ok(Entered::with_names(counted, station, target))
     }
 
     /// The lengths that were counted, beside the names that a block enters.

@@ -9,7 +9,7 @@ use std::io::Read;
 
 /// The most bytes that one read of a file or a stream takes. They go through an array, since the
 /// system does not promise that a read that fails leaves the slice as it was.
-const MAX_READ: usize = 4_096;
+const MAX_READ: usize = 16_384;
 
 /// Copies the front of `from` over the front of `into`, at most `most` bytes, and says how many.
 pub(crate) fn copy_front(from: &[u8], most: usize, into: &mut [u8]) -> usize

@@ -1,4 +1,4 @@
-ghost use Rattle.std.specs.Prelude.{◌≡◌, map};
+ghost use Rattle.std.specs.Prelude.{◌≡◌, false, map};
 ghost use Rattle.std.specs.List.{list_any};
 ghost use Rattle.gsi_word.specs.Words.{parts_of};
 ghost use Rattle.th_entries.specs.Inside.Watches.{with_words};
@@ -49,41 +49,43 @@ fn has(words: &[Word<'_>], number: u16) -> bool
     found
 }
 
-/// Whether a word has one of the numbers `MEASURED`.
-fn is_measured(word: &Word<'_>) -> bool
-    ensures { result ≡ is_one_of measured (parts_of word.now) }
+/// Whether a word may have one of the numbers `MEASURED`, by its index alone: a number of two digits is an
+/// index, and one of three begins with one, as `022` and `330` do.
+fn may_be_measured(word: &Word<'_>) -> bool
+    ensures { result ≡ false → is_one_of measured (parts_of word.now) ≡ false }
 {
-    match number_of(word) {
-        Some(own) => matches!(
-            own,
-            22 | 31 | 32 | 83 | 330 | 331 | 332 | 333 | 334 | 335 | 336 | 337 | 338 | 339
-        ),
-        None => false,
+    let index = word.index();
+    if index > 33 {
+        return index == 83;
     }
+    matches!(index, 2 | 3 | 8 | 22 | 31 | 32 | 33)
 }
 
-/// Whether one of some words has one of the numbers `MEASURED`.
-fn measures(words: &[Word<'_>]) -> bool
-    ensures { result ≡ list_any (is_one_of measured) (map parts_of words.now) }
+/// Whether one of some words may have one of the numbers `MEASURED`.
+fn may_measure(words: &[Word<'_>]) -> bool
+    ensures { result ≡ false → list_any (is_one_of measured) (map parts_of words.now) ≡ false }
 {
-    let mut measured = false;
     for word in words {
-        measured = measured | is_measured(word);
+        if may_be_measured(word) {
+            return true;
+        }
     }
-    measured
+    false
 }
 
 /// Notes which of the numbers `MEASURED` the words of a block have. Most blocks of a book that has them
-/// at all have none: those are passed by.
+/// at all have none: those are passed by in one look.
 pub(crate) fn see_measured(seen: &mut [bool], words: &[Word<'_>])
     ensures { seen.new ≡ with_words (map parts_of words.now) seen.old measured }
 {
-    if measures(words) {
+    if may_measure(words) {
         see(seen, &MEASURED, words);
     }
 }
 
+// Not inlined, so that a block is passed by in few steps.
 /// Notes which of some numbers the words of a block have.
+#[inline(never)]
 fn see(seen: &mut [bool], numbers: &[u16], words: &[Word<'_>])
     ensures { seen.new ≡ with_words (map parts_of words.now) seen.old numbers.now }
 {

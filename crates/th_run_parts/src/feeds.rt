@@ -13,7 +13,7 @@ use th_book::{BookFeed, Witness};
 use th_devices::{Failed, Source};
 
 /// How many bytes of a book are read at once, at most.
-const PIECE: usize = 4_096;
+const PIECE: usize = 16_384;
 
 /// What takes a book in pieces, however it is cut.
 pub trait Feed {

@@ -1,5 +1,5 @@
 -- What one pass over a block's words collects.
-use Rattle.std.specs.Prelude.{ℕ, ℤ, ◌&&◌, ◌||◌, not, Bool, List, Option, Some, None, Result, find, if◌then◌else◌, is_some, option_and_then, option_map}
+use Rattle.std.specs.Prelude.{ℕ, ℤ, ◌&&◌, ◌||◌, not, Bool, false, List, Option, Some, None, Result, find, if◌then◌else◌, is_some, option_and_then, option_map}
 use Rattle.std.specs.Option.{option_or}
 use Rattle.std.specs.Result.{result_ok}
 use Rattle.gsi_word.specs.Words.{Parts}
@@ -35,6 +35,21 @@ counted_in words = record {
   bad_number = some_length (is_refused_for BadNumber) words;
   bad_unit = some_length (is_refused_for BadUnit) words;
   too_large = some_length (is_refused_for TooLarge) words;
+}
+
+-- what a block amounts to of which no word counts
+abbrev pub nothing_counted : Counted
+nothing_counted = record {
+  sighted = None;
+  easting = false;
+  northing = false;
+  height = false;
+  reflector = None;
+  instrument = None;
+  repeated = false;
+  bad_number = false;
+  bad_unit = false;
+  too_large = false;
 }
 
 -- the first length so far: a counting word's length is kept only if none was kept before

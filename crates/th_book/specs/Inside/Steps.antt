@@ -3,7 +3,7 @@ use Rattle.std.specs.Prelude.{◌≡◌, ℕ, ℤ, ◌+◌, ◌++◌, ◌&&◌, 
 use Rattle.gsi_word.specs.Words.{Parts, parts_of}
 use Rattle.gsi_word.specs.declared.words.Width.{Width}
 use Rattle.gsi_word.specs.declared.words.Word.{Word}
-use Rattle.gsi_block.specs.Blocks.{block_with}
+use Rattle.gsi_block.specs.Blocks.{block_at, block_with}
 use Rattle.th_observations.specs.Observed.{Observed}
 use Rattle.th_book.specs.Lines.{ParsedLine, words_in}
 use Rattle.th_book.specs.Faults.{Standing, block_faults, fault_in, first_applying, kind_of, sight_faults}
@@ -84,10 +84,9 @@ pub record IsLeft (running : Option Setup) (words : List Parts) (step : Step) : 
   pub setup : setup_by step.entry running ≡ setup_after running words
   pub sight : (book line : ℕ) → option_map (stamped book line) step.sight ≡ observation_in book line running words
 
--- a line is blank and has no step, or it is a block of these words, and its step enters what they do
-abbrev pub IsReadAs : ParsedLine → List Word → Option Step → Type 0
-IsReadAs parsed words None = parsed ≡ Ok None
-IsReadAs parsed words (Some step) = (width : Width) × (parsed ≡ Ok (Some (block_with words width))) × (step.entry ≡ entered_by (map parts_of words))
+-- a line is a block of these words
+abbrev pub IsBlockLine : List Word → List ℕ → Type 0
+IsBlockLine words line = (width : Width) × (block_at line ≡ Ok (Some (block_with words width)))
 
 -- the state of a book after a line without a fault, with a given capacity
 abbrev pub state_with : BookState → Step → ℕ → BookState

@@ -3,7 +3,7 @@ use Rattle.std.proofs.lemmas.List.{map_push, take_more, take_all}
 use Rattle.gsi_word.specs.Words.{parts_of}
 use Rattle.th_book.specs.Inside.Countings.{counted_in, counted_with}
 use Rattle.th_book.proofs.CountedWords.{counted_in-more}
-use Rattle.th_book.proofs.countings.Counted.of.Goals as goal
+use Rattle.th_book.proofs.countings.Counted.count.Goals as goal
 
 pub loop-word-preserved : goal.loop-word-preserved
 loop-word-preserved c =

@@ -1,8 +1,0 @@
-use Rattle.std.proofs.Common.{◌≡◌, map, take}
-use Rattle.std.specs.List.{list_any}
-use Rattle.gsi_word.specs.Words.{parts_of}
-use Rattle.th_entries.specs.Words.{is_one_of, measured}
-use Rattle.th_entries.proofs.words.measures.Given as goal
-
-abbrev pub invariant-loop-word : goal.invariant-loop-word
-invariant-loop-word l = l.measured ≡ list_any (is_one_of measured) (map parts_of (take l.word-index l.words))
