@@ -1,6 +1,7 @@
 //! The rows of all numbers, and how many were looked at.
-ghost use Rattle.std.specs.Prelude.{◌≡◌, ◌≤◌, ◌++◌, ℕ, All, Option, IfErr, IfOk, OnOk, length, option_to_list, true};
+ghost use Rattle.std.specs.Prelude.{◌≡◌, ◌≤◌, ◌++◌, ℕ, None, All, Option, IfErr, IfOk, OnOk, length, option_to_list, true};
 ghost use Rattle.std.specs.List.{AllZip, flat_map};
+ghost use Rattle.th_blunders.specs.Fits.{IsFit};
 ghost use Rattle.th_circulation.specs.Best.{IsBest};
 ghost use Rattle.th_changes.specs.Freed.{cost_of};
 ghost use Rattle.th_limits.specs.Limits.{max_books};
@@ -53,6 +54,25 @@ pub fn explanations_of<P: Progress>(
 {
     let best = best_heights(alloc, network)?;
     let fit = Fit::of(alloc, network, best.low())?;
+    explained_by(alloc, network, reviews, &best, &fit, limit, progress)
+}
+
+/// The same, given the best heights of the network and how they fit.
+fn explained_by<P: Progress>(
+    alloc: Global,
+    network: &Network,
+    reviews: &[BookReview],
+    best: &BestHeights,
+    fit: &Fit,
+    limit: i64,
+    progress: &mut P,
+) -> Result<Explanations, NetFault>
+    requires few { length reviews.now ≤ max_books }
+    requires best { IsBest network.now best.now }
+    requires fit { IsFit network.now (at_points_of network.now best.now.low) fit.now }
+    ensures explained { IfOk result (AreExplained network.now reviews.now limit) }
+    ensures refused { IfErr result (λ fault. fault ≡ NoMemory) }
+{
     let all_entries = entries_of(alloc, reviews)?;
     let entries = all_entries.as_slice();
     let all_books = books_of(alloc, reviews)?;
@@ -64,13 +84,11 @@ pub fn explanations_of<P: Progress>(
     let all = in_order(alloc, listing)?;
     let candidates = all.as_slice();
     let read = book_rows(alloc, network, &kinds, fit.cost, books, limit)?;
-    let mut sieve = Sieve::of(alloc, network, &best, &fit)?;
-    let rows = printed_rows(
+    let rows = sifted_rows(
         alloc,
         network,
-        &best,
-        &fit,
-        &mut sieve,
+        best,
+        fit,
         candidates,
         read.as_slice(),
         limit,
@@ -80,6 +98,29 @@ pub fn explanations_of<P: Progress>(
 }
 
 /// The rows that leave least, of all numbers and of these of books.
+fn sifted_rows<P: Progress>(
+    alloc: Global,
+    network: &Network,
+    best: &BestHeights,
+    fit: &Fit,
+    candidates: &[Candidate],
+    read: &[Option<Row>],
+    limit: i64,
+    progress: &mut P,
+) -> Result<Vec<Row>, NetFault>
+    requires best { IsBest network.now best.now }
+    requires cost { fit.now.cost ≡ cost_of network.now (at_points_of network.now best.now.low) }
+    ensures rows { IfOk result (λ rows. (most : Option ℕ)
+        × IsEnough most rows.items × AreLeading network.now fit.now.cost limit candidates.now read.now most rows.items) }
+    ensures refused { IfErr result (λ fault. fault ≡ NoMemory) }
+{
+    let mut sieve = Sieve::of(alloc, network, best, fit)?;
+    printed_rows(
+        alloc, network, best, fit, &mut sieve, candidates, read, limit, progress,
+    )
+}
+
+/// The same, by a sieve of the network.
 fn printed_rows<P: Progress>(
     alloc: Global,
     network: &Network,
@@ -108,11 +149,36 @@ fn printed_rows<P: Progress>(
     if is_enough(most, first.as_slice()) {
         return Ok(first);
     }
-    let all = freed_or_more(alloc, best, sieve, candidates, limit, None, progress)?;
-    let rows = leading_rows(
-        alloc, network, best, fit.cost, sieve, candidates, &all, read, limit, None,
+    let rows = rows_of_all(
+        alloc, network, best, fit.cost, sieve, candidates, read, limit, progress,
     )?;
     Ok(rows)
+}
+
+/// The rows that leave least, where no number may be missing.
+fn rows_of_all<P: Progress>(
+    alloc: Global,
+    network: &Network,
+    best: &BestHeights,
+    cost: u128,
+    sieve: &mut Sieve<'_>,
+    candidates: &[Candidate],
+    read: &[Option<Row>],
+    limit: i64,
+    progress: &mut P,
+) -> Result<Vec<Row>, NetFault>
+    requires best { IsBest network.now best.now }
+    requires cost { cost ≡ cost_of network.now (at_points_of network.now best.now.low) }
+    requires sieve { sieve.old.network.now ≡ network.now }
+    requires same_cost { sieve.old.cost ≡ cost }
+    ensures rows { IfOk result (λ rows.
+        AreLeading network.now cost limit candidates.now read.now None rows.items) }
+    ensures refused { IfErr result (λ fault. fault ≡ NoMemory) }
+{
+    let all = freed_or_more(alloc, best, sieve, candidates, limit, None, progress)?;
+    leading_rows(
+        alloc, network, best, cost, sieve, candidates, &all, read, limit, None,
+    )
 }
 
 /// The rows that leave least of those that are found, where numbers that leave more than `most` may be
