@@ -1,5 +1,5 @@
 -- A block as it is written, and that it is read as the block.
-use Rattle.std.proofs.Common.{◌≡◌, ℕ, ◌*◌, ◌<◌, ◌≤◌, List, [], ◌∷◌, ◌++◌, length, refl, sym, ap, subst, append_assoc, append-nil, length-append, slice_get, Some, arith}
+use Rattle.std.proofs.Common.{◌≡◌, ℕ, ◌*◌, ◌<◌, ◌≤◌, List, [], ◌∷◌, length, refl, sym, ap, subst, append_assoc, append-nil, length-append, slice_get, Some, arith}
 use Rattle.std.specs.List.{flat_map}
 use Rattle.gsi_word.specs.Words.{Parts, Spells, closed, data_len, spelling_of}
 use Rattle.gsi_word.specs.declared.words.Width.{Width}

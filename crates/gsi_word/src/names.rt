@@ -1,9 +1,10 @@
-ghost use Rattle.std.specs.Prelude.{◌≡◌, ◌≤◌, ◌∷◌, [], length, nat_eq, refl, Some};
+ghost use Rattle.std.specs.Prelude.{◌≡◌, ◌≤◌, ◌∷◌, [], length, nat_eq, refl, true, Some};
+ghost use Rattle.std.specs.List.{list_all};
 ghost use Rattle.std.specs.Cmp.{partial_equiv_from_equiv};
 ghost use Rattle.std.specs.Cmp.Lexicographic.{pointwise, bytes_decides, slice_cmp, nat_list_eq_equiv, nat_list_cmp_total, texts_ties, texts_po};
 ghost use Rattle.std.specs.Hash as fed;
 ghost use Rattle.std.specs.Ordering.{nat_cmp};
-ghost use Rattle.gsi_word.specs.Bytes.{is_padding};
+ghost use Rattle.gsi_word.specs.Bytes.{is_data, is_padding};
 ghost use Rattle.gsi_word.specs.Names.{name_of, without_leading, without_trailing};
 
 use crate::bytes::are_data;
@@ -35,7 +36,10 @@ impl Model for Name {
 }
 
 impl Name {
+    // Not inlined: a caller would copy the name right after its parts were written, and a processor waits
+    // for those.
     /// The name that has these bytes, which are in reduced form.
+    #[inline(never)]
     fn of(name: &[u8]) -> Name
         requires { name_of name.now ≡ Some name.now }
         ensures { result ≡ name.now }
@@ -148,6 +152,14 @@ pub fn name_of(bytes: &[u8]) -> Option<Name>
     if !are_data(bytes) {
         return None;
     }
+    name_of_data(bytes)
+}
+
+/// The name that data give, as of `name_of`, where each byte is known to be printable.
+pub(crate) fn name_of_data(bytes: &[u8]) -> Option<Name>
+    requires { list_all is_data bytes.now ≡ true }
+    ensures { result ≡ name_of bytes.now }
+{
     let name = without_trailing(without_leading(bytes));
     if name.is_empty() {
         if bytes.contains(&b'0') {

@@ -3,6 +3,7 @@ ghost use Rattle.std.specs.List.{list_all};
 ghost use Rattle.gsi_word.specs.Bytes.{is_info, is_sign, is_data};
 
 use crate::bytes::{are_data, are_info};
+use crate::names::{Name, name_of_data};
 use std::default::Default;
 
 /// How many bytes of data a word has: 8 in GSI-8, 16 in GSI-16 (Leica GSI Online manual, word format).
@@ -42,6 +43,7 @@ pub struct Word<'a> {
 impl<'a> Word<'a> {
     ghost use Rattle.std.specs.Prelude.{option_map};
     ghost use Rattle.std.specs.Option.{SomeIff};
+    ghost use Rattle.gsi_word.specs.Names.{name_of};
     ghost use Rattle.gsi_word.specs.Words.{HasSpelling, Spells, parts, parts_of, data_len, spelling_of};
 
     /// The word with this index, information, sign and data, or `None` if no spelling has these
@@ -88,6 +90,13 @@ impl<'a> Word<'a> {
         ensures { result.now ≡ (parts_of self.now).body }
     {
         self.body
+    }
+
+    /// The name that the data give, as of `name_of`.
+    pub fn name(&self) -> Option<Name>
+        ensures { result ≡ name_of (parts_of self.now).body }
+    {
+        name_of_data(self.body)
     }
 
     /// The width of the word, by the number of its data.

@@ -8,11 +8,12 @@ use Rattle.gsi_word.specs.Words.{Parts}
 use Rattle.gsi_word.specs.Values.{length_of}
 use Rattle.th_book.specs.Lines.{counts_for, holds, is_setup, is_sight, length_in, point_name}
 use Rattle.th_book.specs.Faults.{Row, first_applying, length_faults, own_faults, point_faults, repeats_word}
-use Rattle.th_book.specs.Inside.Countings.{counted_in, counts_setup, counts_sight, first_length, lengths_with}
+use Rattle.th_book.specs.Inside.Countings.{counted_fault, counted_in, counts_setup, counts_sight, first_length, lengths_with}
 use Rattle.th_book.specs.Entered.{entered_by}
 use Rattle.th_book.specs.declared.countings.Counted.{Counted}
 use Rattle.th_book.specs.Indexes.{height_difference, station_easting, station_northing, station_height, reflector_height, instrument_height}
 use Rattle.th_book.proofs.CountedWords.{first_length-there}
+use Rattle.th_book.proofs.RefusedLengths.{counted_fault_same}
 
 -- of two tables the first one that has a row which applies decides
 pub first_applying-append : (rows more : List Row) → first_applying (rows ++ more) ≡ option_or (first_applying rows) (first_applying more)
@@ -33,7 +34,7 @@ setup_same words counted e =
     ∙ ap (λ sight. not sight && (holds station_easting words || (holds station_northing words || holds station_height words))) (first_length-there height_difference words)
 
 -- where no word is repeated, the faults of the point come before those of the lengths
-pub own_fault : (words : List Parts) (sight setup : Bool) → repeats_word words ≡ false → sight ≡ is_sight words → setup ≡ is_setup words → first_applying (own_faults words) ≡ option_or (first_applying (point_faults (sight || setup) words)) (first_applying (length_faults words))
+own_fault : (words : List Parts) (sight setup : Bool) → repeats_word words ≡ false → sight ≡ is_sight words → setup ≡ is_setup words → first_applying (own_faults words) ≡ option_or (first_applying (point_faults (sight || setup) words)) (first_applying (length_faults words))
 own_fault words sight setup once is_sight_too is_setup_too =
     cond-false (repeats_word words) _ _ once
     ∙ first_applying-append (point_faults (is_sight words || is_setup words) words) (length_faults words)
@@ -68,3 +69,10 @@ entry_same words counted sight setup point e is_sight_too is_setup_too named =
     as_sight : (sight setup : Bool) → cond sight (cond (sight || setup) (point_name words) None) None ≡ cond sight (point_name words) None
     as_sight true setup = refl
     as_sight false setup = refl
+
+-- the faults of words of which none is repeated: those of the point, if it needs a name, and then those of the lengths
+pub own_faults_of : (words : List Parts) (counted : Counted) (sight setup named : Bool) → counted ≡ counted_in words → counted.repeated ≡ false → sight ≡ counts_sight counted → setup ≡ counts_setup counted → (sight || setup) ≡ named → first_applying (own_faults words) ≡ option_or (first_applying (point_faults named words)) (counted_fault counted)
+own_faults_of words counted sight setup named e once is_sight is_setup needs =
+    own_fault words sight setup (ap (λ (own : Counted). own.repeated) (sym e) ∙ once) (is_sight ∙ sight_same words counted e) (is_setup ∙ setup_same words counted e)
+    ∙ ap (λ own. option_or (first_applying (point_faults own words)) (first_applying (length_faults words))) needs
+    ∙ ap (λ own. option_or (first_applying (point_faults named words)) own) (sym (ap counted_fault e ∙ counted_fault_same words))

@@ -1,22 +1,22 @@
 -- What a book holds after one more line.
 use Rattle.std.proofs.Common.{◌≡◌, ◌≢◌, ◌≤◌, ℕ, ◌+◌, Bool, true, false, cond, List, [], ◌∷◌, ◌++◌, length, map, Option, Some, None, Result, Ok, Err, refl, sym, ap, ◌∙◌, append-nil, arith, subst}
-use Rattle.std.specs.Prelude.{IsSome, is_none, is_some, option_map, option_to_list}
+use Rattle.std.specs.Prelude.{is_none, option_to_list}
 use Rattle.std.specs.List.{list_all}
 use Rattle.std.proofs.lemmas.Bool.{false≢true, and_parts}
 use Rattle.std.proofs.lemmas.Option.{none-some, same_Some}
-use Rattle.std.specs.Result.{IfErr, OnErr, OnOk}
+use Rattle.std.specs.Result.{IfErr, OnOk}
 use Rattle.gsi_word.specs.Words.{Parts}
 use Rattle.gsi_block.specs.Blocks.{block_at}
+use Rattle.th_observations.specs.Observed.{Observed}
 use Rattle.th_book.specs.Lines.{ParsedLine, is_sight, point_name, words_in}
 use Rattle.th_book.specs.Faults.{Row, Standing, block_faults, fault_in, first_applying, kind_of, own_faults, sight_faults}
-use Rattle.th_book.specs.Books.{answer}
-use Rattle.th_book.specs.Due.{BookState, EndsWithSight, IsRefused, IsTaken, IsWanting, after, after_parsed, after_unless, after_words, due, due_parsed, setup_after, standing_in}
+use Rattle.th_book.specs.Books.{answer, known, known_name}
+use Rattle.th_book.specs.Due.{BookState, IsAnswered, IsRefused, IsTaken, IsWanting, after, after_parsed, after_unless, after_words, due, due_parsed, setup_after, standing_in}
 use Rattle.th_book.specs.Entered.{nothing}
 use Rattle.th_book.specs.Inside.Entries.{setup_by}
-use Rattle.th_book.specs.Inside.Steps.{IsLeft, block_fault, line_fault, no_step, stamped, state_refusing, state_with}
+use Rattle.th_book.specs.Inside.Effects.{IsKept, IsLeft, IsTakenIn, IsWantingFor, block_fault, entry_fault, is_seen, line_fault, observation_by, observed_from, sight_fault, standing_of, state_refusing, state_with}
+use Rattle.th_book.specs.declared.entries.Entered.{Entered}
 use Rattle.th_book.specs.declared.setups.Setup.{Setup}
-use Rattle.th_book.specs.declared.setups.Sight.{Sight}
-use Rattle.th_book.specs.declared.steps.Step.{Step}
 use Rattle.th_book.specs.declared.faults.BookFault.{BookFault}
 use Rattle.th_book.specs.declared.faults.BookKind.{BookKind}
 use Rattle.th_book.specs.declared.faults.BookKind.TheVariants.{Block, NoMemory}
@@ -52,13 +52,17 @@ kind_kept standing (Ok (Some block)) kind e = row_kept (block_faults standing bl
 pub kind_lasts : (standing : Standing) (parsed : ParsedLine) (kind : BookKind) → Some kind ≡ kind_of standing parsed → kind ≢ NoMemory
 kind_lasts standing parsed kind e = λ wanting. false≢true (sym (ap is_kept wanting) ∙ kind_kept standing parsed kind (sym e))
 
--- and no block has it
-pub kind_lasts_of_block : (running : Option Setup) (words : List Parts) (kind : BookKind) → Some kind ≡ block_fault running words → kind ≢ NoMemory
-kind_lasts_of_block running words kind e = λ wanting. false≢true (sym (ap is_kept wanting) ∙ row_kept (block_faults (standing_in running words) words) kind (all (is_sight words)) (sym e))
+-- nor has a block
+pub kind_lasts_of_block : (running : Option Setup) (words : List Parts) (kind : BookKind) → block_fault running words ≡ Some kind → kind ≢ NoMemory
+kind_lasts_of_block running words kind e = λ wanting. false≢true (sym (ap is_kept wanting) ∙ row_kept (block_faults (standing_in running words) words) kind (all (is_sight words)) e)
   where
     all : (sight : Bool) → are_kept (own_faults words ++ cond sight (sight_faults (standing_in running words) (point_name words)) []) ≡ true
     all true = refl
     all false = refl
+
+-- nor a sight
+pub kind_lasts_of_sight : (setup : Option Setup) (target : List ℕ) (kind : BookKind) → Some kind ≡ sight_fault setup target → kind ≢ NoMemory
+kind_lasts_of_sight setup target kind e = λ wanting. false≢true (sym (ap is_kept wanting) ∙ row_kept (sight_faults (standing_of setup) (Some target)) kind refl (sym e))
 
 -- what is due does not depend on the room
 due_any_room : (state : BookState) (room : ℕ) (lines : List ParsedLine) → due_parsed (record state { room = room }) lines ≡ due_parsed state lines
@@ -75,15 +79,15 @@ due_any_room state room (parsed ∷ rest) =
     by_fault None = by_kind (kind_of (standing_in state.setup (words_in parsed)) parsed)
 
 -- what is held after a line without a fault, whatever room there is then
-pub after-taken : (state : BookState) (line : List ℕ) (step : Step) (room : ℕ) → state.fault ≡ None → None ≡ line_fault state.setup (block_at line) → IsLeft state.setup (words_in (block_at line)) step → state_with state step room ≡ record (after state line) { room = room }
-after-taken state line step room sound none left =
-    with_step
+pub after-taken : (state : BookState) (line : List ℕ) (entry : Entered) (room : ℕ) → state.fault ≡ None → None ≡ line_fault state.setup (block_at line) → IsLeft state.setup (words_in (block_at line)) entry → state_with state entry room ≡ record (after state line) { room = room }
+after-taken state line entry room sound none left =
+    with_entry
     ∙ ap (λ (own : BookState). record own { room = room }) (ap (after_words state (words_in (block_at line))) none
     ∙ ap (λ (fault : Option BookFault). after_unless fault state (block_at line)) (sym sound))
   where
-    with_step : state_with state step room ≡ record (after_words state (words_in (block_at line)) None) { room = room }
-    with_step =
-        let sight = left.sight state.book (state.lines + 1) in
+    with_entry : state_with state entry room ≡ record (after_words state (words_in (block_at line)) None) { room = room }
+    with_entry =
+        let observation = left.observation state.book (state.lines + 1) in
         let setup = left.setup in
         cc
 
@@ -94,16 +98,16 @@ after-refused state line kind sound is =
     ∙ ap (after_words state (words_in (block_at line))) (sym is)
 
 -- a line without a fault is taken
-IsTaken-step : (state : BookState) (line : List ℕ) (step : Step) (room : ℕ) → state.fault ≡ None → None ≡ line_fault state.setup (block_at line) → IsLeft state.setup (words_in (block_at line)) step → state.room ≤ room → IsTaken state (state_with state step room) line
-IsTaken-step state line step room sound none left more = record {
-  keeps = λ rest. ap (λ (own : BookState). due own rest) (after-taken state line step room sound none left) ∙ due_any_room (after state line) room (map block_at rest);
+IsTaken-entry : (state : BookState) (line : List ℕ) (entry : Entered) (room : ℕ) → state.fault ≡ None → None ≡ line_fault state.setup (block_at line) → IsLeft state.setup (words_in (block_at line)) entry → state.room ≤ room → IsTaken state (state_with state entry room) line
+IsTaken-entry state line entry room sound none left more = record {
+  keeps = λ rest. ap (λ (own : BookState). due own rest) (after-taken state line entry room sound none left) ∙ due_any_room (after state line) room (map block_at rest);
   faultless = sound;
   lines = refl;
   room = more;
 }
 
 -- a line that has no effect is counted
-pub counted_none : (state : BookState) → state_with state no_step state.room ≡ record state { lines = state.lines + 1 }
+pub counted_none : (state : BookState) → state_with state nothing state.room ≡ record state { lines = state.lines + 1 }
 counted_none state =
     let setup = unchanged state.setup in
     let observations = append-nil state.observations in
@@ -114,24 +118,24 @@ counted_none state =
     unchanged (Some setup) = refl
 
 -- and so it is taken, if it has no fault
-pub IsTaken-none : (state : BookState) (line : List ℕ) → state.fault ≡ None → None ≡ line_fault state.setup (block_at line) → IsLeft state.setup (words_in (block_at line)) no_step → IsTaken state (record state { lines = state.lines + 1 }) line
+pub IsTaken-none : (state : BookState) (line : List ℕ) → state.fault ≡ None → None ≡ line_fault state.setup (block_at line) → IsLeft state.setup (words_in (block_at line)) nothing → IsTaken state (record state { lines = state.lines + 1 }) line
 IsTaken-none state line sound none left =
-    subst (λ (own : BookState). IsTaken state own line) (counted_none state) (IsTaken-step state line no_step state.room sound none left (omega arith))
+    subst (λ (own : BookState). IsTaken state own line) (counted_none state) (IsTaken-entry state line nothing state.room sound none left (omega arith))
 
 -- a blank line has no effect
 pub IsTaken-blank : (state : BookState) (line : List ℕ) → state.fault ≡ None → block_at line ≡ Ok None → IsTaken state (record state { lines = state.lines + 1 }) line
 IsTaken-blank state line sound blank =
     IsTaken-none state line sound
     (subst (λ (parsed : ParsedLine). None ≡ line_fault state.setup parsed) (sym blank) refl)
-    (subst (λ (parsed : ParsedLine). IsLeft state.setup (words_in parsed) no_step) (sym blank) (record { setup = same state.setup; sight = λ book place. refl }))
+    (subst (λ (parsed : ParsedLine). IsLeft state.setup (words_in parsed) nothing) (sym blank) (record { setup = same state.setup; observation = λ book place. refl }))
   where
     same : (running : Option Setup) → setup_by nothing running ≡ setup_after running []
     same None = refl
     same (Some setup) = refl
 
 -- the fault of a line is answered
-pub IsRefused-step : (state : BookState) (line : List ℕ) (kind : BookKind) → state.fault ≡ None → Some kind ≡ line_fault state.setup (block_at line) → IsRefused state (state_refusing state kind) line (fault_in state.lines kind)
-IsRefused-step state line kind sound is = record {
+pub IsRefused-line : (state : BookState) (line : List ℕ) (kind : BookKind) → state.fault ≡ None → Some kind ≡ line_fault state.setup (block_at line) → IsRefused state (state_refusing state kind) line (fault_in state.lines kind)
+IsRefused-line state line kind sound is = record {
   was = λ rest. ap (λ (own : BookState). due own rest) (after-refused state line kind sound is) ∙ fault_stays_due (fault_in state.lines kind) (state_refusing state kind) (map block_at rest) refl;
   stays = λ rest. fault_stays_due (fault_in state.lines kind) (state_refusing state kind) (map block_at rest) refl;
   lines = ap (λ (fault : Option BookFault). cond (is_none fault) (state.lines + 1) state.lines) (sym sound);
@@ -146,39 +150,42 @@ IsRefused-before state line fault found = record {
 }
 
 -- memory is wanting at a line that gives an observation
-IsWanting-step : (state : BookState) (line : List ℕ) (step : Step) → state.fault ≡ None → None ≡ line_fault state.setup (block_at line) → IsLeft state.setup (words_in (block_at line)) step → is_some step.sight ≡ true → state.room ≤ length state.observations → IsWanting state state line (fault_in state.lines NoMemory)
-IsWanting-step state line step sound none left sight full = record {
+IsWanting-entry : (state : BookState) (line : List ℕ) (entry : Entered) → state.fault ≡ None → None ≡ line_fault state.setup (block_at line) → IsLeft state.setup (words_in (block_at line)) entry → is_seen entry ≡ true → state.room ≤ length state.observations → IsWanting state state line (fault_in state.lines NoMemory)
+IsWanting-entry state line entry sound none left seen full = record {
   unchanged = refl;
   at_line = refl;
-  observes = go step.sight sight refl;
+  observes = (
+    state.observations,
+    last,
+    ap (λ (after : BookState). answer after.fault after.observations) (sym (after-taken state line entry state.room sound none left))
+        ∙ ap (λ (fault : Option BookFault). answer fault (state.observations ++ option_to_list (observation_by setup entry state.book (state.lines + 1)))) sound
+        ∙ ap (λ seen. Ok (state.observations ++ option_to_list (cond seen (Some last) None))) seen,
+    refl,
+  );
   full = full;
 }
   where
-    go : (own : Option Sight) → is_some own ≡ true → step.sight ≡ own → EndsWithSight (due state (line ∷ [])) (state.lines + 1)
-    go None e there = absurd (false≢true e)
-    go (Some own) e there = (
-      state.observations,
-      stamped state.book (state.lines + 1) own,
-      ap (λ (after : BookState). answer after.fault after.observations) (sym (after-taken state line step state.room sound none left))
-          ∙ ap (λ (fault : Option BookFault). answer fault (state.observations ++ option_to_list (option_map (stamped state.book (state.lines + 1)) step.sight))) sound
-          ∙ ap (λ (sight : Option Sight). Ok (state.observations ++ option_to_list (option_map (stamped state.book (state.lines + 1)) sight))) there,
-      refl,
-    )
+    setup : Option Setup
+    setup = setup_by entry state.setup
 
--- a line that is taken where there is room
-pub taken_ok : {A : Type 0} (given : Result A BookFault) (state new : BookState) (line : List ℕ) (step : Step) → state.fault ≡ None → None ≡ line_fault state.setup (block_at line) → IsLeft state.setup (words_in (block_at line)) step → OnOk given (new ≡ state_with state step new.room) → OnOk given (state.room ≤ new.room) → OnOk given (IsTaken state new line)
-taken_ok (Ok value) state new line step sound none left with_step more =
-    subst (λ (own : BookState). IsTaken state own line) (sym with_step) (IsTaken-step state line step new.room sound none left more)
-taken_ok (Err fault) state new line step sound none left with_step more = tt
+    last : Observed
+    last = observed_from setup (known_name entry.target) (known entry.sighted) state.book (state.lines + 1)
 
--- a line without a fault is not refused for one
-pub never_refused : {A : Type 0} (given : Result A BookFault) (state new : BookState) (line : List ℕ) → IfErr given (λ fault. (new ≡ state) × (fault ≡ fault_in state.lines NoMemory)) → IfErr given (λ fault. fault.kind ≢ NoMemory → IsRefused state new line fault)
-never_refused (Ok value) state new line as_before = tt
-never_refused (Err fault) state new line as_before = λ kept. absurd (kept (ap (λ (own : BookFault). own.kind) as_before.1))
-
--- and one for which memory was wanting
-pub wanting_err : {A : Type 0} (given : Result A BookFault) (state new : BookState) (line : List ℕ) (step : Step) → state.fault ≡ None → None ≡ line_fault state.setup (block_at line) → IsLeft state.setup (words_in (block_at line)) step → IfErr given (λ fault. (new ≡ state) × (fault ≡ fault_in state.lines NoMemory)) → OnErr given (IsSome step.sight × (state.room ≤ length state.observations)) → IfErr given (λ fault. fault.kind ≡ NoMemory → IsWanting state new line fault)
-wanting_err (Ok value) state new line step sound none left as_before full = tt
-wanting_err (Err fault) state new line step sound none left as_before full = λ wanting.
-    subst (λ (own : BookState). IsWanting state own line fault) (sym as_before.0)
-    (subst (λ (own : BookFault). IsWanting state state line own) (sym as_before.1) (IsWanting-step state line step sound none left full.0 full.1))
+-- what a book answers to a block without a fault of its own words
+pub answered_entry : {A : Type 0} (given : Result A BookFault) (state new : BookState) (line : List ℕ) (entry : Entered) → state.fault ≡ None → entry_fault (setup_by entry state.setup) entry ≡ line_fault state.setup (block_at line) → IsLeft state.setup (words_in (block_at line)) entry → OnOk given (IsTakenIn state new entry) → IfErr given (λ fault. fault.kind ≢ NoMemory → IsKept (setup_by entry state.setup) state new entry fault) → IfErr given (λ fault. fault.kind ≡ NoMemory → IsWantingFor (setup_by entry state.setup) state new entry fault) → IsAnswered state new line given
+answered_entry (Ok value) state new line entry sound same left taken kept wanting = record {
+  taken = subst (λ (own : BookState). IsTaken state own line) (sym taken.state) (IsTaken-entry state line entry new.room sound (sym taken.fine ∙ same) left taken.room);
+  refused = tt;
+  wanting = tt;
+}
+answered_entry (Err fault) state new line entry sound same left taken kept wanting = record {
+  taken = tt;
+  refused = λ other.
+      let is = kept other in
+      subst (λ (own : BookState). IsRefused state own line fault) (sym is.state)
+      (subst (λ (own : BookFault). IsRefused state (state_refusing state fault.kind) line own) (sym is.given) (IsRefused-line state line fault.kind sound (sym is.found ∙ same)));
+  wanting = λ none.
+      let is = wanting none in
+      subst (λ (own : BookState). IsWanting state own line fault) (sym is.state)
+      (subst (λ (own : BookFault). IsWanting state state line own) (sym is.given) (IsWanting-entry state line entry sound (sym is.fine ∙ same) left is.seen is.full));
+}

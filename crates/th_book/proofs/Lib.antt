@@ -4,11 +4,12 @@ pub mod EntryLemmas
 pub mod Faultless
 pub mod Running
 pub mod Keeping
-pub mod StepLemmas
-mod Idle
+mod EffectLemmas
 pub mod Soundness
-pub mod Holding
+mod Holding
+mod Observing
 pub mod Reading
 pub mod FeedLemmas
 pub mod Seeing
 mod BlockLines
+mod Idle

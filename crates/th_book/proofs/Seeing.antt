@@ -11,7 +11,7 @@ use Rattle.gsi_block.specs.Lines.{lines_of}
 use Rattle.gsi_block.specs.Pieces.{LineState, lines_due}
 use Rattle.th_observations.specs.Observed.{Observed}
 use Rattle.th_book.specs.Books.{IsFaultless, answer, book_answer, observations_of, parsed_of, too_long}
-use Rattle.th_book.specs.Due.{BookState, IsRefused, after_parsed, after_unless, due, empty, setup_after}
+use Rattle.th_book.specs.Due.{BookState, IsRefused, after_parsed, after_unless, empty, setup_after}
 use Rattle.th_book.specs.Entered.{entered_by, nothing}
 use Rattle.th_book.specs.Faults.{first_fault}
 use Rattle.th_book.specs.Feeds.{FeedState, feed_due}
@@ -19,10 +19,11 @@ use Rattle.th_book.specs.Limits.{max_book}
 use Rattle.th_book.specs.Lines.{ParsedLine, words_in}
 use Rattle.th_book.specs.Places.{line_at}
 use Rattle.th_book.specs.Witnesses.{IsBlankAt, IsBlockAt, IsPlace, IsSeeing, IsSeenTo, Keeps}
-use Rattle.th_book.specs.Inside.Steps.{IsBlockLine, IsLeft, line_fault, no_step, state_with}
+use Rattle.th_book.specs.Inside.Entries.{setup_by}
+use Rattle.th_book.specs.Inside.Effects.{IsBlockLine, IsLeft, IsTakenIn, entry_fault, line_fault, state_with}
 use Rattle.th_book.specs.Inside.Witnesses.{AreSeen, IsSeenNext}
 use Rattle.th_book.specs.declared.setups.Setup.{Setup}
-use Rattle.th_book.specs.declared.steps.Step.{Step}
+use Rattle.th_book.specs.declared.entries.Entered.{Entered}
 use Rattle.th_book.specs.declared.faults.BookFault.{BookFault}
 use Rattle.th_book.proofs.Holding.{after-taken, counted_none}
 use Rattle.th_book.proofs.Keeping.{Keeps-more}
@@ -77,11 +78,11 @@ keeps_next number parsed place state line here is keeps =
     is
     (Keeps-more number parsed place state keeps (no_kind parsed place here.faultless here.within))
 
-keeps_step : (number : ℕ) (parsed : List ParsedLine) (place : ℕ) (state new : BookState) (line : List ℕ) (step : Step) → state.fault ≡ None → None ≡ line_fault state.setup (block_at line) → IsLeft state.setup (words_in (block_at line)) step → IsPlace parsed place → line_at parsed place ≡ block_at line → Keeps number parsed place state → new ≡ state_with state step new.room → Keeps number parsed (suc place) new
-keeps_step number parsed place state new line step sound none left here is keeps with_step =
+keeps_entry : (number : ℕ) (parsed : List ParsedLine) (place : ℕ) (state new : BookState) (line : List ℕ) (entry : Entered) → state.fault ≡ None → None ≡ line_fault state.setup (block_at line) → IsLeft state.setup (words_in (block_at line)) entry → IsPlace parsed place → line_at parsed place ≡ block_at line → Keeps number parsed place state → new ≡ state_with state entry new.room → Keeps number parsed (suc place) new
+keeps_entry number parsed place state new line entry sound none left here is keeps holds =
     subst
     (Keeps number parsed (suc place))
-    (sym (with_step ∙ after-taken state line step new.room sound none left))
+    (sym (holds ∙ after-taken state line entry new.room sound none left))
     (keeps_room number parsed (suc place) (after_parsed state (block_at line)) new.room (keeps_next number parsed place state (block_at line) here is keeps))
 
 -- a blank line is counted
@@ -100,9 +101,9 @@ after_blank state sound = ap (λ (fault : Option BookFault). after_unless fault 
         cc
 
 -- a block is taken and seen
-pub seen_block : {S W A : Type 0} → (has_seen : S → ℕ → List ParsedLine → ℕ → W → Type 0) (given : Result A BookFault) (state new : BookState) (line : List ℕ) (step : Step) (words : List Word) (before after : W) → state.fault ≡ None → None ≡ line_fault state.setup (block_at line) → IsLeft state.setup (words_in (block_at line)) step → IsBlockLine words line → step.entry ≡ entered_by (map parts_of words) → ((start : S) (number : ℕ) (parsed : List ParsedLine) (place : ℕ) → IsBlockAt parsed place state.setup step.entry (map parts_of words) → has_seen start number parsed place before → has_seen start number parsed (suc place) after) → OnOk given (new ≡ state_with state step new.room) → OnOk given (IsSeenNext has_seen state new line before after)
-seen_block has_seen (Ok value) state new line step words before after sound none left read enters sees with_step = λ start number parsed place here is keeps seen. (
-  keeps_step number parsed place state new line step sound none left here is keeps with_step,
+pub seen_block : {S W A : Type 0} → (has_seen : S → ℕ → List ParsedLine → ℕ → W → Type 0) (given : Result A BookFault) (state new : BookState) (line : List ℕ) (entry : Entered) (words : List Word) (before after : W) → state.fault ≡ None → entry_fault (setup_by entry state.setup) entry ≡ line_fault state.setup (block_at line) → IsLeft state.setup (words_in (block_at line)) entry → IsBlockLine words line → entry ≡ entered_by (map parts_of words) → ((start : S) (number : ℕ) (parsed : List ParsedLine) (place : ℕ) → IsBlockAt parsed place state.setup entry (map parts_of words) → has_seen start number parsed place before → has_seen start number parsed (suc place) after) → OnOk given (IsTakenIn state new entry) → OnOk given (IsSeenNext has_seen state new line before after)
+seen_block has_seen (Ok value) state new line entry words before after sound same left read enters sees taken = λ start number parsed place here is keeps seen. (
+  keeps_entry number parsed place state new line entry sound (sym taken.fine ∙ same) left here is keeps taken.state,
   sees start number parsed place
       (record {
         here = here;
@@ -114,12 +115,12 @@ seen_block has_seen (Ok value) state new line step words before after sound none
       })
       seen,
 )
-seen_block has_seen (Err fault) state new line step words before after sound none left read enters sees with_step = tt
+seen_block has_seen (Err fault) state new line entry words before after sound same left read enters sees taken = tt
 
 -- and so is one that enters nothing
-pub seen_idle : {S W : Type 0} → (has_seen : S → ℕ → List ParsedLine → ℕ → W → Type 0) (state : BookState) (line : List ℕ) (words : List Word) (before after : W) → state.fault ≡ None → None ≡ line_fault state.setup (block_at line) → IsLeft state.setup (words_in (block_at line)) no_step → IsBlockLine words line → nothing ≡ entered_by (map parts_of words) → ((start : S) (number : ℕ) (parsed : List ParsedLine) (place : ℕ) → IsBlockAt parsed place state.setup nothing (map parts_of words) → has_seen start number parsed place before → has_seen start number parsed (suc place) after) → IsSeenNext has_seen state (record state { lines = state.lines + 1 }) line before after
+pub seen_idle : {S W : Type 0} → (has_seen : S → ℕ → List ParsedLine → ℕ → W → Type 0) (state : BookState) (line : List ℕ) (words : List Word) (before after : W) → state.fault ≡ None → None ≡ line_fault state.setup (block_at line) → IsLeft state.setup (words_in (block_at line)) nothing → IsBlockLine words line → nothing ≡ entered_by (map parts_of words) → ((start : S) (number : ℕ) (parsed : List ParsedLine) (place : ℕ) → IsBlockAt parsed place state.setup nothing (map parts_of words) → has_seen start number parsed place before → has_seen start number parsed (suc place) after) → IsSeenNext has_seen state (record state { lines = state.lines + 1 }) line before after
 seen_idle has_seen state line words before after sound none left read enters sees =
-    seen_block has_seen given state (record state { lines = state.lines + 1 }) line no_step words before after sound none left read enters sees (sym (counted_none state))
+    seen_block has_seen given state (record state { lines = state.lines + 1 }) line nothing words before after sound none left read enters sees (record { fine = refl; state = sym (counted_none state); room = omega arith })
   where
     given : Result ℕ BookFault
     given = Ok 0

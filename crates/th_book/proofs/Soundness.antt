@@ -15,7 +15,7 @@ use Rattle.th_book.specs.declared.faults.BookKind.{BookKind}
 use Rattle.th_book.proofs.EntryLemmas.{first_applying-append}
 use Rattle.th_book.proofs.Faultless.{IsFaultless}
 use Rattle.th_book.proofs.Keeping.{are_read}
-use Rattle.th_book.proofs.StepLemmas.{named, none_read, own_words}
+use Rattle.th_book.proofs.EffectLemmas.{named, none_read, own_words}
 
 -- where the first of some places gives nothing, none of them does
 all_none : {X : Type 0} (gives : ℕ → Option X) (first many k : ℕ) → slice_get (filter_map gives (range_with_len first many)) 0 ≡ None → k < many → gives (first + k) ≡ None

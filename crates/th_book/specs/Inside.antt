@@ -1,5 +1,5 @@
 pub mod Countings
 pub mod Entries
-pub mod Steps
+pub mod Effects
 pub mod Feeds
 pub mod Witnesses

@@ -1,4 +1,4 @@
-ghost use Rattle.std.specs.Prelude.{◌≡◌, ◌≢◌, ◌<◌, ◌≤◌, [], List, ℕ, None, length, map, take, IfErr, IfOk, IsSome, OnErr, OnOk};
+ghost use Rattle.std.specs.Prelude.{◌≡◌, ◌≢◌, ◌<◌, ◌≤◌, ◌+◌, [], List, ℕ, None, Some, length, map, take, IfErr, IfOk, OnErr, OnOk};
 ghost use Rattle.gsi_block.specs.Lines.{lines_of};
 ghost use Rattle.gsi_word.specs.Words.{parts_of, result_map};
 ghost use Rattle.th_book.specs.Books.{lines_answer, book_answer, too_long};
@@ -7,15 +7,15 @@ ghost use Rattle.th_book.specs.Faults.{fault_in};
 ghost use Rattle.th_book.specs.Due.{due, empty, EndsWithSight, IsAnswered};
 ghost use Rattle.th_book.specs.Inside.Countings.{counted_in};
 ghost use Rattle.th_book.specs.Inside.Feeds.{IsGiven};
-ghost use Rattle.th_book.specs.Inside.Steps.{IsBlockLine, state_refusing, state_with};
+ghost use Rattle.th_book.specs.Inside.Entries.{setup_by};
+ghost use Rattle.th_book.specs.Inside.Effects.{IsBlockLine, IsKept, IsObserved, IsTakenIn, IsWantingFor, stamped, state_observing, state_refusing};
 ghost use Rattle.th_book.specs.Inside.Witnesses.{IsSeenNext};
 
 use crate::countings::Counted;
 use crate::entries::Entered;
 use crate::faults::{BookFault, BookKind};
 use crate::limits::MAX_BOOK;
-use crate::setups::Setup;
-use crate::steps::{Step, step_of_block};
+use crate::setups::{Setup, Sight};
 use crate::witnesses::Witness;
 use arrayvec::ArrayVec;
 use gsi_block::{LineCursor, MAX_WORDS, read_words};
@@ -130,9 +130,8 @@ impl Book {
         self.take_block(&counted, words, witness)
     }
 
-    // Not inlined, so that a block of which no word counts is passed in few steps.
-    /// Takes the next line, a block of these words that count for this, which a witness sees.
-    #[inline(never)]
+    /// Takes the next line, a block of these words, by what they count. A witness sees it.
+    #[inline(always)]
     fn take_block<W: Witness>(
         &mut self,
         counted: &Counted,
@@ -147,10 +146,10 @@ impl Book {
         ensures seen { (line : List ℕ) → IsBlockLine words.now line →
             OnOk result (IsSeenNext W.has_seen self.old self.new line witness.old witness.new) }
     {
-        match step_of_block(&self.setup, counted, words) {
-            Ok(step) => {
-                witness.block(&self.setup, &step.entry, words);
-                self.take(&step)
+        match Entered::of(counted, words) {
+            Ok(entry) => {
+                witness.block(&self.setup, &entry, words);
+                self.take(&entry)
             }
             Err(kind) => Err(self.refuse(kind)),
         }
@@ -191,28 +190,62 @@ impl Book {
         }
     }
 
-    /// Takes what a line without a fault leaves.
-    fn take(&mut self, step: &Step) -> Result<(), BookFault>
+    // Not inlined: readers with different witnesses call it.
+    /// Takes what the next line enters. A fault of its sight is kept.
+    #[inline(never)]
+    fn take(&mut self, entry: &Entered) -> Result<(), BookFault>
         requires { self.old.lines < max_book }
-        ensures taken { OnOk result (self.new ≡ state_with self.old step.now self.new.room) }
+        ensures taken { OnOk result (IsTakenIn self.old self.new entry.now) }
+        ensures kept { IfErr result (λ fault. fault.kind ≢ BookKind.NoMemory →
+            IsKept (setup_by entry.now self.old.setup) self.old self.new entry.now fault) }
+        ensures wanting { IfErr result (λ fault. fault.kind ≡ BookKind.NoMemory →
+            IsWantingFor (setup_by entry.now self.old.setup) self.old self.new entry.now fault) }
+    {
+        let mut setup = self.setup;
+        Setup::enter(&mut setup, entry);
+        self.observe(&setup, entry)?;
+        self.setup = setup;
+        self.lines += 1;
+        Ok(())
+    }
+
+    /// Adds the observation of what the next line enters, if that is a sight, in the setup that has its
+    /// heights. A fault of the sight is kept.
+    fn observe(&mut self, setup: &Option<Setup>, entry: &Entered) -> Result<(), BookFault>
+        requires { self.old.lines < max_book }
+        ensures observed { OnOk result (IsObserved setup.now self.old self.new entry.now) }
+        ensures kept { IfErr result (λ fault. fault.kind ≢ BookKind.NoMemory →
+            IsKept setup.now self.old self.new entry.now fault) }
+        ensures wanting { IfErr result (λ fault. fault.kind ≡ BookKind.NoMemory →
+            IsWantingFor setup.now self.old self.new entry.now fault) }
+    {
+        match (entry.target, entry.sighted) {
+            (Some(target), Some(sighted)) => match Setup::sight(*setup, target, sighted) {
+                Ok(sight) => self.add(&sight),
+                Err(kind) => Err(self.refuse(kind)),
+            },
+            _ => Ok(()),
+        }
+    }
+
+    /// Adds the observation of a sight in the next line.
+    fn add(&mut self, sight: &Sight) -> Result<(), BookFault>
+        requires { self.old.lines < max_book }
+        ensures added { OnOk result (self.new
+            ≡ state_observing self.old (Some (stamped self.old.book (self.old.lines + 1) sight.now)) self.new.room) }
         ensures room { OnOk result (self.old.room ≤ self.new.room) }
         ensures wanting { IfErr result
             (λ fault. (self.new ≡ self.old) × (fault ≡ fault_in self.old.lines BookKind.NoMemory)) }
-        ensures full { OnErr result
-            (IsSome step.now.sight × (self.old.room ≤ length self.old.observations)) }
+        ensures full { OnErr result (self.old.room ≤ length self.old.observations) }
     {
-        if let Some(sight) = &step.sight {
-            let line = self.lines + 1;
-            if self.observations.reserve(1).is_err() {
-                return Err(BookFault {
-                    line,
-                    kind: BookKind::NoMemory,
-                });
-            }
-            self.observations.push_reserved(sight.at(self.number, line));
+        let line = self.lines + 1;
+        if self.observations.reserve(1).is_err() {
+            return Err(BookFault {
+                line,
+                kind: BookKind::NoMemory,
+            });
         }
-        Setup::enter(&mut self.setup, &step.entry);
-        self.lines += 1;
+        self.observations.push_reserved(sight.at(self.number, line));
         Ok(())
     }
 

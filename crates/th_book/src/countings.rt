@@ -50,8 +50,9 @@ impl Counted {
         }
     }
 
+    // Not inlined: readers with different witnesses call it.
     /// Counts the words of a block, where nothing was counted before.
-    #[inline(always)]
+    #[inline(never)]
     pub fn count(&mut self, words: &[Word<'_>])
         requires { self.old ≡ nothing_counted }
         ensures { self.new ≡ counted_in (map parts_of words.now) }

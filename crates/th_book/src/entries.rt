@@ -7,7 +7,7 @@ ghost use Rattle.th_book.specs.Faults.{begins_with_point, first_applying, own_fa
 use crate::countings::Counted;
 use crate::faults::BookKind;
 use crate::indexes::POINT_NUMBER;
-use gsi_word::{LengthFault, Name, Word, name_of};
+use gsi_word::{LengthFault, Name, Word};
 use th_units::Len;
 
 /// What a block enters into its book: the station of a setup, the target of a sight, and the lengths
@@ -27,7 +27,7 @@ impl Entered {
 
     /// What a blank line enters, and a block of which no word counts.
     #[inline(always)]
-    pub fn nothing() -> Entered
+    pub(crate) fn nothing() -> Entered
         ensures { result ≡ nothing }
     {
         Entered {
@@ -39,8 +39,9 @@ impl Entered {
         }
     }
 
+    // Not inlined: readers with different witnesses call it.
     /// What a block enters, by what its words count, or the first kind of fault that they have.
-    #[inline(always)]
+    #[inline(never)]
     pub(crate) fn of(counted: &Counted, words: &[Word<'_>]) -> Result<Entered, BookKind>
         requires { counted.now ≡ counted_in (map parts_of words.now) }
         ensures fault { result_err result ≡ first_applying (own_faults (map parts_of words.now)) }
@@ -94,7 +95,7 @@ fn point_name(words: &[Word<'_>]) -> Option<Name>
     ensures { result ≡ point_name (map parts_of words.now) }
 {
     match words.first() {
-        Some(word) => name_of(word.body()),
+        Some(word) => word.name(),
         None => None,
     }
 }

@@ -23,9 +23,6 @@ mod entries;
 // The running setup, and the sights from it.
 mod setups;
 
-// The effect of a line.
-mod steps;
-
 // Who sees the lines of a book.
 mod witnesses;
 

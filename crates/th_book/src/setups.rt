@@ -28,7 +28,7 @@ pub struct Sight {
 impl Setup {
     ghost use Rattle.std.specs.Result.{result_err};
     ghost use Rattle.th_book.specs.Inside.Entries.{setup_at, setup_by, with_entry};
-    ghost use Rattle.th_book.specs.Inside.Steps.{IsSeen, sight_fault};
+    ghost use Rattle.th_book.specs.Inside.Effects.{IsSeen, sight_fault};
 
     /// Enters a block into the running setup. The setup that it begins, or the one before, takes
     /// its heights.
@@ -87,7 +87,7 @@ impl Setup {
 }
 
 impl Sight {
-    ghost use Rattle.th_book.specs.Inside.Steps.{stamped};
+    ghost use Rattle.th_book.specs.Inside.Effects.{stamped};
 
     /// The observation of the sight, at its place: the book's number and the line, both from 1.
     pub fn at(&self, book: u32, line_number: u32) -> Observation

@@ -14,7 +14,7 @@ use crate::reviews::BookReview;
 use crate::running::{Latest, enter};
 use crate::seen::{SeenNames, mention};
 use crate::sights::SightWatch;
-use gsi_word::{Name, Word, name_of};
+use gsi_word::{Name, Word};
 use std::alloc::{AllocError, Global};
 use th_book::laws::faultless_book_is_sound;
 use th_book::{Entered, POINT_NUMBER, Setup, Witness};
@@ -174,7 +174,7 @@ fn is_lookalike(words: &[Word<'_>], entered: &Entered, station: &Option<Name>) -
                 && entered.target.is_none()
                 && entered.station.is_none()
                 && !measures(words);
-            resembles && !are_one(station, &name_of(word.body()))
+            resembles && !are_one(station, &word.name())
         }
         None => false,
     }

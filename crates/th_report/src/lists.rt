@@ -31,12 +31,10 @@ fn write_observation(
     ensures { OnOk result (rows.new.text
         ≡ rows.old.text ++ row_text (list_record (number, observation.now))) }
 {
-    let mut digits = Buffer::new();
-    let difference = metre_text(observation.difference());
     rows.write(&[
-        digits.format(number).as_bytes(),
+        Buffer::new().format(number).as_bytes(),
         observation.station.as_bytes(),
         observation.target.as_bytes(),
-        difference.as_bytes(),
+        metre_text(observation.difference()).as_bytes(),
     ])
 }

@@ -1,5 +1,5 @@
 -- What digits write, read from the front, and the last digits of a number.
-use Rattle.std.proofs.Common.{◌≡◌, ℕ, ◌+◌, ◌-◌, ◌*◌, ◌/◌, ◌%◌, ◌^◌, ◌<◌, ◌≤◌, Bool, true, false, ◌&&◌, List, [], ◌∷◌, ◌++◌, length, get_or, take, drop, map, refl, sym, ap, subst, ◌∙◌, arith, length-append, suc, zero}
+use Rattle.std.proofs.Common.{◌≡◌, ◌≢◌, ℕ, ◌+◌, ◌-◌, ◌*◌, ◌/◌, ◌%◌, ◌^◌, ◌<◌, ◌≤◌, Bool, true, false, ◌&&◌, List, [], ◌∷◌, ◌++◌, length, get_or, take, drop, map, refl, sym, ap, subst, ◌∙◌, arith, length-append, suc, zero}
 use Rattle.std.specs.Char.{digit_value}
 use Rattle.std.specs.List.{list_all}
 use Rattle.std.specs.Int.Digits.{number_from_digits_after}
@@ -7,6 +7,7 @@ use Rattle.std.specs.Str.Parse.{AllDigits}
 use Rattle.std.proofs.Math.Nat.{pow-le-pow_right}
 use Rattle.std.proofs.lemmas.Int.Digits.{digits_value_is, digits_value_more, digits_value-lt, number_after_append, number_after_ge}
 use Rattle.std.proofs.lemmas.Str.{digit_value_digit}
+use Rattle.std.proofs.lemmas.Nat.{pow-add}
 use Rattle.std.proofs.lemmas.Bool.{false≢true}
 use Rattle.std.proofs.lemmas.Bool.Decides.{nat_tests}
 use Rattle.std.proofs.lemmas.List.{take-append-drop, map-append}
@@ -73,6 +74,24 @@ number_front bytes i =
         ∙ number_after_append 10 0 (map digit_value front) (map digit_value rest)
         ∙ ap (λ n. number_from_digits_after 10 n (map digit_value rest)) (sym (digits_value_is 10 front)) in
         omega (arith, joined, number_after_ge 10 (number front) (map digit_value rest) (omega arith))
+
+-- digits that begin with no zero write a number with as many digits
+pub number_above : (bytes : List ℕ) (i : ℕ) → list_all is_digit bytes ≡ true → get_or bytes 0 49 ≢ 48 → i < length bytes → 10 ^ i ≤ number bytes
+number_above bytes i digits first within = omega (arith, grows i within, number_front bytes (i + 1))
+  where
+    begins : (bytes : List ℕ) → 0 < length bytes → get_or bytes 0 49 ≢ 48 → get_or bytes 0 0 ≢ 48
+    begins [] some first = absurd (omega arith)
+    begins (byte ∷ bytes) some first = first
+
+    grows : (i : ℕ) → i < length bytes → 10 ^ i ≤ number (take (i + 1) bytes)
+    grows zero within =
+        let bounds = digit_bounds (get_or bytes 0 0) (list_all-get_or is_digit bytes 0 within digits) in
+        let other = begins bytes within first in
+        omega (arith, number_more bytes 0 digits within, bounds.0, other)
+    grows (suc i) within =
+        let turn : i + 1 ≡ suc i = omega arith in
+        let power : 10 ^ suc i ≡ 10 ^ i * 10 = ap (λ n. 10 ^ n) (sym turn) ∙ pow-add 10 i 1 in
+        omega (arith, power, number_more bytes (suc i) digits within, subst (λ n. 10 ^ i ≤ number (take n bytes)) turn (grows i (omega arith)))
 
 pub length-last_digits : (count n : ℕ) → length (last_digits count n) ≡ count
 unfolding last_digits

@@ -1,9 +1,12 @@
 ghost use Rattle.std.specs.Prelude.{◌≡◌, ◌≤◌, true, unsigned_abs};
+ghost use Rattle.std.specs.List.{list_all};
 ghost use Rattle.std.specs.Option.{SomeIff};
-ghost use Rattle.th_units.specs.Lengths.{length_of, is_digit, are_digits, number};
+ghost use Rattle.th_units.specs.Lengths.{length_of, is_digit, number};
 ghost use Rattle.th_units.specs.Limits.{max_len};
 
 use crate::faults::LenFault;
+use crate::limits::MAX_LEN_DIGITS;
+use crate::numbers::{are_digits, number, without_zeros};
 use crate::units::{Unit, step};
 use std::marker::Model;
 use th_limits::MAX_LEN;
@@ -59,31 +62,18 @@ pub fn to_len(negative: bool, digits: &[u8], unit: Unit) -> Result<Len, LenFault
     })
 }
 
-/// Whether there is at least one byte, and each is a digit.
-pub fn are_digits(bytes: &[u8]) -> bool
-    ensures { result ≡ are_digits bytes.now }
-{
-    !bytes.is_empty() && bytes.iter().all(|byte| is_digit(*byte))
-}
-
-/// Whether a byte is one of the characters '0' to '9'.
-pub fn is_digit(byte: u8) -> bool
-    ensures { result ≡ is_digit byte }
-{
-    b'0' <= byte && byte <= b'9'
-}
-
 /// The number that digits write; `None` if it is above `MAX_LEN`.
 fn number_within_limit(digits: &[u8]) -> Option<u64>
-    requires { are_digits digits.now ≡ true }
+    requires { list_all is_digit digits.now ≡ true }
     ensures { SomeIff result (number digits.now ≤ max_len) (number digits.now) }
 {
-    let mut number = 0;
-    for digit in digits {
-        number = 10 * number + u64::from(*digit - b'0');
-        if number > MAX_LEN {
-            return None;
-        }
+    let significant = without_zeros(digits);
+    if significant.len() > MAX_LEN_DIGITS {
+        return None;
+    }
+    let number = number(significant);
+    if number > MAX_LEN {
+        return None;
     }
     Some(number)
 }

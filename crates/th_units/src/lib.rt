@@ -13,6 +13,7 @@ mod units;
 
 // From digits: lengths and short numbers.
 mod lengths;
+mod numbers;
 mod short_numbers;
 
 // Texts in metres, and the signs of texts.
@@ -23,9 +24,10 @@ mod signs;
 pub mod laws;
 
 pub use faults::LenFault;
-pub use lengths::{Len, are_digits, is_digit, to_len};
+pub use lengths::{Len, to_len};
 pub use limits::MAX_SHORT;
 pub use metres::{MetreText, metre_text, parse_metres};
+pub use numbers::{are_digits, is_digit};
 pub use short_numbers::short_number;
 pub use signs::{has_minus, without_sign};
 pub use th_limits::MAX_LEN;

@@ -6,9 +6,8 @@ ghost use Rattle.th_units.specs.Limits.{size_limit};
 ghost use Rattle.th_units.specs.Metres.{metres, last_digits, are_decimals, decimals, size_value, units_of, value, whole};
 
 use crate::faults::LenFault;
-use crate::lengths::are_digits;
 use crate::limits::{MAX_DECIMALS, MAX_WHOLE_DIGITS};
-use crate::short_numbers::number;
+use crate::numbers::{are_digits, number};
 use crate::signs::{has_minus, without_sign};
 use std::marker::Model;
 
@@ -161,5 +160,5 @@ fn units_of(whole: &[u8], decimals: &[u8]) -> u64
     ensures bound { result < size_limit }
 {
     let tens = 10_u64.pow((MAX_DECIMALS - decimals.len()) as u32);
-    u64::from(number(whole)) * UNITS_PER_METRE + u64::from(number(decimals)) * tens
+    number(whole) * UNITS_PER_METRE + number(decimals) * tens
 }

@@ -1,12 +1,12 @@
-use Rattle.std.proofs.Common.{◌≡◌, ◌+◌, [], refl, Some, None, Ok, Err, sym, ap, ◌∙◌, subst}
+use Rattle.std.proofs.Common.{◌≡◌, ◌+◌, [], refl, Some, None, Err, sym, ap, ◌∙◌, subst}
 use Rattle.gsi_block.specs.Blocks.{block_at}
 use Rattle.th_book.specs.Lines.{ParsedLine}
 use Rattle.th_book.specs.Inside.Witnesses.{IsSeenNext}
-use Rattle.th_book.specs.Inside.Steps.{IsBlockLine, line_fault, state_refusing}
-use Rattle.th_book.specs.Due.{BookState, IsAnswered, IsLasting, IsRefused, IsTaken, standing_in}
+use Rattle.th_book.specs.Inside.Effects.{line_fault, state_refusing}
+use Rattle.th_book.specs.Due.{BookState, IsLasting, IsRefused, IsTaken, standing_in}
 use Rattle.th_book.specs.declared.faults.BookFault.{BookFault}
 use Rattle.th_book.specs.declared.faults.BookKind.TheVariants.{Block}
-use Rattle.th_book.proofs.Holding.{IsRefused-before, IsRefused-step, IsTaken-blank, kind_lasts}
+use Rattle.th_book.proofs.Holding.{IsRefused-before, IsRefused-line, IsTaken-blank, kind_lasts}
 use Rattle.th_book.proofs.Seeing.{seen_blank}
 use Rattle.th_book.proofs.books.Book.read.Goals as goal
 
@@ -41,7 +41,7 @@ returns-in-Err-clause-answered g c =
     let sound : c.args.self.now.fault ≡ None = ap (λ (state : BookState). state.fault) (sym c.self.view_is) ∙ c.in_default.is in
     let kind = Block c.in-Err.fault in
     let found : Some kind ≡ line_fault c.args.self.now.setup (block_at c.args.line.now) = ap (λ (parsed : ParsedLine). line_fault c.args.self.now.setup parsed) c.in-Err.ensures in
-    let refused = IsRefused-step c.args.self.now c.args.line.now kind sound found in
+    let refused = IsRefused-line c.args.self.now c.args.line.now kind sound found in
     record {
       taken = tt;
       refused = λ kept.

@@ -5,8 +5,7 @@ use Rattle.std.proofs.lemmas.Result.{err_from_is_err_and}
 use Rattle.gsi_word.specs.Words.{parts_of}
 use Rattle.th_book.specs.Lines.{point_name}
 use Rattle.th_book.specs.Inside.Countings.{counted_fault}
-use Rattle.th_book.proofs.EntryLemmas.{entry_same, setup_same, sight_same}
-use Rattle.th_book.proofs.Idle.{own_faults_of}
+use Rattle.th_book.proofs.EntryLemmas.{entry_same, own_faults_of, setup_same, sight_same}
 use Rattle.th_book.proofs.entries.Entered.of.Goals as goal
 use Rattle.th_book.proofs.entries.Entered.of.Goals.{then-is_setup, else-is_setup, then-is_sight, else-is_sight}
 

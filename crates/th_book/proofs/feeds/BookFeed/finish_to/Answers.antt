@@ -1,5 +1,4 @@
 use Rattle.std.proofs.Common.{◌≡◌, [], ◌∷◌, List, length, Result, Err, Ok, sym, ap, ◌∙◌, rules, subst}
-use Rattle.std.proofs.lemmas.Result.{err_from_is_err_and}
 use Rattle.th_observations.specs.Observed.{Observed}
 use Rattle.th_book.specs.Due.{BookState, EndsWithSight, due}
 use Rattle.th_book.specs.Feeds.{FeedState, feed_due}

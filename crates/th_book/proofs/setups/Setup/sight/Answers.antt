@@ -4,7 +4,7 @@ use Rattle.std.proofs.lemmas.Int.{ints}
 use Rattle.std.proofs.lemmas.Bool.{false≢true}
 use Rattle.std.specs.Cmp.Lexicographic.{bytes_decides}
 use Rattle.th_units.specs.Limits.{max_len}
-use Rattle.th_book.specs.Inside.Steps.{observed_from}
+use Rattle.th_book.specs.Inside.Effects.{observed_from}
 use Rattle.th_book.specs.declared.setups.Setup.{Setup}
 use Rattle.th_book.proofs.setups.Setup.sight.Goals as goal
 

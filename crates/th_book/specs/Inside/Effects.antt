@@ -1,6 +1,6 @@
--- The step that a block takes in its book.
-use Rattle.std.specs.Prelude.{◌≡◌, ℕ, ℤ, ◌+◌, ◌++◌, ◌&&◌, Bool, false, true, List, Option, Some, None, Ok, if◌then◌else◌, map, is_some, option_and_then, option_map, option_to_list}
-use Rattle.gsi_word.specs.Words.{Parts, parts_of}
+-- The effect of a block on its book.
+use Rattle.std.specs.Prelude.{◌≡◌, ◌≤◌, ℕ, ℤ, ◌+◌, ◌++◌, ◌&&◌, Bool, false, true, List, Option, Some, None, Ok, if◌then◌else◌, is_some, length, option_and_then, option_map, option_to_list}
+use Rattle.gsi_word.specs.Words.{Parts}
 use Rattle.gsi_word.specs.declared.words.Width.{Width}
 use Rattle.gsi_word.specs.declared.words.Word.{Word}
 use Rattle.gsi_block.specs.Blocks.{block_at, block_with}
@@ -9,13 +9,13 @@ use Rattle.th_book.specs.Lines.{ParsedLine, words_in}
 use Rattle.th_book.specs.Faults.{Standing, block_faults, fault_in, first_applying, kind_of, sight_faults}
 use Rattle.th_book.specs.Books.{difference, known, known_name}
 use Rattle.th_book.specs.Due.{BookState, observation_in, setup_after, standing_in}
-use Rattle.th_book.specs.Entered.{entered_by, nothing}
 use Rattle.th_book.specs.Inside.Entries.{setup_by}
 use Rattle.th_book.specs.declared.entries.Entered.{Entered}
 use Rattle.th_book.specs.declared.setups.Setup.{Setup}
 use Rattle.th_book.specs.declared.setups.Sight.{Sight}
-use Rattle.th_book.specs.declared.steps.Step.{Step}
+use Rattle.th_book.specs.declared.faults.BookFault.{BookFault}
 use Rattle.th_book.specs.declared.faults.BookKind.{BookKind}
+use Rattle.th_book.specs.declared.faults.BookKind.TheVariants.{NoMemory}
 
 -- what a sight has in a setup that already includes the sight's own heights
 abbrev pub standing_of : Option Setup → Standing
@@ -63,9 +63,10 @@ is_seen entry = is_some entry.target && is_some entry.sighted
 abbrev pub entry_fault : Option Setup → Entered → Option BookKind
 entry_fault setup entry = if is_seen entry then sight_fault setup (known_name entry.target) else None
 
--- `sight` is the sight of an entry, or none if it has none
-pub record AreSeen (setup : Option Setup) (entry : Entered) (sight : Option Sight) : Type 0 where
-  pub seen : (book line : ℕ) → option_map (stamped book line) sight ≡ (if is_seen entry then Some (observed_from setup (known_name entry.target) (known entry.sighted) book line) else None)
+-- the observation of an entry in a book and a line, in a setup that already includes the entry's heights; none if it has no sight
+abbrev pub observation_by : Option Setup → Entered → ℕ → ℕ → Option Observed
+observation_by setup entry book line =
+    if is_seen entry then Some (observed_from setup (known_name entry.target) (known entry.sighted) book line) else None
 
 -- the first kind of fault of a block in a running setup
 abbrev pub block_fault : Option Setup → List Parts → Option BookKind
@@ -75,28 +76,51 @@ block_fault running words = first_applying (block_faults (standing_in running wo
 abbrev pub line_fault : Option Setup → ParsedLine → Option BookKind
 line_fault running parsed = kind_of (standing_in running (words_in parsed)) parsed
 
--- the step of a line that has no effect
-abbrev pub no_step : Step
-no_step = record { entry = nothing; sight = None }
-
--- the step of words without a fault: its entry leads to the running setup after them, and its sight is theirs if they are one
-pub record IsLeft (running : Option Setup) (words : List Parts) (step : Step) : Type 0 where
-  pub setup : setup_by step.entry running ≡ setup_after running words
-  pub sight : (book line : ℕ) → option_map (stamped book line) step.sight ≡ observation_in book line running words
+-- the entry of words without a fault: it leads to the running setup after them, and to their observation if they are a sight
+pub record IsLeft (running : Option Setup) (words : List Parts) (entry : Entered) : Type 0 where
+  pub setup : setup_by entry running ≡ setup_after running words
+  pub observation : (book line : ℕ) → observation_by (setup_by entry running) entry book line ≡ observation_in book line running words
 
 -- a line is a block of these words
 abbrev pub IsBlockLine : List Word → List ℕ → Type 0
 IsBlockLine words line = (width : Width) × (block_at line ≡ Ok (Some (block_with words width)))
 
+-- the state of a book with one more observation, if there is one, with a given capacity
+abbrev pub state_observing : BookState → Option Observed → ℕ → BookState
+state_observing state observed room = record state { observations = state.observations ++ option_to_list observed; room = room }
+
 -- the state of a book after a line without a fault, with a given capacity
-abbrev pub state_with : BookState → Step → ℕ → BookState
-state_with state step room = record state {
-  lines = state.lines + 1;
-  setup = setup_by step.entry state.setup;
-  observations = state.observations ++ option_to_list (option_map (stamped state.book (state.lines + 1)) step.sight);
-  room = room;
-}
+abbrev pub state_with : BookState → Entered → ℕ → BookState
+state_with state entry room =
+    let setup = setup_by entry state.setup in
+    record (state_observing state (observation_by setup entry state.book (state.lines + 1)) room) { lines = state.lines + 1; setup = setup }
 
 -- the state of a book after a line with a fault
 abbrev pub state_refusing : BookState → BookKind → BookState
 state_refusing state kind = record state { lines = state.lines + 1; fault = Some (fault_in state.lines kind) }
+
+-- an entry's sight, if it has one, has no fault in a setup that already includes the entry's heights, and its observation was added
+pub record IsObserved (setup : Option Setup) (old new : BookState) (entry : Entered) : Type 0 where
+  pub fine : entry_fault setup entry ≡ None
+  pub state : new ≡ state_observing old (observation_by setup entry old.book (old.lines + 1)) new.room
+  pub room : old.room ≤ new.room
+
+-- an entry whose sight has no fault was taken
+pub record IsTakenIn (old new : BookState) (entry : Entered) : Type 0 where
+  pub fine : entry_fault (setup_by entry old.setup) entry ≡ None
+  pub state : new ≡ state_with old entry new.room
+  pub room : old.room ≤ new.room
+
+-- an entry's sight has a fault in such a setup, which the book keeps
+pub record IsKept (setup : Option Setup) (old new : BookState) (entry : Entered) (fault : BookFault) : Type 0 where
+  pub found : entry_fault setup entry ≡ Some fault.kind
+  pub state : new ≡ state_refusing old fault.kind
+  pub given : fault ≡ fault_in old.lines fault.kind
+
+-- an entry's sight has none, but memory is wanting for its observation, and the book is unchanged
+pub record IsWantingFor (setup : Option Setup) (old new : BookState) (entry : Entered) (fault : BookFault) : Type 0 where
+  pub fine : entry_fault setup entry ≡ None
+  pub state : new ≡ old
+  pub given : fault ≡ fault_in old.lines NoMemory
+  pub seen : is_seen entry ≡ true
+  pub full : old.room ≤ length old.observations

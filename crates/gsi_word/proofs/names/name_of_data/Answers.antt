@@ -3,7 +3,7 @@ use Rattle.std.proofs.lemmas.Bool.Decides.{nat_tests}
 use Rattle.gsi_word.specs.Names.{reduced, without_trailing}
 use Rattle.gsi_word.specs.Limits.{max_name}
 use Rattle.gsi_word.proofs.NameLemmas.{name_of-reduced}
-use Rattle.gsi_word.proofs.names.name_of.Goals as goal
+use Rattle.gsi_word.proofs.names.name_of_data.Goals as goal
 
 pub of-requires-2 : goal.of-requires-2
 of-requires-2 c =

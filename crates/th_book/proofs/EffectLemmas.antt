@@ -1,5 +1,5 @@
 -- A block without a fault of its own words leaves what the running setup and the block's own heights give.
-use Rattle.std.proofs.Common.{◌≡◌, ℕ, ℤ, Bool, true, false, not, cond, ◌&&◌, ◌||◌, List, [], Option, Some, None, refl, sym, ap, ◌∙◌}
+use Rattle.std.proofs.Common.{◌≡◌, ℕ, ℤ, Bool, true, false, not, cond, ◌&&◌, ◌||◌, List, [], Option, Some, None, refl, sym, ap, subst, ◌∙◌}
 use Rattle.std.specs.Prelude.{Result, is_none, is_some, option_and_then, option_map}
 use Rattle.std.specs.Option.{option_or}
 use Rattle.std.specs.Result.{result_ok}
@@ -13,9 +13,10 @@ use Rattle.th_book.specs.Due.{begun, latest, observation_in, observed_in, setup_
 use Rattle.th_book.specs.Inside.Countings.{first_length}
 use Rattle.th_book.specs.Entered.{entered_by}
 use Rattle.th_book.specs.Inside.Entries.{setup_at, setup_by, with_entry}
-use Rattle.th_book.specs.Inside.Steps.{AreSeen, block_fault, entry_fault, is_seen, observed_from, sight_fault, stamped, standing_of}
+use Rattle.th_book.specs.Inside.Effects.{IsLeft, block_fault, entry_fault, is_seen, observation_by, observed_from, sight_fault, standing_of}
+use Rattle.th_book.specs.declared.entries.Entered.{Entered}
 use Rattle.th_book.specs.declared.setups.Setup.{Setup}
-use Rattle.th_book.specs.declared.setups.Sight.{Sight}
+use Rattle.th_book.specs.declared.faults.BookKind.{BookKind}
 use Rattle.th_book.specs.Indexes.{height_difference, station_easting, station_northing, station_height, reflector_height, instrument_height}
 use Rattle.th_book.proofs.CountedWords.{first_length-there}
 use Rattle.th_book.proofs.EntryLemmas.{first_applying-append, read_same}
@@ -97,7 +98,7 @@ standing_after words running read none =
         cc
 
 -- a block that has a fault of its own words has it in any setup
-pub own_fault_first : (running : Option Setup) (words : List Parts) → block_fault running words ≡ option_or (first_applying (own_faults words)) (first_applying (cond (is_sight words) (sight_faults (standing_in running words) (point_name words)) []))
+own_fault_first : (running : Option Setup) (words : List Parts) → block_fault running words ≡ option_or (first_applying (own_faults words)) (first_applying (cond (is_sight words) (sight_faults (standing_in running words) (point_name words)) []))
 own_fault_first running words = first_applying-append (own_faults words) (cond (is_sight words) (sight_faults (standing_in running words) (point_name words)) [])
 
 -- without a fault of its own words, a block enters a target and a height difference just where it is a sight
@@ -113,7 +114,7 @@ is_seen_same words fine =
     go true (Some name) length there read = read refl
 
 -- the fault of a block whose own words have none
-pub later_fault : (words : List Parts) (running setup : Option Setup) → first_applying (own_faults words) ≡ None → setup ≡ setup_by (entered_by words) running → block_fault running words ≡ entry_fault setup (entered_by words)
+later_fault : (words : List Parts) (running setup : Option Setup) → first_applying (own_faults words) ≡ None → setup ≡ setup_by (entered_by words) running → block_fault running words ≡ entry_fault setup (entered_by words)
 later_fault words running setup none left =
     own_fault_first running words
     ∙ ap (λ own. option_or own (first_applying (cond (is_sight words) (sight_faults (standing_in running words) (point_name words)) []))) none
@@ -140,24 +141,37 @@ later_fault words running setup none left =
         ∙ ap (λ own. cond own (sight_fault setup (known_name (entered_by words).target)) None) (sym (seen ∙ is))
 
 -- its observation
-pub seen_is : (words : List Parts) (running setup : Option Setup) (sight : Option Sight) → first_applying (own_faults words) ≡ None → setup ≡ setup_by (entered_by words) running → AreSeen setup (entered_by words) sight → (book line : ℕ) → option_map (stamped book line) sight ≡ observation_in book line running words
-seen_is words running setup sight none left are book line =
-    are.seen book line
-    ∙ ap (λ own. cond own (Some (observed_from setup (known_name (entered_by words).target) (known (entered_by words).sighted) book line)) None) (is_seen_same words fine)
+observation_is : (words : List Parts) (running : Option Setup) → first_applying (own_faults words) ≡ None → (book line : ℕ) → observation_by (setup_by (entered_by words) running) (entered_by words) book line ≡ observation_in book line running words
+observation_is words running none book line =
+    ap (λ own. cond own (Some (observed_from setup (known_name (entered_by words).target) (known (entered_by words).sighted) book line)) None) (is_seen_same words fine)
     ∙ by_sight (is_sight words) refl
   where
     fine : IsFaultless words
     fine = own_words words none
 
-    after : setup ≡ setup_after running words
-    after = left ∙ setup_by_same words running fine
-
-    some_length : (length : Option ℤ) → is_some length ≡ true → Some (known length) ≡ length
-    some_length None e = absurd (false≢true e)
-    some_length (Some length) e = refl
+    setup : Option Setup
+    setup = setup_by (entered_by words) running
 
     by_sight : (sight : Bool) → is_sight words ≡ sight → cond sight (Some (observed_from setup (known_name (entered_by words).target) (known (entered_by words).sighted) book line)) None ≡ cond sight (Some (observed_in book line (setup_after running words) words)) None
     by_sight false is = refl
     by_sight true is =
-        ap (λ own. Some (observed_from own (known_name (entered_by words).target) (known (entered_by words).sighted) book line)) after
+        ap (λ own. Some (observed_from own (known_name (entered_by words).target) (known (entered_by words).sighted) book line)) (setup_by_same words running fine)
         ∙ ap (λ sight. Some (observed_from (setup_after running words) (known_name (cond sight (point_name words) None)) (known (entered_by words).sighted) book line)) is
+
+-- what a block without a fault of its own words leaves
+pub entered_left : (words : List Parts) (running : Option Setup) (entry : Entered) → first_applying (own_faults words) ≡ None → entry ≡ entered_by words → IsLeft running words entry
+entered_left words running entry none enters =
+    subst (IsLeft running words) (sym enters) (record {
+      setup = setup_by_same words running (own_words words none);
+      observation = observation_is words running none;
+    })
+
+-- and its fault is that of its entry
+pub entered_fault : (words : List Parts) (running : Option Setup) (entry : Entered) → first_applying (own_faults words) ≡ None → entry ≡ entered_by words → block_fault running words ≡ entry_fault (setup_by entry running) entry
+entered_fault words running entry none enters =
+    subst (λ (own : Entered). block_fault running words ≡ entry_fault (setup_by own running) own) (sym enters) (later_fault words running (setup_by (entered_by words) running) none refl)
+
+-- a block that has a fault of its own words has it
+pub own_fault_of : (words : List Parts) (running : Option Setup) (kind : BookKind) → first_applying (own_faults words) ≡ Some kind → block_fault running words ≡ Some kind
+own_fault_of words running kind is =
+    own_fault_first running words ∙ ap (λ own. option_or own (first_applying (cond (is_sight words) (sight_faults (standing_in running words) (point_name words)) []))) is
