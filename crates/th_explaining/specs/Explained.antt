@@ -11,7 +11,7 @@ use Rattle.th_reviewing.specs.Reviewed.{AreReviewsOfBooks}
 use Rattle.th_run_parts.specs.Writes.{Texts}
 use Rattle.th_explaining.specs.declared.explaining.Form.{Form}
 use Rattle.th_explaining.specs.declared.explaining.Form.TheVariants as form
-use Rattle.th_run_parts.specs.declared.refusals.Output.TheVariants as output
+use Rattle.th_run_parts.specs.declared.outputs.Output.TheVariants as output
 
 -- an explanation, and what it writes
 abbrev pub explaining : Run

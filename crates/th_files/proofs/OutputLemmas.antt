@@ -12,12 +12,13 @@ use Rattle.th_devices.specs.Transfer.{HasTaken}
 use Rattle.th_folders.specs.Folders.{IsClosed, IsWholeFile}
 use Rattle.th_files.proofs.OpenedLemmas.{zip_more}
 use Rattle.th_files.specs.Opened.{AreApart, AreMade, IsTaken, IsUntouched}
-use Rattle.th_files.specs.Outputs.{IsLeft, ending_of, spot_at, spots_of}
+use Rattle.th_files.specs.Outputs.{IsLeft, spot_at, spots_of}
 use Rattle.th_files.specs.Owed.{Told}
 use Rattle.th_run_parts.specs.Outcomes.{Outcome}
+use Rattle.th_run_parts.specs.Outputs.{ending_of}
 use Rattle.th_run_parts.specs.Reads.{refused}
 use Rattle.th_run_parts.specs.Writes.{AreWritable, AreWritten, Complete, EachOut, IsAt, NotBegun, Progress, Texts, UpTo, progress_of}
-use Rattle.th_run_parts.specs.declared.refusals.Output.{Output}
+use Rattle.th_run_parts.specs.declared.outputs.Output.{Output}
 use Rattle.th_run_parts.specs.declared.refusals.Refusal.{Refusal}
 use Rattle.th_run_parts.specs.declared.refusals.Refusal.TheVariants as refusal
 

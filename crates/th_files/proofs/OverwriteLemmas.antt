@@ -10,10 +10,11 @@ use Rattle.th_devices.specs.Spots.{Spot, file}
 use Rattle.th_plans.specs.Asked.{Files}
 use Rattle.th_files.proofs.OutputLemmas.{spot_among, spots_more}
 use Rattle.th_files.specs.Stops.{AreKept, IsStop}
-use Rattle.th_files.specs.Outputs.{ending_of, spot_at, spots_of}
+use Rattle.th_files.specs.Outputs.{spot_at, spots_of}
 use Rattle.th_files.specs.declared.overwrites.Stop.{Stop}
 use Rattle.th_files.specs.declared.overwrites.Stop.TheVariants as stop
-use Rattle.th_run_parts.specs.declared.refusals.Output.{Output}
+use Rattle.th_run_parts.specs.Outputs.{ending_of}
+use Rattle.th_run_parts.specs.declared.outputs.Output.{Output}
 
 -- the names that borrows have
 abbrev pub names_of : List (Bor (List ℕ)) → List (List ℕ)

@@ -6,7 +6,7 @@ use Rattle.th_devices.specs.Spots.{Spot, file, is_file}
 use Rattle.th_folders.specs.Folders.{ArePlaced, Failing, IsStopped}
 use Rattle.th_plans.specs.Asked.{Files}
 use Rattle.th_files.specs.Owed.{Told}
-use Rattle.th_run_parts.specs.declared.refusals.Output.{Output}
+use Rattle.th_run_parts.specs.declared.outputs.Output.{Output}
 use Rattle.th_run_parts.specs.declared.refusals.Refusal.{Refusal}
 use Rattle.th_run_parts.specs.declared.refusals.Refusal.TheVariants as refusal
 

@@ -1,32 +1,15 @@
 -- Where the outputs of a run go, and what a run leaves there.
-use Rattle.std.specs.Prelude.{◌≡◌, ◌++◌, ◌⊎◌, ℕ, Bool, true, List, Option, Some, None, codes, map}
+use Rattle.std.specs.Prelude.{◌≡◌, ◌++◌, ◌⊎◌, ℕ, Bool, true, List, Option, Some, None, map}
 use Rattle.th_devices.specs.Spots.{Spot, file, output}
 use Rattle.th_files.specs.Owed.{Told}
+use Rattle.th_run_parts.specs.Outputs.{ending_of}
 use Rattle.th_run_parts.specs.Writes.{Complete, EachOut, Stage, Texts, Whole, Broken, Untouched, progress_of}
-use Rattle.th_run_parts.specs.declared.refusals.Output.{Output}
-use Rattle.th_run_parts.specs.declared.refusals.Output.TheVariants as out
+use Rattle.th_run_parts.specs.declared.outputs.Output.{Output}
 use Rattle.th_run_parts.specs.declared.refusals.Refusal.{Refusal}
 
 -- the spot has this text, if the folder reports its bytes
 abbrev pub Holds : Bool → Told → Spot → List ℕ → Type 0
 Holds tells told spot text = tells ≡ true → told spot ≡ Some text
-
--- how the name of an output's file ends, behind the prefix of its run; none for an output that goes to standard output
-abbrev pub ending_of : Output → Option (List ℕ)
-ending_of out.List = None
-ending_of out.Heights = Some (codes ".heights.csv")
-ending_of out.Certificate = Some (codes ".certificate.csv")
-ending_of out.Report = Some (codes ".report.txt")
-ending_of out.Gsi = Some (codes ".heights.gsi")
-ending_of out.Verdict = None
-ending_of out.Points = Some (codes ".points.csv")
-ending_of out.Observations = Some (codes ".observations.csv")
-ending_of out.Entries = Some (codes ".entries.csv")
-ending_of out.Benchmarks = Some (codes ".benchmarks.csv")
-ending_of out.Review = Some (codes ".review.txt")
-ending_of out.Explanations = None
-ending_of out.Book = None
-ending_of out.Page = Some (codes ".html")
 
 -- the spot of an output with this ending, if it has one
 abbrev pub spot_at : List ℕ → Option (List ℕ) → Spot

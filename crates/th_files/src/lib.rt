@@ -10,5 +10,5 @@ mod outputs;
 mod overwrites;
 
 pub use opening::{Sources, sources_of};
-pub use outputs::{close_sinks, ending_of, place_sinks, sinks_of};
+pub use outputs::{close_sinks, place_sinks, sinks_of};
 pub use overwrites::{Overwrite, Stop, keep_all};

@@ -1,37 +1,16 @@
-//! The outputs of a run: the names of their files, and their sinks, as a folder gives them and takes
-//! them back.
+//! The sinks of the outputs of a run, as a folder gives them and takes them back.
 ghost use Rattle.std.specs.Prelude.{◌≡◌, ◌≢◌, IfOk, OnOk, length, map, option_map, true};
 ghost use Rattle.std.specs.List.{AllByRecursion};
 ghost use Rattle.std.specs.Vec.Iter.{into_iter_items};
 ghost use Rattle.th_devices.specs.Devices.{IsMade};
 ghost use Rattle.th_devices.specs.Spots.{is_file};
 ghost use Rattle.th_files.specs.Opened.{AreApart, AreGivenBack, AreMade, IsTaken, IsUntouched};
-ghost use Rattle.th_files.specs.Outputs.{ending_of, spot_at, spots_of};
+ghost use Rattle.th_files.specs.Outputs.{spot_at, spots_of};
 
 use std::alloc::{AllocError, Global};
 use std::vec::IntoIter;
 use th_folders::{Folder, Target, place_all};
 use th_run_parts::{Output, Refusal};
-
-/// How the name of an output's file ends, behind the prefix of its run. None for an output that goes
-/// to standard output.
-pub fn ending_of(output: Output) -> Option<&'static str>
-    ensures { option_map (λ own. own.now) result ≡ ending_of output }
-{
-    match output {
-        Output::List | Output::Verdict | Output::Explanations | Output::Book => None,
-        Output::Heights => Some(".heights.csv"),
-        Output::Certificate => Some(".certificate.csv"),
-        Output::Report => Some(".report.txt"),
-        Output::Gsi => Some(".heights.gsi"),
-        Output::Points => Some(".points.csv"),
-        Output::Observations => Some(".observations.csv"),
-        Output::Entries => Some(".entries.csv"),
-        Output::Benchmarks => Some(".benchmarks.csv"),
-        Output::Review => Some(".review.txt"),
-        Output::Page => Some(".html"),
-    }
-}
 
 /// The sinks of these outputs, for a run with this prefix.
 pub fn sinks_of<F: Folder>(
@@ -46,7 +25,7 @@ pub fn sinks_of<F: Folder>(
 {
     let mut sinks = Vec::new(alloc);
     for output in outputs {
-        sinks.push(sink_of(alloc, folder, prefix, ending_of(*output))?)?;
+        sinks.push(sink_of(alloc, folder, prefix, output.ending())?)?;
     }
     Ok(sinks)
 }

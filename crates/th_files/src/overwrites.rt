@@ -6,7 +6,6 @@ ghost use Rattle.th_files.specs.Stops.{AreKept, IsApart, IsNoBook, IsStop};
 ghost use Rattle.th_plans.specs.Limits.{max_books};
 ghost use Rattle.th_plans.specs.Plans.{files};
 
-use crate::outputs::ending_of;
 use std::alloc::{AllocError, Global};
 use th_folders::Folder;
 use th_plans::Inputs;
@@ -60,7 +59,7 @@ pub fn keep_all<'a, F: Folder>(
         (IsStop F.tells (files inputs.now) (spots_of prefix.now outputs.now)) }
 {
     for output in outputs {
-        keep(alloc, folder, inputs, prefix, ending_of(*output))?;
+        keep(alloc, folder, inputs, prefix, output.ending())?;
     }
     Ok(())
 }

@@ -14,11 +14,11 @@ use Rattle.th_plans.specs.Asked.{Files}
 use Rattle.th_plans.specs.Plans.{files}
 use Rattle.th_plans.specs.declared.plans.Plan.{Plan}
 use Rattle.th_plans.specs.declared.plans.Plan.TheVariants as plan
-use Rattle.th_files.specs.Outputs.{ending_of}
+use Rattle.th_run_parts.specs.Outputs.{ending_of}
 use Rattle.th_run_parts.specs.Refusals.{refusal_text}
 use Rattle.th_run_parts.specs.declared.refusals.Input.{Input}
 use Rattle.th_run_parts.specs.declared.refusals.Input.TheVariants as source
-use Rattle.th_run_parts.specs.declared.refusals.Output.{Output}
+use Rattle.th_run_parts.specs.declared.outputs.Output.{Output}
 use Rattle.th_run_parts.specs.declared.refusals.Refusal.{Refusal}
 use Rattle.th_run_parts.specs.declared.refusals.Refusal.TheVariants as refusal
 

@@ -7,7 +7,6 @@ ghost use Rattle.th_messages.specs.Helped.{help_of_book, name_in, name_of_input,
 
 use th_book::BookKind;
 use th_devices::{Failed, Reason, Sink};
-use th_files::ending_of;
 use th_help::{
     FileName, benchmarks_help, book_help, certificate_help, differences_help, heights_help,
     network_help, put_help_line, put_reason_line, read_reason, weights_help, write_reason,
@@ -146,7 +145,7 @@ fn name_of_output<'a>(plan: &Plan<'a>, output: Output) -> Option<FileName<'a>>
         Plan::Adjust { prefix, .. } | Plan::Review { prefix, .. } | Plan::Page { prefix, .. } =>
             Some(FileName {
                 begin: *prefix,
-                end: ending_of(output)?,
+                end: output.ending()?,
             }),
         Plan::Standard
         | Plan::List { .. }

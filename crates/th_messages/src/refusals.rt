@@ -7,7 +7,7 @@ ghost use Rattle.th_lines.specs.Shown.{shown};
 ghost use Rattle.th_messages.specs.Helped.{refused_lines};
 ghost use Rattle.th_messages.specs.Said.{IsSaid, overwrite_text};
 ghost use Rattle.th_tables.specs.Texts.{fault_text};
-ghost use Rattle.th_run_parts.specs.Refusals.{input_text, output_text, refusal_text};
+ghost use Rattle.th_run_parts.specs.Refusals.{input_text, refusal_text};
 
 use crate::helping::put_second_line;
 use th_book::BookFault;
@@ -174,7 +174,7 @@ fn put_failed_write<K: Sink>(line: &mut Line<K>, output: Output) -> Result<(), F
     ensures { IsPut 12 (refusal_text (Refusal.Write output)) line.old line.new result }
 {
     line.put("write failed: ")?;
-    line.put(text_of_output(output))
+    line.put(output.name())
 }
 
 /// Puts the line that an output would overwrite an input.
@@ -235,26 +235,4 @@ fn put_number_of_book<K: Sink>(line: &mut Line<K>, number: u32) -> Result<(), Fa
 {
     line.put("book ")?;
     line.put_number(number)
-}
-
-/// The text that names an output.
-fn text_of_output(output: Output) -> &'static str
-    ensures { result.now ≡ output_text output }
-{
-    match output {
-        Output::List => "list",
-        Output::Heights => "heights",
-        Output::Certificate => "certificate",
-        Output::Report => "report",
-        Output::Gsi => "gsi",
-        Output::Verdict => "verdict",
-        Output::Points => "points",
-        Output::Observations => "observations",
-        Output::Entries => "entries",
-        Output::Benchmarks => "reviewed benchmarks",
-        Output::Review => "review",
-        Output::Explanations => "explanations",
-        Output::Book => "book",
-        Output::Page => "page",
-    }
 }

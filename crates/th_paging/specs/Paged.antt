@@ -12,7 +12,7 @@ use Rattle.th_review.specs.Texts.{Found}
 use Rattle.th_run_parts.specs.Reads.{Run}
 use Rattle.th_reviewing.specs.Reviewed.{AreFound, AreReviewsOf}
 use Rattle.th_run_parts.specs.Writes.{Texts}
-use Rattle.th_run_parts.specs.declared.refusals.Output.TheVariants as output
+use Rattle.th_run_parts.specs.declared.outputs.Output.TheVariants as output
 use Rattle.th_shown.specs.Shown.{shown_of}
 
 -- a run that makes a page, and what it writes

@@ -12,14 +12,15 @@ use Rattle.th_plans.specs.Asked.{Files}
 use Rattle.th_files.proofs.OpenedLemmas.{named-opened}
 use Rattle.th_program.specs.Failing.{HasCause, IsInClaim, IsInFiles, Origins}
 use Rattle.th_files.specs.Opened.{AreGivenBack, AreMade, AreOpened, EachIsOpened, IsOpenedIfAny}
-use Rattle.th_files.specs.Outputs.{ending_of, spot_at, spots_of}
+use Rattle.th_files.specs.Outputs.{spot_at, spots_of}
 use Rattle.th_files.specs.Owed.{Told}
 use Rattle.th_runs.specs.Listed.{IsOfList}
+use Rattle.th_run_parts.specs.Outputs.{ending_of}
 use Rattle.th_run_parts.specs.Reads.{AreRead, EachBook, IfPresent, IsNamed, IsReadFor, Run, reads_behind, refused}
 use Rattle.th_run_parts.specs.Writes.{AreWritten, EachOut, IsAt, IsWritten, Texts, UpTo}
 use Rattle.th_run_parts.specs.declared.refusals.Input.{Input}
 use Rattle.th_run_parts.specs.declared.refusals.Input.TheVariants as input
-use Rattle.th_run_parts.specs.declared.refusals.Output.{Output}
+use Rattle.th_run_parts.specs.declared.outputs.Output.{Output}
 use Rattle.th_run_parts.specs.declared.refusals.Refusal.{Refusal}
 use Rattle.th_run_parts.specs.declared.refusals.Refusal.TheVariants as refusal
 

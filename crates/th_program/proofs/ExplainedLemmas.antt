@@ -16,7 +16,7 @@ use Rattle.th_run_parts.specs.Outcomes.{Accepted}
 use Rattle.th_run_parts.specs.Reads.{refused}
 use Rattle.th_run_parts.specs.Writes.{AreWritten, IsWritten, Texts}
 use Rattle.th_explaining.specs.declared.explaining.Form.{Form}
-use Rattle.th_run_parts.specs.declared.refusals.Output.TheVariants as out
+use Rattle.th_run_parts.specs.declared.outputs.Output.TheVariants as out
 use Rattle.th_run_parts.specs.declared.refusals.Refusal.{Refusal}
 
 -- an explanation that was written

@@ -22,16 +22,17 @@ use Rattle.th_files.proofs.OutputLemmas.{spot_among}
 use Rattle.th_program.specs.Done.{AreDone, IsAdjustOutput, IsAdjusted, IsCarriedOut, IsChecked, IsRefusedAdjust, IsRefusedCheck, IsRun, IsUsage, WouldOverwrite}
 use Rattle.th_program.specs.Failing.{IsInClaim, IsInFiles, Origins}
 use Rattle.th_program.specs.Headline.{AskFor, IsAccepted, IsUnlucky, SomeMayFail, SparesInputs}
-use Rattle.th_files.specs.Outputs.{ending_of, spot_at, spots_of}
+use Rattle.th_files.specs.Outputs.{spot_at, spots_of}
 use Rattle.th_files.specs.Owed.{Told, claim_owed, given_by, given_by_books, survey_owed}
 use Rattle.th_runs.specs.Adjusted.{AreOutputs, OutTexts, adjusting}
 use Rattle.th_runs.specs.Checked.{IsRight, IsVerdictOn, checking, verdict_on}
 use Rattle.th_run_parts.specs.Inputs.{Claim, Given, IsOwed, MakesNetwork, Meets, Owed, Text, Untold, and_then, given_at, owed_for_certificate, owed_for_claim, owed_for_survey}
+use Rattle.th_run_parts.specs.Outputs.{ending_of}
 use Rattle.th_run_parts.specs.Reads.{failed_reads_of}
 use Rattle.th_run_parts.specs.Refusals.{status_of, status_of_verdict}
 use Rattle.th_run_parts.specs.declared.refusals.Input.{Input}
 use Rattle.th_run_parts.specs.declared.refusals.Input.TheVariants as input
-use Rattle.th_run_parts.specs.declared.refusals.Output.{Output}
+use Rattle.th_run_parts.specs.declared.outputs.Output.{Output}
 use Rattle.th_run_parts.specs.declared.refusals.Refusal.{Refusal}
 use Rattle.th_run_parts.specs.declared.refusals.Refusal.TheVariants as refusal
 

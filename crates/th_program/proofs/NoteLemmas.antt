@@ -21,7 +21,7 @@ use Rattle.th_runs.specs.Noted.{AreNotesOfAdjustment, AreSightless, sightless}
 use Rattle.th_run_parts.specs.Outcomes.{Accepted}
 use Rattle.th_run_parts.specs.Reads.{refused}
 use Rattle.th_runs.specs.declared.notes.Notes.{Notes}
-use Rattle.th_run_parts.specs.declared.refusals.Output.{Output}
+use Rattle.th_run_parts.specs.declared.outputs.Output.{Output}
 use Rattle.th_run_parts.specs.declared.refusals.Refusal.{Refusal}
 
 -- what holds of a run that ended well holds if its files have their places

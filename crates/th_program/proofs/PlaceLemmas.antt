@@ -19,7 +19,7 @@ use Rattle.th_run_parts.specs.Inputs.{IsOwed, Meets, Owed}
 use Rattle.th_run_parts.specs.Outcomes.{Accepted}
 use Rattle.th_run_parts.specs.Reads.{IsNamed, Run, refused}
 use Rattle.th_run_parts.specs.Writes.{AreWritten, Complete, EachOut, IsAt, IsWritten, NotBegun, Texts, UnlessWrite, UpTo}
-use Rattle.th_run_parts.specs.declared.refusals.Output.{Output}
+use Rattle.th_run_parts.specs.declared.outputs.Output.{Output}
 use Rattle.th_run_parts.specs.declared.refusals.Refusal.{Refusal}
 use Rattle.th_run_parts.specs.declared.refusals.Refusal.TheVariants as refusal
 

@@ -14,15 +14,16 @@ use Rattle.th_files.proofs.OutputLemmas.{all_files, no_errors}
 use Rattle.th_program.proofs.RefusalLemmas.{refused-for-map}
 use Rattle.th_program.specs.Done.{IsBooked, IsDone, IsListed, IsOutputOf, IsRefused, IsPrinted}
 use Rattle.th_files.specs.Owed.{Told, survey_owed}
-use Rattle.th_files.specs.Outputs.{ending_of, spots_of, AreLeftAs}
+use Rattle.th_files.specs.Outputs.{spots_of, AreLeftAs}
 use Rattle.th_runs.specs.Adjusted.{adjusting}
 use Rattle.th_reviewing.specs.Reviewed.{reviewing}
 use Rattle.th_run_parts.specs.declared.refusals.Refusal.{Refusal}
 use Rattle.std.specs.Prelude.{Option}
 use Rattle.th_network.specs.Networks.{Survey}
 use Rattle.th_plans.specs.Asked.{Files}
+use Rattle.th_run_parts.specs.Outputs.{ending_of}
 use Rattle.th_run_parts.specs.Writes.{Texts}
-use Rattle.th_run_parts.specs.declared.refusals.Output.{Output}
+use Rattle.th_run_parts.specs.declared.outputs.Output.{Output}
 
 same_told : (after later : Told) (spots : List Spot) → AllByRecursion (λ spot. is_file spot ≡ true) spots
     → ((spot : Spot) → spot ≢ errors → later spot ≡ after spot) → map later spots ≡ map after spots

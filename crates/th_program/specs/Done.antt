@@ -35,8 +35,8 @@ use Rattle.th_run_parts.specs.declared.refusals.Input.{Input}
 use Rattle.th_run_parts.specs.declared.refusals.Input.TheVariants as source
 use Rattle.th_explaining.specs.declared.explaining.Form.{Form}
 use Rattle.th_explaining.specs.declared.explaining.Form.TheVariants as form
-use Rattle.th_run_parts.specs.declared.refusals.Output.{Output}
-use Rattle.th_run_parts.specs.declared.refusals.Output.TheVariants as out
+use Rattle.th_run_parts.specs.declared.outputs.Output.{Output}
+use Rattle.th_run_parts.specs.declared.outputs.Output.TheVariants as out
 use Rattle.th_run_parts.specs.declared.refusals.Refusal.{Refusal}
 use Rattle.th_run_parts.specs.declared.refusals.Refusal.TheVariants as refusal
 use Rattle.th_program.specs.Failing.{HasCause, IsInClaim, IsInFiles}

@@ -3,8 +3,9 @@ use Rattle.std.specs.Prelude.{◌≡◌, ℕ, true, List}
 use Rattle.th_devices.specs.Spots.{Spot, file}
 use Rattle.th_folders.specs.Folders.{Failing}
 use Rattle.th_plans.specs.Asked.{Files}
-use Rattle.th_files.specs.Outputs.{ending_of, spot_at}
+use Rattle.th_files.specs.Outputs.{spot_at}
 use Rattle.th_files.specs.Owed.{HasName}
+use Rattle.th_run_parts.specs.Outputs.{ending_of}
 use Rattle.th_run_parts.specs.declared.refusals.Input.{Input}
 use Rattle.th_run_parts.specs.declared.refusals.Input.TheVariants as input
 use Rattle.th_run_parts.specs.declared.refusals.Refusal.{Refusal}

@@ -20,7 +20,7 @@ use Rattle.th_review.specs.Texts.{AreReviewTexts, Found, ReviewOutTexts}
 use Rattle.th_run_parts.specs.Inputs.{AreTold}
 use Rattle.th_run_parts.specs.Reads.{Run}
 use Rattle.th_run_parts.specs.Writes.{Texts}
-use Rattle.th_run_parts.specs.declared.refusals.Output.TheVariants as output
+use Rattle.th_run_parts.specs.declared.outputs.Output.TheVariants as output
 
 -- a review, and what it writes
 abbrev pub reviewing : Run

@@ -7,7 +7,7 @@ use Rattle.std.specs.Prelude.{Result, ℕ}
 use Rattle.th_devices.specs.Devices.{IsReady, SinkState}
 use Rattle.th_run_parts.proofs.SourceLemmas.{none_failed}
 use Rattle.th_run_parts.specs.Writes.{AreWritable, AreWritten, Broken, EachOut, IsAt, IsFailedWrite, NotBegun, Texts}
-use Rattle.th_run_parts.specs.declared.refusals.Output.{Output}
+use Rattle.th_run_parts.specs.declared.outputs.Output.{Output}
 use Rattle.th_run_parts.specs.declared.refusals.Refusal.{Refusal}
 use Rattle.th_run_parts.specs.declared.refusals.Refusal.TheVariants as refusal
 

@@ -8,7 +8,7 @@ use Rattle.th_run_parts.specs.Refused.{IsNetRefusal, IsOfNetwork}
 use Rattle.th_run_parts.specs.Outcomes.{Accepted, Outcome, SurveyOutcome}
 use Rattle.th_run_parts.specs.Reads.{IsNamed, IsOfBook, IsWithin, Run, network_place, outputs_place, refused}
 use Rattle.th_run_parts.specs.Writes.{IsFailedWrite, IsWritten, UnlessWrite}
-use Rattle.th_run_parts.specs.declared.refusals.Output.{Output}
+use Rattle.th_run_parts.specs.declared.outputs.Output.{Output}
 use Rattle.th_run_parts.specs.declared.refusals.Refusal.{Refusal}
 use Rattle.th_run_parts.specs.declared.refusals.Refusal.TheVariants as refusal
 

@@ -7,10 +7,9 @@ use Rattle.th_checker.specs.declared.verdicts.Verdict.TheVariants.{Yes, No}
 use Rattle.th_conversions.specs.Texts.{fault_text as difference_fault_text}
 use Rattle.th_network.specs.Texts.{fault_text as net_fault_text}
 use Rattle.th_tables.specs.Texts.{fault_text as table_fault_text}
+use Rattle.th_run_parts.specs.Outputs.{output_text}
 use Rattle.th_run_parts.specs.declared.refusals.Input.{Input}
 use Rattle.th_run_parts.specs.declared.refusals.Input.TheVariants as input
-use Rattle.th_run_parts.specs.declared.refusals.Output.{Output}
-use Rattle.th_run_parts.specs.declared.refusals.Output.TheVariants as output
 use Rattle.th_run_parts.specs.declared.refusals.Refusal.{Refusal}
 use Rattle.th_run_parts.specs.declared.refusals.Refusal.TheVariants.{Book, Benchmarks, Weights, Certificate, Differences, Network, Read, Write, NoMemory}
 
@@ -21,23 +20,6 @@ input_text input.Benchmarks = codes "benchmarks"
 input_text input.Weights = codes "weights"
 input_text input.Certificate = codes "certificate"
 input_text input.Differences = codes "differences"
-
--- the text that names an output
-abbrev pub output_text : Output → List ℕ
-output_text output.List = codes "list"
-output_text output.Heights = codes "heights"
-output_text output.Certificate = codes "certificate"
-output_text output.Report = codes "report"
-output_text output.Gsi = codes "gsi"
-output_text output.Verdict = codes "verdict"
-output_text output.Points = codes "points"
-output_text output.Observations = codes "observations"
-output_text output.Entries = codes "entries"
-output_text output.Benchmarks = codes "reviewed benchmarks"
-output_text output.Review = codes "review"
-output_text output.Explanations = codes "explanations"
-output_text output.Book = codes "book"
-output_text output.Page = codes "page"
 
 -- the text of a refusal: one line, without its line feed
 abbrev pub refusal_text : Refusal → List ℕ

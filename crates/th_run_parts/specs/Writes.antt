@@ -3,7 +3,7 @@ use Rattle.std.specs.Prelude.{◌≡◌, ℕ, List, [], ◌∷◌, ◌⊎◌, Op
 use Rattle.std.specs.List.{All, Contains}
 use Rattle.th_devices.specs.Devices.{IsReady, SinkState}
 use Rattle.th_devices.specs.Transfer.{HasTaken, IsBroken, IsCalledFor}
-use Rattle.th_run_parts.specs.declared.refusals.Output.{Output}
+use Rattle.th_run_parts.specs.declared.outputs.Output.{Output}
 use Rattle.th_run_parts.specs.declared.refusals.Refusal.{Refusal}
 use Rattle.th_run_parts.specs.declared.refusals.Refusal.TheVariants as refusal
 

@@ -6,6 +6,9 @@
 //! and a status for the program to end with.
 #![tactic(auto)]
 
+// What a run writes.
+mod outputs;
+
 // Why a run is refused.
 mod refusals;
 
@@ -18,14 +21,15 @@ mod readers;
 mod surveys;
 
 // Writing.
-mod outputs;
+mod writing;
 
 pub use feeds::{Feed, SeenFeed, feed_from};
 pub use inputs::read_text;
-pub use outputs::{OutputText, write_outs};
+pub use outputs::Output;
 pub use readers::{BookReader, ObservationReader, refusal_of};
 pub use refusals::{
-    DEVICE_FAILED, DONE, INPUT_REFUSED, Input, NO_MEMORY, Output, REFUSED_VERDICT, Refusal, USAGE,
+    DEVICE_FAILED, DONE, INPUT_REFUSED, Input, NO_MEMORY, REFUSED_VERDICT, Refusal, USAGE,
     status_of, status_of_verdict,
 };
 pub use surveys::{Survey, Tables, network_of, read_survey};
+pub use writing::{OutputText, write_outs};

@@ -1,60 +1,93 @@
-//! What a run writes: a text for each of its outputs, one after the other.
-ghost use Rattle.std.specs.Prelude.{◌≡◌, IfErr, map};
-ghost use Rattle.th_devices.specs.Devices.{IsReady};
-ghost use Rattle.th_run_parts.specs.Refused.{stage_of};
-ghost use Rattle.th_run_parts.specs.Reads.{refused};
-ghost use Rattle.th_run_parts.specs.Writes.{AreWritable, AreWritten, IsAt, IsFailedWrite};
+//! The outputs of runs, and how they are named.
+ghost use Rattle.std.specs.Prelude.{◌≡◌, option_map};
+ghost use Rattle.th_run_parts.specs.Outputs.{ending_of, output_text};
 
-use crate::refusals::{Output, Refusal};
-use std::marker::Model;
-use th_devices::{Sink, write_all};
+use std::fmt;
 
-/// An output of a run, and its text.
-#[derive(Drop)]
-pub struct OutputText {
-    output: Output,
-    bytes: Vec<u8>,
+/// What a run writes.
+#[derive(Clone, Copy, Debug, PartialEq, Eq)]
+pub enum Output {
+    /// The list of a book's observations.
+    List,
+    /// The file of heights.
+    Heights,
+    /// The certificate.
+    Certificate,
+    /// The report.
+    Report,
+    /// The heights as GSI-16 blocks.
+    Gsi,
+    /// The verdict on a certificate.
+    Verdict,
+    /// The table of a review's points.
+    Points,
+    /// The table of a review's observations.
+    Observations,
+    /// The table of a review's entries.
+    Entries,
+    /// The table of a review's benchmarks.
+    Benchmarks,
+    /// The review for people.
+    Review,
+    /// What explains what does not fit, for people or as a table.
+    Explanations,
+    /// The book of a table of differences.
+    Book,
+    /// The page to hand on.
+    Page,
 }
 
-impl Model for OutputText {
-    ghost use Rattle.std.specs.Prelude.{ℕ, List};
-    ghost use Rattle.th_run_parts.specs.declared.refusals.Output.{Output};
-
-    ghost Value = { Output × List ℕ };
-
-    ghost view = { λ text. (text.output, text.bytes.items) };
-}
-
-impl OutputText {
-    /// The text of this output.
-    pub fn new(output: Output, bytes: Vec<u8>) -> OutputText
-        ensures { result ≡ (output, bytes.items) }
+impl Output {
+    /// Its name in the line of a failed write.
+    pub fn name(self) -> &'static str
+        ensures { result.now ≡ output_text self }
     {
-        OutputText { output, bytes }
+        match self {
+            Output::List => "list",
+            Output::Heights => "heights",
+            Output::Certificate => "certificate",
+            Output::Report => "report",
+            Output::Gsi => "gsi",
+            Output::Verdict => "verdict",
+            Output::Points => "points",
+            Output::Observations => "observations",
+            Output::Entries => "entries",
+            Output::Benchmarks => "reviewed benchmarks",
+            Output::Review => "review",
+            Output::Explanations => "explanations",
+            Output::Book => "book",
+            Output::Page => "page",
+        }
+    }
+
+    /// How the name of its file ends, behind the prefix of its run. None for an output that goes to
+    /// standard output.
+    pub fn ending(self) -> Option<&'static str>
+        ensures { option_map (λ own. own.now) result ≡ ending_of self }
+    {
+        match self {
+            Output::List | Output::Verdict | Output::Explanations | Output::Book => None,
+            Output::Heights => Some(".heights.csv"),
+            Output::Certificate => Some(".certificate.csv"),
+            Output::Report => Some(".report.txt"),
+            Output::Gsi => Some(".heights.gsi"),
+            Output::Points => Some(".points.csv"),
+            Output::Observations => Some(".observations.csv"),
+            Output::Entries => Some(".entries.csv"),
+            Output::Benchmarks => Some(".benchmarks.csv"),
+            Output::Review => Some(".review.txt"),
+            Output::Page => Some(".html"),
+        }
     }
 }
 
-/// Writes the outputs of a run one after the other, up to the first that fails.
-pub fn write_outs<K: Sink>(outs: &mut [K], texts: &[OutputText]) -> Result<(), Refusal>
-    requires { AreWritable K.state (map (λ text. text.0) texts.now) outs.old }
-    ensures named { IfErr result (IsFailedWrite (map (λ text. text.0) texts.now)) }
-    ensures written { AreWritten K.state (refused result) texts.now outs.old outs.new }
-{
-    let Some((out, later)) = outs.split_first_mut() else {
-        return Ok(());
-    };
-    let Some((text, rest)) = texts.split_first() else {
-        return Ok(());
-    };
-    write_out(out, text)?;
-    write_outs(later, rest)
-}
+impl fmt::Display for Output {
+    ghost use Rattle.std.specs.Prelude.{Some};
+    ghost use Rattle.th_run_parts.specs.Outputs.{output_text};
 
-/// Writes an output whole.
-fn write_out<K: Sink>(out: &mut K, text: &OutputText) -> Result<(), Refusal>
-    requires { IsReady (K.state out.old).counts }
-    ensures written { IsAt K.state (stage_of result) text.now.1 out.old out.new }
-    ensures refused { IfErr result (λ own. own ≡ Refusal.Write text.now.0) }
-{
-    write_all(out, text.bytes.as_slice()).map_err(|_| Refusal::Write(text.output))
+    ghost output = { λ output. Some (output_text output) };
+
+    fn fmt<W: fmt::Write>(&self, f: &mut fmt::Formatter<W>) -> fmt::Result {
+        f.write_str(self.name())
+    }
 }

@@ -2,6 +2,7 @@
 ghost use Rattle.std.specs.Prelude.{◌≡◌};
 ghost use Rattle.th_run_parts.specs.Refusals.{status_of, status_of_verdict};
 
+use crate::outputs::Output;
 use std::alloc::AllocError;
 use std::fmt;
 use th_book::BookFault;
@@ -58,65 +59,6 @@ impl fmt::Display for Input {
             Input::Weights => f.write_str("weights"),
             Input::Certificate => f.write_str("certificate"),
             Input::Differences => f.write_str("differences"),
-        }
-    }
-}
-
-/// What a run writes.
-#[derive(Clone, Copy, Debug, PartialEq, Eq)]
-pub enum Output {
-    /// The list of a book's observations.
-    List,
-    /// The file of heights.
-    Heights,
-    /// The certificate.
-    Certificate,
-    /// The report.
-    Report,
-    /// The heights as GSI-16 blocks.
-    Gsi,
-    /// The verdict on a certificate.
-    Verdict,
-    /// The table of a review's points.
-    Points,
-    /// The table of a review's observations.
-    Observations,
-    /// The table of a review's entries.
-    Entries,
-    /// The table of a review's benchmarks.
-    Benchmarks,
-    /// The review for people.
-    Review,
-    /// What explains what does not fit, for people or as a table.
-    Explanations,
-    /// The book of a table of differences.
-    Book,
-    /// The page to hand on.
-    Page,
-}
-
-impl fmt::Display for Output {
-    ghost use Rattle.std.specs.Prelude.{Some};
-    ghost use Rattle.th_run_parts.specs.Refusals.{output_text};
-
-    ghost output = { λ output. Some (output_text output) };
-
-    fn fmt<W: fmt::Write>(&self, f: &mut fmt::Formatter<W>) -> fmt::Result {
-        match self {
-            Output::List => f.write_str("list"),
-            Output::Heights => f.write_str("heights"),
-            Output::Certificate => f.write_str("certificate"),
-            Output::Report => f.write_str("report"),
-            Output::Gsi => f.write_str("gsi"),
-            Output::Verdict => f.write_str("verdict"),
-            Output::Points => f.write_str("points"),
-            Output::Observations => f.write_str("observations"),
-            Output::Entries => f.write_str("entries"),
-            Output::Benchmarks => f.write_str("reviewed benchmarks"),
-            Output::Review => f.write_str("review"),
-            Output::Explanations => f.write_str("explanations"),
-            Output::Book => f.write_str("book"),
-            Output::Page => f.write_str("page"),
         }
     }
 }

@@ -9,8 +9,8 @@ use Rattle.th_run_parts.specs.Outcomes.{Outcome}
 use Rattle.th_run_parts.specs.Reads.{IsOfBook, IsReadFor, refused}
 use Rattle.th_run_parts.specs.Writes.{AreWritten, Texts}
 use Rattle.th_run_parts.specs.declared.refusals.Input.TheVariants as input
-use Rattle.th_run_parts.specs.declared.refusals.Output.{Output}
-use Rattle.th_run_parts.specs.declared.refusals.Output.TheVariants as output
+use Rattle.th_run_parts.specs.declared.outputs.Output.{Output}
+use Rattle.th_run_parts.specs.declared.outputs.Output.TheVariants as output
 use Rattle.th_run_parts.specs.declared.refusals.Refusal.{Refusal}
 use Rattle.th_run_parts.specs.declared.refusals.Refusal.TheVariants as refusal
 

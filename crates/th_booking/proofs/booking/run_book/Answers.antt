@@ -1,5 +1,5 @@
 use Rattle.std.proofs.Common.{◌≡◌, ◌+◌, ◌∷◌, [], ℕ, Err, List, ap, rules, subst, arith}
-use Rattle.th_run_parts.specs.declared.refusals.Output.{Output}
+use Rattle.th_run_parts.specs.declared.outputs.Output.{Output}
 use Rattle.th_run_parts.specs.Reads.{outputs_place, refused}
 use Rattle.th_run_parts.specs.Writes.{AreWritten, Texts}
 use Rattle.th_run_parts.proofs.RunLemmas.{begun_of, outcome_begun, written_within}

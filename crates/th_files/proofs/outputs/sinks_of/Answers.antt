@@ -11,7 +11,7 @@ loop-output-preserved g c =
     let state = g.F.Out.Sink.state sink in
     let writing = (g.F.Folder.failing c.args.folder.now).writing in
     let made = subst (λ (ending : Option (List ℕ)). IsMade g.F.Folder.tells (writing (spot_at c.args.prefix.now ending)) (spot_at c.args.prefix.now ending) state)
-    c.ending_of.ensures (rw c.loop-output.invariant.0 at c.in_ok-sink_of.ensures.made) in (
+    c.ending.ensures (rw c.loop-output.invariant.0 at c.in_ok-sink_of.ensures.made) in (
       search rules,
       rw c.in_ok-push.ensures.items
           (made_more g.F.Out.Sink.state g.F.Folder.tells writing c.args.prefix.now c.args.outputs.now c.loop-output.output-index _ c.loop-output.sinks.items sink c.loop-output-test.true

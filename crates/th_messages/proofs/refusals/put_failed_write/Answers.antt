@@ -4,4 +4,4 @@ use Rattle.th_messages.proofs.refusals.put_failed_write.Goals as goal
 
 pub returns : goal.returns
 returns g c =
-    put_then _ _ _ _ _ _ _ _ _ _ (rw c.in_ok-put.was at c.put.ensures) (rw c.text_of_output.ensures at c.put-2.ensures) (omega arith)
+    put_then _ _ _ _ _ _ _ _ _ _ (rw c.in_ok-put.was at c.put.ensures) (rw c.name.ensures at c.put-2.ensures) (omega arith)

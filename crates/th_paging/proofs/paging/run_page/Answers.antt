@@ -12,8 +12,8 @@ use Rattle.th_reviewing.specs.Reviewed.{AreReviewsOf}
 use Rattle.th_run_parts.specs.Writes.{AreWritten, IsFailedWrite, Texts}
 use Rattle.th_reviewing.specs.declared.reviews.ReviewReader.{ReviewReader}
 use Rattle.th_run_parts.specs.declared.refusals.Input.TheVariants as input
-use Rattle.th_run_parts.specs.declared.refusals.Output.{Output}
-use Rattle.th_run_parts.specs.declared.refusals.Output.TheVariants as output
+use Rattle.th_run_parts.specs.declared.outputs.Output.{Output}
+use Rattle.th_run_parts.specs.declared.outputs.Output.TheVariants as output
 use Rattle.th_reviewing.proofs.ReviewLemmas.{AreAllRead, all_read, all_stationed, as_many, reviews_of_all}
 use Rattle.th_run_parts.proofs.RunLemmas.{begun_of, named_of, network_refused, network_within, survey_begun, survey_refused, written_within}
 use Rattle.th_run_parts.proofs.SourceLemmas.{all_before}

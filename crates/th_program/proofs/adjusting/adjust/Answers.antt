@@ -14,10 +14,11 @@ use Rattle.th_program.proofs.PlaceLemmas.{apart_map, finished_given, others_give
 use Rattle.th_program.specs.Done.{IsAdjusted}
 use Rattle.th_program.specs.Failing.{HasCause, IsInFiles}
 use Rattle.th_files.specs.Opened.{AreMade, AreOpened}
-use Rattle.th_files.specs.Outputs.{ending_of, spots_of}
+use Rattle.th_files.specs.Outputs.{spots_of}
 use Rattle.th_files.specs.Owed.{survey_owed}
 use Rattle.th_runs.specs.Adjusted.{AreOfAdjustment, adjusting}
 use Rattle.th_run_parts.specs.Inputs.{IsOwed, Owed}
+use Rattle.th_run_parts.specs.Outputs.{ending_of}
 use Rattle.th_run_parts.specs.Reads.{refused}
 use Rattle.th_run_parts.specs.Writes.{Texts, UnlessWrite}
 use Rattle.th_program.proofs.adjusting.adjust.Goals as goal

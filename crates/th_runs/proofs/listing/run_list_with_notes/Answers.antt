@@ -1,8 +1,8 @@
 use Rattle.std.proofs.Common.{◌≡◌, ◌+◌, ◌∙◌, ◌∷◌, [], ℕ, Err, List, ap, rules, subst, arith}
 use Rattle.th_report.specs.Lists.{list_text}
 use Rattle.th_run_parts.specs.declared.refusals.Input.TheVariants as input
-use Rattle.th_run_parts.specs.declared.refusals.Output.{Output}
-use Rattle.th_run_parts.specs.declared.refusals.Output.TheVariants as output
+use Rattle.th_run_parts.specs.declared.outputs.Output.{Output}
+use Rattle.th_run_parts.specs.declared.outputs.Output.TheVariants as output
 use Rattle.th_run_parts.specs.Reads.{outputs_place, refused}
 use Rattle.th_run_parts.specs.Writes.{AreWritten, Texts}
 use Rattle.th_runs.proofs.NoteLemmas.{always, list_noted}

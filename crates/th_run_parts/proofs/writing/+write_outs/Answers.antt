@@ -1,6 +1,6 @@
 use Rattle.std.proofs.Common.{◌≡◌, Err, rules}
 use Rattle.th_run_parts.proofs.OutputLemmas.{failed_later, first_failed, writable_later}
-use Rattle.th_run_parts.proofs.outputs.+write_outs.Goals as goal
+use Rattle.th_run_parts.proofs.writing.+write_outs.Goals as goal
 
 pub returns-in_err-write_out-clause-written : goal.returns-in_err-write_out-clause-written
 returns-in_err-write_out-clause-written g t c =
