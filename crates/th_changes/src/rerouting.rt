@@ -20,7 +20,7 @@ use crate::slopes::Sloped;
 use std::alloc::{AllocError, Global};
 use th_circulation::BestHeights;
 use th_network::{Link, Network};
-use th_paths::ResidualArc;
+use th_tree::ResidualArc;
 
 /// Flows of a network, and a walk round which an amount is being sent.
 #[derive(Drop)]

@@ -1,4 +1,4 @@
-use crate::balls::{Ground, Way};
+use crate::grounds::{Ground, Way};
 use crate::heaps::{Heap, Open};
 use crate::reached::Reached;
 use std::alloc::{AllocError, Global};

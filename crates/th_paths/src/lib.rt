@@ -1,28 +1,27 @@
 //! Nothing here is promised but that it returns.
 //!
-//! A guide for showing that a number of a survey explains nothing. A number has links, whose ends at
-//! one vertex are parted from it. If the number is freed, what flows through it has to flow some other
-//! way. The guide proposes closed walks through those ends, along arcs that have room, by which so much
-//! is sent back, and more, that the rest shows it. Whoever takes a proposal checks it: a wrong one
-//! costs time, and nothing else.
-//!
-//! If a number is to be freed altogether, the guide proposes walks that send back just what flows through
-//! it, along shortest paths, and the heights at which the flows before and behind are best.
+//! Paths by which flow through a number of a survey can go some other way. A number has links, whose ends
+//! at one vertex, the base, are parted from it: a spare vertex has them instead. Each path along arcs that
+//! have room, from the base to the spare vertex or back, is such a way.
 //!
 //! The lengths of links are the sizes of their residuals at heights at which the flows are best: what
 //! a unit costs that is sent along an arc with room. No arithmetic wraps. Where a number leaves its
-//! range, or a row has no such place, a call answers `None`. `Guide::new` makes all rows.
+//! range, or a row has no such place, a call answers `None`. `new` makes all rows.
 #![tactic(auto)]
 
-// The links, and those of a number.
+// The links, those of a number, and the network from which these are parted.
 mod groups;
 mod links;
+mod parted;
 mod sides;
+
+// What all searches go by, and the vertices that they reached.
+mod grounds;
+mod heaps;
+mod reached;
 
 // A search from two ends until they meet.
 mod balls;
-mod heaps;
-mod reached;
 mod searches;
 
 // Paths over one vertex.
@@ -32,10 +31,9 @@ mod neighbours;
 mod fronts;
 mod lifting;
 
-// Walks, and how much is sent along them.
-mod guide;
-
 pub use groups::{End, Group};
-pub use guide::{Freeing, Guide, Walk};
+pub use lifting::Lifting;
 pub use links::Link;
-pub use th_tree::ResidualArc;
+pub use neighbours::{Neighbours, Pair, Wanted};
+pub use parted::Parted;
+pub use searches::{Bounds, Search};

@@ -1,5 +1,6 @@
-use crate::balls::{Ground, Way};
 use crate::fronts::{Front, Meeting};
+use crate::grounds::{Ground, Way};
+use crate::parted::Parted;
 use crate::reached::{Course, Reached, trace};
 use std::alloc::{AllocError, Global};
 use th_tree::ResidualArc;
@@ -7,13 +8,11 @@ use th_tree::ResidualArc;
 /// Shortest paths, with heights that are lifted after each search: then what goes along the path is a best
 /// flow at these heights.
 #[derive(Drop)]
-pub(crate) struct Lifting {
+pub struct Lifting {
     /// The heights of the vertices.
-    pub heights: Vec<i64>,
+    heights: Vec<i64>,
     out: Front,
     into: Front,
-    /// The path that was found last.
-    pub path: Vec<ResidualArc>,
 }
 
 impl Lifting {
@@ -23,13 +22,32 @@ impl Lifting {
             heights: vec![in alloc; 0i64; vertices]?,
             out: Front::new(alloc, Way::Out, vertices, links)?,
             into: Front::new(alloc, Way::In, vertices, links)?,
-            path: Vec::with_capacity(alloc, vertices.saturating_mul(2))?,
         })
     }
 
-    /// Finds a shortest path from both of its ends. Lifts what is near its start, and lowers what is near
-    /// its end. Returns its length.
-    pub fn run(&mut self, ground: Ground, from: u32, to: u32) -> Option<u64> {
+    /// Begins at these heights of the vertices, with the spare vertex as high as the base.
+    pub fn begin(&mut self, network: &Parted, heights: &[i64]) -> Option<()> {
+        copy(&mut self.heights, heights);
+        let height = *heights.get(network.base() as usize)?;
+        *self.heights.get_mut(network.spare() as usize)? = height;
+        Some(())
+    }
+
+    /// Writes the heights that it has come to into a row.
+    pub fn tell_heights(&self, row: &mut [i64]) {
+        copy(row, &self.heights);
+    }
+
+    /// Finds a shortest path from both of its ends, as far as it has room for arcs. Lifts what is near its
+    /// start, and lowers what is near its end. Returns its length.
+    pub fn run(
+        &mut self,
+        path: &mut Vec<ResidualArc>,
+        network: &Parted,
+        from: u32,
+        to: u32,
+    ) -> Option<u64> {
+        let ground = network.ground(0);
         self.out.begin(from)?;
         self.into.begin(to)?;
         let Meeting { vertex, distance } = self.meet(ground)?;
@@ -38,13 +56,7 @@ impl Lifting {
             middle: vertex,
             to,
         };
-        trace(
-            &mut self.path,
-            ground,
-            &self.out.reached,
-            &self.into.reached,
-            course,
-        )?;
+        trace(path, ground, &self.out.reached, &self.into.reached, course)?;
         let near = self.out.radius().min(distance);
         raise(&mut self.heights, &self.out.reached, near, 1)?;
         raise(&mut self.heights, &self.into.reached, distance - near, -1)?;
@@ -71,6 +83,13 @@ impl Lifting {
             return None;
         }
         Some(best)
+    }
+}
+
+/// Copies heights into a row that is as long.
+fn copy(row: &mut [i64], heights: &[i64]) {
+    for (own, height) in row.iter_mut().zip(heights) {
+        *own = *height;
     }
 }
 

@@ -1,5 +1,6 @@
-use crate::balls::Ground;
+use crate::grounds::Ground;
 use crate::groups::Group;
+use crate::parted::Parted;
 use crate::sides::Side;
 use std::alloc::{AllocError, Global};
 use th_tree::ResidualArc;
@@ -29,7 +30,7 @@ const NONE: Look = Look {
 /// Paths over one vertex: a link of a number, and another link of the same two vertices. They are looked for on
 /// both sides of the place where the number's links begin.
 #[derive(Drop)]
-pub(crate) struct Neighbours {
+pub struct Neighbours {
     looks: Vec<Look>,
     turn: u64,
     /// The links of the number to look at next, and the one behind its last.
@@ -44,7 +45,7 @@ pub(crate) struct Neighbours {
 
 /// A path over one vertex, from the base to the spare vertex.
 #[derive(Clone, Copy)]
-pub(crate) struct Pair {
+pub struct Pair {
     /// From the base to the vertex.
     pub there: ResidualArc,
     /// On to the spare vertex.
@@ -61,11 +62,12 @@ impl Pair {
     }
 }
 
-/// Which way flow goes along such paths, and the greatest length of a link.
+/// Which of such paths are looked for.
 #[derive(Clone, Copy)]
-pub(crate) struct Wanted {
-    /// Whether it goes from the spare vertex to the base.
+pub struct Wanted {
+    /// Whether flow goes along them from the spare vertex to the base.
     pub is_back: bool,
+    /// The greatest length of a link.
     pub most: u64,
 }
 
@@ -83,9 +85,9 @@ impl Neighbours {
         })
     }
 
-    /// Begins with the first link of a number.
-    pub fn begin(&mut self, group: Group) -> Option<()> {
-        let (start, end) = match group {
+    /// Begins with the first link of the number whose ends are parted.
+    pub fn begin(&mut self, network: &Parted) -> Option<()> {
+        let (start, end) = match network.group() {
             Group::Tails { start, end } => (start, end),
             Group::Marked => (0, 0),
         };
@@ -103,7 +105,8 @@ impl Neighbours {
     }
 
     /// The next path, or the same one again if both of its links still have room.
-    pub fn next(&mut self, ground: Ground, wanted: Wanted) -> Option<Pair> {
+    pub fn next(&mut self, network: &Parted, wanted: Wanted) -> Option<Pair> {
+        let ground = network.ground(0);
         for _ in 0..MOST_LOOKS {
             self.left = self.left.checked_sub(1)?;
             let place = self.place()?;

@@ -1,4 +1,4 @@
-use crate::balls::Ground;
+use crate::grounds::Ground;
 use std::alloc::{AllocError, Global};
 use th_tree::{ResidualArc, push_if_room};
 

@@ -1,15 +1,26 @@
-use crate::balls::{Ball, Ground, Way};
+use crate::balls::Ball;
+use crate::grounds::{Ground, Way};
+use crate::parted::Parted;
 use crate::reached::{Course, trace};
 use std::alloc::{AllocError, Global};
 use th_tree::ResidualArc;
 
+/// Which paths a search looks for.
+#[derive(Clone, Copy)]
+pub struct Bounds {
+    /// The first path that is found is taken if it is no longer than this.
+    pub good: u64,
+    /// No path is longer than this.
+    pub far: u64,
+    /// What each link counts more than its length.
+    pub toll: u64,
+}
+
 /// A search for a short path, from both of its ends.
 #[derive(Drop)]
-pub(crate) struct Search {
+pub struct Search {
     out: Ball,
     into: Ball,
-    /// The path that was found.
-    pub path: Vec<ResidualArc>,
 }
 
 /// Where two balls meet.
@@ -25,40 +36,40 @@ impl Search {
         Ok(Search {
             out: Ball::new(alloc, Way::Out, vertices)?,
             into: Ball::new(alloc, Way::In, vertices)?,
-            path: Vec::with_capacity(alloc, vertices.saturating_mul(2))?,
         })
     }
 
-    /// Finds a path from one vertex to another. The first that is found is taken if it is no longer
-    /// than `good`; none is longer than `far`.
-    pub fn run(&mut self, ground: Ground, from: u32, to: u32, good: u64, far: u64) -> Option<()> {
+    /// Finds a path from one vertex to another, as far as it has room for arcs.
+    pub fn run(
+        &mut self,
+        path: &mut Vec<ResidualArc>,
+        network: &Parted,
+        from: u32,
+        to: u32,
+        bounds: Bounds,
+    ) -> Option<()> {
+        let ground = network.ground(bounds.toll);
         self.out.clear();
         self.into.clear();
         self.out.begin(ground, from)?;
         self.into.begin(ground, to)?;
-        let vertex = self.meet(ground, good, far)?;
+        let vertex = self.meet(ground, bounds)?;
         let course = Course {
             from,
             middle: vertex,
             to,
         };
-        trace(
-            &mut self.path,
-            ground,
-            &self.out.reached,
-            &self.into.reached,
-            course,
-        )
+        trace(path, ground, &self.out.reached, &self.into.reached, course)
     }
 
     /// The vertex where the two balls meet.
-    fn meet(&mut self, ground: Ground, good: u64, far: u64) -> Option<u32> {
+    fn meet(&mut self, ground: Ground, bounds: Bounds) -> Option<u32> {
         let mut best: Option<Meeting> = None;
         for _ in 0..u32::MAX {
             let most = match best {
-                Some(meeting) if meeting.distance <= good => break,
-                Some(meeting) => far.min(meeting.distance),
-                None => far,
+                Some(meeting) if meeting.distance <= bounds.good => break,
+                Some(meeting) => bounds.far.min(meeting.distance),
+                None => bounds.far,
             };
             let (Some(out), Some(into)) = (self.out.radius(), self.into.radius()) else {
                 break;

@@ -1,11 +1,6 @@
-use crate::balls::Ground;
-use crate::groups::{End, Ends, Group};
-use crate::lifting::Lifting;
-use crate::links::Link;
-use crate::neighbours::{Neighbours, Pair, Wanted};
-use crate::searches::Search;
-use crate::sides::{Side, Sides};
+use crate::sums::Sum;
 use std::alloc::{AllocError, Global};
+use th_paths::{Bounds, End, Group, Lifting, Link, Neighbours, Pair, Parted, Search, Wanted};
 use th_tree::{ResidualArc, push_if_room};
 
 /// How many walks a proposal has at most.
@@ -22,10 +17,6 @@ const TOLL: u64 = 16;
 
 const FINE_TOLL: u64 = 128;
 
-/// How many ends a number has at most whose sides are listed. The sides of one with more are looked for among
-/// those of its vertex.
-const MOST_OWN: usize = 64;
-
 /// A closed walk, and how much is to be sent round it.
 #[derive(Clone, Copy)]
 pub struct Walk {
@@ -33,41 +24,6 @@ pub struct Walk {
     /// Where its arcs begin and end among those of the proposal.
     start: usize,
     end: usize,
-}
-
-/// What a proposal comes to so far.
-#[derive(Clone, Copy)]
-struct Sum {
-    /// What goes through the number.
-    need: u64,
-    /// How much is sent back, and what that costs.
-    sent: u64,
-    cost: u64,
-}
-
-impl Sum {
-    /// Adds what is sent along a path of this length.
-    fn add(&mut self, amount: u64, length: u64) -> Option<()> {
-        self.sent = self.sent.checked_add(amount)?;
-        self.cost = self.cost.checked_add(amount.checked_mul(length)?)?;
-        Some(())
-    }
-
-    /// What is still missing: the cost above what a limit allows for all that is sent beyond the need.
-    fn due(&self, limit: u64) -> Option<u64> {
-        let allowed = limit.checked_mul(self.sent)?;
-        let all = limit.checked_mul(self.need)?.checked_add(self.cost)?;
-        Some(all.saturating_sub(allowed))
-    }
-
-    /// How much is to be sent along a path of this length for nothing to be missing.
-    fn wanted(&self, limit: u64, length: u64) -> Option<u64> {
-        let gain = limit.checked_sub(length)?;
-        if gain == 0 {
-            return None;
-        }
-        Some(self.due(limit)?.div_ceil(gain))
-    }
 }
 
 /// Flows without net through a number, those before and behind, and how far the number changes for them.
@@ -85,22 +41,18 @@ pub struct Freeing {
 /// What proposes walks. Nothing is promised of the proposals.
 #[derive(Drop)]
 pub struct Guide {
-    links: Vec<Link>,
-    sides: Sides,
-    ends: Ends,
-    /// The sides of the ends that a number has, the shortest first, if they are few.
-    own: Vec<Side>,
+    /// The network, from which the ends of a number are parted.
+    network: Parted,
     neighbours: Neighbours,
     search: Search,
     lifting: Lifting,
+    /// The path that was found last.
+    path: Vec<ResidualArc>,
     /// The heights of the vertices at which the flows are best; and those at which the flows before and behind
     /// a number that is freed are.
     heights: Vec<i64>,
     near: Vec<i64>,
     far: Vec<i64>,
-    /// The vertex from which ends are parted, and the one that they have.
-    base: u32,
-    spare: u32,
     walks: Vec<Walk>,
     arcs: Vec<ResidualArc>,
 }
@@ -110,18 +62,14 @@ impl Guide {
     pub fn new(alloc: Global, vertices: u32, links: usize) -> Result<Guide, AllocError> {
         let all = (vertices as usize).saturating_add(1);
         Ok(Guide {
-            links: vec![in alloc; Link::NONE; links]?,
-            sides: Sides::new(alloc, vertices, links)?,
-            ends: Ends::new(alloc, links)?,
-            own: Vec::with_capacity(alloc, MOST_OWN)?,
+            network: Parted::new(alloc, vertices, links)?,
             neighbours: Neighbours::new(alloc, all)?,
             search: Search::new(alloc, all)?,
             lifting: Lifting::new(alloc, all, links)?,
+            path: Vec::with_capacity(alloc, all.saturating_mul(2))?,
             heights: vec![in alloc; 0i64; all]?,
             near: vec![in alloc; 0i64; all]?,
             far: vec![in alloc; 0i64; all]?,
-            base: 0,
-            spare: vertices,
             walks: Vec::with_capacity(alloc, MOST_FREEING)?,
             arcs: Vec::with_capacity(alloc, LEAST_ARCS.max(all.saturating_mul(MOST_WALKS)))?,
         })
@@ -129,9 +77,7 @@ impl Guide {
 
     /// Sets the link at a place, from 0.
     pub fn set_link(&mut self, place: usize, link: Link) {
-        if let Some(row) = self.links.get_mut(place) {
-            *row = link;
-        }
+        self.network.set_link(place, link);
     }
 
     /// Sets the height of a vertex.
@@ -143,12 +89,12 @@ impl Guide {
 
     /// Begins with the links and heights that were set.
     pub fn start(&mut self) -> Option<()> {
-        self.sides.list(&self.links)
+        self.network.start()
     }
 
     /// Marks an end of the link at a place, or none.
     pub fn mark(&mut self, place: usize, end: Option<End>) {
-        self.ends.mark(place, end);
+        self.network.mark(place, end);
     }
 
     /// Proposes walks for a number with these ends, which are those of one vertex, from which `need`
@@ -179,9 +125,7 @@ impl Guide {
     /// Proposes walks that free a number, along shortest paths.
     pub fn free(&mut self, group: Group, base: u32, need: i64) -> Option<Freeing> {
         self.begin(group, base)?;
-        copy(&mut self.lifting.heights, &self.heights);
-        let height = *self.heights.get(base as usize)?;
-        *self.lifting.heights.get_mut(self.spare as usize)? = height;
+        self.lifting.begin(&self.network, &self.heights)?;
         let found = self.send_all(need);
         let undone = self.undo();
         undone.and(found)
@@ -209,7 +153,7 @@ impl Guide {
 
     /// The vertex of the number for which walks were proposed last. All of them begin and end there.
     pub fn base(&self) -> u32 {
-        self.base
+        self.network.base()
     }
 
     /// The arcs of a walk, in the order in which they lead round.
@@ -219,40 +163,13 @@ impl Guide {
 
     /// Begins a proposal for a number with these ends.
     fn begin(&mut self, group: Group, base: u32) -> Option<()> {
-        self.ends.group = group;
-        self.base = base;
         self.walks.clear();
         self.arcs.clear();
-        self.own.clear();
-        if let Group::Tails { start, end } = group
-            && end.saturating_sub(start) <= MOST_OWN
-        {
-            for place in start..end {
-                self.list_own(place)?;
-            }
-            self.own.sort_unstable_by_key(|side| side.length);
-        }
-        Some(())
-    }
-
-    /// Lists the side of a number's end at the tail of a link.
-    fn list_own(&mut self, place: usize) -> Option<()> {
-        let link = self.links.get(place)?;
-        let arc = ResidualArc::along(u32::try_from(place).ok()?)?;
-        let side = Side {
-            other: link.head,
-            arc,
-            length: link.length,
-        };
-        push_if_room(&mut self.own, side)
+        self.network.part(group, base)
     }
 
     fn gather(&mut self, need: i64, limit: u64) -> Option<()> {
-        let mut sum = Sum {
-            need: need.unsigned_abs(),
-            sent: 0,
-            cost: 0,
-        };
+        let mut sum = Sum::of(need);
         if self.go_over_neighbours(need, limit, &mut sum)? {
             return Some(());
         }
@@ -273,7 +190,7 @@ impl Guide {
     /// Sends flow back over the vertices at the other ends of the number's links. Returns whether nothing is
     /// missing then.
     fn go_over_neighbours(&mut self, need: i64, limit: u64, sum: &mut Sum) -> Option<bool> {
-        self.neighbours.begin(self.ends.group)?;
+        self.neighbours.begin(&self.network)?;
         for _ in 0..MOST_FREEING / 2 {
             let Some(pair) = self.next_pair(need, limit / 4) else {
                 return Some(false);
@@ -295,25 +212,16 @@ impl Guide {
 
     /// The next path over a neighbour.
     fn next_pair(&mut self, need: i64, most: u64) -> Option<Pair> {
-        let ground = Ground {
-            links: &self.links,
-            sides: &self.sides,
-            ends: &self.ends,
-            base: self.base,
-            spare: self.spare,
-            own: &self.own,
-            toll: 0,
-        };
         let wanted = Wanted {
             is_back: need < 0,
             most,
         };
-        self.neighbours.next(ground, wanted)
+        self.neighbours.next(&self.network, wanted)
     }
 
     /// Takes a path over a neighbour as the one to send flow along.
     fn take(&mut self, pair: Pair, need: i64) -> Option<()> {
-        let path = &mut self.search.path;
+        let path = &mut self.path;
         path.clear();
         if need > 0 {
             push_if_room(path, pair.there)?;
@@ -361,7 +269,7 @@ impl Guide {
     /// Sends the rest back along a path that has room for it, and then some more.
     fn turn(&mut self, need: i64, left: u64, room: u64, near: u64) -> Option<Freeing> {
         let before = self.walks.len();
-        copy(&mut self.near, &self.lifting.heights);
+        self.lifting.tell_heights(&mut self.near);
         self.send(left)?;
         let mut far = near;
         let mut more = room.checked_sub(left)?;
@@ -369,7 +277,7 @@ impl Guide {
             far = far.checked_add(self.find_shortest(need)?)?;
             more = self.room()?;
         }
-        copy(&mut self.far, &self.lifting.heights);
+        self.lifting.tell_heights(&mut self.far);
         self.send(more)?;
         Some(Freeing { before, near, far })
     }
@@ -378,73 +286,51 @@ impl Guide {
     /// one before.
     fn find_shortest(&mut self, need: i64) -> Option<u64> {
         let (from, to) = self.course(need);
-        let ground = Ground {
-            links: &self.links,
-            sides: &self.sides,
-            ends: &self.ends,
-            base: self.base,
-            spare: self.spare,
-            own: &self.own,
-            toll: 0,
-        };
-        let more = self.lifting.run(ground, from, to)?;
-        copy_path(&mut self.search.path, &self.lifting.path)?;
-        Some(more)
+        self.lifting.run(&mut self.path, &self.network, from, to)
     }
 
     /// From where to where what flows through the number is sent back.
     fn course(&self, need: i64) -> (u32, u32) {
         if need > 0 {
-            (self.base, self.spare)
+            (self.network.base(), self.network.spare())
         } else {
-            (self.spare, self.base)
+            (self.network.spare(), self.network.base())
         }
     }
 
     /// Finds a path from the base to the spare vertex, or back.
     fn find(&mut self, need: i64, good: u64, far: u64, toll: u64) -> Option<()> {
         let (from, to) = self.course(need);
-        let ground = Ground {
-            links: &self.links,
-            sides: &self.sides,
-            ends: &self.ends,
-            base: self.base,
-            spare: self.spare,
-            own: &self.own,
+        let bounds = Bounds {
+            good,
+            far,
             toll: good.checked_div(toll)?,
         };
-        self.search.run(ground, from, to, good, far)
+        self.search
+            .run(&mut self.path, &self.network, from, to, bounds)
     }
 
     /// How long the path is.
     fn length(&self) -> Option<u64> {
-        let mut length = 0u64;
-        for arc in &self.search.path {
-            length = length.checked_add(self.links.get(arc.row())?.length)?;
-        }
-        Some(length)
+        self.network.length(&self.path)
     }
 
     /// How much can flow along the path.
     fn room(&self) -> Option<u64> {
-        let mut room = u64::MAX;
-        for arc in &self.search.path {
-            room = room.min(self.links.get(arc.row())?.room(*arc)?);
-        }
-        Some(room)
+        self.network.room(&self.path)
     }
 
     /// Sends so much along the path, and adds the walk.
     fn send(&mut self, amount: u64) -> Option<()> {
         let amount = u32::try_from(amount).ok()?;
         let start = self.arcs.len();
-        let end = start.checked_add(self.search.path.len())?;
+        let end = start.checked_add(self.path.len())?;
         if end > self.arcs.capacity() {
             return None;
         }
-        for arc in &self.search.path {
+        for arc in &self.path {
             push_if_room(&mut self.arcs, *arc)?;
-            self.links.get_mut(arc.row())?.send(*arc, amount)?;
+            self.network.send(*arc, amount)?;
         }
         push_if_room(&mut self.walks, Walk { amount, start, end })
     }
@@ -453,26 +339,9 @@ impl Guide {
     fn undo(&mut self) -> Option<()> {
         for walk in &self.walks {
             for arc in self.arcs.get(walk.start..walk.end)? {
-                let link = self.links.get_mut(arc.row())?;
-                link.send(arc.reversed(), walk.amount)?;
+                self.network.send(arc.reversed(), walk.amount)?;
             }
         }
         Some(())
     }
-}
-
-/// Copies heights into a row that is as long.
-fn copy(row: &mut [i64], heights: &[i64]) {
-    for (own, height) in row.iter_mut().zip(heights) {
-        *own = *height;
-    }
-}
-
-/// Copies a path.
-fn copy_path(path: &mut Vec<ResidualArc>, other: &[ResidualArc]) -> Option<()> {
-    path.clear();
-    for arc in other {
-        push_if_room(path, *arc)?;
-    }
-    Some(())
 }
