@@ -1,3 +1,4 @@
+//! A network of the most points and observations: its texts, its best heights and its flows.
 ghost use Rattle.std.specs.Prelude.{◌<◌, unsigned_abs};
 ghost use Rattle.th_network.specs.Limits.{max_points};
 

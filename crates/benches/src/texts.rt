@@ -1,3 +1,4 @@
+//! The texts of a book and its tables, and the network that they give.
 use anyhow::{Result, anyhow};
 use std::alloc::Global;
 use std::fs;

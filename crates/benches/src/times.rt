@@ -1,3 +1,4 @@
+//! Times of steps: a watch, the least of repeated times, and the lines that are printed of them.
 use anyhow::Result;
 use std::rt::Clock;
 use std::time::{Duration, Instant};

@@ -1,3 +1,4 @@
+//! Heights and flows tested against a network, and the text of the certificate that they give.
 ghost use Rattle.std.specs.Prelude.{◌≡◌, ◌≤◌, All, IfOk, length, unsigned_abs};
 ghost use Rattle.th_network.specs.Networks.{AreAtPoints, AreOfObservations};
 

@@ -1,3 +1,4 @@
+//! The words of a line as a block: 1 to `MAX_WORDS` of them, all of one width.
 ghost use Rattle.std.specs.Prelude.{◌≡◌, ◌↔◌, ◌<◌, ◌≤◌, IsTrue, IsNone, IfSome, length, map};
 ghost use Rattle.gsi_word.specs.Words.{parts_of};
 ghost use Rattle.gsi_block.specs.Limits.{max_words};

@@ -1,3 +1,4 @@
+//! The lines of a text that is given whole, which borrow from it.
 ghost use Rattle.std.specs.Prelude.{◌≡◌, ◌<◌, length, IfSome};
 ghost use Rattle.gsi_block.specs.Lines.{lines_of, due, GivesNext};
 

@@ -1,3 +1,4 @@
+//! Where a line ends, and which bytes belong to its end: CR LF, CR or LF.
 ghost use Rattle.std.specs.Prelude.{◌≡◌, ◌≤◌, length};
 ghost use Rattle.std.specs.List.{prefix_len};
 ghost use Rattle.gsi_block.specs.Lines.{is_in_line};

@@ -1,3 +1,4 @@
+//! Why a line is refused as a block, and the text of each fault.
 use gsi_word::WordFault;
 use std::error::Error;
 use std::fmt;

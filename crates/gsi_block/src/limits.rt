@@ -1,3 +1,4 @@
+//! How many bytes of a line are read, kept or written at most, and how many words a block has.
 use gsi_word::MAX_WORD;
 
 /// The most bytes that a line of a book has, without its end.

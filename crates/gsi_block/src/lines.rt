@@ -1,3 +1,4 @@
+//! The lines of a text that comes in pieces: one at a time is kept, in an array.
 ghost use Rattle.std.specs.Prelude.{◌≡◌, ◌<◌, ◌≤◌, ℕ, List, [], ◌∷◌, ◌++◌, length, take, IfSome, IsNone, IsTrue, false};
 ghost use Rattle.std.specs.List.{list_all};
 ghost use Rattle.gsi_block.specs.Lines.{is_in_line, lines_of, GivesNext};

@@ -1,3 +1,4 @@
+//! How a line is read: as the words of a block, as blank, or as a fault.
 ghost use Rattle.std.specs.Prelude.{◌≡◌, [], option_map};
 ghost use Rattle.gsi_word.specs.Words.{result_map};
 ghost use Rattle.gsi_block.specs.Blocks.{block_with, block_parts, is_blank, block_at, block_of};

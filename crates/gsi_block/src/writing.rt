@@ -1,3 +1,4 @@
+//! How a block is written as a line, appended to a vector whole or not at all.
 ghost use Rattle.std.specs.Prelude.{◌≡◌, ◌+◌, ◌*◌, ◌≤◌, ◌++◌, IsOk, OnErr, OnOk, length, map, vec_capacity, vec_len};
 ghost use Rattle.std.specs.List.{flat_map};
 ghost use Rattle.gsi_word.specs.Limits.{max_word};

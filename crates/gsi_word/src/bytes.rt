@@ -1,3 +1,4 @@
+//! Which bytes may stand where in a word: in its information, as its sign and in its data.
 ghost use Rattle.std.specs.Prelude.{◌≡◌};
 ghost use Rattle.std.specs.List.{list_all};
 ghost use Rattle.gsi_word.specs.Bytes.{is_info, is_sign, is_data};

@@ -1,3 +1,4 @@
+//! Why bytes begin with no word, or a word's data give no length, and the text of each fault.
 use std::error::Error;
 use std::fmt;
 

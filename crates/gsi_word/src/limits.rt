@@ -1,3 +1,5 @@
+//! How many bytes a name and a word have at most.
+
 /// The most bytes that a name has.
 pub const MAX_NAME: usize = 16;
 

@@ -1,3 +1,4 @@
+//! Names of points in reduced form: how data give one, and how they are compared, hashed and shown.
 ghost use Rattle.std.specs.Prelude.{◌≡◌, ◌≤◌, ◌∷◌, [], length, nat_eq, refl, true, Some};
 ghost use Rattle.std.specs.List.{list_all};
 ghost use Rattle.std.specs.Cmp.{partial_equiv_from_equiv};

@@ -1,3 +1,4 @@
+//! How a word is read from the front of bytes: index, information, sign and data, in this order.
 ghost use Rattle.std.specs.Prelude.{◌≡◌};
 ghost use Rattle.gsi_word.specs.Words.{parts_of, result_map, word_at};
 

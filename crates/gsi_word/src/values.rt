@@ -1,3 +1,4 @@
+//! The values of a word: its index of two digits, and its length in units of 10 nm.
 ghost use Rattle.std.specs.Prelude.{◌≡◌};
 ghost use Rattle.gsi_word.specs.Values.{two_digit, length_of};
 ghost use Rattle.gsi_word.specs.Words.{parts_of};

@@ -1,3 +1,4 @@
+//! The parts of a word, with data of 8 bytes (GSI-8) or 16 bytes (GSI-16).
 ghost use Rattle.std.specs.Prelude.{◌≡◌, ◌<◌, ◌==◌, ◌||◌, IsTrue, length};
 ghost use Rattle.std.specs.List.{list_all};
 ghost use Rattle.gsi_word.specs.Bytes.{is_info, is_sign, is_data};

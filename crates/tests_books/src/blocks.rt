@@ -1,3 +1,4 @@
+//! Blocks against worked rows: read from lines or refused, written, and as long as they may be.
 use arrayvec::ArrayVec;
 use gsi_block::{Block, BlockFault, Lines, read_block, read_words, write_block};
 use gsi_word::{Width, Word, WordFault};

@@ -1,3 +1,4 @@
+//! The lines of worked texts, by `LineCursor` and by `Lines`, with each text cut in every way.
 use gsi_block::{LineCursor, Lines};
 use std::alloc::{AllocError, Global};
 use std::process::Abort;

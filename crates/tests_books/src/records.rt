@@ -1,3 +1,4 @@
+//! Records read from worked texts, the texts of rows, and a long text that is written and read.
 use std::alloc::{AllocError, Global};
 use std::process::Abort;
 use std::test::Fail;

@@ -1,3 +1,4 @@
+//! Lengths from digits and a unit's code, metres written and read, and short numbers: worked rows.
 use std::process::Abort;
 use th_units::{LenFault, metre_text, parse_metres, short_number, to_len, unit_of};
 

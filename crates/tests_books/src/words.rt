@@ -1,3 +1,4 @@
+//! Names, words and their values against worked rows: what is read, which fault, what is written.
 use arrayvec::ArrayVec;
 use gsi_word::{
     LengthFault, Width, Word, WordFault, length_of, name_of, read_word, two_digit, write_word,

@@ -1,3 +1,4 @@
+//! Certificates of the worked surveys, record by record, and their texts with some records changed.
 use std::alloc::Global;
 use std::process::Abort;
 

@@ -1,3 +1,4 @@
+//! What certificates say when they are read, or which fault is named, against worked texts.
 use gsi_word::name_of;
 use std::alloc::Global;
 use std::process::Abort;

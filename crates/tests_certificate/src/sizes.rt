@@ -1,3 +1,4 @@
+//! Certificates of the largest book, of the most bytes and of many names: written, read, checked.
 use crate::reading::{certificate_of, has_fault};
 use crate::surveys::{ROUND, observations_of, verdict_on};
 use crate::writing::{Best, written};

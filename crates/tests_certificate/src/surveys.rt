@@ -1,3 +1,4 @@
+//! Worked surveys, and the line of the verdict on a certificate, or of its fault.
 use std::alloc::Global;
 use std::process::Abort;
 use th_book::read_book;

@@ -1,3 +1,4 @@
+//! Verdicts on the certificates of worked surveys: whole, with changed records, and cut short.
 use crate::certificates::{Changes, OF_FIXED, OF_NOTHING, OF_PAIR, OF_ROUND, changed};
 use crate::surveys::{
     A_AT_100, FIXED, NOTHING, PAIR, ROUND, ROUND_BOOK, Survey, answer, observations_of, verdict_on,

@@ -1,3 +1,4 @@
+//! Certificates written from worked heights and flows, compared with the records of worked surveys.
 ghost use Rattle.std.specs.Prelude.{◌<◌, ◌≤◌, All, unsigned_abs};
 ghost use Rattle.th_limits.specs.Limits.{max_weight};
 ghost use Rattle.th_network.specs.Limits.{height_limit};

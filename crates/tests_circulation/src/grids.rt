@@ -1,3 +1,4 @@
+//! The best heights of at most three vertices, found by trying all whole millimetres in reach.
 ghost use Rattle.std.specs.Prelude.{◌≤ℤ◌, pos};
 
 use th_network::Network;

@@ -1,3 +1,4 @@
+//! Proposals of the guide: that they lead to optimal flows, and that nonsense is given up.
 use crate::randoms::Random;
 use crate::towers::{Second, settled_tower};
 use std::alloc::Global;

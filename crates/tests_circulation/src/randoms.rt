@@ -1,3 +1,4 @@
+//! Numbers that look random, and books and tables that are made from them.
 ghost use Rattle.std.specs.Prelude.{◌<◌, ◌≤◌};
 
 use std::alloc::Global;

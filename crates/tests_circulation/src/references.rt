@@ -1,3 +1,4 @@
+//! A plain reference for lowest and highest heights: shortest walks over residual arcs of flows.
 use std::alloc::Global;
 use std::process::Abort;
 use th_network::Network;

@@ -1,3 +1,4 @@
+//! Settling again after a failed allocation of the search, and counting on from the largest counts.
 use crate::searches::RefusingSearch;
 use crate::surveys::{A_AT_100, LONGER, SETUP, SIGHT, joined, network_of, tables_of};
 use std::alloc::Global;

@@ -1,3 +1,4 @@
+//! Worked surveys settled over both searches: known lowest and highest heights, costs and flows.
 use crate::settling::{Outcome, cost_of, settled_over_both};
 use crate::surveys::{
     A_AT_100, BACK, LONGER, ONWARDS, SETUP, SIGHT, Survey, joined, network_of, tables_of,

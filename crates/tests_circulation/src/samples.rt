@@ -1,3 +1,4 @@
+//! Samples that look random, settled over both searches and compared with plain references.
 use crate::grids::{Best, MOST_VERTICES, best_on_grid};
 use crate::randoms::{Random, Sample};
 use crate::references::{Walk, are_lengths, shortest};

@@ -1,3 +1,4 @@
+//! Searches for tests: one that counts, one that is out of memory at a call, and strange ones.
 ghost use Rattle.std.specs.Prelude.{◌≡◌, ◌+◌, ◌<◌, ◌≤◌, ℕ, pos, ◌-ℤ◌, All, IfOk, length, unsigned_abs};
 ghost use Rattle.th_search.specs.Limits.{max_vertices, max_arcs, max_cost};
 ghost use Rattle.th_search.specs.Walks.{IsArc, IsNegativeCycle};

@@ -1,3 +1,4 @@
+//! The settling of a network over one search or both, with counts compared, and what heights cost.
 ghost use Rattle.std.specs.Prelude.{◌≤◌};
 ghost use Rattle.th_circulation.specs.Limits.{max_counted};
 

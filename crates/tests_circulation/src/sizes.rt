@@ -1,3 +1,4 @@
+//! Networks of thousands of sights, of the most points or observations, and with a span of 20 km.
 use crate::settling::{Outcome, cost_of, settled_over, settled_over_both};
 use crate::surveys::{A_AT_100, LONGER, SETUP, SIGHT, joined, network_of, tables_of};
 use std::alloc::Global;

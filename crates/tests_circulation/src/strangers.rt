@@ -1,3 +1,4 @@
+//! Settling over strange searches, compared with settling over the program's search.
 use crate::randoms::{Random, Sample};
 use crate::searches::{Manner, StrangeSearch};
 use crate::settling::{are_alike, settled_over};

@@ -1,3 +1,4 @@
+//! Parts of worked books, a table of benchmarks, and the network that a book and tables give.
 use std::alloc::Global;
 use std::process::Abort;
 use th_book::read_book;

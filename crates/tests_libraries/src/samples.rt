@@ -1,3 +1,4 @@
+//! A book of three sights, two certificates of it, and what the examples print of them.
 use crate::accepting::accepted;
 use crate::settling::least_heights;
 use gsi_word::Name;

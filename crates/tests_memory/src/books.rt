@@ -1,3 +1,4 @@
+//! A book that is read by lines and in pieces, and goes on where it was after a failed allocation.
 use gsi_block::LineCursor;
 use std::alloc::Global;
 use std::io;

@@ -1,3 +1,4 @@
+//! The settling of the network of the book, and once more after a failed allocation.
 use crate::books::BOOK;
 use std::alloc::Global;
 use std::io;

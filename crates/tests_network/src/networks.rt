@@ -1,3 +1,4 @@
+//! Networks that books and tables make, against worked ones, with their faults and their limits.
 use gsi_word::name_of;
 use std::alloc::Global;
 use std::process::Abort;

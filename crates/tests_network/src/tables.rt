@@ -1,3 +1,4 @@
+//! Tables of benchmarks and weights: the rows that are read, the faults, and tables of full size.
 use gsi_word::{Name, name_of};
 use std::alloc::Global;
 use std::process::Abort;

@@ -1,3 +1,4 @@
+//! Command lines that are no plan, against the faults and the kinds of error that answer them.
 use crate::plans::words_of;
 use clap::error::ErrorKind;
 use std::process::Abort;

@@ -1,3 +1,4 @@
+//! Command lines that are a plan, against that plan, with options in every order.
 use std::process::Abort;
 use std::test::Fail;
 use th_plans::{Inputs, Limit, Plan, plan};

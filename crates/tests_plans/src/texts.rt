@@ -1,3 +1,4 @@
+//! The texts of faults, compared whole, and those of help, searched for parts that they must have.
 use crate::faults::fault_of;
 use std::process::Abort;
 use th_plans::{PlanFault, VERSION};

@@ -1,3 +1,4 @@
+//! What wrong heights of benchmarks do, against least differences counted over all sets of points.
 use crate::entries::{Moved, Order, is_one_of};
 use crate::networks::{
     ALONE, BENCHMARKS_ALONE, BETWEEN_BENCHMARKS, BUILDING_SITE, DAM, NOTHING, RAILWAY_LINE,

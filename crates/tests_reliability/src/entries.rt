@@ -1,3 +1,4 @@
+//! What mistakes do that sights share, against least differences counted over all sets of points.
 ghost use Rattle.th_reliability.specs.Numbers.{AreControls};
 
 use crate::networks::{

@@ -1,3 +1,4 @@
+//! Small networks, their worked strengths and controls, and what a mistake in an observation moves.
 use crate::entries::{Moved, Order, is_one_of};
 use std::alloc::Global;
 use std::process::Abort;

@@ -1,3 +1,4 @@
+//! Books and tables, and the networks and heights that the tests make of them.
 ghost use Rattle.std.specs.Prelude.{◌<◌, All, unsigned_abs};
 ghost use Rattle.th_network.specs.Limits.{height_limit};
 ghost use Rattle.th_network.specs.Networks.{AreAtPoints};

@@ -1,3 +1,4 @@
+//! Residuals, blunders, opposites and costs, against worked values and over a large network.
 ghost use Rattle.std.specs.Prelude.{◌<◌, All, unsigned_abs};
 ghost use Rattle.th_blunders.specs.Residuals.{residual_limit};
 

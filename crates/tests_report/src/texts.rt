@@ -1,3 +1,4 @@
+//! The heights file, the GSI file and the report, against worked texts and over a large network.
 use crate::networks::{
     AT_A, THERE_AND_BACK, THREE_SIGHTS, heights_at, long_book, network_of, tables_of,
 };

@@ -1,3 +1,4 @@
+//! A search by levels: potentials where a level is as the one below, or else a negative cycle.
 ghost use Rattle.std.specs.Prelude.{◌≡◌, ◌≢◌, ◌+◌, ◌<◌, ◌≤◌, All, IfOk, None, drop, length, reverse};
 ghost use Rattle.th_search.specs.Walks.{IsArc, IsNegativeCycle};
 ghost use Rattle.th_search.specs.Answers.{IsAnswer};

@@ -1,3 +1,4 @@
+//! The levels of the table: least costs of walks over at most so many arcs, and their last arcs.
 ghost use Rattle.std.specs.Prelude.{◌≡◌, ◌≢◌, ◌<◌, ◌≤◌, ℕ, All, IfOk, IfSome, None, Some, length, pos, slice_set, unsigned_abs};
 ghost use Rattle.th_search.specs.Limits.{farthest, max_arcs, max_vertices};
 ghost use Rattle.th_search.specs.Potentials.{value_at};

@@ -1,3 +1,4 @@
+//! Blunders: which residuals are above a limit in size, and how many there are.
 ghost use Rattle.std.specs.Prelude.{◌≡◌, ◌<◌, ◌≤◌, All, IfOk, count_by, length, unsigned_abs};
 ghost use Rattle.th_network.specs.Limits.{max_observations};
 ghost use Rattle.th_blunders.specs.Blunders.{blunders as blunders_of, is_blunder};

@@ -1,3 +1,4 @@
+//! What residuals cost over the weights of a network's observations.
 ghost use Rattle.std.specs.Prelude.{◌≡◌, ◌<◌, ◌*◌, ℕ, ℤ, List, All, length, sum_by, unsigned_abs};
 ghost use Rattle.std.specs.List.{zip};
 ghost use Rattle.th_blunders.specs.Residuals.{residual_limit, residuals as residuals_of};

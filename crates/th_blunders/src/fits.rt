@@ -1,3 +1,4 @@
+//! How heights fit a network: the residuals that they leave, and what these cost.
 ghost use Rattle.std.specs.Prelude.{IfOk};
 ghost use Rattle.th_network.specs.Networks.{AreAtPoints, at_points_of};
 ghost use Rattle.th_blunders.specs.Fits.{IsFit};

@@ -1,3 +1,4 @@
+//! Observations that were repeated with their ends exchanged, and how far the two disagree.
 ghost use Rattle.std.specs.Prelude.{◌≡◌, ◌≤◌, ℕ, List, IfOk, IfSome, OnOk, Some, length, option_map, unsigned_abs, if◌then◌else◌};
 ghost use Rattle.indexmap.specs.IndexMap.{get};
 ghost use Rattle.gsi_word.specs.Names.{same_pair};

@@ -1,3 +1,4 @@
+//! Observed differences less the differences of heights, in units of 10 nm.
 ghost use Rattle.std.specs.Prelude.{◌≡◌, ◌<◌, ◌≤◌, ◌-ℤ◌, All, IfOk, length, unsigned_abs};
 ghost use Rattle.th_network.specs.Heights.{heights_at};
 ghost use Rattle.th_network.specs.Limits.{height_limit};

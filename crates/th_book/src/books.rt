@@ -1,3 +1,4 @@
+//! Books by their lines, which are given one by one or as the bytes of a whole book.
 ghost use Rattle.std.specs.Prelude.{◌≡◌, ◌≢◌, ◌<◌, ◌≤◌, ◌+◌, [], List, ℕ, None, Some, length, map, take, IfErr, IfOk, OnErr, OnOk};
 ghost use Rattle.gsi_block.specs.Lines.{lines_of};
 ghost use Rattle.gsi_word.specs.Words.{parts_of, result_map};

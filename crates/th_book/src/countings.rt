@@ -1,3 +1,4 @@
+//! The counting words of a block: which it has, whether one is repeated, and defects of lengths.
 ghost use Rattle.std.specs.Prelude.{◌≡◌, ◌↔◌, IsTrue, map};
 ghost use Rattle.gsi_word.specs.Words.{parts_of};
 

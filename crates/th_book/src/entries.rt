@@ -1,3 +1,4 @@
+//! What a block enters into its book, by its counting words, or why it is refused.
 ghost use Rattle.std.specs.Prelude.{◌≡◌, ◌||◌, true, None, Some, map, option_and_then, IfErr, IfOk};
 ghost use Rattle.std.specs.Result.{result_err, result_ok};
 ghost use Rattle.gsi_word.specs.Words.{parts_of};

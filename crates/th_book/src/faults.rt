@@ -1,3 +1,4 @@
+//! The faults of a book, B1 to B12, and an allocation failure, with their texts.
 use gsi_block::BlockFault;
 use std::error::Error;
 use std::fmt;

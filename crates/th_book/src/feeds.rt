@@ -1,3 +1,4 @@
+//! Books by pieces of their bytes, which may end anywhere in a line.
 ghost use Rattle.std.specs.Prelude.{◌≡◌, ◌≢◌, ◌<◌, ◌≤◌, ◌+◌, ◌++◌, [], List, ℕ, None, drop, length, take, IfErr, IfOk, IfSome, IsErr, OnErr, OnOk, OnSome};
 ghost use Rattle.gsi_block.specs.Pieces.{lines_due};
 ghost use Rattle.th_book.specs.Books.{book_answer, parsed_of, too_long};

@@ -1,3 +1,4 @@
+//! The running setup with its last heights, and the sights that are taken from it.
 ghost use Rattle.std.specs.Prelude.{◌≡◌, ◌≢◌, ◌≤◌, ℕ, IfOk, unsigned_abs};
 ghost use Rattle.th_observations.specs.Observed.{largest_difference};
 

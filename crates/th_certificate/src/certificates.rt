@@ -1,3 +1,4 @@
+//! What a certificate holds: heights, in version 2 also lowest and highest ones, flows and a cost.
 ghost use Rattle.std.specs.Prelude.{◌≡◌, ◌<◌, ◌⊎◌};
 ghost use Rattle.std.specs.Option.{option_copied};
 ghost use Rattle.th_certificate.specs.Certified.{AreFlows, IsOfVersion, cost_limit};

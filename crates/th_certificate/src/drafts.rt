@@ -1,3 +1,4 @@
+//! A certificate while its records are read: what was stated, and what the next record may state.
 ghost use Rattle.std.specs.Prelude.{◌≡◌, ◌≤◌, IfOk, IfSome, None, OnOk, bytes_eq, codes, if◌then◌else◌};
 ghost use Rattle.th_certificate.specs.Inside.Drafts.{Follows};
 ghost use Rattle.th_certificate.specs.Statements.{begun, may_have_cost, may_have_flow, may_have_height, may_have_high, may_have_low, row_in, said, statement_of, version_in, with_statement};

@@ -1,3 +1,4 @@
+//! The faults of a certificate, C1 to C7, and an allocation failure, with their texts.
 ghost use Rattle.std.specs.Prelude.{◌≡◌};
 ghost use Rattle.th_certificate.specs.declared.faults.CertKind.TheVariants.{NoMemory};
 

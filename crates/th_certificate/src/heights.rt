@@ -1,3 +1,4 @@
+//! Heights by name, as the rows of a certificate state them.
 ghost use Rattle.std.specs.Prelude.{◌≡◌, ◌<◌, ◌^◌, ◌++◌, ◌∷◌, [], IfSome, None, OnErr, OnOk, bytes_eq, length, slice_get, unsigned_abs, ◌==◌};
 ghost use Rattle.std.specs.Map.{lookup};
 ghost use Rattle.th_certificate.specs.Certified.{AreHeightRows};

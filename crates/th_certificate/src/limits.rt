@@ -1,3 +1,4 @@
+//! How many bytes, flows and digits a certificate may have.
 use th_network::MAX_OBSERVATIONS;
 
 /// The most bytes that a certificate may have.

@@ -1,3 +1,4 @@
+//! Fields of a certificate that are read as numbers: heights, a count, flows and a cost.
 ghost use Rattle.std.specs.Prelude.{◌≡◌, ◌<◌, ◌≤◌, ◌^◌, true, length, min};
 ghost use Rattle.std.specs.List.{list_all};
 ghost use Rattle.th_units.specs.Lengths.{is_digit, number};

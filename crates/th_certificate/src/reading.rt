@@ -1,3 +1,4 @@
+//! A certificate from its bytes, record by record, or its first fault.
 ghost use Rattle.std.specs.Prelude.{◌≡◌, ◌⊎◌, ◌<◌, ◌^◌, ◌+◌, Ok, Err, IfErr, IfOk, length};
 ghost use Rattle.th_certificate.specs.Faults.{no_memory, too_long};
 ghost use Rattle.th_certificate.specs.Inside.Reads.{IsReadOf};

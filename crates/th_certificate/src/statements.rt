@@ -1,3 +1,4 @@
+//! Statements, which are read from single records and added to a draft.
 use gsi_word::Name;
 
 /// What a record under the version row states.

@@ -1,3 +1,4 @@
+//! The text of a certificate of version 2, row by row, for heights and flows of a network.
 ghost use Rattle.std.specs.Prelude.{◌≡◌, ◌++◌, ◌∷◌, [], All, IfOk, OnOk, Some, codes, length, map};
 ghost use Rattle.std.specs.List.{enumerate_from};
 ghost use Rattle.gsi_word.specs.Names.{name_of};

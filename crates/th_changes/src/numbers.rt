@@ -1,3 +1,4 @@
+//! The numbers that a change may be of, and how much each touches the difference of an observation.
 ghost use Rattle.std.specs.Prelude.{◌≡◌, ◌<◌, ◌≤◌, ◌^◌, pos, ◌*ℤ◌, if◌then◌else◌, unsigned_abs};
 ghost use Rattle.th_changes.specs.Numbers.{sign, touch};
 

@@ -1,3 +1,4 @@
+//! The balances of flows at the points, of which all but those of benchmarks must be zero.
 ghost use Rattle.std.specs.Prelude.{◌≡◌, ◌&&◌, ◌<◌, ◌≤◌, ◌==◌, ℕ, pos, ◌^◌, ◌+ℤ◌, IfOk, find, get_or, is_none, length, not, slice_get, slice_set, unsigned_abs};
 ghost use Rattle.std.specs.List.{zip};
 ghost use Rattle.std.specs.Ordering.{int_eq};

@@ -1,3 +1,4 @@
+//! The tests of a certificate, in the order of the reasons that a verdict gives.
 ghost use Rattle.std.specs.Prelude.{◌≡◌, ◌≤◌, IfOk, length};
 ghost use Rattle.std.specs.List.{zip};
 ghost use Rattle.th_network.specs.Limits.{max_observations};

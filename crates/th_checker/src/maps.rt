@@ -1,3 +1,4 @@
+//! The maps of a certificate: their heights in point order, and whether they keep the benchmarks.
 ghost use Rattle.std.specs.Prelude.{◌≡◌, ◌<◌, IfOk, IfSome, MatchOption, bytes_eq, true, false, unsigned_abs};
 ghost use Rattle.std.specs.List.{list_all, list_any};
 ghost use Rattle.std.specs.Map.{lookup};

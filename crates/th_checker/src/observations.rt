@@ -1,3 +1,4 @@
+//! Flows of observations against their weights and residuals, and what heights cost.
 ghost use Rattle.std.specs.Prelude.{◌≡◌, ◌<◌, ◌≤◌, IfOk, IfSome, get_or, length, map, pos, unsigned_abs};
 ghost use Rattle.std.specs.List.{zip};
 ghost use Rattle.th_tables.specs.Rows.{weight_of};

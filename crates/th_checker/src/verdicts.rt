@@ -1,3 +1,4 @@
+//! Verdicts on a certificate, and the reasons to reject it, with their texts.
 use gsi_word::Name;
 use std::fmt;
 

@@ -1,3 +1,4 @@
+//! `settle` and `spans` in one call: the lowest and the highest best heights of a network.
 ghost use Rattle.std.specs.Prelude.{◌≡◌, IfOk};
 ghost use Rattle.th_circulation.specs.Best.{IsBest};
 

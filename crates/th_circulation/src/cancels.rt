@@ -1,3 +1,4 @@
+//! Flow that is sent along a cycle of slots, within the room of each of them.
 ghost use Rattle.std.specs.Prelude.{◌≡◌, ◌<◌, ◌≤◌, ℕ, All, length, map, eqb};
 ghost use Rattle.std.specs.List.{IsDistinct};
 ghost use Rattle.th_circulation.specs.Inside.Bounds.{most_room};

@@ -1,3 +1,4 @@
+//! The differences of links in a phase: halved as often as it says, and rounded down.
 ghost use Rattle.std.specs.Prelude.{◌≡◌, ◌<◌, length};
 ghost use Rattle.th_circulation.specs.Limits.{phases};
 ghost use Rattle.th_circulation.specs.Inside.Phases.{differences_in};

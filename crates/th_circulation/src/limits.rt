@@ -1,3 +1,4 @@
+//! Limits of a settling: its phases, the room on a residual arc, and the size of a height.
 use th_search::MAX_COST;
 use th_tables::MAX_WEIGHT;
 

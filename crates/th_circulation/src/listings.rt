@@ -1,3 +1,4 @@
+//! Lists of residual arcs with room, each with its slot: all of them, or those of a proposal.
 ghost use Rattle.std.specs.Prelude.{◌≡◌, ◌+◌, ◌*◌, ◌<◌, ◌≤◌, ◌++◌, ◌∷◌, [], Contains, IfOk, length};
 ghost use Rattle.std.specs.Vec.{vec_capacity, vec_len};
 ghost use Rattle.th_circulation.specs.Inside.Cycles.{HasRoom};

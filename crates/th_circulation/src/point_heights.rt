@@ -1,3 +1,4 @@
+//! The heights of points, from those of vertices; benchmarks keep their own.
 ghost use Rattle.std.specs.Prelude.{◌≡◌, ◌<◌, All, length, unsigned_abs};
 ghost use Rattle.th_circulation.specs.Inside.Bounds.{HaveSmallRises, raised_bound};
 ghost use Rattle.th_distances.specs.Distances.{AreWithin};

@@ -1,3 +1,4 @@
+//! The check of arcs that a guide proposes: whether they close at a cost below 0.
 ghost use Rattle.std.specs.Bool.{OnTrue};
 ghost use Rattle.th_circulation.specs.Inside.Proposals.{HasNoPotentials};
 

@@ -1,3 +1,4 @@
+//! What a guide starts from: each link with its difference, weight and flow.
 use crate::graphs::LinkGraph;
 use crate::states::State;
 use th_guide::{Guide, Link};

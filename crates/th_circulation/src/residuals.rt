@@ -1,3 +1,4 @@
+//! Residual arcs of flows, at costs that no heights reduce, and the same arcs turned round.
 ghost use Rattle.std.specs.Prelude.{◌≡◌, ◌≤◌, ◌++◌, ◌∷◌, [], if◌then◌else◌, All, IfOk, OnOk, length, map, unsigned_abs};
 ghost use Rattle.th_circulation.specs.Inside.Residuals.{residual_arcs as residual_arcs_in, residual_arcs_of, turned as turned_arc};
 ghost use Rattle.th_network.specs.Links.{largest_link_difference};

@@ -1,3 +1,4 @@
+//! The settling of a network: heights that cost least, with the circulation that shows it.
 ghost use Rattle.std.specs.Prelude.{◌≤◌, IfOk};
 ghost use Rattle.th_circulation.specs.Asked.{IsAskedLast};
 ghost use Rattle.th_circulation.specs.Counts.{IsCounted, most_steps};

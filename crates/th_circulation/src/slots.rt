@@ -1,3 +1,5 @@
+//! Slots of residual arcs: the place of an observation, and the direction along its link.
+
 /// A way to change the flow of one observation: along its link, or against it.
 #[derive(Clone, Copy, Debug, PartialEq, Eq)]
 pub(crate) struct Slot {

@@ -1,3 +1,4 @@
+//! The lowest and the highest best heights, from distances along residual arcs.
 ghost use Rattle.std.specs.Prelude.{◌≡◌, ℕ, IfOk, length};
 ghost use Rattle.th_circulation.specs.Inside.Bounds.{farthest, raised_bound};
 ghost use Rattle.th_distances.specs.Distances.{AreTight, AreWithin};

@@ -1,3 +1,5 @@
+//! The differences, heights and flows that a phase of a settling works on.
+
 /// The flows of a settling, and the heights that they are to show for the differences of a phase.
 #[derive(Drop)]
 pub(crate) struct State {

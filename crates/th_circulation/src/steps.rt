@@ -1,3 +1,4 @@
+//! The count of cycles that were cancelled, which may go on from an earlier count.
 ghost use Rattle.std.specs.Prelude.{◌≡◌, ◌+◌, ◌<◌};
 ghost use Rattle.th_search.specs.Limits.{max_calls};
 

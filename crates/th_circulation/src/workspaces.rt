@@ -1,3 +1,4 @@
+//! How flows settle: cycles are cancelled, at once or phase by phase, until the flows show heights.
 ghost use Rattle.std.specs.Prelude.{◌≡◌, ◌+◌, ◌<◌, ◌≤◌, ◌-◌, ◌*◌, ◌⊎◌, ◌^◌, ℤ, List, false, pos, IfOk, MatchBool, OnOk, length, replicate, sum};
 ghost use Rattle.std.specs.Bool.{OnTrue};
 ghost use Rattle.th_circulation.specs.Inside.Bounds.{height_bound};

@@ -1,3 +1,4 @@
+//! Why a table of differences is refused: kinds of fault, the record of each, and their texts.
 ghost use Rattle.std.specs.Prelude.{◌≡◌};
 ghost use Rattle.th_conversions.specs.declared.faults.DifferenceKind.TheVariants.{NoMemory};
 

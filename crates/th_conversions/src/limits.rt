@@ -1,3 +1,5 @@
+//! How large a table of differences may be, and the unit of the lengths that are printed.
+
 /// The most bytes that a table of differences has: 4 MiB.
 pub const MAX_DIFFERENCES: usize = 4_194_304;
 

@@ -1,3 +1,4 @@
+//! What an error of `csv` over memory means: an allocation failed.
 ghost use Rattle.std.specs.Prelude.{◌≡◌, alloc_error};
 
 use std::alloc::AllocError;

@@ -1,3 +1,4 @@
+//! Records of a text, and their fields where there are exactly two, three or four.
 ghost use Rattle.std.specs.Prelude.{◌≡◌, ◌≢◌, ◌∷◌, [], length, MatchOption};
 ghost use Rattle.csv.specs.Records.{fields_of};
 

@@ -1,3 +1,4 @@
+//! Reading the records of a text, one after another, until the end or a failed allocation.
 ghost use Rattle.std.specs.Prelude.{◌≡◌, ◌≤◌, ◌+◌, true, false, is_err, IfOk, IsErr, length};
 ghost use Rattle.csv.specs.Records.{fields_of};
 ghost use Rattle.th_csv.specs.Inside.Readers.{IsReading, ReadsFront};

@@ -1,3 +1,4 @@
+//! Rows that are written one after another to a text in memory.
 ghost use Rattle.std.specs.Prelude.{◌≡◌, ◌++◌, [], true, false, is_err, map, IfOk, IsErr, OnOk};
 ghost use Rattle.th_csv.specs.Texts.{row_text};
 

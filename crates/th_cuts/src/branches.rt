@@ -1,3 +1,4 @@
+//! The branches of a cut tree, and least cuts between any two vertices, found from them.
 ghost use Rattle.std.specs.Prelude.{◌≡◌, ◌+◌, ◌-◌, ◌<◌, ◌≤◌, ◌⊎◌, ℕ, Bool, IfOk, length, slice_index_or, true};
 ghost use Rattle.th_cuts.specs.Cuts.{IsLeastCut, IsLeastSide};
 ghost use Rattle.th_graphs.specs.Cuts.{cut_weight, separates};

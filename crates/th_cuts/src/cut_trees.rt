@@ -1,3 +1,4 @@
+//! Cut trees as callers see them: built from a graph, they give least cuts between two vertices.
 ghost use Rattle.std.specs.Prelude.{◌≡◌, ◌≢◌, ◌<◌, ℕ, Bool, IfOk};
 ghost use Rattle.th_cuts.specs.Cuts.{IsLeastCut, IsLeastSide};
 ghost use Rattle.th_graphs.specs.Cuts.{cut_weight};

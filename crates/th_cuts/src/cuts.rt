@@ -1,3 +1,4 @@
+//! A least cut between two vertices: one that flow shows, or the lighter vertex against all others.
 ghost use Rattle.std.specs.Prelude.{◌≡◌, ◌<◌, ◌==◌, ℕ, IfOk, length, not};
 ghost use Rattle.th_flows.specs.Drains.{on_side};
 ghost use Rattle.th_cuts.specs.Inside.CutTrees.{AreNear, AreWeighed, IsCut, IsSame};

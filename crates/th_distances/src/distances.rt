@@ -1,3 +1,4 @@
+//! Distances from vertex 0, by labels that fall along arcs until no arc is shorter than they say.
 ghost use Rattle.std.specs.Prelude.{◌≡◌, ◌<◌, ◌+ℤ◌, All, IfOk, MatchBool, length};
 ghost use Rattle.th_distances.specs.Distances.{AreDistances, AreTight, IsKept};
 ghost use Rattle.th_distances.specs.Inside.Labels.{AreLabels, room};

@@ -1,3 +1,4 @@
+//! How large a distance can be.
 use th_limits::MAX_POINTS;
 use th_search::MAX_COST;
 

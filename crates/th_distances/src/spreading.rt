@@ -1,3 +1,4 @@
+//! Arcs listed by their tails, and the queue of vertices whose labels fell.
 ghost use Rattle.std.specs.Prelude.{◌≡◌, ◌<◌, ◌≤◌, All, IfOk, IfSome, length};
 ghost use Rattle.th_distances.specs.Inside.Spreading.{AreTails, AreVertices};
 ghost use Rattle.th_search.specs.Walks.{IsArc};

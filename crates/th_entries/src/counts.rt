@@ -1,3 +1,4 @@
+//! Counts of the lines, blocks, setups and sights of a book.
 ghost use Rattle.std.specs.Prelude.{◌≡◌};
 
 use th_book::Entered;

@@ -1,3 +1,4 @@
+//! Instrument heights and reflector heights that a book enters, and the sights that use each.
 use gsi_word::Name;
 use th_units::Len;
 

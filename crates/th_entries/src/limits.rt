@@ -1,3 +1,5 @@
+//! How many things a review lists, and of how many setups and sights it compares the names.
+
 /// The most things of a kind that a review lists.
 pub const MAX_LISTED: usize = 1_000;
 

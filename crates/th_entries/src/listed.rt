@@ -1,3 +1,4 @@
+//! Lists with a bound: the first of many things, and a count of all.
 ghost use Rattle.std.specs.Prelude.{◌≡◌, ◌++◌, ◌∷◌, [], List, OnOk};
 ghost use Rattle.th_entries.specs.Listed.{IsListed};
 

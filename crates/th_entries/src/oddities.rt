@@ -1,3 +1,4 @@
+//! Odd blocks: sights that are directions alone, and sights that change the instrument height.
 ghost use Rattle.std.specs.Prelude.{◌≡◌, ◌++◌, ℕ, List, OnOk, map};
 ghost use Rattle.std.specs.List.{list_any};
 ghost use Rattle.gsi_word.specs.Words.{parts_of};

@@ -1,3 +1,4 @@
+//! The review of one book: its counts, its entries, its odd lines, and a note if it has no sight.
 use crate::counts::BookCount;
 use crate::entries::Entry;
 use crate::listed::Listed;

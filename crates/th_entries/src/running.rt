@@ -1,3 +1,4 @@
+//! Entries of the running setup: which ones a block begins, and which ones a sight uses.
 ghost use Rattle.std.specs.Prelude.{◌≡◌, ◌++◌, option_to_list, IfOk, OnOk};
 ghost use Rattle.th_entries.specs.Inside.Running.{entering_after, entry_in, is_repeated, place_of, served, setup_on};
 

@@ -1,3 +1,4 @@
+//! Names of stations and targets that were seen so far, and where a spelling first differs.
 ghost use Rattle.std.specs.Prelude.{◌≡◌, [], ℕ, List, OnOk, Some, map};
 ghost use Rattle.gsi_word.specs.Words.{parts_of};
 ghost use Rattle.th_book.specs.Lines.{ParsedLine};

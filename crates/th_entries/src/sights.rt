@@ -1,3 +1,4 @@
+//! Books without sights: how many blocks they have, and which words in place of sights.
 ghost use Rattle.std.specs.Prelude.{◌≡◌, ◌≤◌, ℕ, List, length, map};
 ghost use Rattle.th_book.specs.Lines.{ParsedLine};
 ghost use Rattle.gsi_word.specs.Words.{parts_of};

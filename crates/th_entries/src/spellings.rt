@@ -1,3 +1,4 @@
+//! A name that is spelled in more than one way, and where that first shows.
 use gsi_word::Name;
 
 /// The first line at which a name is spelled otherwise than before: in other bytes that reduce to the

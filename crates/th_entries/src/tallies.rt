@@ -1,3 +1,4 @@
+//! The tally of a book: a witness that gathers its review, line by line, while it is read.
 ghost use Rattle.std.specs.Prelude.{◌≡◌, ℕ, List, length, map, option_map, IfOk, OnOk};
 ghost use Rattle.std.specs.List.{list_any};
 ghost use Rattle.gsi_word.specs.Words.{parts_of};

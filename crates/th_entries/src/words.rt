@@ -1,3 +1,4 @@
+//! Words that a book may have in place of sights, and which of them its blocks have.
 ghost use Rattle.std.specs.Prelude.{◌≡◌, false, map};
 ghost use Rattle.std.specs.List.{list_any};
 ghost use Rattle.gsi_word.specs.Words.{parts_of};

@@ -1,3 +1,4 @@
+//! What the texts of `explain` consist of: a row for each number that explains, and a summary.
 use gsi_word::Name;
 
 /// Which kind of number it is.

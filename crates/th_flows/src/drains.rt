@@ -1,3 +1,4 @@
+//! The least that sets with a source in them drain, as flow from the source shows it.
 ghost use Rattle.std.specs.Prelude.{◌≡◌, ◌<◌, ◌≤◌, ℕ, Bool, IfNone, IfOk, IfSome, length, true};
 ghost use Rattle.th_flows.specs.Drains.{IsDrained, IsLeastDrain, drain};
 ghost use Rattle.th_flows.specs.Inside.Flows.{IsClosedSide};

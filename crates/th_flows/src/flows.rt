@@ -1,3 +1,4 @@
+//! Flow from a source along the edges of a graph, with room for some of it at each vertex.
 ghost use Rattle.std.specs.Prelude.{◌≡◌, ◌<◌, ◌≤◌, ◌↔◌, ℕ, IfOk, false, length, true};
 ghost use Rattle.th_flows.specs.Drains.{on_side, room_at};
 ghost use Rattle.th_flows.specs.Inside.Flows.{AreBounded, IsFlow};

@@ -1,3 +1,4 @@
+//! Paths from the source, found in depth along ways with room that lead one level on.
 ghost use Rattle.std.specs.Prelude.{◌≡◌, ◌-◌, ◌<◌, ◌≤◌, IfOk, length, true};
 ghost use Rattle.th_flows.specs.Inside.OfFlows.{IsPathOf};
 ghost use Rattle.th_flows.specs.Inside.Paths.{LeadsToRoom};

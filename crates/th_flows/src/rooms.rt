@@ -1,3 +1,4 @@
+//! The room that the flows of a graph leave along a way, and the carrying of an amount along it.
 ghost use Rattle.std.specs.Prelude.{◌≡◌, ◌<◌, ◌≤◌, ◌↔◌, ℕ, length};
 ghost use Rattle.th_flows.specs.Inside.Flows.{AreBounded, CanCarry, carry};
 

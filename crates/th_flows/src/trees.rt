@@ -1,3 +1,4 @@
+//! Searches along ways with room, for where more may end or a side that nothing more can leave.
 ghost use Rattle.std.specs.Prelude.{◌≡◌, ◌<◌, ◌≤◌, ℕ, false, true, suc, All, Contains, IfOk, IfSome, None, length, map};
 ghost use Rattle.th_flows.specs.Drains.{room_at};
 ghost use Rattle.th_flows.specs.Inside.Trees.{IsFound, IsTree, is_placed, place_at, reached, step_at};

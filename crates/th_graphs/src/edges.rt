@@ -1,3 +1,4 @@
+//! Edges with weights, and the two ways along each.
 ghost use Rattle.std.specs.Prelude.{◌≡◌};
 ghost use Rattle.th_graphs.specs.Graphs.{finish_of, start_of};
 

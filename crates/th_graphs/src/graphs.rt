@@ -1,3 +1,4 @@
+//! A graph of merged edges, with the ways along them listed by the vertices that they begin at.
 ghost use Rattle.std.specs.Prelude.{◌≡◌, ◌<◌, ◌≤◌, ℕ, Bool, All, IfOk, length, sum_by};
 ghost use Rattle.th_limits.specs.Limits.{max_total_weight};
 ghost use Rattle.th_graphs.specs.Cuts.{cut_weight};

@@ -1,3 +1,4 @@
+//! The merging of edges that join the same two vertices, as far as a hash of their ends finds them.
 ghost use Rattle.std.specs.Prelude.{◌≡◌, ◌+◌, ◌≤◌, IfOk, IsTrue, ◌⊎◌, sum_by};
 ghost use Rattle.th_limits.specs.Limits.{max_total_weight};
 ghost use Rattle.th_graphs.specs.Inside.Merges.{IsAdded, IsMerged};

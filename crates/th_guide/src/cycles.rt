@@ -1,3 +1,4 @@
+//! Flow that is still to be sent, taken apart cycle by cycle.
 use std::alloc::{AllocError, Global};
 use th_tree::{Goals, Link, ResidualArc, Side, Sides, push_if_room};
 

@@ -1,3 +1,4 @@
+//! The guide as its callers see it: links to set, flows to find, and cycles that it proposes.
 use crate::cycles::Cycles;
 use crate::planting::Planting;
 use crate::simplex::Simplex;

@@ -1,3 +1,4 @@
+//! The line search of a pivot: breakpoints that a moving part meets, up to the turn of the slope.
 use crate::breakpoints::{Breakpoints, Turn};
 use std::alloc::{AllocError, Global};
 use th_tree::{Goals, Heights, Part, Side, Sides, Stage};

@@ -1,3 +1,4 @@
+//! The tree to start from, planted breadth first at weighted medians, at once or in chunks.
 use crate::simplex::Simplex;
 use std::alloc::{AllocError, Global};
 use th_tree::{Stage, Up, push_if_room};

@@ -1,3 +1,4 @@
+//! Which way up leaves the tree in the next pivot, chosen block by block.
 use th_tree::{Tree, Up};
 
 /// How many vertices, one after another, are priced together.

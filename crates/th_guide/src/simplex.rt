@@ -1,3 +1,4 @@
+//! The rows that the dual network simplex works on, and its pivots.
 use crate::breakpoints::{Breakpoint, Turn};
 use crate::line_search::{Line, LineSearch};
 use crate::pricing::Pricing;

@@ -1,3 +1,4 @@
+//! One type for both hashers of names: a fast one and a seeded one.
 use std::hash::{DefaultHasher, FoldHasher, Hasher};
 
 /// A hasher of names.

@@ -1,3 +1,4 @@
+//! Maps and sets of names, and how they get a seed while they keep their entries.
 ghost use Rattle.std.specs.Prelude.{◌≡◌, IfOk, OnErr, OnOk};
 ghost use Rattle.indexmap.specs.IndexMap.{IsUnique, get, hasher_of, index_map_len, insert_entry};
 ghost use Rattle.indexmap.specs.IndexSet.{hasher_of as set_hasher_of};

@@ -1,3 +1,4 @@
+//! Seeds for hashers: none for few names, else one from the content that has the names.
 ghost use Rattle.std.specs.Prelude.{◌≡◌, ◌↔◌, IsTrue};
 ghost use Rattle.th_hash.specs.Seeds.{fast, is_fast, seeded};
 

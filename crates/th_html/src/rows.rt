@@ -1,3 +1,4 @@
+//! What was found of points, sights, entries and benchmarks, as rows of a page.
 use gsi_word::Name;
 use th_entries::Entry;
 use th_observations::Observation;

@@ -1,3 +1,5 @@
+//! How large lengths, weights, networks and commands may be, and how many calls contracts cover.
+
 /// The size that no length of a book exceeds: 10 km, in units of 10 nm.
 pub const MAX_LEN: u64 = 1_000_000_000_000;
 

@@ -1,3 +1,4 @@
+//! The walk from the benchmarks along observations, and the first point that it does not reach.
 ghost use Rattle.std.specs.Prelude.{◌≡◌, All, IfOk, MatchOption, length};
 ghost use Rattle.th_network.specs.Faults.{IsFirstUntied};
 ghost use Rattle.th_points.specs.Ends.{AreBelow};

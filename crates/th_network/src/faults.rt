@@ -1,3 +1,4 @@
+//! The faults of a network, in the order in which they count, and their texts.
 ghost use Rattle.std.specs.Prelude.{◌≡◌};
 ghost use Rattle.th_network.specs.declared.faults.NetFault.TheVariants.{NoMemory};
 

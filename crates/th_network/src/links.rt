@@ -1,3 +1,4 @@
+//! Observations as links between vertices, with the benchmarks' heights taken out of them.
 ghost use Rattle.std.specs.Prelude.{IfOk};
 ghost use Rattle.th_network.specs.Inside.Linked.{AreLinks};
 ghost use Rattle.th_network.specs.Inside.Numbered.{AreVertices};

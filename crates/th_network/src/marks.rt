@@ -1,3 +1,4 @@
+//! Marks of the walk from the benchmarks: points that it has reached, and those it goes on from.
 ghost use Rattle.std.specs.Prelude.{◌<◌, ◌∷◌, [], All, IfOk, OnOk, length};
 ghost use Rattle.th_network.specs.Inside.Marks.{IsSeeded, MarksAll};
 

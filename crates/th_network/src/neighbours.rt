@@ -1,3 +1,4 @@
+//! The neighbours of each point, by the observations between them, for the walk in `anchors`.
 ghost use Rattle.std.specs.Prelude.{◌≡◌, ◌↔◌, ◌⊎◌, ◌<◌, [], ℕ, All, Contains, IfOk, OnOk, length};
 ghost use Rattle.th_points.specs.Ends.{AreBelow};
 ghost use Rattle.th_network.specs.Inside.Neighbours.{AreNeighbours, IsListed};

@@ -1,3 +1,4 @@
+//! The height network: how it is built, and its points, observations, vertices and arcs.
 ghost use Rattle.std.specs.Prelude.{◌≡◌, ◌≢◌, ◌+◌, ◌<◌, ◌≤◌, All, Contains, Err, IfErr, IfOk, IfSome, IsSome, List, OnOk, Some, ℕ, bytes_eq, length, slice_get, unsigned_abs};
 ghost use Rattle.std.specs.List.{IsDistinct};
 ghost use Rattle.th_observations.specs.Observed.{IsBetweenPoints};

@@ -1,3 +1,5 @@
+//! What is found in a network: best heights with their circulation, and the span of each point.
+
 /// Heights whose weighted sum of absolute residuals is least, and the circulation that shows it.
 #[derive(Debug, Drop)]
 pub struct Settled {

@@ -1,3 +1,4 @@
+//! The points of a network under construction, and the heights of the benchmarks among them.
 ghost use Rattle.std.specs.Prelude.{◌≡◌, ◌≤◌, All, IfOk, length, map, pos, unsigned_abs, unwrap_or};
 ghost use Rattle.th_points.specs.Points.{points};
 ghost use Rattle.th_tables.specs.Rows.{height_of};

@@ -1,3 +1,4 @@
+//! The numbering of vertices: one for all benchmarks together, and one for each other point.
 ghost use Rattle.std.specs.Prelude.{◌≤◌, IfOk, length};
 ghost use Rattle.th_network.specs.Inside.Numbered.{AreVertices};
 ghost use Rattle.th_network.specs.Limits.{max_points};

@@ -1,3 +1,4 @@
+//! The weight of each observation, looked up in the table of weights.
 ghost use Rattle.std.specs.Prelude.{◌≡◌, All, IfOk, map};
 ghost use Rattle.th_network.specs.Networks.{IsWeight};
 ghost use Rattle.th_tables.specs.Rows.{weight_of};

@@ -1,3 +1,4 @@
+//! What a review can note, and the kinds of which only so many are listed.
 use gsi_word::Name;
 use th_entries::NoSight;
 

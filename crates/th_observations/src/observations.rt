@@ -1,3 +1,4 @@
+//! An observation: its two ends, their difference in height, and where in the books it is.
 ghost use Rattle.std.specs.Prelude.{◌≡◌, ◌≢◌, ◌≤◌, unsigned_abs};
 ghost use Rattle.th_observations.specs.Observed.{largest_difference};
 

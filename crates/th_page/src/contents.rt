@@ -1,3 +1,4 @@
+//! All that a page shows, as rows and texts that it borrows.
 use th_explanations::Row;
 use th_html::{BenchmarkRow, EntryRow, PointRow};
 use th_picture::Sight;

@@ -1,3 +1,4 @@
+//! One half of a search: a ball that grows from an end, by at most one vertex at a time.
 use crate::grounds::{Ground, Way};
 use crate::heaps::{Heap, Open};
 use crate::reached::Reached;

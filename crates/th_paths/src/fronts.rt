@@ -1,3 +1,4 @@
+//! One half of a search for a shortest path, by costs at heights, up to where it meets the other.
 use crate::grounds::{Ground, Way};
 use crate::heaps::{Heap, Open};
 use crate::reached::Reached;

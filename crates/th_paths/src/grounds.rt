@@ -1,3 +1,4 @@
+//! What all searches go by: links, sides, the parted ends, and which way flow goes.
 use crate::groups::Ends;
 use crate::links::Link;
 use crate::sides::{Side, Sides};

@@ -1,3 +1,4 @@
+//! Which ends of links a number has: the tails of a range of links, or ends that were marked.
 use std::alloc::{AllocError, Global};
 use th_tree::ResidualArc;
 

@@ -1,3 +1,4 @@
+//! Shortest paths, and the heights that are lifted near their starts and lowered near their ends.
 use crate::fronts::{Front, Meeting};
 use crate::grounds::{Ground, Way};
 use crate::parted::Parted;

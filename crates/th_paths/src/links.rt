@@ -1,3 +1,4 @@
+//! Links of a network that carry flow: the room along an arc, and sending an amount along it.
 use th_tree::ResidualArc;
 
 /// A link of a network, with a best flow on it.

@@ -1,3 +1,4 @@
+//! Paths of two links over one vertex, from the base to the spare vertex, found without a search.
 use crate::grounds::Ground;
 use crate::groups::Group;
 use crate::parted::Parted;

@@ -1,3 +1,4 @@
+//! A network in which a spare vertex has the ends of a number, in place of the base.
 use crate::grounds::Ground;
 use crate::groups::{End, Ends, Group};
 use crate::links::Link;

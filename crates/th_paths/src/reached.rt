@@ -1,3 +1,4 @@
+//! What a search has reached from one of its ends, and the path that is traced from both.
 use crate::grounds::Ground;
 use std::alloc::{AllocError, Global};
 use th_tree::{ResidualArc, push_if_room};

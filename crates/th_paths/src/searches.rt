@@ -1,3 +1,4 @@
+//! The search for a short path, by two balls that grow from its ends until they meet.
 use crate::balls::Ball;
 use crate::grounds::{Ground, Way};
 use crate::parted::Parted;

@@ -1,3 +1,4 @@
+//! A sight as the picture takes it: its row, and the places and lowest best heights of its ends.
 use th_html::SightRow;
 
 /// An end of a sight.

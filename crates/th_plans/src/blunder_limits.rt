@@ -1,3 +1,4 @@
+//! The limit of blunders, given in micrometres and kept within its range in units of 10 nm.
 ghost use Rattle.std.specs.Prelude.{◌≡◌};
 ghost use Rattle.th_plans.specs.Asked.{limit_of};
 

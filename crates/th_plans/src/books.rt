@@ -1,3 +1,4 @@
+//! The names of a command's books: at least one, and no more than a command takes.
 ghost use Rattle.std.specs.Prelude.{◌≤◌, length};
 ghost use Rattle.th_plans.specs.Limits.{max_books};
 

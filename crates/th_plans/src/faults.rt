@@ -1,3 +1,4 @@
+//! Faults of a command line, and the text of each, with tips that `clap` does not give.
 use clap::error::ErrorKind;
 use std::alloc::AllocError;
 use std::fmt::{self, Write};

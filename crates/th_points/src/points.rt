@@ -1,3 +1,4 @@
+//! The finding of a network's points, in a set of names that gets a seed once there are many.
 ghost use Rattle.std.specs.Prelude.{◌≡◌, ◌↔◌, [], ◌∷◌, ◌++◌, IfOk, IsTrue, OnOk, Some, bytes_eq, flat_map, map, slice_get};
 ghost use Rattle.indexmap.specs.IndexSet.{insert_all, insert_key};
 ghost use Rattle.th_points.specs.Ends.{ArePoints};

@@ -1,3 +1,5 @@
+//! The counts of a run, and the trait by which it shows how much of each is done.
+
 /// What a run counts.
 #[derive(Clone, Copy, Debug, PartialEq, Eq)]
 pub enum Work {

@@ -1,3 +1,4 @@
+//! The controls of observations: the least cut between the ends of each, less its own weight.
 ghost use Rattle.std.specs.Prelude.{◌≡◌, ◌<◌, ℕ, All, IfOk, Some, length, slice_get};
 ghost use Rattle.th_observations.specs.Observed.{IsBetweenPoints, Observed};
 ghost use Rattle.th_reliability.specs.Inside.Graphs.{IsGraphOf};

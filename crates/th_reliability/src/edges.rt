@@ -1,3 +1,4 @@
+//! The network as a graph: an edge for each observation, with the observation's weight.
 ghost use Rattle.std.specs.Prelude.{◌≡◌, ◌<◌, ◌≤◌, All, IfOk, sum_by};
 ghost use Rattle.th_limits.specs.Limits.{max_total_weight};
 ghost use Rattle.th_network.specs.Networks.{vertices_of};

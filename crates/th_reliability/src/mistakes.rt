@@ -1,3 +1,4 @@
+//! What a mistake does, in one observation or in several that share it, by control and weight.
 ghost use Rattle.std.specs.Prelude.{◌≡◌};
 ghost use Rattle.th_reliability.specs.Mistakes.{mistake_of};
 ghost use Rattle.th_reliability.specs.SharedMistakes.{shared_mistake_of};

@@ -1,3 +1,4 @@
+//! The strengths, controls and blames of a network, from one cut tree.
 ghost use Rattle.std.specs.Prelude.{IfOk};
 ghost use Rattle.th_reliability.specs.Effects.{AreBlames};
 ghost use Rattle.th_reliability.specs.Inside.Graphs.{IsGraphOf};

@@ -1,3 +1,4 @@
+//! Sights as a range of lines of a book, and whether all of them are from one station.
 ghost use Rattle.std.specs.Prelude.{◌≡◌, ◌≢◌, ◌↔◌, All, Contains, IfSome, None, false, true};
 ghost use Rattle.th_observations.specs.Observed.{Observed};
 ghost use Rattle.th_reliability.specs.Sights.{IsOfOneStation, in_sights};

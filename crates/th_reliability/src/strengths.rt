@@ -1,3 +1,4 @@
+//! The strengths of points: the least cut that parts each of them from the benchmarks.
 ghost use Rattle.std.specs.Prelude.{◌≡◌, ◌+◌, ◌<◌, ℕ, List, IfOk, Some, length, slice_get};
 ghost use Rattle.th_network.specs.Networks.{points_of};
 ghost use Rattle.th_network.specs.Vertices.{free_before};

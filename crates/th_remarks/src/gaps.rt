@@ -1,3 +1,4 @@
+//! Gaps between lowest and highest best heights, and a note where one is above the limit.
 ghost use Rattle.std.specs.Prelude.{◌≡◌, ◌<◌, ◌*◌, All, length, unsigned_abs};
 ghost use Rattle.th_network.specs.Limits.{height_limit};
 ghost use Rattle.th_network.specs.Networks.{AreAtPoints};

@@ -1,3 +1,4 @@
+//! The note that points have more than one best height, with their count and the widest gap.
 ghost use Rattle.std.specs.Prelude.{◌<◌, ◌*◌, unsigned_abs};
 ghost use Rattle.th_network.specs.Limits.{height_limit};
 

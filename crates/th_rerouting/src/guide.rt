@@ -1,3 +1,4 @@
+//! The guide's proposals: closed walks that send back what flows through a number.
 use crate::sums::Sum;
 use std::alloc::{AllocError, Global};
 use th_paths::{Bounds, End, Group, Lifting, Link, Neighbours, Pair, Parted, Search, Wanted};

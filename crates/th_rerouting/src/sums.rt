@@ -1,3 +1,5 @@
+//! How much a proposal sends back, what that costs, and how much is still missing.
+
 /// What a proposal comes to so far.
 #[derive(Clone, Copy)]
 pub(crate) struct Sum {

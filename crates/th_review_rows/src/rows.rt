@@ -1,3 +1,4 @@
+//! What a row holds: a point, observation, entry or benchmark, with what was found of it.
 use gsi_word::Name;
 use th_entries::Entry;
 use th_observations::Observation;

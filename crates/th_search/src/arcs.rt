@@ -1,3 +1,4 @@
+//! Arcs of a network, and a test of their ends and costs.
 ghost use Rattle.std.specs.Prelude.{◌↔◌, All, IsTrue};
 ghost use Rattle.th_search.specs.Walks.{IsArc};
 

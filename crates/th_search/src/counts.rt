@@ -1,3 +1,4 @@
+//! What a search counts for its promise: calls, refusals and cycles, with its last call.
 ghost use Rattle.std.specs.Prelude.{◌≡◌, ◌+◌, ◌<◌, ◌≤◌, Some};
 ghost use Rattle.th_search.specs.Answers.{cycles_in, refusals_in};
 ghost use Rattle.th_search.specs.Asked.{asked_last, asked_of};

@@ -1,3 +1,4 @@
+//! Entries, the arcs that last lowered labels: where they lead back to, and cycles among them.
 ghost use Rattle.std.specs.Prelude.{◌≡◌, ◌+◌, ◌<◌, All, IfSome, IsTrue, None, length};
 ghost use Rattle.th_search.specs.Walks.{IsArc};
 ghost use Rattle.th_search.specs.Inside.Entries.{AreEntries, IsOnCycle, Meets};

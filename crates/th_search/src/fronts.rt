@@ -1,3 +1,4 @@
+//! A negative cycle that the list of arcs begins with, which takes no labels to find.
 ghost use Rattle.std.specs.Prelude.{◌≡◌, ◌<ℤ◌, IfOk, IfSome, pos};
 ghost use Rattle.th_search.specs.Searched.{IsSearched};
 ghost use Rattle.th_search.specs.Walks.{IsNegativeCycle};

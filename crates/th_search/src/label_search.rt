@@ -1,3 +1,4 @@
+//! A search that passes over the arcs until none improves a label or a cycle is closed.
 ghost use Rattle.std.specs.Prelude.{◌≡◌, IfOk};
 ghost use Rattle.th_search.specs.Answers.{IsAnswer};
 ghost use Rattle.th_search.specs.Asked.{asked_last};

@@ -1,3 +1,4 @@
+//! The labels of a search, how one is lowered, and the cycle that their entries close.
 ghost use Rattle.std.specs.Prelude.{◌≡◌, ◌<◌, ◌≤◌, ◌<ℤ◌, ℕ, All, IfOk, List, Some, length, slice_set};
 ghost use Rattle.th_search.specs.Limits.{max_vertices};
 ghost use Rattle.th_search.specs.Walks.{IsArc, IsNegativeCycle, arc_at};

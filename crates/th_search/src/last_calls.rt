@@ -1,3 +1,4 @@
+//! The last call of a search, kept for contracts: its arcs and what it found take no memory.
 ghost use Rattle.std.specs.Prelude.{◌≡◌};
 ghost use Rattle.th_search.specs.Asked.{asked_in, asked_of};
 

@@ -1,3 +1,4 @@
+//! How many vertices and arcs a search takes, and how large a cost may be.
 use th_limits::{LARGEST_LINK_DIFFERENCE, MAX_OBSERVATIONS, MAX_POINTS};
 
 /// The most vertices that are searched: one for all benchmarks, and the points.

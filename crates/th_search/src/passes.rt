@@ -1,3 +1,4 @@
+//! One pass over the arcs: which labels it lowers, and how it notices a cycle of entries.
 ghost use Rattle.std.specs.Prelude.{◌≡◌, length};
 ghost use Rattle.th_search.specs.Inside.Labels.{AreLabels, IsForest};
 ghost use Rattle.th_search.specs.Inside.Passes.{IsPass, IsReady};

@@ -1,3 +1,4 @@
+//! What a search promises: potentials or a negative cycle, and counts of its calls.
 ghost use Rattle.std.specs.Prelude.{◌≡◌, ◌+◌, ◌<◌, ◌≤◌, ℕ, Option, Some, IfOk};
 ghost use Rattle.th_search.specs.Limits.{max_calls};
 ghost use Rattle.th_search.specs.Searched.{IsSearched};

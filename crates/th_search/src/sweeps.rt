@@ -1,3 +1,4 @@
+//! Whether a pass takes a list from the front or from the back.
 ghost use Rattle.std.specs.Prelude.{◌≡◌, ◌<◌};
 
 /// The order in which a pass goes over a list.

@@ -1,3 +1,4 @@
+//! The table of benchmarks: names and heights under the header `point,height`.
 ghost use Rattle.std.specs.Prelude.{◌≡◌, ◌⊎◌, ◌<◌, ◌≤◌, ◌^◌, Ok, Err, IfErr, IfOk, IfSome, length, slice_get, unsigned_abs};
 ghost use Rattle.th_tables.specs.Rows.{AreBenchmarks, height_of};
 ghost use Rattle.th_units.specs.Limits.{max_len};

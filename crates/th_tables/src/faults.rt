@@ -1,3 +1,4 @@
+//! The faults of tables, in the order in which they apply, and their texts.
 ghost use Rattle.std.specs.Prelude.{◌≡◌};
 ghost use Rattle.th_tables.specs.declared.faults.TableKind.TheVariants.{NoMemory};
 

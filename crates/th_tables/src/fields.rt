@@ -1,3 +1,4 @@
+//! Fields of a record as names, heights and weights, or the kind of their fault.
 ghost use Rattle.std.specs.Prelude.{◌≡◌, ◌≤◌, IfOk, unsigned_abs};
 ghost use Rattle.th_units.specs.Limits.{max_len};
 ghost use Rattle.th_tables.specs.Fields.{height_in, name_in, weight_in};

@@ -1,3 +1,5 @@
+//! How many bytes a table may have, and how many digits a weight.
+
 /// The most bytes that a table has: 1 MiB.
 pub const MAX_TABLE: usize = 1_048_576;
 

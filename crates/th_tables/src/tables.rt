@@ -1,3 +1,4 @@
+//! What all tables have in common: how a header and the rows under it are read.
 ghost use Rattle.std.specs.Prelude.{◌≡◌, ◌⊎◌, ◌<◌, ◌^◌, ◌+◌, [], All, Ok, Err, IfErr, IfOk, length};
 ghost use Rattle.indexmap.specs.IndexMap.{IsUnique};
 ghost use Rattle.th_csv.specs.Records.{records_of};

@@ -1,3 +1,4 @@
+//! The table of weights: one for a station and a target, under the header `from,to,weight`.
 ghost use Rattle.std.specs.Prelude.{◌≡◌, ◌⊎◌, ◌<◌, ◌≤◌, ◌^◌, [], Ok, Err, IfErr, IfOk, length, slice_get};
 ghost use Rattle.th_tables.specs.Limits.{max_table, max_weight};
 ghost use Rattle.th_tables.specs.Rows.{AreWeights, weight_of};

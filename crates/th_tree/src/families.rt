@@ -1,3 +1,4 @@
+//! The children of vertices, in doubly linked lists: a child is removed without a search.
 use std::alloc::{AllocError, Global};
 
 /// The first child of a vertex, and the children of its parent after and before it. No vertex is a

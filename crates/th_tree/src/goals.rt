@@ -1,3 +1,4 @@
+//! The flows that are aimed at on links outside the tree, and how much more can flow there.
 use crate::links::Link;
 use crate::residual_arcs::ResidualArc;
 use std::alloc::{AllocError, Global};

@@ -1,3 +1,4 @@
+//! The heights of vertices, which are their potentials, and what a unit of flow gains by them.
 use crate::links::Link;
 use crate::scales::MOST_APART;
 use std::alloc::{AllocError, Global};

@@ -1,3 +1,5 @@
+//! The ends, the difference, the weight and the flow of a link.
+
 /// A link of a network. As much can flow against it as along it.
 #[derive(Clone, Copy)]
 pub struct Link {

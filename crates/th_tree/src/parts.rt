@@ -1,3 +1,4 @@
+//! The vertices that a pivot moves: a branch of the tree, or all that are not in it.
 use crate::families::Families;
 use crate::heights::Heights;
 use crate::rows::push_if_room;

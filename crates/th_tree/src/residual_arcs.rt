@@ -1,3 +1,5 @@
+//! Residual arcs, each kept as one number for a link and its direction.
+
 /// A residual arc: a link, along it or against it.
 ///
 /// It is kept as one number, twice the link's place and one more against it, since rows of arcs are what

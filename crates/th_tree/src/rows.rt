@@ -1,3 +1,5 @@
+//! Rows that are made with all their room, so that adding to them allocates nothing.
+
 /// Adds to a row that was made with all the room that it needs; `None` where it has no more room.
 #[inline]
 pub fn push_if_room<T: Copy>(row: &mut Vec<T>, item: T) -> Option<()> {

@@ -1,3 +1,4 @@
+//! A finer scale for differences, with noise so that few sums of them round cycles are 0.
 use crate::sides::Sides;
 
 /// The most that differences are multiplied by.

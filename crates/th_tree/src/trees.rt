@@ -1,3 +1,4 @@
+//! The ways up a spanning tree with their flows, and how a pivot exchanges an arc.
 use crate::families::Families;
 use crate::residual_arcs::ResidualArc;
 use std::alloc::{AllocError, Global};

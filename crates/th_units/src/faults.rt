@@ -1,3 +1,4 @@
+//! What can be wrong with a length that is read, and the texts that say so.
 use std::error::Error;
 use std::fmt;
 

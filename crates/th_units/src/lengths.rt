@@ -1,3 +1,4 @@
+//! Lengths of a book, from a sign, digits and a unit, within 10 km of zero.
 ghost use Rattle.std.specs.Prelude.{◌≡◌, ◌≤◌, true, unsigned_abs};
 ghost use Rattle.std.specs.List.{list_all};
 ghost use Rattle.std.specs.Option.{SomeIff};

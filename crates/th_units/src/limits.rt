@@ -1,3 +1,5 @@
+//! How many digits numbers and texts in metres may have.
+
 /// The most digits of a short number.
 pub const MAX_SHORT: usize = 9;
 

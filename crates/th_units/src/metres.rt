@@ -1,3 +1,4 @@
+//! Lengths in metres as text: written with eight decimals, and read as units of 10 nm.
 ghost use Rattle.std.specs.Prelude.{◌≡◌, ◌+◌, ◌<◌, ◌≤◌, IfOk, true, [], ◌∷◌, ◌++◌, length, decimal};
 ghost use Rattle.std.specs.List.{list_all};
 ghost use Rattle.std.specs.Option.{option_copied};

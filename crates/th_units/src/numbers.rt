@@ -1,3 +1,4 @@
+//! Which bytes are digits, and the number that digits write.
 ghost use Rattle.std.specs.Prelude.{◌≡◌, ◌≢◌, ◌≤◌, get_or, length, true};
 ghost use Rattle.std.specs.List.{list_all};
 ghost use Rattle.th_units.specs.Lengths.{is_digit, are_digits, number};

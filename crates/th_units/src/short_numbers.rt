@@ -1,3 +1,4 @@
+//! Numbers of one to nine digits, which are short enough for 32 bits.
 ghost use Rattle.std.specs.Prelude.{◌≡◌};
 ghost use Rattle.th_units.specs.Lengths.{short_number};
 

@@ -1,3 +1,4 @@
+//! The plus or minus sign that a text may begin with.
 ghost use Rattle.std.specs.Prelude.{◌≡◌};
 ghost use Rattle.th_units.specs.Metres.{has_minus, without_sign};
 

@@ -1,3 +1,4 @@
+//! The units of a book's lengths: the code of each, and its size in units of 10 nm.
 ghost use Rattle.std.specs.Prelude.{◌≡◌, pos};
 ghost use Rattle.th_units.specs.Units.{step, unit_of};
 
