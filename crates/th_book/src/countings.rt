@@ -14,7 +14,7 @@ use th_units::Len;
 /// that is refused. For the others: whether the block has them. Also whether an index is repeated,
 /// and which defects the lengths have.
 #[derive(Clone, Copy, Debug)]
-pub struct Counted {
+pub(crate) struct Counted {
     pub sighted: Option<Result<Len, LengthFault>>,
     pub easting: bool,
     pub northing: bool,

@@ -18,7 +18,7 @@ pub struct Setup {
 
 /// A sight from a station: the height of the target above it, in units of 10 nm.
 #[derive(Clone, Copy, Debug)]
-pub struct Sight {
+pub(crate) struct Sight {
     pub station: Name,
     pub target: Name,
     pub difference: i64,
@@ -69,7 +69,11 @@ impl Setup {
 
     /// The sight of a target from the running setup, or the first kind of its faults: word 33 runs
     /// from the tilting axis to the reflector.
-    pub fn sight(running: Option<Setup>, target: Name, sighted: Len) -> Result<Sight, BookKind>
+    pub(crate) fn sight(
+        running: Option<Setup>,
+        target: Name,
+        sighted: Len,
+    ) -> Result<Sight, BookKind>
         ensures fault { result_err result ≡ sight_fault running target }
         ensures seen { IfOk result (IsSeen running target sighted) }
     {

@@ -3,7 +3,7 @@ use gsi_word::Name;
 
 /// What a record under the version row states.
 #[derive(Clone, Copy, Debug, PartialEq, Eq)]
-pub enum Statement {
+pub(crate) enum Statement {
     /// The height of a name.
     Height(Name, i64),
     /// Its lowest best height.

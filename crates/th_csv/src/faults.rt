@@ -8,7 +8,7 @@ use std::alloc::AllocError;
 /// `csv` has one type of error for everything. Here records may differ in length, fields need not
 /// be UTF-8, and nothing is serialized. Reading a slice or writing a vector fails only if an
 /// allocation fails. So no other error can occur.
-pub fn want_of_memory<E: Drop>(_error: E) -> AllocError
+pub(crate) fn out_of_memory<E: Drop>(_error: E) -> AllocError
     ensures { result ≡ alloc_error }
 {
     AllocError

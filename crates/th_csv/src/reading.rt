@@ -4,7 +4,7 @@ ghost use Rattle.csv.specs.Records.{fields_of};
 ghost use Rattle.th_csv.specs.Inside.Readers.{IsReading, ReadsFront};
 ghost use Rattle.th_csv.specs.Records.{records_of, ReadsOne};
 
-use crate::faults::want_of_memory;
+use crate::faults::out_of_memory;
 use crate::fields::Record;
 use csv::{ByteRecord, Reader, ReaderBuilder};
 use std::alloc::{AllocError, Global};
@@ -91,5 +91,5 @@ fn read_next(reader: &mut Reader<&[u8]>, fields: &mut ByteRecord) -> Result<bool
     requires { IsReading reader.old }
     ensures { IfOk result (λ found. ReadsFront reader.old reader.new found (fields_of fields.new)) }
 {
-    reader.read_byte_record(fields).map_err(want_of_memory)
+    reader.read_byte_record(fields).map_err(out_of_memory)
 }

@@ -2,7 +2,7 @@
 ghost use Rattle.std.specs.Prelude.{◌≡◌, ◌++◌, [], true, false, is_err, map, IfOk, IsErr, OnOk};
 ghost use Rattle.th_csv.specs.Texts.{row_text};
 
-use crate::faults::want_of_memory;
+use crate::faults::out_of_memory;
 use csv::{Writer, WriterBuilder};
 use std::alloc::{AllocError, Global};
 use std::marker::Model;
@@ -54,7 +54,7 @@ impl RowWriter {
         if self.refused {
             return Err(AllocError);
         }
-        let written = self.writer.write_fields(fields).map_err(want_of_memory);
+        let written = self.writer.write_fields(fields).map_err(out_of_memory);
         self.refused = written.is_err();
         written
     }
@@ -67,6 +67,6 @@ impl RowWriter {
         if self.refused {
             return Err(AllocError);
         }
-        self.writer.into_inner().map_err(want_of_memory)
+        self.writer.into_inner().map_err(out_of_memory)
     }
 }

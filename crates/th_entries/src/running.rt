@@ -10,7 +10,7 @@ use th_units::Len;
 /// Where among the entries the last reflector height and the last instrument height of the running setup
 /// are.
 #[derive(Clone, Copy, Debug)]
-pub struct Latest {
+pub(crate) struct Latest {
     pub reflector: Option<usize>,
     pub instrument: Option<usize>,
 }
@@ -33,7 +33,7 @@ impl Latest {
 
 /// Enters what a block enters: its heights, in the setup that it begins or that runs before it, and then
 /// the sight that uses the last heights.
-pub fn enter(
+pub(crate) fn enter(
     latest: &mut Latest,
     entries: &mut Vec<Entry>,
     book: u32,

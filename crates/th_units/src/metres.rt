@@ -13,7 +13,7 @@ use crate::signs::{has_minus, without_sign};
 use std::marker::Model;
 
 /// How many units of 10 nm a metre has.
-pub const UNITS_PER_METRE: u64 = 100_000_000;
+const UNITS_PER_METRE: u64 = 100_000_000;
 
 /// Room in bytes for the text of any length.
 const CAPACITY: usize = 24;
