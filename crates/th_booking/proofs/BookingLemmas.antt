@@ -1,5 +1,5 @@
 -- What is owed for a table of differences that was read, and where its refusals come from.
-use Rattle.std.proofs.Common.{◌≡◌, ◌≢◌, ◌⊎◌, ◌+◌, ◌<◌, ◌≤◌, ℕ, List, Err, take, length, ap, refl, inl, inr, arith}
+use Rattle.std.proofs.Common.{◌≡◌, ◌≢◌, ◌⊎◌, ◌+◌, ◌<◌, ℕ, List, Err, take, length, ap, refl, inl, inr}
 use Rattle.std.proofs.lemmas.Bool.{lt-ltb}
 use Rattle.std.specs.Prelude.{Result}
 use Rattle.th_book.specs.Books.{too_long as book_too_long}
@@ -14,11 +14,10 @@ use Rattle.th_height_books.specs.Printed.{book_of_heights}
 use Rattle.th_run_parts.proofs.Fronts.{front_answer}
 use Rattle.th_run_parts.proofs.RunLemmas.{outcome_refused, unless_of}
 use Rattle.th_run_parts.specs.Outcomes.{Outcome}
-use Rattle.th_run_parts.specs.Reads.{outputs_place, place}
 use Rattle.th_run_parts.specs.Writes.{IsWritten}
 use Rattle.th_run_parts.specs.declared.refusals.Refusal.{Refusal}
 use Rattle.th_run_parts.specs.declared.refusals.Refusal.TheVariants as refusal
-use Rattle.th_booking.specs.Booked.{IsOfConversion, input_of}
+use Rattle.th_booking.specs.Booked.{IsOfConversion}
 use Rattle.th_booking.specs.declared.conversions.Conversion.{Conversion}
 use Rattle.th_booking.specs.declared.conversions.Conversion.TheVariants.{Differences, Heights}
 
@@ -59,8 +58,3 @@ pub book_refused : {A X K : Type 0} (Owes : Refusal → Type 0) (IsGiven HasWrit
     → IsOfConversion conversion own → Owes own → new ≡ old → Outcome {X = X} Owes IsGiven HasWritten (Err own) old new
 book_refused {X = X} Owes IsGiven HasWritten conversion own old new of_input owes same =
     outcome_refused {X = X} Owes IsGiven HasWritten own old new (input_unwritten X conversion own of_input) (unless_of own (Owes own) owes) same
-
--- and an input comes before the outputs
-pub input_before : (conversion : Conversion) → place (input_of conversion) + 1 ≤ outputs_place
-input_before Differences = omega arith
-input_before Heights = omega arith

@@ -1,14 +1,15 @@
 -- What the refusals of the steps of a run say of what is owed.
-use Rattle.std.proofs.Common.{◌≡◌, ◌≤◌, ◌+◌, ℕ, Bool, List, Some, None, Ok, Err, IfErr, IfOk, IfSome, ap, sym, subst, arith}
+use Rattle.std.proofs.Common.{◌≡◌, ℕ, Bool, List, Some, None, Ok, Err, IfErr, IfOk, IfSome, ap, sym, subst}
 use Rattle.std.specs.Prelude.{Result}
 use Rattle.th_network.specs.Networks.{Survey}
 use Rattle.th_network.specs.declared.faults.NetFault.{NetFault}
 use Rattle.th_run_parts.specs.Inputs.{HasNetFault, IsOwed, MakesNetwork, Meets, MeetsRefusal, Owed, OwesNetFault, and_then}
 use Rattle.th_run_parts.specs.Refused.{IsNetRefusal, IsOfNetwork}
 use Rattle.th_run_parts.specs.Outcomes.{Accepted, Outcome, SurveyOutcome}
-use Rattle.th_run_parts.specs.Reads.{IsNamed, IsOfBook, IsWithin, Run, network_place, outputs_place, refused}
+use Rattle.th_run_parts.specs.Reads.{IsBehind, IsFromInput, IsNamed, IsOfBook, IsOfInputs, Run, refused}
 use Rattle.th_run_parts.specs.Writes.{IsFailedWrite, IsWritten, UnlessWrite}
 use Rattle.th_run_parts.specs.declared.outputs.Output.{Output}
+use Rattle.th_run_parts.specs.declared.refusals.Input.{Input}
 use Rattle.th_run_parts.specs.declared.refusals.Refusal.{Refusal}
 use Rattle.th_run_parts.specs.declared.refusals.Refusal.TheVariants as refusal
 
@@ -24,18 +25,18 @@ pub second_refused : {X Y : Type 0} (owed : Owed X) (next : X → Owed Y) (x : X
 second_refused None next x own met meets = λ real. tt
 second_refused (Some known) next x own met meets = subst (λ answer. MeetsRefusal (and_then (Some answer) next) own) (sym met) meets
 
--- a refusal that comes before the network
-pub owed_before_network : {X : Type 0} (survey_of : X → Survey) (owed : Owed X) (own : Refusal) (low high : ℕ) → IsWithin low high own → high ≤ network_place
+-- a refusal that comes from an input
+pub owed_for_input : {X : Type 0} (survey_of : X → Survey) (owed : Owed X) (own : Refusal) → IsFromInput own
     → MeetsRefusal owed own → UnlessWrite own (IsOwed survey_of owed own)
-owed_before_network survey_of owed (refusal.Network fault) low high within before meets = absurd (omega (arith, within.1, before))
-owed_before_network survey_of owed refusal.NoMemory low high within before meets = tt
-owed_before_network survey_of owed (refusal.Book number fault) low high within before meets = meets (λ e. cc)
-owed_before_network survey_of owed (refusal.Benchmarks fault) low high within before meets = meets (λ e. cc)
-owed_before_network survey_of owed (refusal.Weights fault) low high within before meets = meets (λ e. cc)
-owed_before_network survey_of owed (refusal.Certificate fault) low high within before meets = meets (λ e. cc)
-owed_before_network survey_of owed (refusal.Differences fault) low high within before meets = meets (λ e. cc)
-owed_before_network survey_of owed (refusal.Read which) low high within before meets = meets (λ e. cc)
-owed_before_network survey_of owed (refusal.Write which) low high within before meets = tt
+owed_for_input survey_of owed (refusal.Network fault) from meets = absurd from
+owed_for_input survey_of owed refusal.NoMemory from meets = tt
+owed_for_input survey_of owed (refusal.Book number fault) from meets = meets (λ e. cc)
+owed_for_input survey_of owed (refusal.Benchmarks fault) from meets = meets (λ e. cc)
+owed_for_input survey_of owed (refusal.Weights fault) from meets = meets (λ e. cc)
+owed_for_input survey_of owed (refusal.Certificate fault) from meets = meets (λ e. cc)
+owed_for_input survey_of owed (refusal.Differences fault) from meets = meets (λ e. cc)
+owed_for_input survey_of owed (refusal.Read which) from meets = meets (λ e. cc)
+owed_for_input survey_of owed (refusal.Write which) from meets = tt
 
 owes_fault : {X : Type 0} (survey_of : X → Survey) (owed : Owed X) (x : X) (fault : NetFault) → Meets owed (Ok x) → HasNetFault (survey_of x) fault
     → OwesNetFault survey_of owed fault
@@ -55,17 +56,23 @@ pub of_network : {X : Type 0} (survey network : Survey) (P : Survey → X → Ty
 of_network survey network P (Ok x) makes same holds refused = (makes, subst (λ own. P own x) same holds)
 of_network survey network P (Err own) makes same holds refused = subst (IsNetRefusal survey) (sym refused) tt
 
--- it comes from the place of the network
-pub network_within : (survey : Survey) (own : Refusal) → IsNetRefusal survey own → IsWithin network_place (network_place + 1) own
-network_within survey (refusal.Network fault) refuses = (omega arith, omega arith)
-network_within survey refusal.NoMemory refuses = tt
-network_within survey other refuses = absurd refuses
+-- it comes from behind each input
+pub network_behind : (which : Input) (survey : Survey) (own : Refusal) → IsNetRefusal survey own → IsBehind which own
+network_behind which survey (refusal.Network fault) refuses = tt
+network_behind which survey refusal.NoMemory refuses = tt
+network_behind which survey other refuses = absurd refuses
 
--- a refusal once outputs are begun comes from the place of the outputs
-pub written_within : {X : Type 0} (result : Result X Refusal) → IsWritten result → IfSome (refused result) (IsWithin outputs_place (outputs_place + 1))
-written_within (Ok x) written = tt
-written_within (Err (refusal.Write which)) written = (omega arith, omega arith)
-written_within (Err other) written = absurd written
+-- so does a refusal once outputs are begun
+pub written_behind : {X : Type 0} (which : Input) (result : Result X Refusal) → IsWritten result → IfSome (refused result) (IsBehind which)
+written_behind which (Ok x) written = tt
+written_behind which (Err (refusal.Write output)) written = tt
+written_behind which (Err other) written = absurd written
+
+-- a refusal for a book or a table comes from an input
+pub of_inputs : (books : ℕ) (weights : Bool) (own : Refusal) → IsOfInputs books weights own → IsFromInput own
+of_inputs books weights (refusal.Network fault) is = is
+of_inputs books weights (refusal.Write which) is = is
+of_inputs books weights own is = tt
 
 -- what holds holds before outputs are begun
 pub unless_of : (own : Refusal) (Own : Type 0) → Own → UnlessWrite own Own
@@ -116,16 +123,16 @@ outcome_begun Owes IsGiven HasWritten found result old new begun given written =
   untouched = unless_begun (λ own. new ≡ old) result begun;
 }
 
--- the refusal of a run over a survey that comes before the network
-pub survey_refused : {A X K : Type 0} (survey_of : A → Survey) (owed : Owed A) (HasWritten : A → Type 0) (own : Refusal) (low high : ℕ) (old new : K)
-    → IsWithin low high own → high ≤ network_place → MeetsRefusal owed own → new ≡ old → SurveyOutcome {X = X} survey_of owed HasWritten (Err own) old new
-survey_refused {X = X} survey_of owed HasWritten own low high old new within before meets same =
-    outcome_refused {X = X} (IsOwed survey_of owed) (Accepted survey_of owed) HasWritten own old new (never own within)
-    (owed_before_network survey_of owed own low high within before meets) same
+-- the refusal of a run over a survey that comes from an input
+pub survey_refused : {A X K : Type 0} (survey_of : A → Survey) (owed : Owed A) (HasWritten : A → Type 0) (own : Refusal) (old new : K)
+    → IsFromInput own → MeetsRefusal owed own → new ≡ old → SurveyOutcome {X = X} survey_of owed HasWritten (Err own) old new
+survey_refused {X = X} survey_of owed HasWritten own old new from meets same =
+    outcome_refused {X = X} (IsOwed survey_of owed) (Accepted survey_of owed) HasWritten own old new (never own from)
+    (owed_for_input survey_of owed own from meets) same
   where
-    never : (real : Refusal) → IsWithin low high real → IsWritten {X = X} (Err real) → ⊥
-    never (refusal.Write which) at begun = omega (arith, at.1, before)
-    never other at begun = begun
+    never : (real : Refusal) → IsFromInput real → IsWritten {X = X} (Err real) → ⊥
+    never (refusal.Write which) from begun = from
+    never other from begun = begun
 
 -- and the refusal of the network
 pub network_refused : {A X K : Type 0} (survey_of : A → Survey) (owed : Owed A) (HasWritten : A → Type 0) (found : A) (own : Refusal) (old new : K)

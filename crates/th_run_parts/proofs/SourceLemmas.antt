@@ -1,13 +1,12 @@
 -- How sources are read, and what that says where another input decides.
-use Rattle.std.proofs.Common.{◌≡◌, ◌≢◌, ◌+◌, ◌<◌, ◌≤◌, ℕ, List, [], ◌∷◌, Some, None, Ok, Err, IfSome, IfErr, IsSomeAnd, length, ap, sym, subst, refl, if◌then◌else◌, arith}
+use Rattle.std.proofs.Common.{◌≡◌, ◌≢◌, ◌+◌, ◌<◌, ◌≤◌, ℕ, List, [], ◌∷◌, Some, None, Ok, Err, IfSome, IfErr, IsSomeAnd, ap, sym, subst, refl, if◌then◌else◌, false, arith}
 use Rattle.std.proofs.lemmas.Bool.{ne_eqb}
 use Rattle.std.proofs.lemmas.List.Elements.{All-tail}
 use Rattle.std.specs.List.{All}
 use Rattle.std.specs.Prelude.{Option, Result, Bool}
 use Rattle.th_devices.specs.Transfer.{Advances}
 use Rattle.th_devices.specs.Devices.{MayHaveFailed, SourceState}
-use Rattle.th_limits.specs.Limits.{max_books}
-use Rattle.th_run_parts.specs.Reads.{AreRead, EachBook, IfPresent, IsReadFor, IsWithin, decided_at, place, reads_behind}
+use Rattle.th_run_parts.specs.Reads.{AreRead, EachBook, IfPresent, IsBehind, IsFrom, IsOfBook, IsOfBooks, IsOfInputs, IsPast, IsReadBefore, IsReadFor, decided_by, reads_behind, same_input}
 use Rattle.th_run_parts.specs.declared.refusals.Input.{Input}
 use Rattle.th_run_parts.specs.declared.refusals.Input.TheVariants as input
 use Rattle.th_run_parts.specs.declared.refusals.Refusal.{Refusal}
@@ -45,43 +44,83 @@ advances-same most (Some text) = ([], omega arith, refl)
 pub none_failed : (failures : ℕ) (may_fail : Bool) → failures ≡ 0 → MayHaveFailed failures may_fail may_fail
 none_failed failures may_fail none = record { fixed = refl; allowed = λ some. absurd (omega (arith, none, some)) }
 
+-- of two inputs each is read before the other, or none
+asymmetric : (own other : Input) → IsReadBefore own other → IsReadBefore other own → ⊥
+asymmetric (input.Book own) (input.Book other) before behind = omega (arith, before, behind)
+asymmetric (input.Book own) other before behind = behind
+asymmetric own (input.Book other) before behind = before
+asymmetric input.Benchmarks input.Benchmarks before behind = before
+asymmetric input.Benchmarks other before behind = behind
+asymmetric own input.Benchmarks before behind = before
+asymmetric input.Weights input.Weights before behind = before
+asymmetric input.Weights other before behind = behind
+asymmetric own input.Weights before behind = before
+asymmetric own other before behind = before
+
+-- two inputs that differ are not one
+differing : (which own : Input) → own ≢ which → same_input which own ≡ false
+differing (input.Book which) (input.Book own) differs = ne_eqb which own (λ e. differs (ap input.Book (sym e)))
+differing input.Benchmarks input.Benchmarks differs = absurd (differs refl)
+differing input.Weights input.Weights differs = absurd (differs refl)
+differing input.Certificate input.Certificate differs = absurd (differs refl)
+differing input.Differences input.Differences differs = absurd (differs refl)
+differing which own differs = refl
+
+-- the refusal comes from another input, or from none
+abbrev pub IsFromElsewhere : Input → Refusal → Type 0
+IsFromElsewhere which own = decided_by own ≢ Some which
+
 -- no read of an input failed where another decided the answer
-none_behind : (which : Input) (own : Refusal) → IfSome (decided_at own) (λ at. at ≢ place which) → reads_behind which own ≡ 0
-none_behind which (refusal.Read other) differs =
-    ap (λ (same : Bool). if same then 1 else 0) (ne_eqb (place which) (place other) (λ e. differs (sym e)))
-none_behind which other differs = refl
+none_behind : (which : Input) (own : Refusal) → IsFromElsewhere which own → reads_behind which own ≡ 0
+none_behind which (refusal.Read other) elsewhere =
+    ap (λ (same : Bool). if same then 1 else 0) (differing which other (λ e. elsewhere (ap Some e)))
+none_behind which other elsewhere = refl
+
+-- what comes from behind an input does not come from it
+elsewhere_behind : (which : Input) (own : Refusal) → IsBehind which own → IsFromElsewhere which own
+elsewhere_behind which own behind = λ e. let here = subst (λ (at : Option Input). IfSome at (λ known. IsReadBefore which known)) e behind in asymmetric which which here here
+
+-- so it does not come from before it
+not_past : (which : Input) (own : Refusal) → IsBehind which own → IsPast which (Some own) → ⊥
+not_past which own = by (decided_by own)
+  where
+    by : (decided : Option Input) → IfSome decided (λ at. IsReadBefore which at) → IsSomeAnd decided (λ at. IsReadBefore at which) → ⊥
+    by None behind past = past
+    by (Some at) behind past = asymmetric which at behind past
 
 -- what holds of a refusal
 pub if_refused : {X : Type 0} (P : Refusal → Type 0) (result : Result X Refusal) → IfErr result P → IfSome (refused result) P
 if_refused P (Ok x) holds = tt
 if_refused P (Err own) holds = holds
 
--- a source that is not touched, where the refusal comes from another place
-pub not_read : {S : Type 0} (state_of : S → SourceState) (which : Input) (answer : Option Refusal) (low high : ℕ) (source : S)
-    → IfSome answer (IsWithin low high) → high ≤ place which → IsReadFor state_of which answer source source
-not_read state_of which None low high source within below =
+-- a source that is not touched, where the refusal comes from elsewhere
+pub not_read : {S : Type 0} (state_of : S → SourceState) (which : Input) (answer : Option Refusal) (source : S)
+    → IfSome answer (IsFromElsewhere which) → IsReadFor state_of which answer source source
+not_read state_of which None source elsewhere =
     record {
       read = record { failed = omega arith; may_fail = none_failed 0 (state_of source).may_fail (omega arith); often = omega arith; far = advances-same _ _ };
       untouched = λ past. refl;
     }
-not_read state_of which (Some own) low high source within below =
-    let none : reads_behind which own ≡ 0 = none_behind which own (other (decided_at own) within) in
+not_read state_of which (Some own) source elsewhere =
+    let none : reads_behind which own ≡ 0 = none_behind which own elsewhere in
     record {
       read = record { failed = omega (arith, none); may_fail = none_failed (reads_behind which own) (state_of source).may_fail none; often = omega arith; far = advances-same _ _ };
       untouched = λ past. refl;
     }
-  where
-    other : (decided : Option ℕ) → IfSome decided (λ at. (low ≤ at) × (at < high)) → IfSome decided (λ at. at ≢ place which)
-    other None within = tt
-    other (Some at) within = λ e. omega (arith, e, within.1)
+
+-- so is one that may be absent
+pub none_read : {S : Type 0} (state_of : S → SourceState) (which : Input) (answer : Option Refusal) (source : Option S)
+    → IfSome answer (IsFromElsewhere which) → IfPresent (IsReadFor state_of which answer) source source
+none_read state_of which answer None elsewhere = tt
+none_read state_of which answer (Some source) elsewhere = not_read state_of which answer source elsewhere
 
 -- a source that was read, where the answer is decided behind it
-pub read_before : {S : Type 0} (state_of : S → SourceState) (which : Input) (answer : Option Refusal) (low high : ℕ)
-    (old new : S) → IfSome answer (IsWithin low high) → place which < low → IsReadFor state_of which None old new
+pub read_before : {S : Type 0} (state_of : S → SourceState) (which : Input) (answer : Option Refusal)
+    (old new : S) → IfSome answer (IsBehind which) → IsReadFor state_of which None old new
     → IsReadFor state_of which answer old new
-read_before state_of which None low high old new within above read = read
-read_before state_of which (Some own) low high old new within above read =
-    let none : reads_behind which own ≡ 0 = none_behind which own (other (decided_at own) within) in
+read_before state_of which None old new behind read = read
+read_before state_of which (Some own) old new behind read =
+    let none : reads_behind which own ≡ 0 = none_behind which own (elsewhere_behind which own behind) in
     record {
       read = record {
         failed = omega (arith, none, read.read.failed);
@@ -89,46 +128,100 @@ read_before state_of which (Some own) low high old new within above read =
         often = read.read.often;
         far = read.read.far;
       };
-      untouched = λ past. absurd (not_past (decided_at own) within past);
+      untouched = λ past. absurd (not_past which own behind past);
     }
-  where
-    other : (decided : Option ℕ) → IfSome decided (λ at. (low ≤ at) × (at < high)) → IfSome decided (λ at. at ≢ place which)
-    other None within = tt
-    other (Some at) within = λ e. omega (arith, e, within.0)
-
-    not_past : (decided : Option ℕ) → IfSome decided (λ at. (low ≤ at) × (at < high)) → IsSomeAnd decided (λ at. at < place which) → ⊥
-    not_past None within past = past
-    not_past (Some at) within past = omega (arith, within.0)
 
 -- so is one that may be absent
-pub present_before : {S : Type 0} (state_of : S → SourceState) (which : Input) (answer : Option Refusal) (low high : ℕ)
-    (old new : Option S) → IfSome answer (IsWithin low high) → place which < low → IfPresent (IsReadFor state_of which None) old new
+pub present_before : {S : Type 0} (state_of : S → SourceState) (which : Input) (answer : Option Refusal)
+    (old new : Option S) → IfSome answer (IsBehind which) → IfPresent (IsReadFor state_of which None) old new
     → IfPresent (IsReadFor state_of which answer) old new
-present_before state_of which answer low high None None within above read = tt
-present_before state_of which answer low high None (Some new) within above read = absurd read
-present_before state_of which answer low high (Some old) None within above read = absurd read
-present_before state_of which answer low high (Some old) (Some new) within above read =
-    read_before state_of which answer low high old new within above read
+present_before state_of which answer None None behind read = tt
+present_before state_of which answer None (Some new) behind read = absurd read
+present_before state_of which answer (Some old) None behind read = absurd read
+present_before state_of which answer (Some old) (Some new) behind read = read_before state_of which answer old new behind read
 
 -- books that were all read, where the answer is decided behind them
-pub books_before : {S : Type 0} (state_of : S → SourceState) (number : ℕ) (answer : Option Refusal) (low high : ℕ) (olds news : List S)
-    → IfSome answer (IsWithin low high) → number + length olds ≤ low → EachBook (λ own. IsReadFor state_of (input.Book own) None) number olds news
+pub books_before : {S : Type 0} (state_of : S → SourceState) (number : ℕ) (answer : Option Refusal) (olds news : List S)
+    → ((own : ℕ) → IfSome answer (IsBehind (input.Book own))) → EachBook (λ own. IsReadFor state_of (input.Book own) None) number olds news
     → EachBook (λ own. IsReadFor state_of (input.Book own) answer) number olds news
-books_before state_of number answer low high [] [] within few each = tt
-books_before state_of number answer low high [] (new ∷ news) within few each = absurd each
-books_before state_of number answer low high (old ∷ olds) [] within few each = absurd each
-books_before state_of number answer low high (old ∷ olds) (new ∷ news) within few each = (
-  read_before state_of (input.Book number) answer low high old new within (omega arith) each.0,
-  books_before state_of (number + 1) answer low high olds news within (omega arith) each.1,
+books_before state_of number answer [] [] behind each = tt
+books_before state_of number answer [] (new ∷ news) behind each = absurd each
+books_before state_of number answer (old ∷ olds) [] behind each = absurd each
+books_before state_of number answer (old ∷ olds) (new ∷ news) behind each = (
+  read_before state_of (input.Book number) answer old new (behind number) each.0,
+  books_before state_of (number + 1) answer olds news behind each.1,
 )
 
+-- what is read behind the weights is read behind the books and the benchmarks
+behind_book : (number : ℕ) (at : Input) → IsReadBefore input.Weights at → IsReadBefore (input.Book number) at
+behind_book number (input.Book own) behind = absurd behind
+behind_book number at behind = tt
+
+behind_benchmarks : (at : Input) → IsReadBefore input.Weights at → IsReadBefore input.Benchmarks at
+behind_benchmarks (input.Book own) behind = behind
+behind_benchmarks input.Benchmarks behind = behind
+behind_benchmarks at behind = tt
+
+wider : (which : Input) (answer : Option Refusal) → ((at : Input) → IsReadBefore input.Weights at → IsReadBefore which at)
+    → IfSome answer (IsBehind input.Weights) → IfSome answer (IsBehind which)
+wider which None next behind = tt
+wider which (Some own) next behind = by (decided_by own) behind
+  where
+    by : (decided : Option Input) → IfSome decided (λ at. IsReadBefore input.Weights at) → IfSome decided (λ at. IsReadBefore which at)
+    by None is = tt
+    by (Some at) is = next at is
+
 -- sources that were all read, where the answer is decided behind them
-pub all_before : {B T W : Type 0} (of_book : B → SourceState) (of_table : T → SourceState) (of_weights : W → SourceState) (answer : Option Refusal) (low high : ℕ)
-    (books books' : List B) (benchmarks benchmarks' : T) (weights weights' : Option W) → IfSome answer (IsWithin low high) → place input.Weights < low
-    → length books ≤ max_books → AreRead of_book of_table of_weights None books books' benchmarks benchmarks' weights weights'
+pub all_before : {B T W : Type 0} (of_book : B → SourceState) (of_table : T → SourceState) (of_weights : W → SourceState) (answer : Option Refusal)
+    (books books' : List B) (benchmarks benchmarks' : T) (weights weights' : Option W) → IfSome answer (IsBehind input.Weights)
+    → AreRead of_book of_table of_weights None books books' benchmarks benchmarks' weights weights'
     → AreRead of_book of_table of_weights answer books books' benchmarks benchmarks' weights weights'
-all_before of_book of_table of_weights answer low high books books' benchmarks benchmarks' weights weights' within behind few read = record {
-  books = books_before of_book 1 answer low high books books' within (omega arith) read.books;
-  benchmarks = read_before of_table input.Benchmarks answer low high benchmarks benchmarks' within (omega arith) read.benchmarks;
-  weights = present_before of_weights input.Weights answer low high weights weights' within behind read.weights;
+all_before of_book of_table of_weights answer books books' benchmarks benchmarks' weights weights' behind read = record {
+  books = books_before of_book 1 answer books books' (λ own. wider (input.Book own) answer (behind_book own) behind) read.books;
+  benchmarks = read_before of_table input.Benchmarks answer benchmarks benchmarks' (wider input.Benchmarks answer behind_benchmarks behind) read.benchmarks;
+  weights = present_before of_weights input.Weights answer weights weights' behind read.weights;
 }
+
+-- a refusal for a book comes from no other book
+pub elsewhere_book : (number other : ℕ) (own : Refusal) → IsOfBook number own → number < other → IsFromElsewhere (input.Book other) own
+elsewhere_book number other (refusal.Book own fault) is above = λ e. let there : own ≡ other = cc e in omega (arith, is.0, there, above)
+elsewhere_book number other (refusal.Read which) is above = λ e. let there : number ≡ other = cc (e, is) in omega (arith, there, above)
+elsewhere_book number other refusal.NoMemory is above = λ e. cc e
+elsewhere_book number other own is above = absurd is
+
+-- a refusal for later books comes from behind one before them
+pub behind_of_books : (low high number : ℕ) (own : Refusal) → IsOfBooks low high own → number < low → IsBehind (input.Book number) own
+behind_of_books low high number (refusal.Book own fault) is below = omega (arith, is.0, below)
+behind_of_books low high number (refusal.Read (input.Book own)) is below = omega (arith, is.0, below)
+behind_of_books low high number refusal.NoMemory is below = tt
+behind_of_books low high number own is below = absurd is
+
+-- and from no table
+pub elsewhere_tables : (low high : ℕ) (own : Refusal) → IsOfBooks low high own → IsFromElsewhere input.Benchmarks own × IsFromElsewhere input.Weights own
+elsewhere_tables low high (refusal.Book own fault) is = ((λ e. cc e), (λ e. cc e))
+elsewhere_tables low high (refusal.Read (input.Book own)) is = ((λ e. cc e), (λ e. cc e))
+elsewhere_tables low high refusal.NoMemory is = ((λ e. cc e), (λ e. cc e))
+elsewhere_tables low high own is = absurd is
+
+-- a refusal for a table comes from behind all books
+pub behind_of_tables : (weights : Bool) (number : ℕ) (own : Refusal) → IsOfInputs 0 weights own → IsBehind (input.Book number) own
+behind_of_tables weights number (refusal.Book own fault) is = absurd (omega (arith, is.0, is.1))
+behind_of_tables weights number (refusal.Benchmarks fault) is = tt
+behind_of_tables weights number (refusal.Weights fault) is = tt
+behind_of_tables weights number (refusal.Read (input.Book own)) is = absurd (omega (arith, is.0, is.1))
+behind_of_tables weights number (refusal.Read input.Benchmarks) is = tt
+behind_of_tables weights number (refusal.Read input.Weights) is = tt
+behind_of_tables weights number refusal.NoMemory is = tt
+behind_of_tables weights number own is = absurd is
+
+-- one for an input comes from behind each that is read before it
+pub behind_from : (which at : Input) (own : Refusal) → IsFrom at own → IsReadBefore which at → IsBehind which own
+behind_from which at (refusal.NoMemory) is before = tt
+behind_from which at (refusal.Book number fault) is before = subst (λ (known : Option Input). IfSome known (λ own. IsReadBefore which own)) (sym is) before
+behind_from which at (refusal.Benchmarks fault) is before = subst (λ (known : Option Input). IfSome known (λ own. IsReadBefore which own)) (sym is) before
+behind_from which at (refusal.Weights fault) is before = subst (λ (known : Option Input). IfSome known (λ own. IsReadBefore which own)) (sym is) before
+behind_from which at (refusal.Certificate fault) is before = subst (λ (known : Option Input). IfSome known (λ own. IsReadBefore which own)) (sym is) before
+behind_from which at (refusal.Differences fault) is before = subst (λ (known : Option Input). IfSome known (λ own. IsReadBefore which own)) (sym is) before
+behind_from which at (refusal.Read other) is before = subst (λ (known : Option Input). IfSome known (λ own. IsReadBefore which own)) (sym is) before
+behind_from which at (refusal.Network fault) is before = absurd (cc is)
+behind_from which at (refusal.Write other) is before = absurd (cc is)

@@ -1,5 +1,5 @@
 -- How the sources of a run are read.
-use Rattle.std.specs.Prelude.{true, ◌≡◌, ◌≢◌, ◌+◌, ◌<◌, ◌≤◌, ℕ, Bool, List, [], ◌∷◌, Option, Some, None, IfSome, IsSomeAnd, Result, Ok, Err, if◌then◌else◌, length, nat_eq}
+use Rattle.std.specs.Prelude.{true, false, ◌≡◌, ◌≢◌, ◌+◌, ◌<◌, ◌≤◌, ℕ, Bool, List, [], ◌∷◌, Option, Some, None, IfSome, IsSomeAnd, Result, Ok, Err, if◌then◌else◌, length, nat_eq}
 use Rattle.th_book.specs.declared.faults.BookKind.TheVariants as book_kind
 use Rattle.th_certificate.specs.declared.faults.CertKind.TheVariants as cert_kind
 use Rattle.std.specs.List.{All, Contains}
@@ -15,41 +15,54 @@ use Rattle.th_run_parts.specs.declared.outputs.Output.{Output}
 use Rattle.th_run_parts.specs.declared.refusals.Refusal.{Refusal}
 use Rattle.th_run_parts.specs.declared.refusals.Refusal.TheVariants as refusal
 
--- the place of an input in the order in which inputs are read: books by their numbers, below 2^32, and then tables and certificate; the table of differences,
--- which is read alone, has one of its own
-abbrev pub place : Input → ℕ
-place (input.Book number) = number
-place input.Benchmarks = 4294967296
-place input.Weights = 4294967297
-place input.Certificate = 4294967298
-place input.Differences = 4294967299
+-- this input is read before that one: books by their numbers, then the benchmarks, the weights, and the certificate. The differences are read alone
+abbrev pub IsReadBefore : Input → Input → Type 0
+IsReadBefore (input.Book own) (input.Book other) = own < other
+IsReadBefore own (input.Book other) = ⊥
+IsReadBefore (input.Book own) other = Unit {0}
+IsReadBefore own input.Benchmarks = ⊥
+IsReadBefore input.Benchmarks other = Unit {0}
+IsReadBefore own input.Weights = ⊥
+IsReadBefore input.Weights other = Unit {0}
+IsReadBefore own other = ⊥
 
--- the network comes after all inputs, and the outputs after the network
-abbrev pub network_place : ℕ
-network_place = 4294967300
+-- two inputs are one
+abbrev pub same_input : Input → Input → Bool
+same_input (input.Book own) (input.Book other) = nat_eq own other
+same_input input.Benchmarks input.Benchmarks = true
+same_input input.Weights input.Weights = true
+same_input input.Certificate input.Certificate = true
+same_input input.Differences input.Differences = true
+same_input own other = false
 
-abbrev pub outputs_place : ℕ
-outputs_place = 4294967301
+-- the input that a refusal comes from; none for the network, for an output, and for out of memory, which may come from any
+abbrev pub decided_by : Refusal → Option Input
+decided_by (refusal.Book number fault) = Some (input.Book number)
+decided_by (refusal.Benchmarks fault) = Some input.Benchmarks
+decided_by (refusal.Weights fault) = Some input.Weights
+decided_by (refusal.Certificate fault) = Some input.Certificate
+decided_by (refusal.Differences fault) = Some input.Differences
+decided_by (refusal.Read which) = Some which
+decided_by other = None
 
--- the place that a refusal comes from; none for out of memory, which may come from any
-abbrev pub decided_at : Refusal → Option ℕ
-decided_at (refusal.Book number fault) = Some number
-decided_at (refusal.Benchmarks fault) = Some (place input.Benchmarks)
-decided_at (refusal.Weights fault) = Some (place input.Weights)
-decided_at (refusal.Certificate fault) = Some (place input.Certificate)
-decided_at (refusal.Differences fault) = Some (place input.Differences)
-decided_at (refusal.Network fault) = Some network_place
-decided_at (refusal.Read which) = Some (place which)
-decided_at (refusal.Write which) = Some outputs_place
-decided_at refusal.NoMemory = None
+-- a refusal that comes from this input, or out of memory
+abbrev pub IsFrom : Input → Refusal → Type 0
+IsFrom which refusal.NoMemory = Unit {0}
+IsFrom which own = decided_by own ≡ Some which
 
--- a refusal that comes from a place from `low` up to and without `high`, or out of memory
-abbrev pub IsWithin : ℕ → ℕ → Refusal → Type 0
-IsWithin low high own = IfSome (decided_at own) (λ at. (low ≤ at) × (at < high))
+-- a refusal that comes from an input, or out of memory
+abbrev pub IsFromInput : Refusal → Type 0
+IsFromInput (refusal.Network fault) = ⊥
+IsFromInput (refusal.Write which) = ⊥
+IsFromInput other = Unit {0}
+
+-- a refusal that comes from behind this input: from one that is read later, from none, or out of memory
+abbrev pub IsBehind : Input → Refusal → Type 0
+IsBehind which own = IfSome (decided_by own) (λ at. IsReadBefore which at)
 
 -- how many failed reads of this input a refusal reports: 1 or 0
 abbrev pub reads_behind : Input → Refusal → ℕ
-reads_behind which (refusal.Read own) = if nat_eq (place which) (place own) then 1 else 0
+reads_behind which (refusal.Read own) = if same_input which own then 1 else 0
 reads_behind which other = 0
 
 -- the refusal in a result, if it is one
@@ -62,10 +75,10 @@ abbrev pub failed_reads_of : Input → Option Refusal → ℕ
 failed_reads_of which None = 0
 failed_reads_of which (Some own) = reads_behind which own
 
--- the refusal comes from a place before this input
+-- the refusal comes from an input that is read before this one
 abbrev pub IsPast : Input → Option Refusal → Type 0
 IsPast which None = ⊥
-IsPast which (Some own) = IsSomeAnd (decided_at own) (λ at. at < place which)
+IsPast which (Some own) = IsSomeAnd (decided_by own) (λ at. IsReadBefore at which)
 
 -- How a source is read in a run with this refusal, or with none: a read of it failed just where the refusal says so; it is read at most once for each byte
 -- that the input may have and once more, and so far at most; and it is untouched where an input before it decided the answer.
@@ -111,6 +124,13 @@ IsOfBook number (refusal.Book own fault) = (own ≡ number) × (fault.kind ≢ b
 IsOfBook number (refusal.Read which) = which ≡ input.Book number
 IsOfBook number refusal.NoMemory = Unit {0}
 IsOfBook number other = ⊥
+
+-- A refusal for a book with a number from `low` up to and without `high`, or out of memory. A fault in the refusal is never `NoMemory`.
+abbrev pub IsOfBooks : ℕ → ℕ → Refusal → Type 0
+IsOfBooks low high (refusal.Book own fault) = (low ≤ own) × (own < high) × (fault.kind ≢ book_kind.NoMemory)
+IsOfBooks low high (refusal.Read (input.Book own)) = (low ≤ own) × (own < high)
+IsOfBooks low high refusal.NoMemory = Unit {0}
+IsOfBooks low high other = ⊥
 
 -- A refusal for one of this many books, counted from 1, for the benchmarks, or for the weights if
 -- there are any; or out of memory. A fault in the refusal is never `NoMemory`.

@@ -1,9 +1,10 @@
 //! The books of a run, read one after the other.
-ghost use Rattle.std.specs.Prelude.{◌≡◌, ◌∷◌, ◌++◌, ◌+◌, ◌-◌, ◌<◌, ◌≤◌, List, IfErr, OnOk, Ok, [], All, false, length};
+ghost use Rattle.std.specs.Prelude.{◌≡◌, ◌∷◌, ◌++◌, ◌+◌, ◌≤◌, List, IfErr, OnOk, Ok, [], All, length};
+ghost use Rattle.th_limits.specs.Limits.{max_books};
 ghost use Rattle.th_observations.specs.Observed.{Observed};
 ghost use Rattle.th_run_parts.specs.Inputs.{Meets, MeetsRefusal, given, givens, owed_for_book, owed_for_books, told_by};
 ghost use Rattle.th_run_parts.specs.Readers.{HasReadBooks};
-ghost use Rattle.th_run_parts.specs.Reads.{EachBook, IsOfInputs, IsReadFor, IsWithin, place, refused};
+ghost use Rattle.th_run_parts.specs.Reads.{EachBook, IsOfBook, IsOfBooks, IsReadFor, refused};
 ghost use Rattle.th_devices.specs.Devices.{IsReady};
 
 use crate::readers::BookReader;
@@ -22,7 +23,7 @@ pub(crate) fn read_books<R: BookReader, S: Source>(
     joined: &mut Vec<Observation>,
 ) -> Result<(), Refusal>
     requires ready { All (λ book. IsReady (S.state book).counts) books.old }
-    requires few { number + length books.old < place Input.Benchmarks }
+    requires few { number + length books.old ≤ max_books + 1 }
     requires first { 1 ≤ number }
     ensures ok { OnOk result (Meets (owed_for_books number joined.old.items
         (givens S.state books.old books.new)) (Ok joined.new.items)) }
@@ -30,8 +31,7 @@ pub(crate) fn read_books<R: BookReader, S: Source>(
         joined.old.items joined.new.items reader.old reader.new) }
     ensures refused { IfErr result (MeetsRefusal (owed_for_books number joined.old.items
         (givens S.state books.old books.new))) }
-    ensures at { IfErr result (IsWithin number (number + length books.old)) }
-    ensures named { IfErr result (IsOfInputs (number + length books.old - 1) false) }
+    ensures named { IfErr result (IsOfBooks number (number + length books.old)) }
     ensures books { EachBook (λ own. IsReadFor S.state (Input.Book own) (refused result))
         number books.old books.new }
 {
@@ -59,8 +59,7 @@ fn read_book<R: BookReader, S: Source>(
         × (joined.new.items ≡ joined.old.items ++ observations)) }
     ensures refused { IfErr result (MeetsRefusal
         (owed_for_book number (given S.state book.old book.new))) }
-    ensures at { IfErr result (IsWithin number (number + 1)) }
-    ensures named { IfErr result (IsOfInputs number false) }
+    ensures named { IfErr result (IsOfBook number) }
     ensures book { IsReadFor S.state (Input.Book number) (refused result) book.old book.new }
 {
     let observations = reader.read(alloc, number, book)?;

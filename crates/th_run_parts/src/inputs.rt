@@ -3,7 +3,7 @@
 ghost use Rattle.std.specs.Prelude.{◌≡◌, ◌≢◌, ◌⊎◌, ◌+◌, IfErr, IfOk, IfSome, false, is_some, take, true};
 ghost use Rattle.th_devices.specs.Devices.{IsReady};
 ghost use Rattle.th_run_parts.specs.Inputs.{AnswersOwed, Failed, given, given_if_any, limit_of, owed_for_benchmarks, owed_for_weights};
-ghost use Rattle.th_run_parts.specs.Reads.{IfPresent, IsOfInputs, IsReadFor, IsWithin, place, refused};
+ghost use Rattle.th_run_parts.specs.Reads.{IfPresent, IsFrom, IsOfInputs, IsReadFor, refused};
 ghost use Rattle.th_tables.specs.Rows.{AreBenchmarks, AreWeights};
 
 use crate::refusals::{Input, Refusal};
@@ -34,7 +34,6 @@ pub fn read_text<S: Source>(alloc: Global, which: Input, source: &mut S) -> Resu
     ensures refused { IfErr result (λ own. own ≢ Refusal.NoMemory → (own ≡ Refusal.Read which)
         × (given S.state source.old source.new ≡ Failed)) }
     ensures named { IfErr result (λ own. (own ≡ Refusal.NoMemory) ⊎ (own ≡ Refusal.Read which)) }
-    ensures at { IfErr result (IsWithin (place which) (place which + 1)) }
     ensures source { IsReadFor S.state which (refused result) source.old source.new }
 {
     match read_all(alloc, source, limit_of(which)) {
@@ -52,7 +51,6 @@ pub(crate) fn benchmarks_from<S: Source>(
     requires { IsReady (S.state source.old).counts }
     ensures answer { AnswersOwed (owed_for_benchmarks (given S.state source.old source.new)) result }
     ensures rows { IfOk result AreBenchmarks }
-    ensures at { IfErr result (IsWithin (place Input.Benchmarks) (place Input.Weights)) }
     ensures named { IfErr result (IsOfInputs 0 false) }
     ensures source { IsReadFor S.state Input.Benchmarks (refused result) source.old source.new }
 {
@@ -75,7 +73,7 @@ pub(crate) fn weights_from<S: Source>(
     ensures answer { AnswersOwed
         (owed_for_weights (given_if_any S.state source.old source.new)) result }
     ensures rows { IfOk result AreWeights }
-    ensures at { IfErr result (IsWithin (place Input.Weights) (place Input.Certificate)) }
+    ensures at { IfErr result (IsFrom Input.Weights) }
     ensures named { IfErr result (IsOfInputs 0 (is_some source.old)) }
     ensures source { IfPresent (IsReadFor S.state Input.Weights (refused result))
         source.old source.new }
@@ -92,7 +90,7 @@ fn weights_in<S: Source>(alloc: Global, source: &mut S) -> Result<Weights, Refus
     ensures answer { AnswersOwed
         (owed_for_weights (Some (given S.state source.old source.new))) result }
     ensures rows { IfOk result AreWeights }
-    ensures at { IfErr result (IsWithin (place Input.Weights) (place Input.Certificate)) }
+    ensures at { IfErr result (IsFrom Input.Weights) }
     ensures named { IfErr result (IsOfInputs 0 true) }
     ensures source { IsReadFor S.state Input.Weights (refused result) source.old source.new }
 {

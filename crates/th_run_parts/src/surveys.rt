@@ -5,7 +5,7 @@ ghost use Rattle.th_network.specs.Networks.{surveyed};
 ghost use Rattle.th_run_parts.specs.Inputs.{AnswersOwed, given, given_if_any, owed_by_sources, owed_for_tables, told_by};
 ghost use Rattle.th_run_parts.specs.Readers.{HasReadBooks};
 ghost use Rattle.th_run_parts.specs.Refused.{IsOfNetwork};
-ghost use Rattle.th_run_parts.specs.Reads.{AreRead, AreReady, IfPresent, IsOfInputs, IsReadFor, IsWithin, place, refused};
+ghost use Rattle.th_run_parts.specs.Reads.{AreRead, AreReady, IfPresent, IsOfInputs, IsReadFor, refused};
 
 use crate::books::read_books;
 use crate::inputs::{benchmarks_from, weights_from};
@@ -65,7 +65,6 @@ pub fn read_survey<R: BookReader, B: Source, T: Source, W: Source>(
         benchmarks.old benchmarks.new weights.old weights.new) result }
     ensures read { IfOk result (λ survey. HasReadBooks R.has_read 1 (told_by B.state books.old) []
         survey.observations reader.old reader.new) }
-    ensures at { IfErr result (IsWithin 1 (place Input.Certificate)) }
     ensures named { IfErr result (IsOfInputs (length books.old) (is_some weights.old)) }
     ensures sources { AreRead B.state T.state W.state (refused result) books.old books.new
         benchmarks.old benchmarks.new weights.old weights.new }
@@ -89,7 +88,6 @@ fn read_tables<T: Source, W: Source>(
     requires weights { IfSome weights.old (λ own. IsReady (W.state own).counts) }
     ensures answer { AnswersOwed (owed_for_tables (given T.state benchmarks.old benchmarks.new)
         (given_if_any W.state weights.old weights.new)) result }
-    ensures at { IfErr result (IsWithin (place Input.Benchmarks) (place Input.Certificate)) }
     ensures named { IfErr result (IsOfInputs 0 (is_some weights.old)) }
     ensures benchmarks { IsReadFor T.state Input.Benchmarks (refused result)
         benchmarks.old benchmarks.new }

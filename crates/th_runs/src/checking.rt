@@ -5,7 +5,7 @@ ghost use Rattle.th_runs.specs.Checked.{IsVerdictOn, checking, judged, verdict_l
 ghost use Rattle.th_run_parts.specs.Inputs.{AnswersOwed, MakesNetwork, claim_owed_by_sources, given, owed_for_certificate};
 ghost use Rattle.th_runs.specs.Inside.Judged.{IsJudged};
 ghost use Rattle.th_run_parts.specs.Refused.{IsOfNetwork};
-ghost use Rattle.th_run_parts.specs.Reads.{AreRead, AreReady, IsNamed, IsReadFor, IsWithin, network_place, place, refused};
+ghost use Rattle.th_run_parts.specs.Reads.{AreRead, AreReady, IsFrom, IsFromInput, IsNamed, IsReadFor, refused};
 ghost use Rattle.th_run_parts.specs.Outcomes.{SurveyOutcome};
 ghost use Rattle.th_run_parts.specs.Writes.{AreWritable, AreWritten};
 
@@ -93,7 +93,7 @@ fn read_stated<B: Source, T: Source, W: Source, C: Source>(
     ensures answer { AnswersOwed (claim_owed_by_sources B.state T.state W.state C.state
         books.old books.new benchmarks.old benchmarks.new weights.old weights.new
         certificate.old certificate.new) result }
-    ensures at { IfErr result (IsWithin 1 network_place) }
+    ensures at { IfErr result IsFromInput }
     ensures named { IfErr result (IsNamed (length books.old) (is_some weights.old) checking) }
     ensures sources { AreRead B.state T.state W.state (refused result) books.old books.new
         benchmarks.old benchmarks.new weights.old weights.new }
@@ -172,7 +172,7 @@ fn line_of(alloc: Global, verdict: &Verdict) -> Result<Vec<u8>, AllocError>
 fn certificate_from<S: Source>(alloc: Global, source: &mut S) -> Result<Certificate, Refusal>
     requires { IsReady (S.state source.old).counts }
     ensures answer { AnswersOwed (owed_for_certificate (given S.state source.old source.new)) result }
-    ensures at { IfErr result (IsWithin (place Input.Certificate) network_place) }
+    ensures at { IfErr result (IsFrom Input.Certificate) }
     ensures named { IfErr result (IsNamed 0 false checking) }
     ensures source { IsReadFor S.state Input.Certificate (refused result) source.old source.new }
 {

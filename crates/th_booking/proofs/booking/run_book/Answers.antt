@@ -1,11 +1,11 @@
-use Rattle.std.proofs.Common.{◌≡◌, ◌+◌, ◌∷◌, [], ℕ, Err, List, ap, rules, subst, arith}
+use Rattle.std.proofs.Common.{◌≡◌, ◌∷◌, [], ℕ, Err, List, ap, rules, subst}
 use Rattle.th_run_parts.specs.declared.outputs.Output.{Output}
-use Rattle.th_run_parts.specs.Reads.{outputs_place, refused}
+use Rattle.th_run_parts.specs.Reads.{refused}
 use Rattle.th_run_parts.specs.Writes.{AreWritten, Texts}
-use Rattle.th_run_parts.proofs.RunLemmas.{begun_of, outcome_begun, written_within}
+use Rattle.th_run_parts.proofs.RunLemmas.{begun_of, outcome_begun, written_behind}
 use Rattle.th_run_parts.proofs.SourceLemmas.{read_before}
 use Rattle.th_booking.specs.Booked.{input_of}
-use Rattle.th_booking.proofs.BookingLemmas.{book_refused, input_before}
+use Rattle.th_booking.proofs.BookingLemmas.{book_refused}
 use Rattle.th_booking.proofs.booking.run_book.Goals as goal
 
 pub returns-in_err-book-clause-outcome : goal.returns-in_err-book-clause-outcome
@@ -21,5 +21,5 @@ returns-clause-outcome g c =
 
 pub returns-clause-source : goal.returns-clause-source
 returns-clause-source g c =
-    read_before _ (input_of c.args.conversion) (refused c.write_outs.result) outputs_place (outputs_place + 1) _ _
-    (written_within c.write_outs.result (begun_of (c.new.result.0 ∷ []) c.write_outs.result c.write_outs.ensures.named)) (omega (arith, input_before c.args.conversion)) c.in_ok-book.ensures.source
+    read_before _ (input_of c.args.conversion) (refused c.write_outs.result) _ _
+    (written_behind (input_of c.args.conversion) c.write_outs.result (begun_of (c.new.result.0 ∷ []) c.write_outs.result c.write_outs.ensures.named)) c.in_ok-book.ensures.source

@@ -1,4 +1,4 @@
-use Rattle.std.proofs.Common.{◌≡◌, ◌+◌, ◌∙◌, ◌∷◌, ℕ, ℤ, [], Err, IfErr, List, w64, ap, length, map, refl, rules, subst, sym, arith}
+use Rattle.std.proofs.Common.{◌≡◌, ◌∙◌, ◌∷◌, ℕ, ℤ, [], Err, IfErr, List, w64, ap, length, map, refl, rules, subst, sym, arith}
 use Rattle.std.proofs.lemmas.Int.{to_z-of_z}
 use Rattle.std.proofs.lemmas.List.{length-map}
 use Rattle.std.specs.List.{All}
@@ -7,7 +7,7 @@ use Rattle.th_entries.specs.declared.reviews.BookReview.{BookReview}
 use Rattle.th_network.specs.Networks.{Survey}
 use Rattle.th_review_rows.specs.Entries.{entries_of}
 use Rattle.th_run_parts.specs.Inputs.{told_by}
-use Rattle.th_run_parts.specs.Reads.{network_place, outputs_place, place, refused}
+use Rattle.th_run_parts.specs.Reads.{refused}
 use Rattle.th_reviewing.specs.Reviewed.{AreReviewsOf}
 use Rattle.th_run_parts.specs.Writes.{AreWritten, IsFailedWrite, Texts}
 use Rattle.th_reviewing.specs.declared.reviews.ReviewReader.{ReviewReader}
@@ -15,7 +15,7 @@ use Rattle.th_run_parts.specs.declared.refusals.Input.TheVariants as input
 use Rattle.th_run_parts.specs.declared.outputs.Output.{Output}
 use Rattle.th_run_parts.specs.declared.outputs.Output.TheVariants as output
 use Rattle.th_reviewing.proofs.ReviewLemmas.{AreAllRead, all_read, all_stationed, as_many, reviews_of_all}
-use Rattle.th_run_parts.proofs.RunLemmas.{begun_of, named_of, network_refused, network_within, survey_begun, survey_refused, written_within}
+use Rattle.th_run_parts.proofs.RunLemmas.{begun_of, named_of, network_behind, network_refused, of_inputs, survey_begun, survey_refused, written_behind}
 use Rattle.th_run_parts.proofs.SourceLemmas.{all_before}
 use Rattle.th_paging.specs.Paged.{IsPaged, paging}
 use Rattle.th_paging.proofs.paging.run_page.Goals as goal
@@ -24,7 +24,7 @@ pub returns-in_err-survey : goal.returns-in_err-survey
 returns-in_err-survey g c =
     let is : c.from_residual.result ≡ Err c.in_err-survey.field-0.0 = search rules in
     rw is (record {
-      outcome = survey_refused (λ (survey : Survey). survey) _ _ c.in_err-survey.field-0.0 1 (place input.Certificate) _ _ c.in_err-survey.ensures.at (omega arith) c.in_err-survey.ensures.answer (search rules);
+      outcome = survey_refused (λ (survey : Survey). survey) _ _ c.in_err-survey.field-0.0 _ _ (of_inputs _ _ c.in_err-survey.field-0.0 c.in_err-survey.ensures.named) c.in_err-survey.ensures.answer (search rules);
       named = search rules;
       sources = c.in_err-survey.ensures.sources;
     })
@@ -35,8 +35,7 @@ returns-in_err-page g c =
     rw is (record {
       outcome = network_refused (λ (survey : Survey). survey) _ _ c.in_ok-survey.survey c.in_err-page.field-0.0 _ _ c.in_ok-survey.ensures.answer c.in_err-page.ensures (search rules);
       named = search rules;
-      sources = all_before _ _ _ _ network_place (network_place + 1) _ _ _ _ _ _ (network_within c.in_ok-survey.survey c.in_err-page.field-0.0 c.in_err-page.ensures) (omega arith)
-          c.requires.ready.few_books c.in_ok-survey.ensures.sources;
+      sources = all_before _ _ _ _ _ _ _ _ _ _ (network_behind input.Weights c.in_ok-survey.survey c.in_err-page.field-0.0 c.in_err-page.ensures) c.in_ok-survey.ensures.sources;
     })
 
 pub returns : goal.returns
@@ -64,8 +63,7 @@ returns g c =
             (ap (λ (own : Output × List ℕ). own ∷ []) c.new.ensures) c.write_outs.ensures.written,
       );
       named = named_of _ _ paging c.write_outs.result (subst (λ (own : Output). IfErr c.write_outs.result (IsFailedWrite (own ∷ []))) (ap (λ (own : Output × List ℕ). own.0) c.new.ensures) c.write_outs.ensures.named);
-      sources = all_before _ _ _ (refused c.write_outs.result) outputs_place (outputs_place + 1) _ _ _ _ _ _ (written_within c.write_outs.result begun) (omega arith)
-          c.requires.ready.few_books c.in_ok-survey.ensures.sources;
+      sources = all_before _ _ _ (refused c.write_outs.result) _ _ _ _ _ _ (written_behind input.Weights c.write_outs.result begun) c.in_ok-survey.ensures.sources;
     }
 
 pub page_of_survey-requires-clause-few : goal.page_of_survey-requires-clause-few

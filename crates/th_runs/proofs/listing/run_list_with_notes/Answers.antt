@@ -1,12 +1,12 @@
-use Rattle.std.proofs.Common.{◌≡◌, ◌+◌, ◌∙◌, ◌∷◌, [], ℕ, Err, List, ap, rules, subst, arith}
+use Rattle.std.proofs.Common.{◌≡◌, ◌∙◌, ◌∷◌, [], ℕ, Err, List, ap, rules, subst}
 use Rattle.th_report.specs.Lists.{list_text}
 use Rattle.th_run_parts.specs.declared.refusals.Input.TheVariants as input
 use Rattle.th_run_parts.specs.declared.outputs.Output.{Output}
 use Rattle.th_run_parts.specs.declared.outputs.Output.TheVariants as output
-use Rattle.th_run_parts.specs.Reads.{outputs_place, refused}
+use Rattle.th_run_parts.specs.Reads.{refused}
 use Rattle.th_run_parts.specs.Writes.{AreWritten, Texts}
 use Rattle.th_runs.proofs.NoteLemmas.{always, list_noted}
-use Rattle.th_run_parts.proofs.RunLemmas.{begun_of, list_refused, outcome_begun, written_within}
+use Rattle.th_run_parts.proofs.RunLemmas.{begun_of, list_refused, outcome_begun, written_behind}
 use Rattle.th_run_parts.proofs.SourceLemmas.{read_before}
 use Rattle.th_runs.proofs.listing.run_list_with_notes.Goals as goal
 
@@ -27,8 +27,8 @@ returns-clause-listed g c =
           c.in_ok-observations.ensures.ok (subst (λ (own : Texts). AreWritten g.K.Sink.state (refused c.write_outs.result) own c.args.outs.now c.write_outs.new.outs)
           (ap (λ (own : Output × List ℕ). own ∷ []) (c.new.ensures ∙ ap (λ (text : List ℕ). (output.List, text)) (c.in_ok-list.ensures ∙ ap list_text c.as_slice.ensures.value))) c.write_outs.ensures.written);
       named = search rules;
-      book = read_before _ (input.Book 1) (refused c.write_outs.result) outputs_place (outputs_place + 1) _ _
-          (written_within c.write_outs.result begun) (omega arith) c.in_ok-observations.ensures.book;
+      book = read_before _ (input.Book 1) (refused c.write_outs.result) _ _
+          (written_behind (input.Book 1) c.write_outs.result begun) c.in_ok-observations.ensures.book;
     }
 
 pub returns-clause-noted : goal.returns-clause-noted
