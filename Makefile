@@ -50,14 +50,14 @@ help:
 
 try: toolchain
 	@echo 'compiling the program, which is not proved yet: a few minutes'
-	@tests/try_example $(if $(MARKS),$(MARKS) $(BOOK))
+	@tools/try_example $(if $(MARKS),$(MARKS) $(BOOK))
 	@echo 'with books of your own: make try MARKS=marks.csv BOOK="monday.gsi tuesday.gsi"; make run proves the program and keeps it'
 
 run: build
-	@tests/adjust_example $(PROGRAM)
+	@tools/adjust_example $(PROGRAM)
 
 refuse: toolchain
-	@tests/refuse
+	@tools/refuse
 
 list: build
 	@$(PROGRAM) list $(BOOK)
@@ -68,7 +68,7 @@ toolchain:
 
 build: toolchain
 	@echo 'proving and building $(PROGRAM): long at first, seconds where nothing changed; the log is $(LOG)'
-	@tests/build --log $(CURDIR)/$(LOG)
+	@tools/build --log $(CURDIR)/$(LOG)
 
 # For what needs the program and does not build it.
 built:
@@ -117,19 +117,19 @@ completions: built
 	@tests/completions $(PROGRAM)
 
 documents: built
-	@tests/documents $(PROGRAM)
+	@checks/documents $(PROGRAM)
 
 made-up:
-	@tests/no_memory_made_up
+	@checks/no_memory_made_up
 
 edits:
-	@tests/edits
+	@checks/edits
 
 unused:
-	@tests/unused
+	@checks/unused
 
 alike:
-	@tests/alike
+	@checks/alike
 
 guides:
 	@tests/bad_guides/run
@@ -177,11 +177,11 @@ memory: built
 	@tests/refused_memory/run.py --program $(PROGRAM) --calls $(CALLS)
 
 attacks:
-	@tests/attacks
+	@checks/attacks
 
 ATTACKS ?= 10
 attacks-of-today:
-	@tests/attacks --today $(ATTACKS)
+	@checks/attacks --today $(ATTACKS)
 
 hostile: built
 	@bench/hostile/run --program $(PROGRAM)
