@@ -28,7 +28,7 @@ help:
 	@echo 'make made-up   fail where product code creates an allocation failure itself, but in the listed places'
 	@echo 'make edits     fail where an edit of must-fail/ or attacks/ no longer fits the code'
 	@echo 'make unused    fail where nothing uses a lemma or a definition'
-	@echo 'make alike     fail where two places of the program share twelve lines of code or more'
+	@echo 'make alike     fail where two places of the program share eight lines of code or more, also in two crates'
 	@echo 'make guides    run the tests of the solver with guides that are no help (some minutes)'
 	@echo 'make reserved  run the built program with little room to reserve memory, on small and on full inputs'
 	@echo 'make compare   compare the built program with the second reader on mutated books (BOOKS=$(BOOKS) SEED=$(SEED))'
