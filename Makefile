@@ -1,4 +1,4 @@
-# Height Office: what people do with the repository. `make help` lists it.
+# Height Office: what people do with the repository. `make help` lists the most, `make help-all` all of it.
 
 PROGRAM := crates/height_office/out/height_office
 CALLS := crates/tests_memory/out/tests_memory
@@ -6,9 +6,9 @@ PREFIX ?= /usr/local
 BOOK ?= examples/building_site.gsi
 LOG := build.log
 
-.PHONY: help try run refuse list toolchain build built calls check test gate examples statuses killed files completions documents \
-	made-up edits unused alike guides reserved compare office mutated each-byte pages page-seen page-tidy planted memory attacks attacks-of-today \
-	hostile bench install uninstall clean
+.PHONY: help help-all try run refuse list toolchain build built calls check test gate examples statuses killed files completions documents \
+	made-up edits unused alike measure guides reserved compare office mutated each-byte pages page-seen page-tidy planted memory attacks \
+	attacks-of-today hostile bench install uninstall clean
 
 help:
 	@echo 'make try       adjust an example and show its report in a few minutes, with nothing proved and no program kept (yours: MARKS=FILE BOOK="FILE ..")'
@@ -16,37 +16,49 @@ help:
 	@echo 'make refuse    prove a function of the checker, break a line of it in a copy, and show that the prover refuses it: a minute or two'
 	@echo 'make list      prove and build the program, and list a book (BOOK=$(BOOK))'
 	@echo 'make build     prove and build the program: $(PROGRAM)'
-	@echo 'make check     while you work: prove what changed, then all of the below down to memory but the gate, guides and each-byte'
-	@echo 'make test      the gate (every proof from nothing, must-fail edits, tests, program runs), then try, guides and what make check tests'
+	@echo 'make check     while you work: prove what changed, then run the tests of the program and the checks'
+	@echo 'make test      the gate: every proof from nothing, must-fail edits, tests, program runs; then what make check runs, and more'
+	@echo 'make attacks   try the edits of attacks/, more mistakes that the prover must refuse (hours)'
+	@echo 'make bench     throughput and peak memory of each command and of what it does, beside other programs'
+	@echo 'make install   copy the built program, its manual page and completions below $(PREFIX); proves nothing'
+	@echo 'make uninstall remove them'
+	@echo 'make clean     remove what was built'
+	@echo 'make help-all  list each test and each check too'
+
+help-all: help
+	@echo
 	@echo 'make gate      rt ci alone'
+	@echo 'make calls     prove and build the program that `make memory` runs beside the other'
+	@echo
+	@echo 'Tests of the built program, which make check and make test run:'
 	@echo 'make examples  compare what the built program gives for examples/ with the files there'
 	@echo 'make statuses  run the built program on command lines and inputs that fail, and compare status and lines'
 	@echo 'make killed    kill runs over existing outputs, which must stay whole files, old or new (RUNS=$(RUNS))'
 	@echo 'make files     run the built program with each call on files refused in turn, and two runs at once (PAIRS=$(PAIRS))'
 	@echo 'make completions  test the completions for bash, zsh and fish'
+	@echo 'make reserved  run the built program with little room to reserve memory, on small and on full inputs'
+	@echo 'make compare   compare the built program with the second reader on mutated books (BOOKS=$(BOOKS) SEED=$(SEED))'
+	@echo 'make office    compare the built program with the second office on random projects (PROJECTS=$(PROJECTS) SEED=$(SEED))'
+	@echo 'make mutated   the same on mutated books, tables and certificates (INPUTS=$(INPUTS) SEED=$(SEED)); a million take hours'
+	@echo 'make page-tidy read sample pages by tidy, where it is installed'
+	@echo 'make planted   plant wrong numbers in surveys, and compare what comes of them with explain and review (every one in EVERY=$(EVERY))'
+	@echo 'make memory    run the built program, and the calls that `make calls` builds, with each allocation refused in turn'
+	@echo
+	@echo 'Checks of the repository, which make check and make test run:'
 	@echo 'make documents test the pages: commands, links, sizes, and docs/THEOREM.md against the definitions'
 	@echo 'make made-up   fail where product code creates an allocation failure itself, but in the listed places'
 	@echo 'make edits     fail where an edit of must-fail/ or attacks/ no longer fits the code'
 	@echo 'make unused    fail where nothing uses a lemma or a definition'
 	@echo 'make alike     fail where two places of the program share eight lines of code or more, also in two crates'
-	@echo 'make guides    run the tests of the solver with guides that are no help (some minutes)'
-	@echo 'make reserved  run the built program with little room to reserve memory, on small and on full inputs'
-	@echo 'make compare   compare the built program with the second reader on mutated books (BOOKS=$(BOOKS) SEED=$(SEED))'
-	@echo 'make office    compare the built program with the second office on random projects (PROJECTS=$(PROJECTS) SEED=$(SEED))'
-	@echo 'make mutated   the same on mutated books, tables and certificates (INPUTS=$(INPUTS) SEED=$(SEED)); a million take hours'
-	@echo 'make each-byte the same on each beginning and each changed byte of a book, a table and two certificates (some minutes)'
+	@echo 'make measure   fail where a crate has too many functions or lines'
+	@echo
+	@echo 'Tests that take their time:'
+	@echo 'make guides    run the tests of the solver with guides that are no help (some minutes); make test runs it'
+	@echo 'make each-byte like make mutated, on each beginning and each changed byte of a book, a table and two certificates (some minutes)'
 	@echo 'make pages     compare pages of rows that few surveys have with those of the second office (PAGES=$(PAGES) SEED=$(SEED))'
 	@echo 'make page-seen take pictures of pages in Chromium to be looked at, and measure the pages there: out/page_seen'
-	@echo 'make page-tidy read sample pages by tidy, where it is installed'
-	@echo 'make planted   plant wrong numbers in surveys, and compare what comes of them with explain and review (every one in EVERY=$(EVERY))'
-	@echo 'make memory    run the built program, and the calls that `make calls` builds, with each allocation refused in turn'
-	@echo 'make attacks   try the edits of attacks/, more mistakes that the prover must refuse (hours)'
-	@echo 'make attacks-of-today  try some of them, other ones each day (ATTACKS=$(ATTACKS))'
+	@echo 'make attacks-of-today  try some edits of attacks/, other ones each day (ATTACKS=$(ATTACKS))'
 	@echo 'make hostile   time and memory of books, tables, certificates and networks that are made to cost time'
-	@echo 'make bench     throughput and peak memory: listing, networks, certificates, settling beside other solvers, adjusting, reviewing, explaining, pages'
-	@echo 'make install   copy the built program, its manual page and completions below $(PREFIX); proves nothing'
-	@echo 'make uninstall remove them'
-	@echo 'make clean     remove what was built'
 
 try: toolchain
 	@echo 'compiling the program, which is not proved yet: a few minutes'
@@ -54,7 +66,7 @@ try: toolchain
 	@echo 'with books of your own: make try MARKS=marks.csv BOOK="monday.gsi tuesday.gsi"; make run proves the program and keeps it'
 
 run: build
-	@tools/adjust_example $(PROGRAM)
+	@tools/adjust_example --program $(PROGRAM)
 
 refuse: toolchain
 	@tools/refuse
@@ -78,8 +90,8 @@ built:
 calls:
 	@cd crates/tests_memory && rt run < /dev/null > ../../$(LOG) 2>&1 || { tail -n 40 ../../$(LOG); exit 1; }
 
-# What runs the built program or only reads the repository, several at a time: each works in folders of its own.
-SCRIPTS := examples statuses killed files completions documents made-up edits unused alike reserved compare office mutated page-tidy planted memory
+# Tests of the built program and checks of the repository, several at a time: each works in folders of its own.
+SCRIPTS := examples statuses killed files completions documents made-up edits unused alike measure reserved compare office mutated page-tidy planted memory
 AT_ONCE ?= $(shell nproc)
 SIDE_BY_SIDE = $(MAKE) --no-print-directory --jobs=$(AT_ONCE) --output-sync=target
 
@@ -97,13 +109,13 @@ gate:
 	@rt ci
 
 examples: built
-	@tests/examples
+	@tests/examples --program $(PROGRAM)
 
 statuses: built
-	@tests/statuses
-	@tests/first_contact
-	@tests/shown_bytes
-	@tests/books_of_tables
+	@tests/statuses --program $(PROGRAM)
+	@tests/first_contact --program $(PROGRAM)
+	@tests/shown_bytes --program $(PROGRAM)
+	@tests/books_of_tables --program $(PROGRAM)
 
 RUNS ?= 100
 killed: built
@@ -114,10 +126,10 @@ files: built
 	@tests/refused_files/run.py --program $(PROGRAM) --pairs $(PAIRS)
 
 completions: built
-	@tests/completions $(PROGRAM)
+	@tests/completions --program $(PROGRAM)
 
 documents: built
-	@checks/documents $(PROGRAM)
+	@checks/documents --program $(PROGRAM)
 
 made-up:
 	@checks/no_memory_made_up
@@ -131,11 +143,14 @@ unused:
 alike:
 	@checks/alike
 
+measure:
+	@checks/measure --large
+
 guides:
 	@tests/bad_guides/run
 
 reserved: built
-	@tests/reserved_memory $(PROGRAM)
+	@tests/reserved_memory --program $(PROGRAM)
 
 BOOKS ?= 10000
 SEED ?= 20240607
