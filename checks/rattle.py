@@ -24,10 +24,34 @@ def name_in_row(line: str) -> str:
     return name.split()[0] if colon and not line.startswith("#") else ""
 
 
-def rows_of_crates() -> Rows:
+def rows_of_crates(table: pathlib.Path = TABLE) -> Rows:
     """What each crate uses, as crates.txt has it: lowest first, libraries of the kit as well."""
-    lines = TABLE.read_text().splitlines()
+    lines = table.read_text().splitlines()
     return {name_in_row(line): line.partition(":")[2].split() for line in lines if name_in_row(line)}
+
+
+class Group(NamedTuple):
+    """A group of crates.txt: what it does, and its crates, lowest first."""
+
+    name: str
+    purpose: str
+    crates: List[str]
+
+
+GROUP = re.compile(r"# (\w+): (.+)")
+
+
+def groups_of_crates(table: pathlib.Path = TABLE) -> List[Group]:
+    """The groups, lowest first. A line '# NAME: what it does' begins one; crates above the first have no name and no purpose."""
+    groups: List[Group] = []
+    for line in table.read_text().splitlines():
+        heading = GROUP.fullmatch(line)
+        if heading:
+            groups.append(Group(heading[1], heading[2], []))
+        elif name_in_row(line):
+            groups = groups or [Group("", "", [])]
+            groups[-1].crates.append(name_in_row(line))
+    return groups
 
 
 def of_this_repository(rows: Rows) -> Rows:
