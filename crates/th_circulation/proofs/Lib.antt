@@ -30,3 +30,4 @@ pub mod BestExists
 pub mod ExtremesExist
 pub mod AnswerLemmas
 pub mod AskedLemmas
+pub mod BetweenLemmas

@@ -6,3 +6,4 @@ pub mod Counts
 pub mod Asked
 pub mod Misreadings
 pub mod Inside
+pub mod Between

@@ -1,8 +1,9 @@
 //! Laws that relate the definitions to one another. A law is its contract: it computes nothing.
 
-ghost use Rattle.std.specs.Prelude.{◌≡◌, ℕ, ℤ, Bool, true, false, List, All, IsSome};
+ghost use Rattle.std.specs.Prelude.{◌≡◌, ℕ, ℤ, ◌-ℤ◌, ◌≤ℤ◌, Bool, true, false, List, All, IsSome, unsigned_abs};
 ghost use Rattle.std.specs.List.{AllZip};
 ghost use Rattle.th_observations.specs.Observed.{Observed};
+ghost use Rattle.th_circulation.specs.Between.{raised_up_to};
 ghost use Rattle.th_circulation.specs.Extremes.{High, Low};
 ghost use Rattle.th_circulation.specs.Inside.Cuts.{LeavesFull};
 ghost use Rattle.th_circulation.specs.Misreadings.{AreMisread};
@@ -25,6 +26,22 @@ pub fn circulation_shows_all_best()
     ensures best { (survey : Survey) (flows : List ℤ) (heights : List ℕ → ℤ)
         → AreShown survey flows heights
         → Least survey.observations survey.benchmarks survey.weights heights }
+{}
+
+/// Raise the lowest best heights all by one amount, but none above the highest: the result is best.
+///
+/// So each height of a point between its lowest and its highest one belongs to some best heights. A
+/// mixture is not always best: points move together. Any two heights that one circulation shows can
+/// take the place of the lowest and the highest.
+pub fn heights_between_are_best()
+    ensures best { (survey : Survey) (low high : List ℕ → ℤ) (flows : List ℤ) (k : ℕ)
+        → AreShown survey flows low
+        → AreShown survey flows high
+        → Least survey.observations survey.benchmarks survey.weights (raised_up_to k low high) }
+    ensures reached { (low high : List ℕ → ℤ) (point : List ℕ) (height : ℤ)
+        → low point ≤ℤ height
+        → height ≤ℤ high point
+        → raised_up_to (unsigned_abs (height -ℤ low point)) low high point ≡ height }
 {}
 
 /// A misreading that shows moves no lowest best height, however large it is.
