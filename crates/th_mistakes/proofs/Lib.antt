@@ -16,3 +16,4 @@ pub mod MoveLemmas
 pub mod BenchmarkLemmas
 pub mod OneLemmas
 pub mod UnmarkedLemmas
+pub mod ResidualLemmas

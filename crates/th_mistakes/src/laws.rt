@@ -409,3 +409,66 @@ pub fn control_decides_shared_mistake()
         → ((inside : List ℕ → Bool) → ¬ IsFreeWithPoint survey inside)
         → IsSharedMistake survey group Shows }
 {}
+
+/// A mistake in an observation shows in its own residual, as exactly as the others' small errors allow.
+///
+/// One observation may err as it likes. The difference between its residual and its error, times what
+/// its control is above its weight, is at most twice what the true heights cost the other observations.
+pub fn mistake_shows_in_its_residual()
+    ensures near { (survey : Survey) (truth heights : List ℕ → ℤ) (group : Observed → Bool)
+        (o : Observed) (control : ℕ)
+        → IsOnly survey.observations group o
+        → IsControl survey.observations survey.benchmarks survey.weights o control
+        → IsHeights survey.benchmarks truth
+        → Least survey.observations survey.benchmarks survey.weights heights
+        → unsigned_abs (residual o heights -ℤ residual o truth)
+        * (control - weight_of survey.weights o.station o.target)
+        ≤ 2 * cost_outside survey.observations survey.weights group truth }
+    ensures marked { (survey : Survey) (truth heights : List ℕ → ℤ) (group : Observed → Bool)
+        (o : Observed) (control limit : ℕ)
+        → IsOnly survey.observations group o
+        → IsControl survey.observations survey.benchmarks survey.weights o control
+        → IsHeights survey.benchmarks truth
+        → Least survey.observations survey.benchmarks survey.weights heights
+        → limit * (control - weight_of survey.weights o.station o.target)
+        + 2 * cost_outside survey.observations survey.weights group truth
+        < unsigned_abs (residual o truth) * (control - weight_of survey.weights o.station o.target)
+        → limit < unsigned_abs (residual o heights) }
+{}
+
+/// A mistake in one observation hardly changes the residual of another one, if both are checked.
+///
+/// `o` may err as it likes. How far the residual of `right` is from its own error is bounded by what
+/// the true heights cost all but `o`, and by the controls and weights of the two (`near`). So a right
+/// observation is not marked where its error and that bound are together at most the limit
+/// (`unmarked`). Between two benchmarks an observation has no control, and its residual is its error.
+pub fn right_sight_is_not_marked()
+    ensures near { (survey : Survey) (truth heights : List ℕ → ℤ) (group : Observed → Bool)
+        (o right : Observed) (control own : ℕ)
+        → IsOnly survey.observations group o
+        → IsControl survey.observations survey.benchmarks survey.weights o control
+        → IsControl survey.observations survey.benchmarks survey.weights right own
+        → IsHeights survey.benchmarks truth
+        → Least survey.observations survey.benchmarks survey.weights heights
+        → unsigned_abs (residual right heights -ℤ residual right truth)
+        * ((own + weight_of survey.weights right.station right.target)
+        * (control - weight_of survey.weights o.station o.target))
+        ≤ 2 * (cost_outside survey.observations survey.weights group truth
+        * (control + weight_of survey.weights o.station o.target)) }
+    ensures unmarked { (survey : Survey) (truth heights : List ℕ → ℤ) (group : Observed → Bool)
+        (o right : Observed) (control own limit : ℕ)
+        → IsOnly survey.observations group o
+        → IsControl survey.observations survey.benchmarks survey.weights o control
+        → IsControl survey.observations survey.benchmarks survey.weights right own
+        → IsHeights survey.benchmarks truth
+        → Least survey.observations survey.benchmarks survey.weights heights
+        → weight_of survey.weights o.station o.target < control
+        → 0 < own + weight_of survey.weights right.station right.target
+        → unsigned_abs (residual right truth) ≤ limit
+        → 2 * (cost_outside survey.observations survey.weights group truth
+        * (control + weight_of survey.weights o.station o.target))
+        ≤ (limit - unsigned_abs (residual right truth))
+        * ((own + weight_of survey.weights right.station right.target)
+        * (control - weight_of survey.weights o.station o.target))
+        → unsigned_abs (residual right heights) ≤ limit }
+{}
