@@ -1,4 +1,4 @@
-use Rattle.std.specs.Prelude.{ℕ, ℤ, ◌==◌, not, List, codes, Option, Some, None, Result, Err, if◌then◌else◌, slice_index}
+use Rattle.std.specs.Prelude.{ℕ, ℤ, ◌==◌, not, Option, Some, None, Result, Err, if◌then◌else◌, slice_index}
 use Rattle.std.specs.Result.{result_map_both}
 use Rattle.th_units.specs.Lengths.{are_digits}
 use Rattle.th_units.specs.Lengths as lengths
@@ -28,9 +28,3 @@ in_unit word (Some unit) = result_map_both (λ length. length) length_fault (len
 -- data must be digits, position 6 must be a unit, and the size must be at most `max_len`.
 abbrev pub length_of : Parts → Result ℤ LengthFault
 length_of word = if not (are_digits word.body) then Err BadNumber else in_unit word (unit_of (slice_index word.info 3))
-
--- the text of a fault of a length
-abbrev pub length_fault_text : LengthFault → List ℕ
-length_fault_text BadNumber = codes "bad number"
-length_fault_text BadUnit = codes "bad unit"
-length_fault_text TooLarge = codes "too large"

@@ -1,4 +1,4 @@
-//! Why bytes begin with no word, or a word's data give no length, and the text of each fault.
+//! Why bytes begin with no word, with the text of each fault, or a word's data give no length.
 use std::error::Error;
 use std::fmt;
 
@@ -46,20 +46,3 @@ pub enum LengthFault {
     /// The length is more than 10 km in size.
     TooLarge,
 }
-
-impl fmt::Display for LengthFault {
-    ghost use Rattle.std.specs.Prelude.{Some};
-    ghost use Rattle.gsi_word.specs.Values.{length_fault_text};
-
-    ghost output = { λ fault. Some (length_fault_text fault) };
-
-    fn fmt<W: fmt::Write>(&self, f: &mut fmt::Formatter<W>) -> fmt::Result {
-        f.write_str(match self {
-            LengthFault::BadNumber => "bad number",
-            LengthFault::BadUnit => "bad unit",
-            LengthFault::TooLarge => "too large",
-        })
-    }
-}
-
-impl Error for LengthFault {}

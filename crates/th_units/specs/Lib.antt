@@ -1,5 +1,4 @@
 pub mod Limits
-pub mod Faults
 pub mod Units
 pub mod Lengths
 pub mod Metres
