@@ -8,13 +8,10 @@ ghost use Rattle.th_network.specs.declared.faults.NetFault.TheVariants.{NoMemory
 
 use crate::numbers::Number;
 use std::alloc::{AllocError, Global};
-use th_limits::MAX_LEN;
+use th_limits::LARGEST_DIFFERENCE;
 use th_network::laws::faults_exclude_each_other;
 use th_network::{NetFault, Network};
 use th_observations::Observation;
-
-/// The largest size of an observed difference: three lengths.
-const LARGEST_DIFFERENCE: u64 = 3 * MAX_LEN;
 
 /// How far a number may change before a difference that it touches could be more than a book can
 /// say.

@@ -3,6 +3,7 @@
 ghost use Rattle.std.specs.Prelude.{◌≡◌};
 ghost use Rattle.th_limits.specs.Limits.{
   calls_before,
+  largest_difference,
   largest_link_difference,
   max_books,
   max_calls,
@@ -13,8 +14,8 @@ ghost use Rattle.th_limits.specs.Limits.{
 };
 
 use crate::limits::{
-    CALLS_BEFORE, LARGEST_LINK_DIFFERENCE, MAX_BOOKS, MAX_CALLS, MAX_LEN, MAX_OBSERVATIONS,
-    MAX_POINTS, MAX_WEIGHT,
+    CALLS_BEFORE, LARGEST_DIFFERENCE, LARGEST_LINK_DIFFERENCE, MAX_BOOKS, MAX_CALLS, MAX_LEN,
+    MAX_OBSERVATIONS, MAX_POINTS, MAX_WEIGHT,
 };
 
 /// The constants are the limits that contracts cite.
@@ -26,5 +27,6 @@ pub fn constants_are_the_limits()
     ensures books { MAX_BOOKS ≡ max_books }
     ensures calls { MAX_CALLS ≡ max_calls }
     ensures before { CALLS_BEFORE ≡ calls_before }
+    ensures difference { LARGEST_DIFFERENCE ≡ largest_difference }
     ensures link { LARGEST_LINK_DIFFERENCE ≡ largest_link_difference }
 {}

@@ -23,6 +23,9 @@ pub const MAX_CALLS: u128 = 1_000_000_000_000_000_000_000_000_000_000_000_000;
 /// then stay below `MAX_CALLS`.
 pub const CALLS_BEFORE: u128 = 1_000_000_000_000_000_000_000_000_000_000;
 
-/// The size that no difference of a link exceeds: an observed difference, which is a sum of three
-/// lengths, and the heights of two benchmarks.
-pub const LARGEST_LINK_DIFFERENCE: u64 = 3 * MAX_LEN + 2 * MAX_LEN;
+/// The size that no observed difference exceeds: it is a sum of three lengths.
+pub const LARGEST_DIFFERENCE: u64 = 3 * MAX_LEN;
+
+/// The size that no difference of a link exceeds: an observed difference, and the heights of two
+/// benchmarks.
+pub const LARGEST_LINK_DIFFERENCE: u64 = LARGEST_DIFFERENCE + 2 * MAX_LEN;

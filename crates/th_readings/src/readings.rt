@@ -12,15 +12,12 @@ use th_blunders::{Fit, blunder_count};
 use th_circulation::best_heights;
 use th_entries::{Entry, HeightKind};
 use th_explanations::{Kind, Row};
-use th_limits::MAX_LEN;
+use th_limits::LARGEST_DIFFERENCE;
 use th_network::laws::faults_exclude_each_other;
 use th_network::{NetFault, Network};
 use th_numbers::{Kinds, SightedBook, is_kind};
 use th_observations::Observation;
 use th_review_rows::sights_of;
-
-/// The largest size of an observed difference: three lengths.
-const LARGEST_DIFFERENCE: u64 = 3 * MAX_LEN;
 
 /// For each book its row, where it fits much better if it is read from mark to mark.
 ///
