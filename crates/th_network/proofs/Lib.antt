@@ -10,6 +10,7 @@ pub mod NetworkLemmas
 pub mod FreePoints
 pub mod SiteLemmas
 pub mod LinkLemmas
+pub mod EndLemmas
 pub mod Slackness
 pub mod WalkLemmas
 pub mod Examples

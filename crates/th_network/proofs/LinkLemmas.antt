@@ -30,7 +30,7 @@ read_at observations benchmarks vertices count name place h at is =
     (slice_get_within vertices place vertex there, λ read same. same ∙ get_or_from_slice_get vertices place vertex read there)
 
 -- the height at the place of a point is its own
-base_at : (benchmarks : BenchmarkRows) (names : List (List ℕ)) (heights : List (Option ℤ)) (name : List ℕ) (place : ℕ) → heights ≡ map (height_of benchmarks) names → slice_get names place ≡ Some name → (place < length heights) × (get_or heights place None ≡ height_of benchmarks name)
+pub base_at : (benchmarks : BenchmarkRows) (names : List (List ℕ)) (heights : List (Option ℤ)) (name : List ℕ) (place : ℕ) → heights ≡ map (height_of benchmarks) names → slice_get names place ≡ Some name → (place < length heights) × (get_or heights place None ≡ height_of benchmarks name)
 base_at benchmarks names heights name place fixed at =
     let within = slice_get_within names place name at in (
       omega (arith, ap length fixed, length-map names (height_of benchmarks)),

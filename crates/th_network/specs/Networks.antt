@@ -23,6 +23,14 @@ pub record Survey : Type 0 where
 abbrev pub surveyed : List Observed → BenchmarkRows → WeightRows → Survey
 surveyed observations benchmarks weights = record { observations = observations; benchmarks = benchmarks; weights = weights }
 
+-- the points between which an observation is
+abbrev pub points_between : Observed → List ℕ × List ℕ
+points_between o = (o.station, o.target)
+
+-- other observations go from the same stations to the same targets, one by one
+abbrev pub HaveSameEnds : List Observed → List Observed → Type 0
+HaveSameEnds observations others = map points_between others ≡ map points_between observations
+
 -- the points of a survey, in the order of their first occurrence
 abbrev pub points_of : Survey → List (List ℕ)
 points_of survey = points survey.observations survey.benchmarks

@@ -6,7 +6,8 @@
 //! first fault. It takes the points in order of first sight (`th_points`), looks their heights up
 //! (`sites`), walks from the benchmarks to all that they reach (`anchors`, over `neighbours` and
 //! `marks`), and numbers the vertices (`vertices`). It removes the benchmarks' heights from the
-//! observations (`links`).
+//! observations (`links`). `Network::with_differences` changes differences alone, and shares the points and
+//! vertices.
 //!
 //! The definitions are in `specs/`: walks and faults, heights and their cost, circulations,
 //! vertices and links. `laws` proves what they are for: heights that a circulation shows are least.

@@ -5,7 +5,8 @@ ghost use Rattle.th_observations.specs.Observed.{IsBetweenPoints};
 ghost use Rattle.th_network.specs.Faults.{HasFault, IsNetwork};
 ghost use Rattle.th_network.specs.Limits.{max_observations, max_points};
 ghost use Rattle.th_network.specs.Links.{largest_link_difference};
-ghost use Rattle.th_network.specs.Networks.{IsWeight, arcs_of, heights_of, point_vertices_of, points_of, surveyed, vertices_of, weights_of};
+ghost use Rattle.th_network.specs.Inside.Linked.{AreLinks};
+ghost use Rattle.th_network.specs.Networks.{HaveSameEnds, IsWeight, arcs_of, heights_of, point_vertices_of, points_of, surveyed, vertices_of, weights_of};
 ghost use Rattle.th_points.specs.Ends.{AreBelow, ends_of};
 ghost use Rattle.th_network.specs.declared.faults.NetFault.TheVariants.{NoMemory, TooManyObservations};
 ghost use Rattle.th_tables.specs.Limits.{max_weight};
@@ -19,8 +20,9 @@ use crate::sites::Sites;
 use crate::vertices::Vertices;
 use crate::weights::weights_of;
 use gsi_word::Name;
-use std::alloc::Global;
+use std::alloc::{AllocError, Global};
 use std::marker::Model;
+use std::rc::Rc;
 use th_hash::NameSet;
 use th_limits::{MAX_OBSERVATIONS, MAX_POINTS};
 use th_observations::Observation;
@@ -34,13 +36,20 @@ pub struct Network<'a> {
     observations: Vec<Observation>,
     benchmarks: &'a Benchmarks,
     weight_table: &'a Weights,
+    layout: Rc<Layout>,
+    weights: Vec<u32>,
+    arcs: Vec<Link>,
+}
+
+/// The points of a network, where its observations end among them, and the vertices: what networks
+/// share whose differences alone are other ones.
+#[derive(Drop)]
+struct Layout {
     points: NameSet<Name>,
     heights: Vec<Option<i64>>,
     ends: Vec<(usize, usize)>,
-    weights: Vec<u32>,
     point_vertices: Vec<u32>,
     vertices: u32,
-    arcs: Vec<Link>,
 }
 
 impl<'a> Model for Network<'a> {
@@ -52,8 +61,9 @@ impl<'a> Model for Network<'a> {
         network.weight_table.now };
 
     ghost invariant = { λ network. IsBuilt (surveyed network.observations.items network.benchmarks.now
-        network.weight_table.now) network.points.keys network.heights.items network.ends.items
-        network.weights.items network.point_vertices.items network.vertices network.arcs.items };
+        network.weight_table.now) network.layout.value.points.keys network.layout.value.heights.items
+        network.layout.value.ends.items network.weights.items network.layout.value.point_vertices.items
+        network.layout.value.vertices network.arcs.items };
 }
 
 impl<'a> Network<'a> {
@@ -92,16 +102,44 @@ impl<'a> Network<'a> {
             heights,
             ..
         } = sites;
+        let own = Layout {
+            points: points.names,
+            heights,
+            ends: points.ends,
+            point_vertices: vertices.of_places,
+            vertices: vertices.count,
+        };
+        let layout = shared(alloc, own)?;
         Ok(Network {
             observations,
             benchmarks,
             weight_table: weights,
-            points: points.names,
-            heights,
-            ends: points.ends,
+            layout,
             weights: listed,
-            point_vertices: vertices.of_places,
-            vertices: vertices.count,
+            arcs,
+        })
+    }
+
+    /// The network of other observations that go from the same stations to the same targets, one by one. It
+    /// shares the points and vertices of this one. Only an allocation can fail.
+    pub fn with_differences(
+        &self,
+        alloc: Global,
+        observations: Vec<Observation>,
+    ) -> Result<Network<'a>, AllocError>
+        requires { HaveSameEnds self.now.observations observations.items }
+        ensures { IfOk result (λ network. network
+            ≡ surveyed observations.items self.now.benchmarks self.now.weights) }
+    {
+        let layout = self.layout.clone()?;
+        let weights = Vec::from_slice(alloc, &self.weights)?;
+        let arcs = relinked(alloc, self, &observations)?;
+        Ok(Network {
+            observations,
+            benchmarks: self.benchmarks,
+            weight_table: self.weight_table,
+            layout,
+            weights,
             arcs,
         })
     }
@@ -117,7 +155,7 @@ impl<'a> Network<'a> {
             → IsSome (height_of self.now.benchmarks name) → Contains result.now name }
         ensures network { IsNetwork self.now.observations self.now.benchmarks }
     {
-        self.points.as_slice()
+        self.layout.points.as_slice()
     }
 
     /// The table of its benchmarks.
@@ -140,7 +178,7 @@ impl<'a> Network<'a> {
         ensures height { slice_get (heights_of self.now) k ≡ Some result }
         ensures in_range { IfSome result (λ height. unsigned_abs height ≤ max_len) }
     {
-        self.heights[k]
+        self.layout.heights[k]
     }
 
     /// The observations in their order.
@@ -158,7 +196,7 @@ impl<'a> Network<'a> {
         ensures ends { result.now ≡ ends_of self.now.observations self.now.benchmarks }
         ensures within { All (AreBelow (length (points_of self.now))) result.now }
     {
-        &self.ends
+        &self.layout.ends
     }
 
     /// The weight of each observation.
@@ -185,7 +223,7 @@ impl<'a> Network<'a> {
         ensures vertices { result ≡ vertices_of self.now }
         ensures few { result ≤ max_points + 1 }
     {
-        self.vertices
+        self.layout.vertices
     }
 
     /// The vertex of each point, in point order: 0 for each benchmark.
@@ -193,7 +231,7 @@ impl<'a> Network<'a> {
         ensures vertices { result.now ≡ point_vertices_of self.now }
         ensures within { All (λ vertex. vertex < vertices_of self.now) result.now }
     {
-        &self.point_vertices
+        &self.layout.point_vertices
     }
 
     /// The observations as arcs between vertices, in their order.
@@ -205,4 +243,32 @@ impl<'a> Network<'a> {
     {
         &self.arcs
     }
+}
+
+/// A layout that networks share.
+fn shared(alloc: Global, layout: Layout) -> Result<Rc<Layout>, AllocError>
+    ensures { IfOk result (λ own. own.value ≡ layout) }
+{
+    Ok(Rc::new(alloc, layout)?)
+}
+
+/// The arcs of a network if its observations have these differences.
+fn relinked(
+    alloc: Global,
+    network: &Network<'_>,
+    observations: &[Observation],
+) -> Result<Vec<Link>, AllocError>
+    requires { HaveSameEnds network.now.observations observations.now }
+    ensures { IfOk result (λ arcs. AreLinks observations.now network.now.benchmarks arcs.items) }
+{
+    let arcs = network.arcs.as_slice();
+    let old = network.observations.as_slice();
+    let mut links = Vec::with_capacity(alloc, observations.len())?;
+    for (i, o) in observations.iter().enumerate() {
+        let Link { tail, head, diff } = arcs[i];
+        let without = diff - old[i].difference();
+        let diff = o.diff + without;
+        links.push(Link { tail, head, diff })?;
+    }
+    Ok(links)
 }

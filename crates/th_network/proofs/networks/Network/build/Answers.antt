@@ -1,4 +1,4 @@
-use Rattle.std.proofs.Common.{◌≡◌, ◌≤◌, List, length, map, ap, ◌∙◌, subst, arith}
+use Rattle.std.proofs.Common.{◌≡◌, ◌≤◌, List, length, map, sym, ap, ◌∙◌, subst, arith}
 use Rattle.th_observations.specs.Observed.{Observed}
 use Rattle.th_tables.specs.Rows.{BenchmarkRows, weight_of}
 use Rattle.th_points.specs.Points.{points}
@@ -6,6 +6,8 @@ use Rattle.th_network.specs.Inside.Linked.{AreLinks}
 use Rattle.th_network.specs.Inside.Numbered.{AreVertices}
 use Rattle.th_network.specs.Inside.Sites.{AreSites, Looked}
 use Rattle.th_network.specs.Limits.{max_points}
+use Rattle.th_network.specs.Networks.{IsBuilt, surveyed}
+use Rattle.th_network.specs.declared.networks.Layout.{Layout}
 use Rattle.th_network.proofs.NetworkLemmas.{point_vertices_are}
 use Rattle.th_network.proofs.SiteLemmas.{anchored_if_none, heights_of_points, untied_if_some}
 use Rattle.th_network.proofs.networks.Network.build.Goals as goal
@@ -29,7 +31,7 @@ invariant_of-result c =
     let sited = subst (λ (l : Looked). AreSites l inside.points.names.keys inside.points.ends.items inside.heights.items) (c.sites.view_is ∙ same) c.sites.invariant in
     let numbered = subst (λ (l : Looked). AreVertices l.benchmarks (points l.observations l.benchmarks) c.in_ok-vertices.vertices.of_places.items c.in_ok-vertices.vertices.count) same c.in_ok-vertices.ensures in
     let linked = subst (λ (l : Looked). AreLinks l.observations l.benchmarks c.in_ok-arcs.arcs.items) same c.in_ok-arcs.ensures in
-    record {
+    let built : IsBuilt (surveyed own.observations c.args.benchmarks.now c.args.weights.now) inside.points.names.keys inside.heights.items inside.points.ends.items c.in_ok-listed.listed.items c.in_ok-vertices.vertices.of_places.items c.in_ok-vertices.vertices.count c.in_ok-arcs.arcs.items = record {
       network = record {
         few_observations = omega arith;
         few_points = omega (arith, c.count.ensures, ap (λ (l : Looked). length (points l.observations l.benchmarks)) same);
@@ -46,7 +48,8 @@ invariant_of-result c =
       vertices = numbered.all;
       links = linked.all;
       in_range = linked.in_range;
-    }
+    } in
+    subst (λ (it : Layout). IsBuilt (surveyed own.observations c.args.benchmarks.now c.args.weights.now) it.points.keys it.heights.items it.ends.items c.in_ok-listed.listed.items it.point_vertices.items it.vertices c.in_ok-arcs.arcs.items) (sym c.in_ok-layout.ensures) built
 
 pub returns-clause-network : goal.returns-clause-network
 returns-clause-network c =
