@@ -183,15 +183,16 @@ impl<'a, R: Files> FileSink<'a, R> {
         self.open_ordinary()
     }
 
-    /// Opens a file that is to get the permissions which the system gives a new file.
+    /// Opens a file that is to get the permissions which the system gives a new file. An empty one shows
+    /// them, and goes: whoever opened it in that moment sees nothing of what is written afterwards.
     fn open_ordinary(&mut self) -> io::Result<()>
         ensures { Opens self.old self.new result }
     {
         self.create(ORDINARY)?;
-        if let Some(file) = &self.file {
-            self.way = Way::Beside(file.metadata()?.mode() & PERMISSIONS);
-            let _ = file.set_permissions(Permissions::from_mode(PRIVATE));
-        }
+        let mode = permissions_of(&self.file)?;
+        self.discard();
+        self.create(PRIVATE)?;
+        self.way = Way::Beside(mode);
         Ok(())
     }
 
@@ -232,6 +233,14 @@ fn is_by_one_owner<F: OpenFile>(file: &Option<F>, old: &Metadata) -> io::Result<
     match file {
         Some(open) => Ok(old.is_file() && open.metadata()?.uid() == old.uid()),
         None => Ok(false),
+    }
+}
+
+/// The permissions of the file that is open.
+fn permissions_of<F: OpenFile>(file: &Option<F>) -> io::Result<u32> {
+    match file {
+        Some(open) => Ok(open.metadata()?.mode() & PERMISSIONS),
+        None => Ok(PRIVATE),
     }
 }
 
