@@ -22,7 +22,7 @@ pub fn block_at_reads_blocks()
     word_at_reads_spellings();
 }
 
-/// A line is blank exactly where it is at most 1,600 spaces and nothing else.
+/// A line is blank exactly where it is at most `MAX_LINE` spaces and nothing else.
 pub fn block_at_passes_spaces()
     ensures { (line : List ℕ) → (block_at line ≡ Ok None) ↔ IsBlankLine line }
 {}

@@ -1,4 +1,4 @@
-//! Reviews: what they leave in the five files, and what remains where they are refused.
+//! Reviews: what they leave in their files, and what remains where they are refused.
 use crate::folders::{
     ADJUST_BACK, ADJUSTED, REVIEWED, ROOM, begins_to_report, file, is_silent, project, put,
     reports, run, same,

@@ -18,7 +18,7 @@ height_from (Err LongMetres) = Err TooLarge
 abbrev pub height_in : List ℕ → Result ℤ CertKind
 height_in field = height_from (value field)
 
--- the count of observations: one to nine digits, at most 40,000
+-- the count of observations: one to nine digits, and no more than a network takes
 abbrev pub count_in : List ℕ → Result ℕ CertKind
 count_in field =
     if are_digits field then (if nat_le (length field) max_digits && nat_le (number field) max_flows then Ok (number field) else Err TooLarge) else Err BadNumber

@@ -53,7 +53,7 @@ pub fn text_is_read_and_accepted()
         × (verdict_of survey.observations survey.benchmarks survey.weights certificate ≡ Yes) }
 {}
 
-/// The verdict is yes exactly where four things hold. The names of each map of heights are the
+/// The verdict is yes exactly where all of this holds. The names of each map of heights are the
 /// points. Each map keeps the benchmarks. The flows are a circulation that shows each map. The cost
 /// is that of the heights. This holds for both versions.
 pub fn yes_is_said_of_what_is_shown()

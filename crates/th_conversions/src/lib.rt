@@ -2,7 +2,8 @@
 //!
 //! `book_of_table` reads a table with the columns `from,to,difference`, or with those of the list of
 //! a book, and prints a book that has exactly these observations, in order. The text is made in
-//! memory: a table is at most 4 MiB, a book at most 64 MiB, and a table with a fault prints nothing.
+//! memory: a table has at most `MAX_DIFFERENCES` bytes, a book at most `MAX_BOOK`, and a table with a
+//! fault prints nothing.
 #![tactic(auto)]
 
 // Limits and faults.

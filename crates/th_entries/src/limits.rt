@@ -3,5 +3,6 @@
 /// The most things of a kind that a review lists.
 pub const MAX_LISTED: usize = 1_000;
 
-/// The most setups and sights whose names a review compares. A network takes at most 40,000 sights.
+/// The most setups and sights whose names a review compares. A network takes at most `MAX_OBSERVATIONS`
+/// sights.
 pub const MAX_MENTIONS: u32 = 200_000;

@@ -31,8 +31,9 @@ pub enum Form {
     Table,
 }
 
-/// Explains what does not fit in the height network of up to 16 books, benchmarks and optional weights:
-/// which one number, if it were wrong, would leave how much. It writes one text to `outs`, in this form.
+/// Explains what does not fit in the height network of up to `MAX_BOOKS` books, benchmarks and optional
+/// weights: which one number, if it were wrong, would leave how much. It writes one text to `outs`, in
+/// this form.
 ///
 /// The limit of blunders is in units of 10 nm. Inputs are read as `run_adjust` reads them, and refused
 /// as it refuses them. The text is made in memory before it is begun.

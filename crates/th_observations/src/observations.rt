@@ -8,7 +8,7 @@ use std::marker::Model;
 /// A height difference observed from a station to a target.
 ///
 /// The two ends have different names. The difference is in units of 10 nm and at most
-/// 30 km in size: three lengths. The number of the book and the line in it count from 1.
+/// three lengths in size. The number of the book and the line in it count from 1.
 #[derive(Clone, Copy, Debug, PartialEq, Eq)]
 pub struct Observation {
     pub station: Name,

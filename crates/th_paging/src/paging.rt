@@ -28,8 +28,9 @@ use th_shown::page_of;
 /// What a run that makes a page writes.
 pub const PAGED: [Output; 1] = [Output::Page];
 
-/// Makes a page of the height network of up to 16 books, benchmarks and optional weights, and writes it to
-/// `outs`. It shows what `run_review` and `run_explain` find, and the names of the books, one for each book.
+/// Makes a page of the height network of up to `MAX_BOOKS` books, benchmarks and optional weights, and
+/// writes it to `outs`. It shows what `run_review` and `run_explain` find, and the names of the books,
+/// one for each book.
 ///
 /// An observation is marked as a blunder if its residual is above `limit` in size, in units of
 /// 10 nm. Inputs are read as `run_adjust` reads them, and refused as it refuses them. The page

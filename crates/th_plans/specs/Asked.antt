@@ -26,7 +26,7 @@ pub data Asked : Type 0 where
   book : Text → Asked
   book_of_heights : Text → Asked
 
--- the names of the books, if there are as many as a command takes: 1 to 16
+-- the names of the books, if there is one at least, and no more than a command takes
 abbrev pub books_of : List Text → Option (List Text)
 books_of names = if nat_le 1 (length names) && nat_le (length names) max_books then Some names else None
 

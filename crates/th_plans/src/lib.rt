@@ -2,8 +2,8 @@
 //!
 //! `plan` returns the command that the arguments name, or why they name none. It has the names of
 //! the files, the prefix of the outputs and the limit of blunders exactly as `clap` states them.
-//! The types keep a plan at 1 to 16 books and a limit of 0 to 1,000 m. The last part of a prefix is
-//! not empty, `.` or `..`.
+//! The types keep a plan at 1 to `MAX_BOOKS` books and a limit of at most `MAX_BLUNDER`. The last part
+//! of a prefix is not empty, `.` or `..`.
 #![tactic(auto)]
 
 // Plans, and what they consist of.

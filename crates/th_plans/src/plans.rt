@@ -23,15 +23,16 @@ pub enum Plan<'a> {
     List {
         book: &'a str,
     },
-    /// `adjust`: adjust the network of the inputs, and write four files whose names begin with the
-    /// prefix. Residuals above the limit are reported as blunders.
+    /// `adjust`: adjust the network of the inputs, and write the outputs of an adjustment to files whose
+    /// names begin with the prefix. Residuals above the limit are reported as blunders.
     Adjust {
         inputs: Inputs<'a>,
         limit: Limit,
         prefix: &'a str,
     },
-    /// `review`: report what a mistake would do in the network of the inputs, and write four files
-    /// whose names begin with the prefix. Residuals above the limit are reported as blunders.
+    /// `review`: report what a mistake would do in the network of the inputs, and write the outputs of a
+    /// review to files whose names begin with the prefix. Residuals above the limit are reported as
+    /// blunders.
     Review {
         inputs: Inputs<'a>,
         limit: Limit,

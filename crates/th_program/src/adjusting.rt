@@ -13,12 +13,12 @@ use th_folders::Folder;
 use th_plans::{Inputs, Limit};
 use th_runs::{ADJUSTED, Notes, Refusal, run_adjust_with_notes};
 
-/// Adjusts the network of the named files, writes four files whose names begin with the prefix, and adds
-/// its notes.
-/// That they are none of the inputs, the caller has made sure.
+/// Adjusts the network of the named files, writes the outputs of an adjustment to files whose names
+/// begin with the prefix, and adds its notes. That they are none of the inputs, the caller has made
+/// sure.
 ///
-/// If a write fails, no file changes. If a file cannot take its name, those before it, in the order
-/// heights, certificate, report, GSI-16, are new. Its own and later ones are as they were.
+/// If a write fails, no file changes. If a file cannot take its name, those before it, in the order of
+/// `ADJUSTED`, are new. Its own and later ones are as they were.
 pub(crate) fn adjust<F: Folder>(
     alloc: Global,
     folder: &mut F,

@@ -24,7 +24,7 @@ use th_runs::laws::{
 ///
 /// Let the arguments ask for an adjustment of inputs that are accepted. None of them is an output, and
 /// no device of the run may fail: reading may not at the spot of an input, nor writing at that of an
-/// output. Then the program ends with status 0 or 4. With 0 the four files hold the heights, the
+/// output. Then the program ends with status 0 or 4. With 0 the outputs are the heights, the
 /// certificate, the report and the GSI blocks of the survey that the inputs give: the lowest heights of
 /// all that keep the benchmarks and cost least, shown by the printed circulation. With 4 it is out of
 /// memory.

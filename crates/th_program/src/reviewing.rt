@@ -12,11 +12,12 @@ use th_progress::Progress;
 use th_reviewing::{REVIEWED, run_review};
 use th_runs::Refusal;
 
-/// Reviews the network of the named files: what a mistake in them would do. Writes four files whose
-/// names begin with the prefix. That they are none of the inputs, the caller has made sure.
+/// Reviews the network of the named files: what a mistake in them would do. Writes the outputs of a
+/// review to files whose names begin with the prefix. That they are none of the inputs, the caller has
+/// made sure.
 ///
-/// If a write fails, no file changes. If a file cannot take its name, those before it, in the order
-/// points, observations, entries, review, are new. Its own and later ones are as they were.
+/// If a write fails, no file changes. If a file cannot take its name, those before it, in the order of
+/// `REVIEWED`, are new. Its own and later ones are as they were.
 pub(crate) fn review<F: Folder>(
     alloc: Global,
     folder: &mut F,

@@ -1,10 +1,10 @@
 //! The texts that a review of a network writes: the tables of points, of observations, of entries and of
 //! benchmarks as comma-separated values, and the review for people.
 //!
-//! `review_texts` makes all five from the rows of `th_review_rows`. Out of memory is the only failure.
+//! `review_texts` makes them from the rows of `th_review_rows`. Out of memory is the only failure.
 #![tactic(auto)]
 
-// The four tables.
+// The tables.
 mod tables;
 
 // The parts of the review, from the first to the last.

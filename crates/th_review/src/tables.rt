@@ -1,4 +1,4 @@
-//! The four tables.
+//! The tables.
 ghost use Rattle.std.specs.Prelude.{◌≡◌, ◌++◌, IfOk, OnOk};
 ghost use Rattle.th_csv.specs.Texts.{row_text};
 ghost use Rattle.th_review.specs.Tables.{benchmark_record, benchmarks_header, benchmarks_text, entries_header, entries_text, entry_record, number_field, observation_record, observations_header, observations_text, point_record, points_text};

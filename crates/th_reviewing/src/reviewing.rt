@@ -44,7 +44,7 @@ pub const REVIEWED: [Output; 5] = [
     Output::Review,
 ];
 
-/// Reviews the height network of up to 16 books, benchmarks and optional weights. It writes the
+/// Reviews the height network of up to `MAX_BOOKS` books, benchmarks and optional weights. It writes the
 /// tables of its points, of its observations, of its entries and of its benchmarks, and a review for
 /// people to `outs`, in this order. These say what a mistake in each would do. Heights and residuals are those of
 /// `run_adjust`.

@@ -24,7 +24,7 @@ use th_run_parts::{
 /// What a check writes.
 pub const CHECKED: [Output; 1] = [Output::Verdict];
 
-/// Checks a certificate against up to 16 books, benchmarks and optional weights, and writes the
+/// Checks a certificate against up to `MAX_BOOKS` books, benchmarks and optional weights, and writes the
 /// line of the verdict.
 ///
 /// Inputs are read one after the other: the books, the benchmarks, the weights, the certificate.
