@@ -1,4 +1,5 @@
 pub mod Limits
+pub mod Indexes
 pub mod Bytes
 pub mod Words
 pub mod Names

@@ -4,8 +4,9 @@
 //! reduced form, and owns its bytes.
 #![tactic(auto)]
 
-// Limits and faults.
+// Limits, indexes and faults.
 mod faults;
+mod indexes;
 mod limits;
 
 // Words, and the bytes that each place allows.
@@ -24,6 +25,11 @@ mod values;
 pub mod laws;
 
 pub use faults::{LengthFault, WordFault};
+pub use indexes::{
+    HEIGHT_DIFFERENCE, HORIZONTAL_ANGLE, HORIZONTAL_DISTANCE, INSTRUMENT_HEIGHT, POINT_NUMBER,
+    REFLECTOR_HEIGHT, SLOPE_DISTANCE, STATION_EASTING, STATION_HEIGHT, STATION_NORTHING,
+    TARGET_HEIGHT, VERTICAL_ANGLE,
+};
 pub use limits::{MAX_NAME, MAX_WORD};
 pub use names::{Name, name_of};
 pub use parsing::read_word;

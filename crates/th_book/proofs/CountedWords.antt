@@ -6,13 +6,13 @@ use Rattle.std.specs.List.{list_any}
 use Rattle.std.proofs.lemmas.List.Folds.{find-append, list_any-append}
 use Rattle.std.proofs.lemmas.List.Sums.{sum_by-append, sum_by-cons}
 use Rattle.std.proofs.lemmas.Bool.Decides.{nat_tests}
+use Rattle.gsi_word.specs.Indexes.{height_difference, station_easting, station_northing, station_height, reflector_height, instrument_height}
 use Rattle.gsi_word.specs.Words.{Parts}
 use Rattle.gsi_word.specs.Values.{length_of}
 use Rattle.th_book.specs.Lines.{counts_for, holds}
 use Rattle.gsi_word.specs.declared.faults.LengthFault.TheVariants.{BadNumber, BadUnit, TooLarge}
 use Rattle.th_book.specs.Faults.{is_length, repeats_word, single_indexes, some_length}
 use Rattle.th_book.specs.Inside.Countings.{counted_in, counted_with, first_kept, first_length, is_refused_for, repeats}
-use Rattle.th_book.specs.Indexes.{height_difference, station_easting, station_northing, station_height, reflector_height, instrument_height}
 
 or_false : (b : Bool) → (b || false) ≡ b
 or_false true = refl

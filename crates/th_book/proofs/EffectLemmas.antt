@@ -4,6 +4,7 @@ use Rattle.std.specs.Prelude.{Result, is_none, is_some, option_and_then, option_
 use Rattle.std.specs.Option.{option_or}
 use Rattle.std.specs.Result.{result_ok}
 use Rattle.std.proofs.lemmas.Bool.{false≢true, true≢false, or_left, or_right}
+use Rattle.gsi_word.specs.Indexes.{height_difference, station_easting, station_northing, station_height, reflector_height, instrument_height}
 use Rattle.gsi_word.specs.Words.{Parts}
 use Rattle.gsi_word.specs.declared.faults.LengthFault.{LengthFault}
 use Rattle.th_book.specs.Lines.{holds, is_setup, is_sight, length_in, point_name}
@@ -17,7 +18,6 @@ use Rattle.th_book.specs.Inside.Effects.{IsLeft, block_fault, entry_fault, is_se
 use Rattle.th_book.specs.declared.entries.Entered.{Entered}
 use Rattle.th_book.specs.declared.setups.Setup.{Setup}
 use Rattle.th_book.specs.declared.faults.BookKind.{BookKind}
-use Rattle.th_book.specs.Indexes.{height_difference, station_easting, station_northing, station_height, reflector_height, instrument_height}
 use Rattle.th_book.proofs.CountedWords.{first_length-there}
 use Rattle.th_book.proofs.EntryLemmas.{first_applying-append, read_same}
 use Rattle.th_book.proofs.Faultless.{IsFaultless, held_is_read, rows_pass}

@@ -4,6 +4,7 @@ use Rattle.std.specs.Prelude.{find, option_and_then, option_map}
 use Rattle.std.specs.Option.{option_or}
 use Rattle.std.specs.Result.{result_ok}
 use Rattle.std.proofs.lemmas.Bool.{cond-false}
+use Rattle.gsi_word.specs.Indexes.{height_difference, station_easting, station_northing, station_height, reflector_height, instrument_height}
 use Rattle.gsi_word.specs.Words.{Parts}
 use Rattle.gsi_word.specs.Values.{length_of}
 use Rattle.th_book.specs.Lines.{counts_for, holds, is_setup, is_sight, length_in, point_name}
@@ -11,7 +12,6 @@ use Rattle.th_book.specs.Faults.{Row, first_applying, length_faults, own_faults,
 use Rattle.th_book.specs.Inside.Countings.{counted_fault, counted_in, counts_setup, counts_sight, first_length, lengths_with}
 use Rattle.th_book.specs.Entered.{entered_by}
 use Rattle.th_book.specs.declared.countings.Counted.{Counted}
-use Rattle.th_book.specs.Indexes.{height_difference, station_easting, station_northing, station_height, reflector_height, instrument_height}
 use Rattle.th_book.proofs.CountedWords.{first_length-there}
 use Rattle.th_book.proofs.RefusedLengths.{counted_fault_same}
 

@@ -6,6 +6,7 @@ use Rattle.std.proofs.Math.Seq.{drop-cons}
 use Rattle.std.proofs.lemmas.List.{drop_all, map-append, append-nil}
 use Rattle.std.proofs.lemmas.List.Elements.{filter-append}
 use Rattle.std.proofs.lemmas.Bool.{false≢true, true≢false, or_left, or_right}
+use Rattle.gsi_word.specs.Indexes.{height_difference, reflector_height, instrument_height}
 use Rattle.gsi_word.specs.Words.{Parts}
 use Rattle.th_book.specs.Lines.{ParsedLine, holds, is_setup, is_sight, length_in, point_name}
 use Rattle.th_book.specs.Places.{holds_from, last_below, line_at, setup_of, words_at}
@@ -15,7 +16,6 @@ use Rattle.th_book.specs.Due.{BookState, begun, after_parsed, after_unless, afte
 use Rattle.th_book.specs.declared.setups.Setup.{Setup}
 use Rattle.th_book.specs.declared.faults.BookKind.{BookKind}
 use Rattle.th_book.specs.declared.faults.BookFault.{BookFault}
-use Rattle.th_book.specs.Indexes.{height_difference, reflector_height, instrument_height}
 use Rattle.th_book.proofs.Faultless.{IsFaultless, faultless, held_is_read}
 use Rattle.th_book.specs.Setups.{IsHeight, IsRunning}
 use Rattle.th_book.specs.Witnesses.{Keeps}

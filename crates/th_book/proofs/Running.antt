@@ -2,6 +2,7 @@
 use Rattle.std.proofs.Common.{◌≡◌, ℕ, ℤ, zero, suc, ◌<◌, ◌≤◌, Bool, true, false, cond, ◌&&◌, List, Option, Some, None, refl, sym, ap, ◌∙◌, arith}
 use Rattle.std.specs.Prelude.{is_some, nat_le, option_and_then, option_map}
 use Rattle.std.proofs.lemmas.Bool.{false≢true, and_left, cond-false, le-leb, lt-leb}
+use Rattle.gsi_word.specs.Indexes.{reflector_height, instrument_height}
 use Rattle.gsi_word.specs.Words.{Parts}
 use Rattle.th_book.specs.Lines.{ParsedLine, holds, is_setup, length_in, point_name}
 use Rattle.th_book.specs.Places.{holds_from, last_below, setup_of, words_at}
@@ -9,7 +10,6 @@ use Rattle.th_book.specs.Books.{known_name}
 use Rattle.th_book.specs.Due.{begun, latest, setup_after, with_heights}
 use Rattle.th_book.specs.Setups.{IsHeight, IsRunning, StandsAt}
 use Rattle.th_book.specs.declared.setups.Setup.{Setup}
-use Rattle.th_book.specs.Indexes.{reflector_height, instrument_height}
 
 -- no place is the last where none passes
 pub last_below-none : (test : ℕ → Bool) (bound : ℕ) → ((k : ℕ) → k < bound → test k ≡ false) → last_below test bound ≡ None

@@ -5,12 +5,12 @@ use Rattle.std.specs.Option.{option_or}
 use Rattle.std.specs.List.{cons_option, filter_map, range_with_len}
 use Rattle.std.proofs.lemmas.Bool.{or_left, or_right}
 use Rattle.std.proofs.lemmas.Option.{none-some}
+use Rattle.gsi_word.specs.Indexes.{reflector_height, instrument_height}
 use Rattle.gsi_word.specs.Words.{Parts}
 use Rattle.th_book.specs.Lines.{ParsedLine, holds, is_setup, is_sight, length_in, point_name}
 use Rattle.th_book.specs.Places.{line_at}
 use Rattle.th_book.specs.Faults.{Standing, fault_at, fault_in, first_applying, first_fault, kind_at, kind_of, own_faults, sight_faults, standing_at}
 use Rattle.th_book.specs.Entered.{IsSound, IsWhole, entered_by}
-use Rattle.th_book.specs.Indexes.{reflector_height, instrument_height}
 use Rattle.th_book.specs.declared.faults.BookKind.{BookKind}
 use Rattle.th_book.proofs.EntryLemmas.{first_applying-append}
 use Rattle.th_book.proofs.Faultless.{IsFaultless}

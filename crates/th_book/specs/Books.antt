@@ -1,5 +1,6 @@
 use Rattle.std.specs.Prelude.{◌≡◌, ℕ, ℤ, ◌+◌, ◌+ℤ◌, ◌-ℤ◌, pos, List, [], Option, Some, None, Result, Ok, Err, if◌then◌else◌, filter, length, map, nat_lt, unwrap_or}
 use Rattle.std.specs.List.{range_with_len}
+use Rattle.gsi_word.specs.Indexes.{height_difference, reflector_height, instrument_height}
 use Rattle.th_book.specs.Limits.{max_book}
 use Rattle.gsi_block.specs.Lines.{lines_of}
 use Rattle.gsi_block.specs.Blocks.{block_at}
@@ -9,7 +10,6 @@ use Rattle.th_book.specs.Places.{height_at, station_at, words_at}
 use Rattle.th_book.specs.Faults.{first_fault}
 use Rattle.th_book.specs.declared.faults.BookFault.{BookFault}
 use Rattle.th_book.specs.declared.faults.BookKind.TheVariants.{BookTooLong}
-use Rattle.th_book.specs.Indexes.{height_difference, reflector_height, instrument_height}
 
 -- a length or a name that a book without a fault always has; 0 or the empty name if it is missing
 abbrev pub known : Option ℤ → ℤ

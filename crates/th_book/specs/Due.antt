@@ -1,4 +1,5 @@
 use Rattle.std.specs.Prelude.{◌≡◌, ◌≢◌, ◌≤◌, ℕ, ℤ, ◌+◌, ◌||◌, true, false, List, [], ◌∷◌, ◌++◌, Option, Some, None, Result, Ok, Err, IfErr, OnOk, if◌then◌else◌, is_none, is_some, length, map, option_and_then, option_map, option_to_list}
+use Rattle.gsi_word.specs.Indexes.{height_difference, reflector_height, instrument_height}
 use Rattle.gsi_word.specs.Words.{Parts}
 use Rattle.gsi_block.specs.Blocks.{block_at}
 use Rattle.th_observations.specs.Observed.{Observed}
@@ -9,7 +10,6 @@ use Rattle.th_book.specs.declared.setups.Setup.{Setup}
 use Rattle.th_book.specs.declared.faults.BookKind.{BookKind}
 use Rattle.th_book.specs.declared.faults.BookKind.TheVariants.{NoMemory}
 use Rattle.th_book.specs.declared.faults.BookFault.{BookFault}
-use Rattle.th_book.specs.Indexes.{height_difference, reflector_height, instrument_height}
 
 -- The state of a `Book`: its number, how many lines it has taken, the running setup, the observations so far, how many
 -- observations it has capacity for, and the fault if one was found. What is due does not depend on the capacity.

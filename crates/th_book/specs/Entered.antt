@@ -1,10 +1,10 @@
 -- What a block enters into its book, if its own words have no fault.
 use Rattle.std.specs.Prelude.{◌≡◌, List, Some, None, Ok, Err, if◌then◌else◌, is_some}
+use Rattle.gsi_word.specs.Indexes.{height_difference, reflector_height, instrument_height}
 use Rattle.gsi_word.specs.Words.{Parts}
 use Rattle.th_book.specs.Lines.{ParsedLine, holds, is_setup, is_sight, length_in, point_name}
 use Rattle.th_book.specs.Faults.{first_applying, own_faults}
 use Rattle.th_book.specs.declared.entries.Entered.{Entered}
-use Rattle.th_book.specs.Indexes.{height_difference, reflector_height, instrument_height}
 
 -- the station if the words are a setup, the target if they are a sight, and the lengths
 abbrev pub entered_by : List Parts → Entered

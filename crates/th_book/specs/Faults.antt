@@ -2,6 +2,7 @@ use Rattle.std.specs.Prelude.{ℕ, ℤ, ◌+◌, ◌++◌, ◌==◌, ◌&&◌, �
 use Rattle.std.specs.List.{list_any, filter_map, range_with_len}
 use Rattle.th_units.specs.Lengths.{are_digits}
 use Rattle.th_units.specs.Units.{unit_of}
+use Rattle.gsi_word.specs.Indexes.{point_number, height_difference, station_easting, station_northing, station_height, reflector_height, instrument_height}
 use Rattle.gsi_word.specs.Words.{Parts}
 use Rattle.gsi_word.specs.Names.{same_name}
 use Rattle.gsi_word.specs.Values.{length_of}
@@ -12,7 +13,6 @@ use Rattle.th_book.specs.Places.{last_with, line_at, setup_of, station_at}
 use Rattle.th_book.specs.declared.faults.BookKind.{BookKind}
 use Rattle.th_book.specs.declared.faults.BookKind.TheVariants.{Block, RepeatedWord, NoPointNumber, BadName, BadNumber, BadUnit, TooLarge, SightBeforeSetup, NoInstrumentHeight, NoReflectorHeight, SightToItself}
 use Rattle.th_book.specs.declared.faults.BookFault.{BookFault}
-use Rattle.th_book.specs.Indexes.{point_number, height_difference, station_easting, station_northing, station_height, reflector_height, instrument_height}
 
 -- the indexes for which a block may have only one counting word each
 abbrev pub single_indexes : List ℕ

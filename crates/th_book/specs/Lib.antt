@@ -1,5 +1,4 @@
 pub mod Limits
-pub mod Indexes
 pub mod Lines
 pub mod Places
 pub mod Faults

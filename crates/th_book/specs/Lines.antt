@@ -2,12 +2,12 @@ use Rattle.std.specs.Prelude.{ℕ, ℤ, ◌==◌, ◌&&◌, ◌||◌, not, Bool,
 use Rattle.std.specs.List.{list_any}
 use Rattle.std.specs.Option.{option_map_or}
 use Rattle.std.specs.Result.{result_ok}
+use Rattle.gsi_word.specs.Indexes.{height_difference, station_easting, station_northing, station_height}
 use Rattle.gsi_word.specs.Words.{Parts}
 use Rattle.gsi_word.specs.Names.{name_of}
 use Rattle.gsi_word.specs.Values.{length_of, two_digit}
 use Rattle.gsi_block.specs.Blocks.{BlockParts}
 use Rattle.gsi_block.specs.declared.faults.BlockFault.{BlockFault}
-use Rattle.th_book.specs.Indexes.{height_difference, station_easting, station_northing, station_height}
 
 -- a parsed line: blank, a block, or the fault for which it is neither
 abbrev pub ParsedLine : Type 0

@@ -1,6 +1,6 @@
 -- The setup that runs at a place of a book.
 use Rattle.std.specs.Prelude.{◌≡◌, ◌<◌, ℕ, ℤ, List, Option, Some, None, is_some, option_and_then}
-use Rattle.th_book.specs.Indexes.{reflector_height, instrument_height}
+use Rattle.gsi_word.specs.Indexes.{reflector_height, instrument_height}
 use Rattle.th_book.specs.Lines.{ParsedLine, length_in, point_name}
 use Rattle.th_book.specs.Places.{holds_from, last_below, words_at}
 use Rattle.th_book.specs.declared.setups.Setup.{Setup}

@@ -3,11 +3,10 @@ ghost use Rattle.std.specs.Prelude.{◌≡◌, ◌↔◌, IsTrue, map};
 ghost use Rattle.gsi_word.specs.Words.{parts_of};
 
 use crate::faults::BookKind;
-use crate::indexes::{
-    HEIGHT_DIFFERENCE, INSTRUMENT_HEIGHT, REFLECTOR_HEIGHT, STATION_EASTING, STATION_HEIGHT,
-    STATION_NORTHING,
+use gsi_word::{
+    HEIGHT_DIFFERENCE, INSTRUMENT_HEIGHT, LengthFault, REFLECTOR_HEIGHT, STATION_EASTING,
+    STATION_HEIGHT, STATION_NORTHING, Word, length_of, two_digit,
 };
-use gsi_word::{LengthFault, Word, length_of, two_digit};
 use th_units::Len;
 
 /// The counting words of a block. For each index with a length: the length of its first word, or why

@@ -7,8 +7,7 @@ ghost use Rattle.th_book.specs.Faults.{begins_with_point, first_applying, own_fa
 
 use crate::countings::Counted;
 use crate::faults::BookKind;
-use crate::indexes::POINT_NUMBER;
-use gsi_word::{LengthFault, Name, Word};
+use gsi_word::{LengthFault, Name, POINT_NUMBER, Word};
 use th_units::Len;
 
 /// What a block enters into its book: the station of a setup, the target of a sight, and the lengths

@@ -11,9 +11,6 @@ mod limits;
 // The faults of a book.
 mod faults;
 
-// The word indexes that have a meaning.
-mod indexes;
-
 // The counting words of a block.
 mod countings;
 
@@ -39,7 +36,6 @@ pub use books::{Book, read_book};
 pub use entries::Entered;
 pub use faults::{BookFault, BookKind};
 pub use feeds::BookFeed;
-pub use indexes::POINT_NUMBER;
 pub use limits::MAX_BOOK;
 pub use setups::Setup;
 pub use th_observations::Observation;

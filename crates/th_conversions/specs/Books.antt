@@ -3,13 +3,13 @@ use Rattle.std.specs.Prelude.{◌≡◌, ℕ, ℤ, ◌+◌, ◌/◌, Bool, false
 use Rattle.std.specs.Int.{is_negative}
 use Rattle.std.specs.List.{flat_map}
 use Rattle.th_units.specs.Metres.{last_digits}
+use Rattle.gsi_word.specs.Indexes.{height_difference, instrument_height, reflector_height, station_easting}
 use Rattle.gsi_word.specs.Names.{same_name}
 use Rattle.gsi_word.specs.Words.{Parts, parts}
 use Rattle.gsi_word.specs.declared.words.Width.TheVariants.{Sixteen}
 use Rattle.gsi_block.specs.Blocks.{BlockParts}
 use Rattle.gsi_block.specs.Writing.{block_text}
 use Rattle.th_observations.specs.Observed.{Observed}
-use Rattle.th_book.specs.Indexes.{height_difference, instrument_height, reflector_height, station_easting}
 use Rattle.th_report.specs.Gsi.{number_word}
 use Rattle.th_conversions.specs.Limits.{hundredth, max_book}
 use Rattle.th_conversions.specs.Tables.{rows_of, too_long}

@@ -13,7 +13,9 @@ use crate::limits::HUNDREDTH;
 use crate::rows::Row;
 use gsi_block::{Block, write_block};
 use gsi_word::laws::spelling_of_is_the_spelling;
-use gsi_word::{Name, Word};
+use gsi_word::{
+    HEIGHT_DIFFERENCE, INSTRUMENT_HEIGHT, Name, REFLECTOR_HEIGHT, STATION_EASTING, Word,
+};
 use std::alloc::AllocError;
 use th_pages::last_digits;
 use th_report::{number_word, padded_name, word_of};
@@ -28,9 +30,9 @@ pub(crate) fn write_setup(text: &mut Vec<u8>, number: u64, station: &Name) -> Re
     let zeros: [u8; 16] = last_digits(0);
     let block = block_of(&[
         number_word(number, &name),
-        word_of(84, *b"..40", false, &zeros),
-        word_of(87, *b"..48", false, &zeros),
-        word_of(88, *b"..48", false, &zeros),
+        word_of(STATION_EASTING, *b"..40", false, &zeros),
+        word_of(REFLECTOR_HEIGHT, *b"..48", false, &zeros),
+        word_of(INSTRUMENT_HEIGHT, *b"..48", false, &zeros),
     ]);
     write_block(&block, text)
 }
@@ -45,7 +47,12 @@ pub(crate) fn write_sight(text: &mut Vec<u8>, number: u64, row: &Row) -> Result<
     let digits: [u8; 16] = last_digits(row.difference.unsigned_abs() / HUNDREDTH);
     let block = block_of(&[
         number_word(number, &name),
-        word_of(33, *b"..48", row.difference.is_negative(), &digits),
+        word_of(
+            HEIGHT_DIFFERENCE,
+            *b"..48",
+            row.difference.is_negative(),
+            &digits,
+        ),
     ]);
     write_block(&block, text)
 }

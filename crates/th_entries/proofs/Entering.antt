@@ -5,11 +5,11 @@ use Rattle.std.specs.Option.{option_map_or}
 use Rattle.std.specs.Ordering.{int_eq}
 use Rattle.std.proofs.lemmas.Bool.{and_left, and_right, cond-false, cond-true, false_from_ne_true, false≢true, le-leb, lt-leb, true≢false}
 use Rattle.std.proofs.lemmas.List.{append-nil}
+use Rattle.gsi_word.specs.Indexes.{reflector_height, instrument_height}
 use Rattle.th_book.specs.Lines.{ParsedLine, holds, is_setup, is_sight, length_in, point_name}
 use Rattle.th_book.specs.Places.{holds_from, last_below, setup_of, station_at, words_at}
 use Rattle.th_book.specs.Books.{known, known_name}
 use Rattle.th_book.specs.Entered.{IsWhole, entered_by}
-use Rattle.th_book.specs.Indexes.{reflector_height, instrument_height}
 use Rattle.th_book.specs.Setups.{IsHeight, IsRunning}
 use Rattle.th_book.specs.declared.setups.Setup.{Setup}
 use Rattle.th_entries.specs.Below.{all_below, count_below}

@@ -5,6 +5,7 @@ use Rattle.std.specs.Option.{option_map_or}
 use Rattle.std.proofs.lemmas.Bool.{eq-eqb, ne_eqb}
 use Rattle.std.proofs.lemmas.List.{append-nil}
 use Rattle.std.proofs.Math.Seq.{set-append_seam}
+use Rattle.gsi_word.specs.Indexes.{reflector_height, instrument_height}
 use Rattle.th_book.specs.Lines.{ParsedLine, is_setup, is_sight}
 use Rattle.th_book.specs.Places.{words_at}
 use Rattle.th_entries.specs.Below.{all_below}
@@ -14,7 +15,6 @@ use Rattle.th_entries.specs.Inside.Tallies.{both_at, candidate, candidate_at, op
 use Rattle.th_entries.specs.declared.entries.Entry.{Entry}
 use Rattle.th_entries.specs.declared.entries.HeightKind.{HeightKind}
 use Rattle.th_entries.specs.declared.entries.HeightKind.TheVariants.{Reflector, Instrument}
-use Rattle.th_book.specs.Indexes.{reflector_height, instrument_height}
 use Rattle.th_entries.proofs.BelowLemmas.{DiffersIn, all-same, one-differs}
 use Rattle.th_entries.proofs.Candidates.{open-opens, place-instrument, place-reflector, unused-at, used-once-more, uses-open}
 

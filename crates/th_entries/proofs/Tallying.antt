@@ -4,6 +4,7 @@ use Rattle.std.specs.Prelude.{is_some, option_and_then, option_map, option_to_li
 use Rattle.std.specs.List.{list_any}
 use Rattle.std.specs.Option.{option_or}
 use Rattle.std.proofs.lemmas.List.{append-nil}
+use Rattle.gsi_word.specs.Indexes.{instrument_height}
 use Rattle.gsi_word.specs.Words.{Parts}
 use Rattle.gsi_word.specs.Names.{name_of}
 use Rattle.th_book.specs.Lines.{ParsedLine, holds, is_setup, is_sight, length_in, point_name, words_in}
@@ -14,7 +15,6 @@ use Rattle.th_book.specs.Setups.{IsRunning}
 use Rattle.th_book.specs.Witnesses.{IsBlankAt, IsBlockAt}
 use Rattle.th_book.specs.declared.entries.Entered.{Entered}
 use Rattle.th_book.specs.declared.setups.Setup.{Setup}
-use Rattle.th_book.specs.Indexes.{instrument_height}
 use Rattle.th_entries.specs.Below.{all_below}
 use Rattle.th_entries.specs.Listed.{IsListed}
 use Rattle.th_entries.specs.Reviews.{is_lookalike, is_measured, resembles_setup}

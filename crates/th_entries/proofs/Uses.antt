@@ -3,9 +3,9 @@ use Rattle.std.proofs.Common.{◌≡◌, ℕ, suc, ◌<◌, ◌≤◌, ◌⊎◌
 use Rattle.std.specs.Prelude.{nat_le, option_and_then}
 use Rattle.std.specs.Option.{option_map_or}
 use Rattle.std.proofs.lemmas.Bool.{and_parts, and_from, cases_order, cond-false, eq-eqb, eqb-true, false≢true, leb-true}
+use Rattle.gsi_word.specs.Indexes.{station_easting, station_northing, station_height}
 use Rattle.th_book.specs.Lines.{ParsedLine, holds, is_setup, is_sight, point_name}
 use Rattle.th_book.specs.Places.{last_below, setup_of, station_at, words_at}
-use Rattle.th_book.specs.Indexes.{station_easting, station_northing, station_height}
 use Rattle.th_entries.specs.Entries.{begins, begins_from, entry_line, uses}
 use Rattle.th_entries.proofs.BelowLemmas.{last-after, last-is, last-lt, last-true}
 

@@ -1,10 +1,10 @@
 use Rattle.std.specs.Prelude.{ℕ, suc, ℤ, ◌+◌, ◌==◌, ◌&&◌, ◌++◌, not, Bool, false, List, Option, length, nat_le, option_and_then, option_map, option_to_list}
 use Rattle.std.specs.Option.{option_map_or}
 use Rattle.std.specs.Ordering.{int_eq}
+use Rattle.gsi_word.specs.Indexes.{reflector_height, instrument_height}
 use Rattle.th_book.specs.Lines.{ParsedLine, holds, is_sight, length_in}
 use Rattle.th_book.specs.Places.{holds_from, last_below, setup_of, station_at, words_at}
 use Rattle.th_book.specs.Books.{known, known_name}
-use Rattle.th_book.specs.Indexes.{reflector_height, instrument_height}
 use Rattle.th_entries.specs.Below.{all_below, count_below}
 use Rattle.th_entries.specs.declared.entries.Entry.{Entry}
 use Rattle.th_entries.specs.declared.entries.HeightKind.{HeightKind}

@@ -3,16 +3,12 @@ use Rattle.std.specs.Prelude.{ℕ, ℤ, pos, ◌+◌, ◌&&◌, not, Bool, false
 use Rattle.std.specs.List.{list_any}
 use Rattle.std.specs.Ordering.{int_eq}
 use Rattle.std.specs.Result.{result_ok}
+use Rattle.gsi_word.specs.Indexes.{height_difference, instrument_height, slope_distance}
 use Rattle.gsi_word.specs.Words.{Parts}
 use Rattle.gsi_word.specs.Values.{length_of}
 use Rattle.th_book.specs.Lines.{ParsedLine, counts_for, is_sight, length_in}
 use Rattle.th_book.specs.Places.{holds_from, last_below, setup_of, words_at}
-use Rattle.th_book.specs.Indexes.{height_difference, instrument_height}
 use Rattle.th_entries.specs.Below.{all_below}
-
--- the index of a slope distance
-abbrev pub slope_distance : ℕ
-slope_distance = 31
 
 -- a length that is there, and is zero
 abbrev pub is_zero : Option ℤ → Bool

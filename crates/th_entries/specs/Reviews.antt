@@ -1,11 +1,11 @@
 use Rattle.std.specs.Prelude.{◌≡◌, ℕ, ◌+◌, ◌==◌, ◌&&◌, ◌||◌, not, Bool, List, [], ◌∷◌, if◌then◌else◌, length}
 use Rattle.std.specs.List.{list_any}
+use Rattle.gsi_word.specs.Indexes.{horizontal_angle, horizontal_distance, instrument_height, slope_distance, vertical_angle}
 use Rattle.gsi_word.specs.Words.{Parts}
 use Rattle.th_book.specs.Lines.{ParsedLine, holds, is_setup, is_sight, point_name}
 use Rattle.th_book.specs.Places.{station_at, words_at}
 use Rattle.th_book.specs.Faults.{are_one, begins_with_point}
 pub use Rattle.th_book.specs.Books.{IsFaultless, parsed_of}
-use Rattle.th_book.specs.Indexes.{instrument_height}
 use Rattle.th_entries.specs.Below.{all_below}
 use Rattle.th_entries.specs.Counts.{counts_of}
 use Rattle.th_entries.specs.Entries.{entries_of}
@@ -16,7 +16,8 @@ use Rattle.th_entries.specs.declared.reviews.BookReview.{BookReview}
 
 -- a word that a measurement writes: a horizontal or vertical angle, or a slope or horizontal distance
 abbrev pub is_measured : Parts → Bool
-is_measured word = word.index == 21 || (word.index == 22 || (word.index == 31 || word.index == 32))
+is_measured word =
+    word.index == horizontal_angle || (word.index == vertical_angle || (word.index == slope_distance || word.index == horizontal_distance))
 
 -- a block looks like a setup if it begins with a point and holds an instrument height, but is neither a sight nor a setup, and measures nothing
 abbrev pub resembles_setup : List Parts → Bool

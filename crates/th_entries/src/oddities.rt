@@ -8,13 +8,10 @@ ghost use Rattle.th_entries.specs.Listed.{IsListed};
 ghost use Rattle.th_entries.specs.Oddities.{differ, is_no_distance, is_zero};
 
 use crate::listed::Listed;
-use gsi_word::{Word, length_of, two_digit};
+use gsi_word::{SLOPE_DISTANCE, Word, length_of, two_digit};
 use std::alloc::AllocError;
 use th_book::{Entered, Setup};
 use th_units::Len;
-
-/// The index of a slope distance (Leica GSI Online manual, table of word indexes).
-const SLOPE_DISTANCE: u8 = 31;
 
 /// Whether a word counts for an index.
 fn counts_for(word: &Word<'_>, index: u8) -> bool

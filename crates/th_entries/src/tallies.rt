@@ -15,19 +15,12 @@ use crate::reviews::BookReview;
 use crate::running::{Latest, enter};
 use crate::seen::{SeenNames, mention};
 use crate::sights::SightWatch;
-use gsi_word::{Name, Word};
+use gsi_word::{
+    HORIZONTAL_ANGLE, HORIZONTAL_DISTANCE, Name, POINT_NUMBER, SLOPE_DISTANCE, VERTICAL_ANGLE, Word,
+};
 use std::alloc::{AllocError, Global};
 use th_book::laws::faultless_book_is_sound;
-use th_book::{Entered, POINT_NUMBER, Setup, Witness};
-
-/// What a measurement writes: angles and distances (Leica GSI Online manual, table of word indexes).
-const HORIZONTAL_ANGLE: u8 = 21;
-
-const VERTICAL_ANGLE: u8 = 22;
-
-const SLOPE_DISTANCE: u8 = 31;
-
-const HORIZONTAL_DISTANCE: u8 = 32;
+use th_book::{Entered, Setup, Witness};
 
 /// What is known of a book after some of its lines, and the names of it and of the books before: a
 /// witness of its reading. It keeps the first allocation failure until it gives the review.

@@ -1,5 +1,5 @@
 use Rattle.std.specs.Prelude.{ℕ}
-pub use Rattle.th_book.specs.Indexes.{height_difference, instrument_height, reflector_height, station_height}
+pub use Rattle.gsi_word.specs.Indexes.{height_difference, instrument_height, reflector_height, station_height}
 
 -- The word indexes that have a meaning in a book with heights, beside those of a book (Leica GSI Online manual, table of word indexes).
 

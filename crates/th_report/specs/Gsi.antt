@@ -3,6 +3,7 @@ use Rattle.std.specs.Prelude.{ℕ, ℤ, ◌+◌, ◌-◌, ◌/◌, ◌==◌, ◌
 use Rattle.std.specs.Int.{is_negative}
 use Rattle.std.specs.List.{enumerate_from, flat_map}
 use Rattle.th_units.specs.Metres.{last_digits}
+use Rattle.gsi_word.specs.Indexes.{point_number, target_height}
 use Rattle.gsi_word.specs.Names.{name_of}
 use Rattle.gsi_word.specs.Words.{Parts, parts}
 use Rattle.gsi_word.specs.declared.words.Width.TheVariants.{Sixteen}
@@ -17,7 +18,7 @@ padded_name name = replicate (16 - length name) 48 ++ name
 
 -- the word 11 of a point: its number in four digits, and its name
 unfoldable pub number_word : ℕ → List ℕ → Parts
-number_word number name = parts 11 (last_digits 4 number) false (padded_name name)
+number_word number name = parts point_number (last_digits 4 number) false (padded_name name)
 
 -- the size of a height in 1/100 mm, rounded to the nearest, halves up
 abbrev pub hundredths : ℤ → ℕ
@@ -29,7 +30,7 @@ has_minus height = is_negative height && not (hundredths height == 0)
 
 -- the word 83 of a height: calculated (mode 4), in units of 1/100 mm (unit 8), and 16 digits
 unfoldable pub height_word : ℤ → Parts
-height_word height = parts 83 (codes "..48") (has_minus height) (last_digits 16 (hundredths height))
+height_word height = parts target_height (codes "..48") (has_minus height) (last_digits 16 (hundredths height))
 
 -- the block of a point
 abbrev pub point_block : ℕ → List ℕ → ℤ → BlockParts
@@ -50,7 +51,7 @@ gsi_text survey heights = flat_map (text_of_point heights) (enumerate_from 1 (po
 -- the name in the data of a block's first word, if that is a word 11
 abbrev pub name_in : List Parts → Option (List ℕ)
 name_in [] = None
-name_in (word ∷ words) = if word.index == 11 then name_of word.body else None
+name_in (word ∷ words) = if word.index == point_number then name_of word.body else None
 
 -- the name on a parsed line, if that is a block
 abbrev pub name_read : Result (Option BlockParts) BlockFault → Option (List ℕ)

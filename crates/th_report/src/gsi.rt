@@ -3,6 +3,7 @@ ghost use Rattle.std.specs.Prelude.{◌≡◌, ◌<◌, ◌∷◌, ◌++◌, [],
 ghost use Rattle.std.specs.List.{list_all};
 ghost use Rattle.gsi_block.specs.Blocks.{block_parts};
 ghost use Rattle.gsi_word.specs.Bytes.{is_data};
+ghost use Rattle.gsi_word.specs.Indexes.{point_number, target_height};
 ghost use Rattle.gsi_word.specs.Words.{Spells, parts, parts_of, spelling_of};
 ghost use Rattle.gsi_word.specs.declared.words.Width.TheVariants.{Sixteen};
 ghost use Rattle.th_network.specs.Limits.{height_limit};
@@ -12,7 +13,7 @@ ghost use Rattle.th_units.specs.Metres.{last_digits};
 ghost use Rattle.th_report.specs.Gsi.{gsi_text, has_minus, hundredths, padded_name, point_text};
 
 use gsi_block::{Block, write_block};
-use gsi_word::{Name, Word};
+use gsi_word::{Name, POINT_NUMBER, TARGET_HEIGHT, Word};
 use std::alloc::{AllocError, Global};
 use th_network::Network;
 use th_pages::last_digits;
@@ -79,19 +80,19 @@ pub fn word_of<'a>(index: u8, info: [u8; 4], negative: bool, body: &'a [u8]) -> 
 /// The word 11 of a point's number and of its name in 16 bytes.
 pub fn number_word<'a>(number: u64, name: &'a [u8; 16]) -> Word<'a>
     requires { list_all is_data name.now ≡ true }
-    ensures parts { parts_of result ≡ parts 11 (last_digits 4 number) false name.now }
+    ensures parts { parts_of result ≡ parts point_number (last_digits 4 number) false name.now }
     ensures spelled { Spells (parts_of result) (spelling_of (parts_of result)) Sixteen }
 {
-    word_of(11, last_digits(number), false, name)
+    word_of(POINT_NUMBER, last_digits(number), false, name)
 }
 
 /// The word 83 of a height in 1/100 mm.
 fn height_word<'a>(negative: bool, digits: &'a [u8; 16]) -> Word<'a>
     requires { list_all is_data digits.now ≡ true }
-    ensures parts { parts_of result ≡ parts 83 (codes "..48") negative digits.now }
+    ensures parts { parts_of result ≡ parts target_height (codes "..48") negative digits.now }
     ensures spelled { Spells (parts_of result) (spelling_of (parts_of result)) Sixteen }
 {
-    word_of(83, *b"..48", negative, digits)
+    word_of(TARGET_HEIGHT, *b"..48", negative, digits)
 }
 
 /// A name with zeros before it, in the data of a word.

@@ -2,6 +2,7 @@
 use Rattle.std.specs.Prelude.{ℕ, ℤ, ◌&&◌, ◌||◌, not, Bool, false, List, Option, Some, None, Result, find, if◌then◌else◌, is_some, option_and_then, option_map}
 use Rattle.std.specs.Option.{option_or}
 use Rattle.std.specs.Result.{result_ok}
+use Rattle.gsi_word.specs.Indexes.{height_difference, station_easting, station_northing, station_height, reflector_height, instrument_height}
 use Rattle.gsi_word.specs.Words.{Parts}
 use Rattle.gsi_word.specs.Values.{length_of}
 use Rattle.gsi_word.specs.declared.faults.LengthFault.{LengthFault}
@@ -12,7 +13,6 @@ use Rattle.th_book.specs.declared.countings.Counted.{Counted}
 use Rattle.th_book.specs.declared.entries.Entered.{Entered}
 use Rattle.th_book.specs.declared.faults.BookKind.{BookKind}
 use Rattle.th_book.specs.declared.faults.BookKind.TheVariants as book_kind
-use Rattle.th_book.specs.Indexes.{height_difference, station_easting, station_northing, station_height, reflector_height, instrument_height}
 
 -- the length of the first word that counts for an index, or why it is refused: none if no word does
 abbrev pub first_length : ℕ → List Parts → Option (Result ℤ LengthFault)

@@ -2,13 +2,13 @@
 use Rattle.std.specs.Prelude.{◌≡◌, ℕ, suc, ◌+◌, ◌++◌, ◌&&◌, not, Bool, List, [], ◌∷◌, Option, None, if◌then◌else◌, is_some, length, option_and_then, option_map}
 use Rattle.std.specs.List.{list_any}
 use Rattle.std.specs.Option.{option_map_or}
+use Rattle.gsi_word.specs.Indexes.{reflector_height, instrument_height}
 use Rattle.gsi_word.specs.Words.{Parts}
 use Rattle.th_book.specs.Lines.{ParsedLine, point_name}
 use Rattle.th_book.specs.Places.{last_below, setup_of, station_at, words_at}
 use Rattle.th_book.specs.Faults.{are_one, begins_with_point}
 use Rattle.th_book.specs.Books.{known_name}
 use Rattle.th_book.specs.Entered.{entered_by}
-use Rattle.th_book.specs.Indexes.{reflector_height, instrument_height}
 use Rattle.th_book.specs.declared.entries.Entered.{Entered}
 use Rattle.th_book.specs.declared.setups.Setup.{Setup}
 use Rattle.th_entries.specs.Below.{all_below, count_below}

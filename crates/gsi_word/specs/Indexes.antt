@@ -1,16 +1,34 @@
 use Rattle.std.specs.Prelude.{ℕ}
 
--- The word indexes that have a meaning in a book (Leica GSI Online manual, table of word indexes).
+-- The word indexes that have a meaning here (Leica GSI Online manual, table of word indexes).
 
 -- a point's number: the name of a station or a target
 abbrev pub point_number : ℕ
 point_number = 11
 
+-- the horizontal and the vertical angle
+abbrev pub horizontal_angle : ℕ
+horizontal_angle = 21
+
+abbrev pub vertical_angle : ℕ
+vertical_angle = 22
+
+-- the slope distance and the horizontal distance
+abbrev pub slope_distance : ℕ
+slope_distance = 31
+
+abbrev pub horizontal_distance : ℕ
+horizontal_distance = 32
+
 -- the height difference, in this project's profile from the tilting axis to the reflector
 abbrev pub height_difference : ℕ
 height_difference = 33
 
--- the station's easting, northing and height, which only mark a setup
+-- the height of the target, as the instrument computed it
+abbrev pub target_height : ℕ
+target_height = 83
+
+-- the station's easting, northing and height
 abbrev pub station_easting : ℕ
 station_easting = 84
 
