@@ -1,6 +1,7 @@
 //! The faults of a certificate, C1 to C7, and an allocation failure, with their texts.
 ghost use Rattle.std.specs.Prelude.{◌≡◌};
 ghost use Rattle.th_certificate.specs.declared.faults.CertKind.TheVariants.{NoMemory};
+ghost use Rattle.th_certificate.specs.Faults.{kind_text};
 
 use std::alloc::{AllocError, AllocFailed};
 use std::error::Error;
@@ -75,23 +76,31 @@ impl<T: Drop> From<AllocFailed<T>> for CertFault {
     }
 }
 
+impl CertKind {
+    /// The text of the kind.
+    pub fn text(self) -> &'static str
+        ensures { result.now ≡ kind_text self }
+    {
+        match self {
+            CertKind::BadHeader => "C1 bad header",
+            CertKind::FieldCount => "C2 field count",
+            CertKind::BadKind => "C3 bad kind",
+            CertKind::BadName => "C4 bad name",
+            CertKind::BadNumber => "C5 bad number",
+            CertKind::TooLarge => "C6 too large",
+            CertKind::Truncated => "C7 truncated",
+            CertKind::NoMemory => "out of memory",
+        }
+    }
+}
+
 impl fmt::Display for CertKind {
     ghost use Rattle.std.specs.Prelude.{Some};
-    ghost use Rattle.th_certificate.specs.Faults.{kind_text};
 
-    ghost output = { λ kind. Some (kind_text kind) };
+    ghost output = { λ fault. Some (kind_text fault) };
 
     fn fmt<W: fmt::Write>(&self, f: &mut fmt::Formatter<W>) -> fmt::Result {
-        match self {
-            CertKind::BadHeader => f.write_str("C1 bad header"),
-            CertKind::FieldCount => f.write_str("C2 field count"),
-            CertKind::BadKind => f.write_str("C3 bad kind"),
-            CertKind::BadName => f.write_str("C4 bad name"),
-            CertKind::BadNumber => f.write_str("C5 bad number"),
-            CertKind::TooLarge => f.write_str("C6 too large"),
-            CertKind::Truncated => f.write_str("C7 truncated"),
-            CertKind::NoMemory => f.write_str("out of memory"),
-        }
+        f.write_str(self.text())
     }
 }
 

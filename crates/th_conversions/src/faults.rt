@@ -1,6 +1,7 @@
 //! Why a table of differences is refused: kinds of fault, the record of each, and their texts.
 ghost use Rattle.std.specs.Prelude.{◌≡◌};
 ghost use Rattle.th_conversions.specs.declared.faults.DifferenceKind.TheVariants.{NoMemory};
+ghost use Rattle.th_conversions.specs.Texts.{kind_text};
 
 use std::alloc::{AllocError, AllocFailed};
 use std::error::Error;
@@ -72,14 +73,12 @@ impl<T: Drop> From<AllocFailed<T>> for DifferenceFault {
     }
 }
 
-impl fmt::Display for DifferenceKind {
-    ghost use Rattle.std.specs.Prelude.{Some};
-    ghost use Rattle.th_conversions.specs.Texts.{kind_text};
-
-    ghost output = { λ kind. Some (kind_text kind) };
-
-    fn fmt<W: fmt::Write>(&self, f: &mut fmt::Formatter<W>) -> fmt::Result {
-        f.write_str(match self {
+impl DifferenceKind {
+    /// The text of the kind.
+    pub fn text(self) -> &'static str
+        ensures { result.now ≡ kind_text self }
+    {
+        match self {
             DifferenceKind::BadHeader => "E1 bad header",
             DifferenceKind::FieldCount => "E2 field count",
             DifferenceKind::BadName => "E3 bad name",
@@ -87,7 +86,17 @@ impl fmt::Display for DifferenceKind {
             DifferenceKind::ToItself => "E6 to itself",
             DifferenceKind::TableTooLong => "E7 table too long",
             DifferenceKind::NoMemory => "out of memory",
-        })
+        }
+    }
+}
+
+impl fmt::Display for DifferenceKind {
+    ghost use Rattle.std.specs.Prelude.{Some};
+
+    ghost output = { λ fault. Some (kind_text fault) };
+
+    fn fmt<W: fmt::Write>(&self, f: &mut fmt::Formatter<W>) -> fmt::Result {
+        f.write_str(self.text())
     }
 }
 

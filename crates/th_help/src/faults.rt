@@ -3,21 +3,21 @@ ghost use Rattle.std.specs.Prelude.{◌≡◌};
 ghost use Rattle.gsi_block.specs.Faults.{fault_text as block_text};
 ghost use Rattle.gsi_word.specs.Words.{fault_text as word_text};
 ghost use Rattle.th_book.specs.Texts.{fault_text as book_text, kind_text as book_kind_text};
-ghost use Rattle.th_certificate.specs.Faults.{fault_text as certificate_text, kind_text as certificate_kind_text};
-ghost use Rattle.th_conversions.specs.Texts.{fault_text as difference_text, kind_text as difference_kind_text};
+ghost use Rattle.th_certificate.specs.Faults.{fault_text as certificate_text};
+ghost use Rattle.th_conversions.specs.Texts.{fault_text as difference_text};
 ghost use Rattle.th_lines.specs.Lines.{HasRoom, IsPut};
 ghost use Rattle.th_network.specs.Texts.{fault_text as network_text};
-ghost use Rattle.th_tables.specs.Texts.{fault_text as table_text, kind_text as table_kind_text};
+ghost use Rattle.th_tables.specs.Texts.{fault_text as table_text};
 
 use gsi_block::BlockFault;
 use gsi_word::WordFault;
 use th_book::{BookFault, BookKind};
-use th_certificate::{CertFault, CertKind};
-use th_conversions::{DifferenceFault, DifferenceKind};
+use th_certificate::CertFault;
+use th_conversions::DifferenceFault;
 use th_devices::{Failed, Sink};
 use th_lines::Line;
 use th_network::NetFault;
-use th_tables::{TableFault, TableKind};
+use th_tables::TableFault;
 
 /// Puts the text of a fault of a book.
 #[tactic(auto, using(th_lines::proofs::LineLemmas::appended))]
@@ -101,23 +101,7 @@ pub fn put_table_fault<K: Sink>(line: &mut Line<K>, fault: &TableFault) -> Resul
     line.put("record ")?;
     line.put_number(fault.row)?;
     line.put(": ")?;
-    line.put(text_of_table(fault.kind))
-}
-
-/// The text of a kind of fault of a table.
-fn text_of_table(kind: TableKind) -> &'static str
-    ensures { result.now ≡ table_kind_text kind }
-{
-    match kind {
-        TableKind::BadHeader => "E1 bad header",
-        TableKind::FieldCount => "E2 field count",
-        TableKind::BadName => "E3 bad name",
-        TableKind::BadHeight => "E4 bad height",
-        TableKind::BadWeight => "E5 bad weight",
-        TableKind::Repeated => "E6 repeated",
-        TableKind::TableTooLong => "E7 table too long",
-        TableKind::NoMemory => "out of memory",
-    }
+    line.put(fault.kind.text())
 }
 
 /// Puts the text of a fault of a certificate.
@@ -129,23 +113,7 @@ pub fn put_certificate_fault<K: Sink>(line: &mut Line<K>, fault: &CertFault) -> 
     line.put("record ")?;
     line.put_number(fault.row)?;
     line.put(": ")?;
-    line.put(text_of_certificate(fault.kind))
-}
-
-/// The text of a kind of fault of a certificate.
-fn text_of_certificate(kind: CertKind) -> &'static str
-    ensures { result.now ≡ certificate_kind_text kind }
-{
-    match kind {
-        CertKind::BadHeader => "C1 bad header",
-        CertKind::FieldCount => "C2 field count",
-        CertKind::BadKind => "C3 bad kind",
-        CertKind::BadName => "C4 bad name",
-        CertKind::BadNumber => "C5 bad number",
-        CertKind::TooLarge => "C6 too large",
-        CertKind::Truncated => "C7 truncated",
-        CertKind::NoMemory => "out of memory",
-    }
+    line.put(fault.kind.text())
 }
 
 /// Puts the text of a fault of a table of differences.
@@ -160,22 +128,7 @@ pub fn put_difference_fault<K: Sink>(
     line.put("record ")?;
     line.put_number(fault.row)?;
     line.put(": ")?;
-    line.put(text_of_difference(fault.kind))
-}
-
-/// The text of a kind of fault of a table of differences.
-fn text_of_difference(kind: DifferenceKind) -> &'static str
-    ensures { result.now ≡ difference_kind_text kind }
-{
-    match kind {
-        DifferenceKind::BadHeader => "E1 bad header",
-        DifferenceKind::FieldCount => "E2 field count",
-        DifferenceKind::BadName => "E3 bad name",
-        DifferenceKind::BadDifference => "E4 bad difference",
-        DifferenceKind::ToItself => "E6 to itself",
-        DifferenceKind::TableTooLong => "E7 table too long",
-        DifferenceKind::NoMemory => "out of memory",
-    }
+    line.put(fault.kind.text())
 }
 
 /// Puts the text of a fault of a network.

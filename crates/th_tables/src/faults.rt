@@ -1,6 +1,7 @@
 //! The faults of tables, in the order in which they apply, and their texts.
 ghost use Rattle.std.specs.Prelude.{◌≡◌};
 ghost use Rattle.th_tables.specs.declared.faults.TableKind.TheVariants.{NoMemory};
+ghost use Rattle.th_tables.specs.Texts.{kind_text};
 
 use std::alloc::{AllocError, AllocFailed};
 use std::error::Error;
@@ -74,14 +75,12 @@ impl<T: Drop> From<AllocFailed<T>> for TableFault {
     }
 }
 
-impl fmt::Display for TableKind {
-    ghost use Rattle.std.specs.Prelude.{Some};
-    ghost use Rattle.th_tables.specs.Texts.{kind_text};
-
-    ghost output = { λ kind. Some (kind_text kind) };
-
-    fn fmt<W: fmt::Write>(&self, f: &mut fmt::Formatter<W>) -> fmt::Result {
-        f.write_str(match self {
+impl TableKind {
+    /// The text of the kind.
+    pub fn text(self) -> &'static str
+        ensures { result.now ≡ kind_text self }
+    {
+        match self {
             TableKind::BadHeader => "E1 bad header",
             TableKind::FieldCount => "E2 field count",
             TableKind::BadName => "E3 bad name",
@@ -90,7 +89,17 @@ impl fmt::Display for TableKind {
             TableKind::Repeated => "E6 repeated",
             TableKind::TableTooLong => "E7 table too long",
             TableKind::NoMemory => "out of memory",
-        })
+        }
+    }
+}
+
+impl fmt::Display for TableKind {
+    ghost use Rattle.std.specs.Prelude.{Some};
+
+    ghost output = { λ fault. Some (kind_text fault) };
+
+    fn fmt<W: fmt::Write>(&self, f: &mut fmt::Formatter<W>) -> fmt::Result {
+        f.write_str(self.text())
     }
 }
 
