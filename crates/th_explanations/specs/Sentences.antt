@@ -45,7 +45,7 @@ joined several (row ∷ rows) = called several row.kind row ++ flat_map (or_call
 
 -- how many numbers explain equally, if they are more than three
 abbrev pub count_called : ℕ → List ℕ
-count_called count = if count == most_rows then codes "At least 20" else decimal count
+count_called count = (if count == most_rows then codes "At least " else []) ++ decimal count
 
 -- which numbers explain most: one, two or three
 unfoldable pub few_line : Bool → List Row → List ℕ

@@ -21,7 +21,7 @@ mod columns;
 mod sentences;
 mod texts;
 
-pub use ranks::ranked;
+pub use ranks::{MOST_ROWS, ranked};
 pub use rows::{Kind, Row, Summary, Values};
 pub use tables::explanations_csv;
 pub use texts::explanations_text;

@@ -5,15 +5,13 @@ ghost use Rattle.th_explanations.specs.Sentences.{best_line, called, count_calle
 ghost use Rattle.th_explanations.specs.Tables.{number_field};
 
 use crate::costs::cost_text;
+use crate::ranks::MOST_ROWS;
 use crate::rows::{Kind, Row, Summary};
 use crate::tables::{name_field, number_field};
 use itoa::Buffer;
 use std::alloc::{AllocError, Global};
 use th_pages::Page;
 use th_units::metre_text;
-
-/// The most rows.
-const MOST_ROWS: usize = 20;
 
 /// Writes the sentences on all rows.
 #[tactic(auto, unfolding(crate::specs::Sentences::sentences))]
@@ -118,11 +116,10 @@ fn write_count_called(page: &mut Page, count: usize) -> Result<(), AllocError>
     ensures { OnOk result (page.new ≡ page.old ++ count_called count) }
 {
     if count == MOST_ROWS {
-        page.add(b"At least 20")
-    } else {
-        let mut digits = Buffer::new();
-        page.add(digits.format(count).as_bytes())
+        page.add(b"At least ")?;
     }
+    let mut digits = Buffer::new();
+    page.add(digits.format(count).as_bytes())
 }
 
 /// Writes what sentences call the rows, joined by `or`.
