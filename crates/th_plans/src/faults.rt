@@ -2,6 +2,7 @@
 use clap::error::ErrorKind;
 use std::alloc::AllocError;
 use std::fmt::{self, Write};
+use th_limits::MAX_BOOKS;
 
 /// Why a command line gives no plan. It displays as the text for standard error.
 #[derive(Debug, Drop)]
@@ -26,12 +27,12 @@ const VALUE_TIP: &str = "  tip: to pass ";
 /// The tip in its place.
 const BOOK_TIP: &str = "  tip: write '--' before a book whose name begins with '-'";
 
-/// The text where there are more books than a command takes.
-const TOO_MANY_BOOKS: &str = "error: more than 16 books\n\nFor more information, try '--help'.\n";
-
 /// The text where the prefix names no files.
 const NAMES_NO_FILES: &str =
-    "error: the value of '--out' must end in the beginning of a file name, as in 'dam' or 'site/dam'\n\nFor more information, try '--help'.\n";
+    "error: the value of '--out' must end in the beginning of a file name, as in 'dam' or 'site/dam'";
+
+/// How a text ends that is not from `clap`.
+const MORE: &str = "\n\nFor more information, try '--help'.\n";
 
 impl fmt::Display for PlanFault {
     fn fmt<W: fmt::Write>(&self, f: &mut fmt::Formatter<W>) -> fmt::Result {
@@ -41,8 +42,8 @@ impl fmt::Display for PlanFault {
                 ErrorKind::InvalidSubcommand => write!(f, "{error}{TIP}"),
                 _ => write!(f, "{error}"),
             },
-            PlanFault::TooManyBooks => f.write_str(TOO_MANY_BOOKS),
-            PlanFault::NamesNoFiles => f.write_str(NAMES_NO_FILES),
+            PlanFault::TooManyBooks => write!(f, "error: more than {MAX_BOOKS} books{MORE}"),
+            PlanFault::NamesNoFiles => write!(f, "{NAMES_NO_FILES}{MORE}"),
             PlanFault::NoMemory => f.write_str("out of memory\n"),
         }
     }
