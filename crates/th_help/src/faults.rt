@@ -138,12 +138,10 @@ pub fn put_network_fault<K: Sink>(line: &mut Line<K>, fault: &NetFault) -> Resul
     ensures { IsPut 2 (network_text fault.now) line.old line.new result }
 {
     match fault {
-        NetFault::TooManyObservations => line.put("N1 too many observations"),
-        NetFault::TooManyPoints => line.put("N2 too many points"),
         NetFault::NoBenchmark(name) => {
-            line.put("N3 no benchmark for ")?;
+            line.put(fault.beginning())?;
             line.put_name(name)
         }
-        NetFault::NoMemory => line.put("out of memory"),
+        _ => line.put(fault.beginning()),
     }
 }

@@ -1,6 +1,7 @@
 //! The faults of a network, in the order in which they count, and their texts.
 ghost use Rattle.std.specs.Prelude.{◌≡◌};
 ghost use Rattle.th_network.specs.declared.faults.NetFault.TheVariants.{NoMemory};
+ghost use Rattle.th_network.specs.Texts.{fault_beginning};
 
 use gsi_word::Name;
 use std::alloc::AllocError;
@@ -28,6 +29,20 @@ impl From<AllocError> for NetFault {
     }
 }
 
+impl NetFault {
+    /// The text of the fault, or its beginning: the name of a point without a benchmark follows.
+    pub fn beginning(self) -> &'static str
+        ensures { result.now ≡ fault_beginning self }
+    {
+        match self {
+            NetFault::TooManyObservations => "N1 too many observations",
+            NetFault::TooManyPoints => "N2 too many points",
+            NetFault::NoBenchmark(_) => "N3 no benchmark for ",
+            NetFault::NoMemory => "out of memory",
+        }
+    }
+}
+
 impl fmt::Display for NetFault {
     ghost use Rattle.std.specs.Prelude.{Some};
     ghost use Rattle.th_network.specs.Texts.{fault_text};
@@ -35,11 +50,10 @@ impl fmt::Display for NetFault {
     ghost output = { λ fault. Some (fault_text fault) };
 
     fn fmt<W: fmt::Write>(&self, f: &mut fmt::Formatter<W>) -> fmt::Result {
+        f.write_str(self.beginning())?;
         match self {
-            NetFault::TooManyObservations => f.write_str("N1 too many observations"),
-            NetFault::TooManyPoints => f.write_str("N2 too many points"),
-            NetFault::NoBenchmark(name) => write!(f, "N3 no benchmark for {}", text_of(name)),
-            NetFault::NoMemory => f.write_str("out of memory"),
+            NetFault::NoBenchmark(name) => f.write_str(text_of(name)),
+            _ => Ok(()),
         }
     }
 }
