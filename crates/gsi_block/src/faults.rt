@@ -1,4 +1,7 @@
 //! Why a line is refused as a block, and the text of each fault.
+ghost use Rattle.std.specs.Prelude.{◌≡◌};
+ghost use Rattle.gsi_block.specs.Faults.{fault_beginning};
+
 use gsi_word::WordFault;
 use std::error::Error;
 use std::fmt;
@@ -16,6 +19,20 @@ pub enum BlockFault {
     BadSeparator(u32),
 }
 
+impl BlockFault {
+    /// The text of the fault, or its beginning: the number of a word follows.
+    pub fn beginning(self) -> &'static str
+        ensures { result.now ≡ fault_beginning self }
+    {
+        match self {
+            BlockFault::BadWord(_, _) => "word ",
+            BlockFault::TooManyWords => "too many words",
+            BlockFault::LineTooLong => "line too long",
+            BlockFault::BadSeparator(_) => "no space after word ",
+        }
+    }
+}
+
 impl fmt::Display for BlockFault {
     ghost use Rattle.std.specs.Prelude.{Some};
     ghost use Rattle.gsi_block.specs.Faults.{fault_text};
@@ -23,11 +40,11 @@ impl fmt::Display for BlockFault {
     ghost output = { λ fault. Some (fault_text fault) };
 
     fn fmt<W: fmt::Write>(&self, f: &mut fmt::Formatter<W>) -> fmt::Result {
+        f.write_str(self.beginning())?;
         match self {
-            BlockFault::BadWord(number, fault) => write!(f, "word {number}: {fault}"),
-            BlockFault::TooManyWords => f.write_str("too many words"),
-            BlockFault::LineTooLong => f.write_str("line too long"),
-            BlockFault::BadSeparator(number) => write!(f, "no space after word {number}"),
+            BlockFault::BadWord(number, fault) => write!(f, "{number}: {fault}"),
+            BlockFault::BadSeparator(number) => write!(f, "{number}"),
+            _ => Ok(()),
         }
     }
 }

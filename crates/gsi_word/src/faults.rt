@@ -1,4 +1,7 @@
 //! Why bytes begin with no word, with the text of each fault, or a word's data give no length.
+ghost use Rattle.std.specs.Prelude.{◌≡◌};
+ghost use Rattle.gsi_word.specs.Words.{fault_text};
+
 use std::error::Error;
 use std::fmt;
 
@@ -17,20 +20,28 @@ pub enum WordFault {
     BadData,
 }
 
-impl fmt::Display for WordFault {
-    ghost use Rattle.std.specs.Prelude.{Some};
-    ghost use Rattle.gsi_word.specs.Words.{fault_text};
-
-    ghost output = { λ fault. Some (fault_text fault) };
-
-    fn fmt<W: fmt::Write>(&self, f: &mut fmt::Formatter<W>) -> fmt::Result {
-        f.write_str(match self {
+impl WordFault {
+    /// The text of the fault.
+    pub fn text(self) -> &'static str
+        ensures { result.now ≡ fault_text self }
+    {
+        match self {
             WordFault::Short => "short",
             WordFault::BadIndex => "bad index",
             WordFault::BadInfo => "bad information",
             WordFault::BadSign => "bad sign",
             WordFault::BadData => "bad data",
-        })
+        }
+    }
+}
+
+impl fmt::Display for WordFault {
+    ghost use Rattle.std.specs.Prelude.{Some};
+
+    ghost output = { λ fault. Some (fault_text fault) };
+
+    fn fmt<W: fmt::Write>(&self, f: &mut fmt::Formatter<W>) -> fmt::Result {
+        f.write_str(self.text())
     }
 }
 

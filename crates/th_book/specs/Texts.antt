@@ -5,21 +5,26 @@ use Rattle.th_book.specs.declared.faults.BookFault.{BookFault}
 use Rattle.th_book.specs.declared.faults.BookKind.{BookKind}
 use Rattle.th_book.specs.declared.faults.BookKind.TheVariants.{Block, RepeatedWord, NoPointNumber, BadName, BadNumber, BadUnit, TooLarge, SightBeforeSetup, NoInstrumentHeight, NoReflectorHeight, SightToItself, BookTooLong, NoMemory}
 
--- the text of a kind of fault
+-- the text of a kind, or its beginning, which the text of the fault of a block follows
+abbrev pub kind_beginning : BookKind → List ℕ
+kind_beginning (Block fault) = codes "B1 "
+kind_beginning RepeatedWord = codes "B2 repeated word"
+kind_beginning NoPointNumber = codes "B3 no point number"
+kind_beginning BadName = codes "B4 bad name"
+kind_beginning BadNumber = codes "B5 bad number"
+kind_beginning BadUnit = codes "B6 bad unit"
+kind_beginning TooLarge = codes "B7 too large"
+kind_beginning SightBeforeSetup = codes "B8 sight before setup"
+kind_beginning NoInstrumentHeight = codes "B9 no instrument height"
+kind_beginning NoReflectorHeight = codes "B10 no reflector height"
+kind_beginning SightToItself = codes "B11 sight to itself"
+kind_beginning BookTooLong = codes "B12 book too long"
+kind_beginning NoMemory = codes "out of memory"
+
+-- the text of a kind
 abbrev pub kind_text : BookKind → List ℕ
-kind_text (Block fault) = codes "B1 " ++ block_fault_text fault
-kind_text RepeatedWord = codes "B2 repeated word"
-kind_text NoPointNumber = codes "B3 no point number"
-kind_text BadName = codes "B4 bad name"
-kind_text BadNumber = codes "B5 bad number"
-kind_text BadUnit = codes "B6 bad unit"
-kind_text TooLarge = codes "B7 too large"
-kind_text SightBeforeSetup = codes "B8 sight before setup"
-kind_text NoInstrumentHeight = codes "B9 no instrument height"
-kind_text NoReflectorHeight = codes "B10 no reflector height"
-kind_text SightToItself = codes "B11 sight to itself"
-kind_text BookTooLong = codes "B12 book too long"
-kind_text NoMemory = codes "out of memory"
+kind_text (Block fault) = kind_beginning (Block fault) ++ block_fault_text fault
+kind_text other = kind_beginning other
 
 -- the text of a fault, with its line
 abbrev pub fault_text : BookFault → List ℕ

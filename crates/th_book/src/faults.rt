@@ -1,4 +1,7 @@
 //! The faults of a book, B1 to B12, and an allocation failure, with their texts.
+ghost use Rattle.std.specs.Prelude.{◌≡◌};
+ghost use Rattle.th_book.specs.Texts.{kind_beginning};
+
 use gsi_block::BlockFault;
 use std::error::Error;
 use std::fmt;
@@ -42,6 +45,29 @@ pub struct BookFault {
     pub kind: BookKind,
 }
 
+impl BookKind {
+    /// The text of the kind, or its beginning: the text of a block's fault follows.
+    pub fn beginning(self) -> &'static str
+        ensures { result.now ≡ kind_beginning self }
+    {
+        match self {
+            BookKind::Block(_) => "B1 ",
+            BookKind::RepeatedWord => "B2 repeated word",
+            BookKind::NoPointNumber => "B3 no point number",
+            BookKind::BadName => "B4 bad name",
+            BookKind::BadNumber => "B5 bad number",
+            BookKind::BadUnit => "B6 bad unit",
+            BookKind::TooLarge => "B7 too large",
+            BookKind::SightBeforeSetup => "B8 sight before setup",
+            BookKind::NoInstrumentHeight => "B9 no instrument height",
+            BookKind::NoReflectorHeight => "B10 no reflector height",
+            BookKind::SightToItself => "B11 sight to itself",
+            BookKind::BookTooLong => "B12 book too long",
+            BookKind::NoMemory => "out of memory",
+        }
+    }
+}
+
 impl fmt::Display for BookKind {
     ghost use Rattle.std.specs.Prelude.{Some};
     ghost use Rattle.th_book.specs.Texts.{kind_text};
@@ -49,20 +75,10 @@ impl fmt::Display for BookKind {
     ghost output = { λ kind. Some (kind_text kind) };
 
     fn fmt<W: fmt::Write>(&self, f: &mut fmt::Formatter<W>) -> fmt::Result {
+        f.write_str(self.beginning())?;
         match self {
-            BookKind::Block(fault) => write!(f, "B1 {fault}"),
-            BookKind::RepeatedWord => f.write_str("B2 repeated word"),
-            BookKind::NoPointNumber => f.write_str("B3 no point number"),
-            BookKind::BadName => f.write_str("B4 bad name"),
-            BookKind::BadNumber => f.write_str("B5 bad number"),
-            BookKind::BadUnit => f.write_str("B6 bad unit"),
-            BookKind::TooLarge => f.write_str("B7 too large"),
-            BookKind::SightBeforeSetup => f.write_str("B8 sight before setup"),
-            BookKind::NoInstrumentHeight => f.write_str("B9 no instrument height"),
-            BookKind::NoReflectorHeight => f.write_str("B10 no reflector height"),
-            BookKind::SightToItself => f.write_str("B11 sight to itself"),
-            BookKind::BookTooLong => f.write_str("B12 book too long"),
-            BookKind::NoMemory => f.write_str("out of memory"),
+            BookKind::Block(fault) => write!(f, "{fault}"),
+            _ => Ok(()),
         }
     }
 }

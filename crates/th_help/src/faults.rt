@@ -1,7 +1,5 @@
 //! The texts of faults, put on a line part by part.
-ghost use Rattle.std.specs.Prelude.{◌≡◌};
 ghost use Rattle.gsi_block.specs.Faults.{fault_text as block_text};
-ghost use Rattle.gsi_word.specs.Words.{fault_text as word_text};
 ghost use Rattle.th_book.specs.Texts.{fault_text as book_text, kind_text as book_kind_text};
 ghost use Rattle.th_certificate.specs.Faults.{fault_text as certificate_text};
 ghost use Rattle.th_conversions.specs.Texts.{fault_text as difference_text};
@@ -10,7 +8,6 @@ ghost use Rattle.th_network.specs.Texts.{fault_text as network_text};
 ghost use Rattle.th_tables.specs.Texts.{fault_text as table_text};
 
 use gsi_block::BlockFault;
-use gsi_word::WordFault;
 use th_book::{BookFault, BookKind};
 use th_certificate::CertFault;
 use th_conversions::DifferenceFault;
@@ -39,21 +36,10 @@ fn put_book_kind<K: Sink>(line: &mut Line<K>, kind: BookKind) -> Result<(), Fail
 {
     match kind {
         BookKind::Block(fault) => {
-            line.put("B1 ")?;
+            line.put(kind.beginning())?;
             put_block_fault(line, fault)
         }
-        BookKind::RepeatedWord => line.put("B2 repeated word"),
-        BookKind::NoPointNumber => line.put("B3 no point number"),
-        BookKind::BadName => line.put("B4 bad name"),
-        BookKind::BadNumber => line.put("B5 bad number"),
-        BookKind::BadUnit => line.put("B6 bad unit"),
-        BookKind::TooLarge => line.put("B7 too large"),
-        BookKind::SightBeforeSetup => line.put("B8 sight before setup"),
-        BookKind::NoInstrumentHeight => line.put("B9 no instrument height"),
-        BookKind::NoReflectorHeight => line.put("B10 no reflector height"),
-        BookKind::SightToItself => line.put("B11 sight to itself"),
-        BookKind::BookTooLong => line.put("B12 book too long"),
-        BookKind::NoMemory => line.put("out of memory"),
+        _ => line.put(kind.beginning()),
     }
 }
 
@@ -64,31 +50,17 @@ fn put_block_fault<K: Sink>(line: &mut Line<K>, fault: BlockFault) -> Result<(),
     ensures { IsPut 4 (block_text fault) line.old line.new result }
 {
     match fault {
-        BlockFault::BadWord(number, fault) => {
-            line.put("word ")?;
+        BlockFault::BadWord(number, bad) => {
+            line.put(fault.beginning())?;
             line.put_number(number)?;
             line.put(": ")?;
-            line.put(text_of_word(fault))
+            line.put(bad.text())
         }
-        BlockFault::TooManyWords => line.put("too many words"),
-        BlockFault::LineTooLong => line.put("line too long"),
         BlockFault::BadSeparator(number) => {
-            line.put("no space after word ")?;
+            line.put(fault.beginning())?;
             line.put_number(number)
         }
-    }
-}
-
-/// The text of a bad word.
-fn text_of_word(fault: WordFault) -> &'static str
-    ensures { result.now ≡ word_text fault }
-{
-    match fault {
-        WordFault::Short => "short",
-        WordFault::BadIndex => "bad index",
-        WordFault::BadInfo => "bad information",
-        WordFault::BadSign => "bad sign",
-        WordFault::BadData => "bad data",
+        _ => line.put(fault.beginning()),
     }
 }
 
