@@ -112,7 +112,7 @@ examples: built
 	@tests/examples --program $(PROGRAM)
 
 statuses: built
-	@tests/statuses --program $(PROGRAM)
+	@tests/statuses/run.py --program $(PROGRAM)
 	@tests/first_contact --program $(PROGRAM)
 	@tests/shown_bytes --program $(PROGRAM)
 	@tests/books_of_tables --program $(PROGRAM)

@@ -1,0 +1,71 @@
+"""Bad command lines, help and the version."""
+
+import itertools
+import re
+from typing import Iterator
+
+from program import ROOT
+from rows import Case, Row, RowCase
+
+MARKS = "--benchmarks marks.csv"
+SEVENTEEN = " ".join(map(str, range(1, 18)))
+LACKS = "error: the following required arguments were not provided:"
+NOT_TEXT = "error: a word of the command line is no text"
+NO_FILES = "error: the value of '--out' must end in the beginning of a file name, as in 'dam' or 'site/dam'"
+VERSION = re.search(r'^pub const VERSION: &str = "(.*)";$', (ROOT / "crates/th_commands/src/commands.rt").read_text(), re.MULTILINE)[1]
+
+LINES = [
+    ("error: unrecognized subcommand 'cellar.gsi'", "cellar.gsi"),
+    (LACKS, "adjust --out own cellar.gsi"),
+    (LACKS, "review --out own cellar.gsi"),
+    (LACKS, f"review {MARKS} cellar.gsi"),
+    (LACKS, f"review {MARKS} --out own"),
+    (LACKS, f"page {MARKS} cellar.gsi"),
+    (LACKS, "book"),
+    (LACKS, "book --heights"),
+    ("error: unexpected argument 'b' found", "book a b"),
+    ("error: unexpected argument 'b' found", "book --heights a b"),
+    ("error: unexpected argument '--out' found", f"explain {MARKS} --out own cellar.gsi"),
+    ("error: unexpected argument '--certificate' found", f"review {MARKS} --certificate marks.csv --out own cellar.gsi"),
+    ("error: unexpected argument '--csv' found", f"page {MARKS} --csv --out own cellar.gsi"),
+    ("error: the argument '--csv' cannot be used multiple times", f"explain {MARKS} --csv --csv cellar.gsi"),
+    ("error: more than 16 books", f"explain {MARKS} {SEVENTEEN}"),
+    ("error: more than 16 books", f"adjust {MARKS} --out own {SEVENTEEN}"),
+    ("error: more than 16 books", f"review {MARKS} --out own {SEVENTEEN}"),
+    ("error: more than 16 books", f"page {MARKS} --out own {SEVENTEEN}"),
+    ("error: invalid value '-5' for '--blunder <MICROMETRES>': -5 is not in 0..=1000000000", f"review {MARKS} --blunder=-5 --out own cellar.gsi"),
+    (NOT_TEXT, ["list", b"\xff.gsi"]),
+    (NOT_TEXT, ["adjust", *MARKS.split(), "--out", b"\xc3", "cellar.gsi"]),
+]
+# They name no files.
+PREFIXES = ["", "/", ".", "..", "folder/", "folder/.", "folder/.."]
+
+
+class NoTip(Case):
+    """A limit below zero: no tip advises what fails."""
+
+    def runTest(self) -> None:
+        answer = self.check(f"adjust {MARKS} --blunder -5 --out own cellar.gsi", 3, "error: unexpected argument '-5' found")
+        self.assertNotIn("-- -5", "\n".join(answer.lines))
+
+
+class Help(Case):
+    """Help is on standard output, where it can be piped."""
+
+    def runTest(self) -> None:
+        whole, adjust = self.answer("--help"), self.answer("adjust --help")
+        self.assertEqual((whole.status, whole.lines), (3, []))
+        self.assertIn("\nCommands:\n", whole.printed)
+        self.assertGreater(len(adjust.printed.splitlines()), 20)
+
+
+def rows() -> Iterator[Row]:
+    yield from (Row(3, line, words) for line, words in LINES)
+    for command, prefix in itertools.product(("adjust", "review", "page"), PREFIXES):
+        yield Row(3, NO_FILES, [command, *MARKS.split(), "--out", prefix, "cellar.gsi"])
+        yield Row(3, NO_FILES, [command, *MARKS.split(), f"--out={prefix}", "cellar.gsi"])
+    yield Row(3, "", "--version", f"height_office {VERSION}")
+
+
+def cases() -> Iterator[Case]:
+    return itertools.chain(map(RowCase, rows()), [NoTip(), Help()])

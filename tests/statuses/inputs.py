@@ -1,0 +1,149 @@
+"""Inputs that cannot be read or are refused, books that `book` makes, and notes."""
+
+import itertools
+from typing import Iterator
+
+from rows import Case, Row, RowCase
+
+MARKS = "--benchmarks marks.csv"
+LIST = "number,from,to,difference"
+ROWS_OF_EXPLANATIONS = "number,kind,book,line,word,from,to,sights,given,low,high,explains,left,blunders"
+
+READ_FAILED = [
+    ("book 1", "list missing.gsi"),
+    ("book 1", "list folder"),
+    ("book 2", f"adjust {MARKS} --out own cellar.gsi missing.gsi"),
+    ("benchmarks", "adjust --benchmarks missing.csv --out own cellar.gsi"),
+    ("weights", f"adjust {MARKS} --weights missing.csv --out own cellar.gsi"),
+    ("certificate", f"check {MARKS} --certificate missing.csv cellar.gsi"),
+    ("book 2", f"review {MARKS} --out own cellar.gsi missing.gsi"),
+    ("benchmarks", "review --benchmarks missing.csv --out own cellar.gsi"),
+    ("weights", f"review {MARKS} --weights missing.csv --out own cellar.gsi"),
+    ("book 2", f"page {MARKS} --out own cellar.gsi missing.gsi"),
+    ("benchmarks", "page --benchmarks missing.csv --out own cellar.gsi"),
+    ("weights", f"page {MARKS} --weights missing.csv --out own cellar.gsi"),
+    ("book 2", f"explain {MARKS} cellar.gsi missing.gsi"),
+    ("weights", f"explain {MARKS} --weights missing.csv cellar.gsi"),
+    ("book 1", "book --heights missing.gsi"),
+    ("book 1", "book --heights folder"),
+    ("differences", "book missing.csv"),
+    ("differences", "book folder"),
+]
+
+WRITE_FAILED = [
+    ("heights", f"adjust {MARKS} --out missing/own cellar.gsi"),
+    ("page", f"page {MARKS} --out missing/own cellar.gsi"),
+    ("points", f"review {MARKS} --out missing/own cellar.gsi"),
+]
+
+REFUSED = [
+    ("benchmarks record 1: E1 bad header", "adjust --benchmarks cellar.gsi --out own cellar.gsi"),
+    ("book 1 line 1: B1 word 1: short", f"adjust {MARKS} --out own marks.csv"),
+    ("benchmarks record 1: E1 bad header", "review --benchmarks cellar.gsi --out own cellar.gsi"),
+    ("weights record 1: E1 bad header", f"review {MARKS} --weights marks.csv --out own cellar.gsi"),
+    ("book 1 line 1: B1 word 1: short", f"review {MARKS} --out own marks.csv"),
+    ("benchmarks record 1: E1 bad header", "page --benchmarks cellar.gsi --out own cellar.gsi"),
+    ("weights record 1: E1 bad header", f"page {MARKS} --weights marks.csv --out own cellar.gsi"),
+    ("book 1 line 1: B1 word 1: short", f"page {MARKS} --out own marks.csv"),
+    ("benchmarks record 1: E1 bad header", "explain --benchmarks cellar.gsi cellar.gsi"),
+    ("book 1 line 1: B1 word 1: short", f"explain {MARKS} marks.csv"),
+    ("certificate record 1: C1 bad header", f"check {MARKS} --certificate marks.csv cellar.gsi"),
+    ("network: N3 no benchmark for G1", "review --benchmarks other.csv --out own cellar.gsi"),
+    ("network: N3 no benchmark for G1", "page --benchmarks other.csv --out own cellar.gsi"),
+    ("network: N3 no benchmark for G1", "explain --benchmarks other.csv --csv cellar.gsi"),
+]
+
+DIFFERENCES = [
+    ("record 1: E1 bad header", ""),
+    ("record 1: E1 bad header", "from;to;difference\nA;B;1,5\n"),
+    ("record 1: E1 bad header", "from,to,weight\nA,B,1\n"),
+    ("record 2: E2 field count", "from,to,difference\nA,B,1,5\n"),
+    ("record 3: E2 field count", "number,from,to,difference\n1,A,B,1\nA,B,1\n"),
+    ("record 2: E3 bad name", "from,to,difference\nA, ,1\n"),
+    ("record 2: E3 bad name", "from,to,difference\n12345678901234567,B,1\n"),
+    ("record 3: E4 bad difference", "from,to,difference\nA,B,1\nA,B,1 m\n"),
+    ("record 2: E4 bad difference", 'from,to,difference\nA,B,"1,5"\n'),
+    ("record 2: E4 bad difference", "from,to,difference\nA,B,0.000001\n"),
+    ("record 2: E4 bad difference", "from,to,difference\nA,B,-10000.00001\n"),
+    ("record 2: E6 to itself", "from,to,difference\nA,00A,1\n"),
+    # A table that is too long, and one whose book is: each record has a setup of its own.
+    ("record 0: E7 table too long", lambda: b"from,to,difference\n" + b"A,B,1\n" * 700_000),
+    ("record 0: E7 table too long", lambda: b"from,to,difference\n" + b"A,B,1\nB,A,1\n" * 300_000),
+]
+BOOK_OF_DIFFERENCES = "\r\n".join([
+    "*110001+000000000000000A 84..40+0000000000000000 87..48+0000000000000000 88..48+0000000000000000 ",
+    "*110002+000000000000000B 33..48+0000000000150000 ",
+    "*110003+000000000000000C 33..48-0000000000000001 ",
+]) + "\r"
+
+STATION = "110001+0000000A 86..40+00250112 88..10+00001545"
+SIGHT = "110002+0000000B 31..00+00027472 83..00+00251384"
+WITH_HEIGHTS = {"with_heights.gsi": f"{STATION}\n{SIGHT}\n"}
+BOOK_OF_HEIGHTS = f"{STATION}\r\n{SIGHT} 87..48+00000000 33..48-00027300 \r"
+
+HEIGHTS = [
+    ("line 2: B1 word 1: short", f"{STATION}\nx\n"),
+    ("line 2: B2 repeated word", f"{STATION}\n{SIGHT} 33..00+00000001\n"),
+    ("line 2: B2 repeated word", f"{STATION}\n{SIGHT} 83..00+00251384\n"),
+    ("line 1: B2 repeated word", f"{STATION} 84..00+00000000 84..00+00000000\n{SIGHT}\n"),
+    ("line 2: B4 bad name", f"{STATION}\n110002+         31..00+00000001 83..00+00000001\n"),
+    ("line 1: B5 bad number", f"{STATION} 83..00+0000000A\n"),
+    ("line 1: B6 bad unit", "110001+0000000A 86..09+00000000\n"),
+    ("line 2: B6 bad unit", f"{STATION}\n110002+0000000B 31..01+00000001 83..01+00000001\n"),
+    ("line 2: B7 too large", f"{STATION}\n110002+0000000B 31..00+00000001 83..00+99999999\n"),
+    ("line 2: B7 too large", f"{STATION}\n110002+0000000B 31..00+00000001 83..00+01260000\n"),
+    ("line 1: B8 sight before setup", f"{SIGHT}\n{STATION}\n"),
+    ("line 2: B9 no instrument height", f"110001+0000000A 84..40+00250112\n{SIGHT}\n"),
+    ("line 2: B11 sight to itself", f"{STATION}\n110002+0000000A 31..00+00000001 83..00+00000001\n"),
+    # A book of 50 MiB, of which the printed book has 69: each line of 48 bytes gets 66.
+    ("line 0: B12 book too long", lambda: f"{STATION}\n".encode() + f"{SIGHT}\n".encode() * 1_100_000),
+]
+
+# A book has blocks and no sight, or heights are not unique.
+NO_SIGHT = "has no sight in 2 blocks (no word 33; it has words 31 and 83)"
+NOTES = [
+    Row(0, f"note: book 1 {NO_SIGHT}", "list with_heights.gsi", LIST, WITH_HEIGHTS),
+    Row(0, f"note: book 1 {NO_SIGHT}", f"adjust {MARKS} --out mask with_heights.gsi", files=WITH_HEIGHTS),
+    Row(0, f"note: book 2 {NO_SIGHT}", f"adjust {MARKS} --out mask cellar.gsi with_heights.gsi", files=WITH_HEIGHTS),
+    Row(0, "", f"adjust {MARKS} --out mask cellar.gsi"),
+    Row(0, "note: 3 points have more than one best height, up to 0.00200000 m apart at G2", f"adjust {MARKS} --blunder 1900 --out mask cellar.gsi"),
+    Row(0, "", f"adjust {MARKS} --blunder 2000 --out mask cellar.gsi"),
+    Row(0, "", f"review {MARKS} --out mask with_heights.gsi", files=WITH_HEIGHTS),
+    Row(0, "", f"page {MARKS} --out mask with_heights.gsi", files=WITH_HEIGHTS),
+    Row(0, "note: book 1 has no sight in 1 blocks (no word 33)", "list code.gsi", LIST, {"code.gsi": "410001+0000000A\n\n"}),
+    Row(0, "", "list blank.gsi", LIST, {"blank.gsi": "\n  \n"}),
+]
+
+DONE = [
+    Row(0, "", "", LIST),
+    Row(0, "", "book differences.csv", BOOK_OF_DIFFERENCES),
+    Row(0, "", "book --heights with_heights.gsi", BOOK_OF_HEIGHTS, WITH_HEIGHTS),
+    Row(0, "", "book with_heights.gsi --heights", BOOK_OF_HEIGHTS, WITH_HEIGHTS),
+    Row(0, "", f"explain {MARKS} --csv cellar.gsi", ROWS_OF_EXPLANATIONS),
+    Row(0, "", f"check {MARKS} --certificate cellar.certificate.csv cellar.gsi", "yes"),
+    Row(1, "", f"check {MARKS} --certificate wrong.certificate.csv cellar.gsi", "no: wrong cost"),
+]
+
+
+class NotesOfReview(Case):
+    """The review of a book without sights has the note of the other commands."""
+
+    def runTest(self) -> None:
+        self.write(WITH_HEIGHTS)
+        self.check(f"review {MARKS} --out mask with_heights.gsi", 0)
+        notes = [line for line in (self.folder / "mask.review.txt").read_text().splitlines() if "has no sight" in line]
+        self.assertEqual(notes, [f"book 1 {NO_SIGHT}"])
+
+
+def rows() -> Iterator[Row]:
+    yield from DONE
+    yield from (Row(5, f"read failed: {what}", words) for what, words in READ_FAILED)
+    yield from (Row(5, f"write failed: {what}", words) for what, words in WRITE_FAILED)
+    yield from (Row(2, line, words) for line, words in REFUSED)
+    yield from (Row(2, f"differences {line}", "book table.csv", files={"table.csv": table}) for line, table in DIFFERENCES)
+    yield from (Row(2, f"book 1 {line}", "book --heights refused.gsi", files={"refused.gsi": book}) for line, book in HEIGHTS)
+    yield from NOTES
+
+
+def cases() -> Iterator[Case]:
+    return itertools.chain(map(RowCase, rows()), [NotesOfReview()])
