@@ -49,7 +49,7 @@ help-all: help
 	@echo 'make made-up   fail where product code creates an allocation failure itself, but in the listed places'
 	@echo 'make edits     fail where an edit of must-fail/ or attacks/ no longer fits the code'
 	@echo 'make unused    fail where nothing uses a lemma or a definition'
-	@echo 'make alike     fail where two places of the program share eight lines of code or more, also in two crates'
+	@echo 'make alike     fail where places of the program share many lines of code, within a crate or in two'
 	@echo 'make measure   fail where a crate has too many functions or lines'
 	@echo
 	@echo 'Tests that take their time:'
