@@ -1,4 +1,3 @@
-pub mod Indexes
 pub mod Sights
 pub mod Running
 pub mod Words

@@ -1,6 +1,7 @@
 -- The book that is printed from a book with heights: line by line, a height sight with a word 33 behind its own, and other lines as they are.
 use Rattle.std.specs.Prelude.{ℕ, ℤ, ◌+◌, ◌+ℤ◌, ◌-ℤ◌, ◌++◌, List, [], ◌∷◌, Option, Some, None, Result, Ok, Err, if◌then◌else◌, length, nat_lt}
 use Rattle.std.specs.List.{flat_map}
+use Rattle.gsi_word.specs.Indexes.{height_difference, instrument_height, reflector_height, target_height}
 use Rattle.gsi_word.specs.Words.{Parts}
 use Rattle.gsi_block.specs.Blocks.{BlockParts, block_at}
 use Rattle.gsi_block.specs.Lines.{lines_of}
@@ -15,7 +16,6 @@ use Rattle.th_observations.specs.Observed.{Observed}
 use Rattle.th_book.specs.declared.faults.BookFault.{BookFault}
 use Rattle.th_book.specs.declared.faults.BookKind.{BookKind}
 use Rattle.th_book.specs.declared.faults.BookKind.TheVariants.{Block, NoInstrumentHeight, SightBeforeSetup}
-use Rattle.th_height_books.specs.Indexes.{height_difference, instrument_height, reflector_height, target_height}
 use Rattle.th_height_books.specs.Running.{running_after, with_heights}
 use Rattle.th_height_books.specs.Sights.{height_fault, is_height_sight}
 use Rattle.th_height_books.specs.Words.{Written, word_of, written_of, zero_unless}

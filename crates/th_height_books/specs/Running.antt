@@ -1,9 +1,9 @@
 -- The heights that run at a line of a book with heights.
 use Rattle.std.specs.Prelude.{List, Option, Some, None, if◌then◌else◌, option_map}
+use Rattle.gsi_word.specs.Indexes.{instrument_height, reflector_height, station_height}
 use Rattle.gsi_word.specs.Words.{Parts}
 use Rattle.th_book.specs.Due.{latest}
 use Rattle.th_book.specs.Lines.{is_setup, length_in}
-use Rattle.th_height_books.specs.Indexes.{instrument_height, reflector_height, station_height}
 use Rattle.th_height_books.specs.declared.running.Running.{Running}
 
 -- the setup that some words begin: the height of its station, and no other yet

@@ -1,10 +1,10 @@
 -- What the height sights of a book say, in the order of their lines.
 use Rattle.std.specs.Prelude.{◌≡◌, ℕ, ℤ, ◌-ℤ◌, List, [], ◌∷◌, Result, Ok, Err, if◌then◌else◌, map, pos}
+use Rattle.gsi_word.specs.Indexes.{station_height, target_height}
 use Rattle.gsi_word.specs.Words.{Parts}
 use Rattle.th_book.specs.Books.{known, known_name}
 use Rattle.th_book.specs.Lines.{ParsedLine, is_setup, length_in, point_name, words_in}
 use Rattle.th_observations.specs.Observed.{Observed}
-use Rattle.th_height_books.specs.Indexes.{station_height, target_height}
 use Rattle.th_height_books.specs.Sights.{is_height_sight}
 
 -- a point, and its height in a book with heights

@@ -1,6 +1,7 @@
 -- Which blocks of a book with heights are sights, and what is wrong with a block.
 use Rattle.std.specs.Prelude.{◌&&◌, ◌||◌, ℕ, Bool, false, List, [], ◌∷◌, Option, if◌then◌else◌}
 use Rattle.std.specs.List.{list_any}
+use Rattle.gsi_word.specs.Indexes.{horizontal_angle, horizontal_distance, slope_distance, station_height, target_height, vertical_angle}
 use Rattle.gsi_word.specs.Values.{length_of}
 use Rattle.gsi_word.specs.Words.{Parts}
 use Rattle.gsi_word.specs.declared.faults.LengthFault.{LengthFault}
@@ -9,7 +10,6 @@ use Rattle.th_book.specs.Faults.{Row, first_applying, is_refused}
 use Rattle.th_book.specs.Lines.{counts_for, holds, is_sight}
 use Rattle.th_book.specs.declared.faults.BookKind.{BookKind}
 use Rattle.th_book.specs.declared.faults.BookKind.TheVariants.{BadNumber, BadUnit, RepeatedWord, TooLarge}
-use Rattle.th_height_books.specs.Indexes.{horizontal_angle, horizontal_distance, slope_distance, station_height, target_height, vertical_angle}
 
 -- something was measured: an angle or a distance
 abbrev pub is_measured : List Parts → Bool

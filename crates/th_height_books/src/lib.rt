@@ -5,9 +5,6 @@
 //! The observations of the printed book are 83 less the 86 of its setup. The text is made in memory.
 #![tactic(auto)]
 
-// The word indexes that have a meaning.
-mod indexes;
-
 // Which blocks are height sights, and what is wrong with a block.
 mod sights;
 

@@ -10,14 +10,15 @@ ghost use Rattle.th_height_books.specs.Inside.Stops.{IsPrinted, IsStopOf};
 ghost use Rattle.th_height_books.specs.Printed.{ended, line_of, longer, longer_line, printed_line, sight_above, sight_from, sight_line, sighted};
 ghost use Rattle.th_height_books.specs.Words.{zero_height};
 
-use crate::indexes::{HEIGHT_DIFFERENCE, INSTRUMENT_HEIGHT, REFLECTOR_HEIGHT, TARGET_HEIGHT};
 use crate::running::Running;
 use crate::sights::{height_fault, is_height_sight, length_in};
 use crate::words::Written;
 use arrayvec::ArrayVec;
 use gsi_block::{Block, BlockFault, MAX_WORDS, read_block, write_block};
 use gsi_word::laws::spelling_of_is_the_spelling;
-use gsi_word::{Width, Word};
+use gsi_word::{
+    HEIGHT_DIFFERENCE, INSTRUMENT_HEIGHT, REFLECTOR_HEIGHT, TARGET_HEIGHT, Width, Word,
+};
 use std::alloc::AllocError;
 use th_book::BookKind;
 use th_units::Len;

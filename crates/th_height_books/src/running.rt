@@ -3,9 +3,8 @@ ghost use Rattle.std.specs.Prelude.{◌≡◌, map};
 ghost use Rattle.gsi_word.specs.Words.{parts_of};
 ghost use Rattle.th_book.specs.Due.{latest};
 
-use crate::indexes::{INSTRUMENT_HEIGHT, REFLECTOR_HEIGHT, STATION_HEIGHT};
 use crate::sights::{holds, is_setup, length_in};
-use gsi_word::Word;
+use gsi_word::{INSTRUMENT_HEIGHT, REFLECTOR_HEIGHT, STATION_HEIGHT, Word};
 use th_units::Len;
 
 /// The heights of the running setup: of its station, and the last ones of instrument and reflector.

@@ -6,11 +6,11 @@ ghost use Rattle.th_book.specs.Faults.{is_refused};
 ghost use Rattle.th_book.specs.Lines.{counts_for, holds, is_setup, is_sight, length_in};
 ghost use Rattle.th_height_books.specs.Sights.{height_fault, is_height, is_height_sight, is_measured, repeats, some_height};
 
-use crate::indexes::{
-    HEIGHT_DIFFERENCE, HORIZONTAL_ANGLE, HORIZONTAL_DISTANCE, SLOPE_DISTANCE, STATION_EASTING,
-    STATION_HEIGHT, STATION_NORTHING, TARGET_HEIGHT, VERTICAL_ANGLE,
+use gsi_word::{
+    HEIGHT_DIFFERENCE, HORIZONTAL_ANGLE, HORIZONTAL_DISTANCE, LengthFault, SLOPE_DISTANCE,
+    STATION_EASTING, STATION_HEIGHT, STATION_NORTHING, TARGET_HEIGHT, VERTICAL_ANGLE, Word,
+    length_of, two_digit,
 };
-use gsi_word::{LengthFault, Word, length_of, two_digit};
 use th_book::BookKind;
 use th_units::Len;
 
