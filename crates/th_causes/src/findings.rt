@@ -17,15 +17,12 @@ use th_blunders::{Fit, blunder_count, is_blunder};
 use th_circulation::{BestHeights, best_heights};
 use th_entries::BookReview;
 use th_explain::{Freed, Sieve};
-use th_explanations::{Row, Summary, ranked};
+use th_explanations::{MOST_ROWS, Row, Summary, ranked};
 use th_network::{NetFault, Network};
 use th_numbers::{Candidate, Kinds, Listing, books_of, listing_of};
 use th_progress::Progress;
 use th_readings::book_rows;
 use th_review_rows::entries_of;
-
-/// The most rows.
-const MOST_ROWS: usize = 20;
 
 /// So many of the sights that fit least are freed before all other numbers.
 const FIRST_FREED: usize = 40;
