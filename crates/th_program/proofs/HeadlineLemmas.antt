@@ -19,9 +19,9 @@ use Rattle.th_plans.specs.declared.plans.Plan.{Plan}
 use Rattle.th_plans.specs.declared.plans.Plan.TheVariants as plan
 use Rattle.th_files.proofs.OpenedLemmas.{owed-same}
 use Rattle.th_files.proofs.OutputLemmas.{spot_among}
-use Rattle.th_program.specs.Done.{AreDone, IsAdjustOutput, IsAdjusted, IsCarriedOut, IsChecked, IsRefusedAdjust, IsRefusedCheck, IsRun, IsUsage, WouldOverwrite}
+use Rattle.th_program.specs.Done.{AreDone, IsAdjustOutput, IsAdjusted, IsChecked, IsRefusedAdjust, IsRefusedCheck, IsRun, IsUsage}
 use Rattle.th_program.specs.Failing.{IsInClaim, IsInFiles, Origins}
-use Rattle.th_program.specs.Headline.{AskFor, IsAccepted, IsUnlucky, SomeMayFail, SparesInputs}
+use Rattle.th_program.specs.Headline.{AskFor, IsAccepted, IsEndedAdjust, IsEndedCheck, IsUnlucky, SomeMayFail, SparesInputs}
 use Rattle.th_files.specs.Outputs.{spot_at, spots_of}
 use Rattle.th_files.specs.Owed.{Told, claim_owed, given_by, given_by_books, survey_owed}
 use Rattle.th_runs.specs.Adjusted.{AreOutputs, OutTexts, adjusting}
@@ -151,81 +151,51 @@ unlucky law tells failing old new from limit prefix survey (refusal.Differences 
 unlucky law tells failing old new from limit prefix survey (refusal.Network fault) status accepted is refused =
     by_status (AdjustMayFail failing from prefix) (refusal.Network fault) status is (law (survey_owed old (Some (refusal.Network fault)) from) survey (refusal.Network fault) (survey_same old (refusal.Network fault) (λ which. refl) from ∙ accepted.given) accepted.network refused.owes)
 
--- what is done, and what is refused, of what was asked for
-abbrev DoneAs : Bool → Told → Told → ℕ → Option Asked → Type 0
-DoneAs tells old new status (Some (adjust from limit prefix)) = (status ≡ 0) × IsAdjusted tells old new from limit prefix None
-DoneAs tells old new status (Some (check from certificate)) =
-    (verdict : Verdict) × (status ≡ status_of_verdict verdict) × IsChecked tells old new from certificate verdict
-DoneAs tells old new status other = Unit {0}
-
-abbrev RefusedAs : Bool → Failing → Told → Told → Refusal → Option Asked → Type 0
-RefusedAs tells failing old new own (Some (adjust from limit prefix)) = IsRefusedAdjust tells failing old new from limit prefix own
-RefusedAs tells failing old new own (Some (check from certificate)) = IsRefusedCheck failing old from certificate own
-RefusedAs tells failing old new own other = Unit {0}
-
--- a run of what the words ask for is done or refused, unless memory was wanting before
-abbrev RanAs : Bool → Failing → Told → Told → ℕ → Option Asked → Type 0
-RanAs tells failing old new status wanted =
-    DoneAs tells old new status wanted ⊎ ((own : Refusal) × (status ≡ status_of own) × RefusedAs tells failing old new own wanted)
-
-ran_plan : {F : Type 0} (tells : Bool) (held : F → Told) (has_failed : F → Spot → Bool) (failing : F → Failing) (old new : F) (own : Plan) (status : ℕ)
-    → IsCarriedOut tells held has_failed failing old new own status → RanAs tells (failing old) (held old) (held new) status (said_by own)
-ran_plan tells held has_failed failing old new plan.Standard status (inl done) = inl tt
-ran_plan tells held has_failed failing old new plan.Standard status (inr (own, run)) = inr (own, run.status_is, tt)
-ran_plan tells held has_failed failing old new (plan.List book) status (inl done) = inl tt
-ran_plan tells held has_failed failing old new (plan.List book) status (inr (own, run)) = inr (own, run.status_is, tt)
-ran_plan tells held has_failed failing old new (plan.Adjust inputs limit prefix) status (inl run) = inl run.done
-ran_plan tells held has_failed failing old new (plan.Adjust inputs limit prefix) status (inr (own, run)) = inr (own, run.status_is, run.refused)
-ran_plan tells held has_failed failing old new (plan.Review inputs limit prefix) status (inl done) = inl tt
-ran_plan tells held has_failed failing old new (plan.Review inputs limit prefix) status (inr (own, run)) = inr (own, run.status_is, tt)
-ran_plan tells held has_failed failing old new (plan.Explain inputs limit table) status (inl done) = inl tt
-ran_plan tells held has_failed failing old new (plan.Explain inputs limit table) status (inr (own, run)) = inr (own, run.status_is, tt)
-ran_plan tells held has_failed failing old new (plan.Page inputs limit prefix) status (inl done) = inl tt
-ran_plan tells held has_failed failing old new (plan.Page inputs limit prefix) status (inr (own, run)) = inr (own, run.status_is, tt)
-ran_plan tells held has_failed failing old new (plan.Check inputs certificate) status (inl run) = inl run.done
-ran_plan tells held has_failed failing old new (plan.Check inputs certificate) status (inr (own, run)) = inr (own, run.status_is, run.refused)
-ran_plan tells held has_failed failing old new (plan.Book table) status (inl done) = inl tt
-ran_plan tells held has_failed failing old new (plan.BookOfHeights book) status (inl done) = inl tt
-ran_plan tells held has_failed failing old new (plan.Book table) status (inr (own, run)) = inr (own, run.status_is, tt)
-ran_plan tells held has_failed failing old new (plan.BookOfHeights book) status (inr (own, run)) = inr (own, run.status_is, tt)
-
--- what keeps a run from its beginning, beside memory: an adjustment would overwrite an input, and a check writes no file
-abbrev StoppedAs : Bool → Option Asked → Type 0
-StoppedAs tells (Some (adjust from limit prefix)) = tells ≡ true → SparesInputs from prefix → ⊥
-StoppedAs tells (Some (check from certificate)) = ⊥
-StoppedAs tells other = Unit {0}
+-- how what was asked for ended; of other commands nothing is said
+abbrev EndedAs : Bool → Failing → Told → Told → ℕ → Option Asked → Type 0
+EndedAs tells failing old new status (Some (adjust from limit prefix)) = IsEndedAdjust tells failing old new from limit prefix status
+EndedAs tells failing old new status (Some (check from certificate)) = IsEndedCheck tells failing old new from certificate status
+EndedAs tells failing old new status other = Unit {0}
 
 no_file : (name : List ℕ) → file name ≡ output → ⊥
 no_file name e = cc
 
-stopped_plan : (tells : Bool) (own : Plan) (written : List ℕ) (which : Input) (name : List ℕ) → WouldOverwrite tells own written which name
-    → StoppedAs tells (said_by own)
-stopped_plan tells plan.Standard written which name would = tt
-stopped_plan tells (plan.List book) written which name would = tt
-stopped_plan tells (plan.Adjust inputs limit prefix) written which name would =
-    λ telling spares. spares which name would.is_read (subst (λ (own : List ℕ). IsAdjustOutput prefix.now (file own)) (would.same telling) would.is_written)
-stopped_plan tells (plan.Review inputs limit prefix) written which name would = tt
-stopped_plan tells (plan.Explain inputs limit table) written which name would = tt
-stopped_plan tells (plan.Page inputs limit prefix) written which name would = tt
-stopped_plan tells (plan.Check inputs certificate) written which name would = no_file written would.is_written
-stopped_plan tells (plan.Book table) written which name would = tt
-stopped_plan tells (plan.BookOfHeights book) written which name would = tt
+ended_plan : {F : Type 0} (tells : Bool) (held : F → Told) (has_failed : F → Spot → Bool) (failing : F → Failing) (old new : F) (own : Plan) (status : ℕ)
+    → IsRun tells held has_failed failing old new own status → EndedAs tells (failing old) (held old) (held new) status (said_by own)
+ended_plan tells held has_failed failing old new plan.Standard status run = tt
+ended_plan tells held has_failed failing old new (plan.List book) status run = tt
+ended_plan tells held has_failed failing old new (plan.Adjust inputs limit prefix) status (inl (keeps, inl run)) = inl run.done
+ended_plan tells held has_failed failing old new (plan.Adjust inputs limit prefix) status (inl (keeps, inr (own, run))) = inr (inl (own, run.status_is, run.refused))
+ended_plan tells held has_failed failing old new (plan.Adjust inputs limit prefix) status (inr (inl (is, (written, which, name, would, begun)))) =
+    inr (inr (inl (is, λ telling spares. spares which name would.is_read (subst (λ (own : List ℕ). IsAdjustOutput prefix.now (file own)) (would.same telling) would.is_written))))
+ended_plan tells held has_failed failing old new (plan.Adjust inputs limit prefix) status (inr (inr (is, begun))) = inr (inr (inr is))
+ended_plan tells held has_failed failing old new (plan.Review inputs limit prefix) status run = tt
+ended_plan tells held has_failed failing old new (plan.Explain inputs limit table) status run = tt
+ended_plan tells held has_failed failing old new (plan.Page inputs limit prefix) status run = tt
+ended_plan tells held has_failed failing old new (plan.Check inputs certificate) status (inl (keeps, inl run)) = inl run.done
+ended_plan tells held has_failed failing old new (plan.Check inputs certificate) status (inl (keeps, inr (own, run))) = inr (inl (own, run.status_is, run.refused))
+ended_plan tells held has_failed failing old new (plan.Check inputs certificate) status (inr (inl (is, (written, which, name, would, begun)))) =
+    absurd (no_file written would.is_written)
+ended_plan tells held has_failed failing old new (plan.Check inputs certificate) status (inr (inr (is, begun))) = inr (inr is)
+ended_plan tells held has_failed failing old new (plan.Book table) status run = tt
+ended_plan tells held has_failed failing old new (plan.BookOfHeights book) status run = tt
 
--- what became of a run, of what was asked for
-abbrev BecameAs : Bool → Failing → Told → Told → ℕ → Option Asked → Type 0
-BecameAs tells failing old new status wanted = RanAs tells failing old new status wanted ⊎ StoppedAs tells wanted ⊎ (status ≡ 4)
+-- a run of arguments that ask for an adjustment, and of those that ask for a check
+pub adjust_ended : {F : Type 0} (tells : Bool) (held : F → Told) (has_failed : F → Spot → Bool) (failing : F → Failing) (old new : F) (words : List (List ℕ)) (status : ℕ) (from : Files) (limit : ℤ) (prefix : List ℕ)
+    → AreDone tells held has_failed failing old new words status → AskFor words (adjust from limit prefix)
+    → IsEndedAdjust tells (failing old) (held old) (held new) from limit prefix status
+adjust_ended tells held has_failed failing old new words status from limit prefix (inl (own, is, run)) asks =
+    subst (EndedAs tells (failing old) (held old) (held new) status) (said_is words own (adjust from limit prefix) is asks) (ended_plan tells held has_failed failing old new own status run)
+adjust_ended tells held has_failed failing old new words status from limit prefix (inr (own, is, usage)) asks =
+    inr (inr (inr (only_memory held old new words own status (adjust from limit prefix) is asks usage)))
 
-became_plan : {F : Type 0} (tells : Bool) (held : F → Told) (has_failed : F → Spot → Bool) (failing : F → Failing) (old new : F) (own : Plan) (status : ℕ)
-    → IsRun tells held has_failed failing old new own status → BecameAs tells (failing old) (held old) (held new) status (said_by own)
-became_plan tells held has_failed failing old new own status (inl (keeps, run)) = inl (ran_plan tells held has_failed failing old new own status run)
-became_plan tells held has_failed failing old new own status (inr (inl (is, (written, which, name, would, begun)))) = inr (inl (stopped_plan tells own written which name would))
-became_plan tells held has_failed failing old new own status (inr (inr (is, begun))) = inr (inr is)
-
-ran : {F : Type 0} (tells : Bool) (held : F → Told) (has_failed : F → Spot → Bool) (failing : F → Failing) (old new : F) (words : List (List ℕ)) (status : ℕ) (wanted : Asked)
-    → AreDone tells held has_failed failing old new words status → AskFor words wanted → BecameAs tells (failing old) (held old) (held new) status (Some wanted)
-ran tells held has_failed failing old new words status wanted (inl (own, is, run)) asks =
-    subst (BecameAs tells (failing old) (held old) (held new) status) (said_is words own wanted is asks) (became_plan tells held has_failed failing old new own status run)
-ran tells held has_failed failing old new words status wanted (inr (own, is, usage)) asks = inr (inr (only_memory held old new words own status wanted is asks usage))
+pub check_ended : {F : Type 0} (tells : Bool) (held : F → Told) (has_failed : F → Spot → Bool) (failing : F → Failing) (old new : F) (words : List (List ℕ)) (status : ℕ) (from : Files) (certificate : List ℕ)
+    → AreDone tells held has_failed failing old new words status → AskFor words (check from certificate)
+    → IsEndedCheck tells (failing old) (held old) (held new) from certificate status
+check_ended tells held has_failed failing old new words status from certificate (inl (own, is, run)) asks =
+    subst (EndedAs tells (failing old) (held old) (held new) status) (said_is words own (check from certificate) is asks) (ended_plan tells held has_failed failing old new own status run)
+check_ended tells held has_failed failing old new words status from certificate (inr (own, is, usage)) asks =
+    inr (inr (only_memory held old new words own status (check from certificate) is asks usage))
 
 -- a folder that tells nothing has no inputs that are known to be accepted
 untold_tables : (benchmarks : Given) (weights : Option Given) (survey : Survey) → benchmarks ≡ Untold → owed_for_survey [] benchmarks weights ≡ Some (Ok survey) → ⊥
@@ -244,28 +214,28 @@ untold told from survey none e = go from.books e
         cc
 
 -- an adjustment of inputs that are accepted
-pub adjusted : {F : Type 0} (tells : Bool) (held : F → Told) (has_failed : F → Spot → Bool) (failing : F → Failing) → ((folder : F) (spot : Spot) → tells ≡ false → held folder spot ≡ None)
-    → RefusesForMemory → (old new : F) (words : List (List ℕ)) (status : ℕ) (from : Files) (limit : ℤ) (prefix : List ℕ) (survey : Survey)
-    → AreDone tells held has_failed failing old new words status → AskFor words (adjust from limit prefix) → IsAccepted (held old) from survey → SparesInputs from prefix
+pub adjusted : {F : Type 0} (tells : Bool) (held : F → Told) (failing : F → Failing) → ((folder : F) (spot : Spot) → tells ≡ false → held folder spot ≡ None)
+    → RefusesForMemory → (old new : F) (status : ℕ) (from : Files) (limit : ℤ) (prefix : List ℕ) (survey : Survey)
+    → IsEndedAdjust tells (failing old) (held old) (held new) from limit prefix status → IsAccepted (held old) from survey → SparesInputs from prefix
     → ((status ≡ 0) × IsAdjusted tells (held old) (held new) from limit prefix None) ⊎ IsUnlucky (AdjustMayFail (failing old) from prefix) status
-adjusted tells held has_failed failing tells_or_not law old new words status from limit prefix survey done asks accepted spares = by (ran tells held has_failed failing old new words status _ done asks)
+adjusted tells held failing tells_or_not law old new status from limit prefix survey ended accepted spares = by ended
   where
     never : (telling : Bool) → tells ≡ telling → (tells ≡ true → SparesInputs from prefix → ⊥) → ⊥
     never true is stopped = stopped is spares
     never false is stopped = untold (held old) from survey (λ spot. tells_or_not old spot is) accepted.given
 
-    by : BecameAs tells (failing old) (held old) (held new) status (Some (adjust from limit prefix))
+    by : IsEndedAdjust tells (failing old) (held old) (held new) from limit prefix status
         → ((status ≡ 0) × IsAdjusted tells (held old) (held new) from limit prefix None) ⊎ IsUnlucky (AdjustMayFail (failing old) from prefix) status
-    by (inl (inl well)) = inl well
-    by (inl (inr (own, is, refused))) = inr (unlucky law tells (failing old) (held old) (held new) from limit prefix survey own status accepted is refused)
-    by (inr (inl stopped)) = absurd (never tells refl stopped)
-    by (inr (inr memory)) = inr (inl memory)
+    by (inl well) = inl well
+    by (inr (inl (own, is, refused))) = inr (unlucky law tells (failing old) (held old) (held new) from limit prefix survey own status accepted is refused)
+    by (inr (inr (inl (is, stopped)))) = absurd (never tells refl stopped)
+    by (inr (inr (inr memory))) = inr (inl memory)
 
 -- a check that says yes
-pub believed : {F : Type 0} (tells : Bool) (held : F → Told) (has_failed : F → Spot → Bool) (failing : F → Failing) (old new : F) (words : List (List ℕ)) (from : Files) (certificate : List ℕ)
-    → AreDone tells held has_failed failing old new words 0 → AskFor words (check from certificate)
+pub believed : {F : Type 0} (tells : Bool) (held : F → Told) (failing : F → Failing) (old new : F) (from : Files) (certificate : List ℕ)
+    → IsEndedCheck tells (failing old) (held old) (held new) from certificate 0
     → (claim : Claim) × Meets (claim_owed (held old) None from certificate) (Ok claim) × IsRight claim
-believed tells held has_failed failing old new words from certificate done asks = by (ran tells held has_failed failing old new words 0 _ done asks)
+believed tells held failing old new from certificate ended = by ended
   where
     never : (own : Refusal) → 0 ≡ status_of own → ⊥
     never (refusal.Book number fault) e = omega (arith, e)
@@ -278,11 +248,10 @@ believed tells held has_failed failing old new words from certificate done asks 
     never (refusal.Write which) e = omega (arith, e)
     never refusal.NoMemory e = omega (arith, e)
 
-    by : BecameAs tells (failing old) (held old) (held new) 0 (Some (check from certificate))
+    by : IsEndedCheck tells (failing old) (held old) (held new) from certificate 0
         → (claim : Claim) × Meets (claim_owed (held old) None from certificate) (Ok claim) × IsRight claim
-    by (inl (inl (verdict, is, checked))) = (checked.claim, checked.given, checked.right (sym is))
-    by (inl (inr (own, is, refused))) = absurd (never own is)
-    by (inr (inl stopped)) = absurd stopped
+    by (inl (verdict, is, checked)) = (checked.claim, checked.given, checked.right (sym is))
+    by (inr (inl (own, is, refused))) = absurd (never own is)
     by (inr (inr memory)) = absurd (omega (arith, memory))
 
 -- the survey of a claim is the one that is owed
@@ -335,13 +304,13 @@ confirmed_refused MayFail law owed old from certificate survey limit texts own s
     by_status MayFail own status is
     (law (claim_owed old (Some own) from certificate) known.0 own (claim_same old own none from certificate ∙ stated) (subst MakesNetwork (sym same) accepted.network) refused)
 
-pub confirmed : {F : Type 0} (tells : Bool) (held : F → Told) (has_failed : F → Spot → Bool) (failing : F → Failing) → RefusesClaimsForMemory → IsOwedYes → IsAnsweredYes
-    → (old new : F) (words : List (List ℕ)) (status : ℕ) (from : Files) (certificate : List ℕ) (survey : Survey) (limit : ℤ) (texts : OutTexts)
-    → AreDone tells held has_failed failing old new words status → AskFor words (check from certificate) → IsAccepted (held old) from survey
+pub confirmed : {F : Type 0} (tells : Bool) (held : F → Told) (failing : F → Failing) → RefusesClaimsForMemory → IsOwedYes → IsAnsweredYes
+    → (old new : F) (status : ℕ) (from : Files) (certificate : List ℕ) (survey : Survey) (limit : ℤ) (texts : OutTexts)
+    → IsEndedCheck tells (failing old) (held old) (held new) from certificate status → IsAccepted (held old) from survey
     → AreOutputs survey limit texts → held old (file certificate) ≡ Some texts.certificate
     → (status ≡ 0) ⊎ IsUnlucky (CheckMayFail (failing old) from certificate) status
-confirmed tells held has_failed failing law owed answered old new words status from certificate survey limit texts done asks accepted outputs there =
-    by (ran tells held has_failed failing old new words status _ done asks)
+confirmed tells held failing law owed answered old new status from certificate survey limit texts ended accepted outputs there =
+    by ended
   where
     refused : (own : Refusal) → status ≡ status_of own → IsRefusedCheck (failing old) (held old) from certificate own
         → IsUnlucky (CheckMayFail (failing old) from certificate) status
@@ -356,11 +325,10 @@ confirmed tells held has_failed failing law owed answered old new words status f
     refused (refusal.Differences fault) is owes = confirmed_refused (CheckMayFail (failing old) from certificate) law owed (held old) from certificate survey limit texts (refusal.Differences fault) status accepted outputs there is (λ which. refl) owes.owes
     refused (refusal.Network fault) is owes = confirmed_refused (CheckMayFail (failing old) from certificate) law owed (held old) from certificate survey limit texts (refusal.Network fault) status accepted outputs there is (λ which. refl) owes.owes
 
-    by : BecameAs tells (failing old) (held old) (held new) status (Some (check from certificate)) → (status ≡ 0) ⊎ IsUnlucky (CheckMayFail (failing old) from certificate) status
-    by (inl (inl (verdict, is, checked))) =
+    by : IsEndedCheck tells (failing old) (held old) (held new) from certificate status → (status ≡ 0) ⊎ IsUnlucky (CheckMayFail (failing old) from certificate) status
+    by (inl (verdict, is, checked)) =
         inl (confirmed_well answered tells (held old) (held new) from certificate survey limit texts verdict status accepted outputs there is checked)
-    by (inl (inr (own, is, owes))) = inr (refused own is owes)
-    by (inr (inl stopped)) = absurd stopped
+    by (inr (inl (own, is, owes))) = inr (refused own is owes)
     by (inr (inr memory)) = inr (inl memory)
 
 -- where no device may fail, only memory is left

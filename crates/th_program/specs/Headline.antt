@@ -1,16 +1,19 @@
--- The terms of the headline: arguments that request something, inputs that are accepted, and what may still stop a run.
-use Rattle.std.specs.Prelude.{◌≡◌, ◌<◌, ◌⊎◌, ℕ, true, List, Some, None, Ok, length}
+-- The terms of the headline: inputs that are accepted, how an adjustment and a check may end, and what may still stop them.
+use Rattle.std.specs.Prelude.{◌≡◌, ◌<◌, ◌⊎◌, ℕ, ℤ, Bool, true, List, Some, None, Ok, length}
 use Rattle.std.specs.List.{Contains}
 use Rattle.th_network.specs.Networks.{Survey}
+use Rattle.th_checker.specs.declared.verdicts.Verdict.{Verdict}
 use Rattle.th_plans.specs.Asked.{Asked, Files}
 use Rattle.th_plans.specs.Plans.{AreTaken, asked}
 use Rattle.th_run_parts.specs.Inputs.{MakesNetwork}
 use Rattle.th_devices.specs.Spots.{Spot, file}
 use Rattle.th_folders.specs.Folders.{Failing}
-use Rattle.th_program.specs.Done.{IsAdjustOutput}
+use Rattle.th_program.specs.Done.{IsAdjustOutput, IsAdjusted, IsChecked, IsRefusedAdjust, IsRefusedCheck}
 use Rattle.th_program.specs.Failing.{Origins}
 use Rattle.th_files.specs.Owed.{HasName, Told, survey_owed}
+use Rattle.th_run_parts.specs.Refusals.{status_of, status_of_verdict}
 use Rattle.th_run_parts.specs.declared.refusals.Input.{Input}
+use Rattle.th_run_parts.specs.declared.refusals.Refusal.{Refusal}
 
 -- the arguments, the program's name first, request this
 abbrev pub AskFor : List (List ℕ) → Asked → Type 0
@@ -38,3 +41,20 @@ NoneMayFail failing origins written = SomeMayFail failing origins written → �
 -- the status of a run that was out of memory, 4, or whose device failed, 5, if some device of it may
 abbrev pub IsUnlucky : Type 0 → ℕ → Type 0
 IsUnlucky MayFail status = (status ≡ 4) ⊎ ((status ≡ 5) × MayFail)
+
+-- How an adjustment may end. It was done, with status 0. It was refused, with the status of its refusal. It was not begun, with 3, since it
+-- would write to a file that it reads: so it is if the folder reports its bytes. Or it was not begun, with 4, since memory ran out.
+abbrev pub IsEndedAdjust : Bool → Failing → Told → Told → Files → ℤ → List ℕ → ℕ → Type 0
+IsEndedAdjust tells failing old new from limit prefix status =
+    ((status ≡ 0) × IsAdjusted tells old new from limit prefix None)
+    ⊎ ((own : Refusal) × (status ≡ status_of own) × IsRefusedAdjust tells failing old new from limit prefix own)
+    ⊎ ((status ≡ 3) × (tells ≡ true → SparesInputs from prefix → ⊥))
+    ⊎ (status ≡ 4)
+
+-- How a check may end. It was done, with the status of its verdict. It was refused, with the status of its refusal. Or it was not begun, with
+-- 4, since memory ran out. It writes to no file, so it cannot overwrite an input.
+abbrev pub IsEndedCheck : Bool → Failing → Told → Told → Files → List ℕ → ℕ → Type 0
+IsEndedCheck tells failing old new from certificate status =
+    ((verdict : Verdict) × (status ≡ status_of_verdict verdict) × IsChecked tells old new from certificate verdict)
+    ⊎ ((own : Refusal) × (status ≡ status_of own) × IsRefusedCheck failing old from certificate own)
+    ⊎ (status ≡ 4)

@@ -7,7 +7,7 @@ ghost use Rattle.th_plans.specs.Asked.{Files, adjust, check};
 ghost use Rattle.th_plans.specs.declared.plans.Plan.{Plan};
 ghost use Rattle.th_program.specs.Done.{AreDone, IsAdjusted, IsInputOf, IsRun};
 ghost use Rattle.th_program.specs.Failing.{IsInClaim, IsInFiles};
-ghost use Rattle.th_program.specs.Headline.{AskFor, IsAccepted, IsUnlucky, NoneMayFail, SomeMayFail, SparesInputs};
+ghost use Rattle.th_program.specs.Headline.{AskFor, IsAccepted, IsEndedAdjust, IsEndedCheck, IsUnlucky, NoneMayFail, SomeMayFail, SparesInputs};
 ghost use Rattle.th_files.specs.Outputs.{spots_of};
 ghost use Rattle.th_files.specs.Owed.{claim_owed};
 ghost use Rattle.th_runs.specs.Adjusted.{AreOutputs, OutTexts, adjusting};
@@ -20,40 +20,48 @@ use th_runs::laws::{
     accepted_inputs_are_refused_for_memory_alone, printed_certificate_is_accepted,
 };
 
+/// The program runs what its arguments ask for: if that is an adjustment or a check, the run ended in one
+/// of the ways with which the headline begins.
+pub fn run_is_as_asked<F: Folder>()
+    ensures adjusted { (old new : _) (words : List (List ℕ)) (status : ℕ) (from : Files) (limit : ℤ) (prefix : List ℕ)
+        → AreDone F.tells F.held F.has_failed F.failing old new words status
+        → AskFor words (adjust from limit prefix)
+        → IsEndedAdjust F.tells (F.failing old) (F.held old) (F.held new) from limit prefix status }
+    ensures checked { (old new : _) (words : List (List ℕ)) (status : ℕ) (from : Files) (certificate : List ℕ)
+        → AreDone F.tells F.held F.has_failed F.failing old new words status
+        → AskFor words (check from certificate)
+        → IsEndedCheck F.tells (F.failing old) (F.held old) (F.held new) from certificate status }
+{}
+
 /// The headline, over a folder.
 ///
-/// Let the arguments ask for an adjustment of inputs that are accepted. None of them is an output, and
-/// no device of the run may fail: reading may not at the spot of an input, nor writing at that of an
-/// output. Then the program ends with status 0 or 4. With 0 the outputs are the heights, the
-/// certificate, the report and the GSI blocks of the survey that the inputs give: the lowest heights of
-/// all that keep the benchmarks and cost least, shown by the printed circulation. With 4 it is out of
-/// memory.
+/// Take an adjustment that ended, of inputs that are accepted. None of them is an output, and no device
+/// of the run may fail: reading may not at the spot of an input, nor writing at that of an output. Then
+/// its status is 0 or 4. With 0 the outputs hold the heights, the certificate, the report and the GSI
+/// blocks of the survey that the inputs give: the lowest heights of all that keep the benchmarks and cost
+/// least, shown by the printed circulation. With 4 it is out of memory.
 ///
 /// A check of a certificate that was printed so, with inputs that give the same survey, says yes or ends
 /// with 4, if none of its devices may fail. And whatever certificate a check says yes to, its heights
 /// are least.
 pub fn headline<F: Folder>()
-    ensures adjusted { (old new : _) (words : List (List ℕ)) (status : ℕ)
-        (from : Files) (limit : ℤ) (prefix : List ℕ) (survey : Survey)
-        → AreDone F.tells F.held F.has_failed F.failing old new words status
-        → AskFor words (adjust from limit prefix)
+    ensures adjusted { (old new : _) (status : ℕ) (from : Files) (limit : ℤ) (prefix : List ℕ) (survey : Survey)
+        → IsEndedAdjust F.tells (F.failing old) (F.held old) (F.held new) from limit prefix status
         → IsAccepted (F.held old) from survey
         → SparesInputs from prefix
         → NoneMayFail (F.failing old) (IsInFiles from) (spots_of prefix adjusting.outputs)
         → ((status ≡ 0) × IsAdjusted F.tells (F.held old) (F.held new) from limit prefix None)
         ⊎ (status ≡ 4) }
-    ensures confirmed { (old new : _) (words : List (List ℕ)) (status : ℕ)
+    ensures confirmed { (old new : _) (status : ℕ)
         (from : Files) (certificate : List ℕ) (survey : Survey) (limit : ℤ) (texts : OutTexts)
-        → AreDone F.tells F.held F.has_failed F.failing old new words status
-        → AskFor words (check from certificate)
+        → IsEndedCheck F.tells (F.failing old) (F.held old) (F.held new) from certificate status
         → IsAccepted (F.held old) from survey
         → AreOutputs survey limit texts
         → F.held old (file certificate) ≡ Some texts.certificate
         → NoneMayFail (F.failing old) (IsInClaim from certificate) (spots_of [] checking.outputs)
         → (status ≡ 0) ⊎ (status ≡ 4) }
-    ensures believed { (old new : _) (words : List (List ℕ)) (from : Files) (certificate : List ℕ)
-        → AreDone F.tells F.held F.has_failed F.failing old new words 0
-        → AskFor words (check from certificate)
+    ensures believed { (old new : _) (from : Files) (certificate : List ℕ)
+        → IsEndedCheck F.tells (F.failing old) (F.held old) (F.held new) from certificate 0
         → (claim : Claim)
         × Meets (claim_owed (F.held old) None from certificate) (Ok claim)
         × IsRight claim }
@@ -63,19 +71,16 @@ pub fn headline<F: Folder>()
 
 /// What is left of the headline if devices may fail: status 5 is then possible, too.
 pub fn headline_if_devices_may_fail<F: Folder>()
-    ensures adjusted { (old new : _) (words : List (List ℕ)) (status : ℕ)
-        (from : Files) (limit : ℤ) (prefix : List ℕ) (survey : Survey)
-        → AreDone F.tells F.held F.has_failed F.failing old new words status
-        → AskFor words (adjust from limit prefix)
+    ensures adjusted { (old new : _) (status : ℕ) (from : Files) (limit : ℤ) (prefix : List ℕ) (survey : Survey)
+        → IsEndedAdjust F.tells (F.failing old) (F.held old) (F.held new) from limit prefix status
         → IsAccepted (F.held old) from survey
         → SparesInputs from prefix
         → ((status ≡ 0) × IsAdjusted F.tells (F.held old) (F.held new) from limit prefix None)
         ⊎ IsUnlucky (SomeMayFail (F.failing old)
         (IsInFiles from) (spots_of prefix adjusting.outputs)) status }
-    ensures confirmed { (old new : _) (words : List (List ℕ)) (status : ℕ)
+    ensures confirmed { (old new : _) (status : ℕ)
         (from : Files) (certificate : List ℕ) (survey : Survey) (limit : ℤ) (texts : OutTexts)
-        → AreDone F.tells F.held F.has_failed F.failing old new words status
-        → AskFor words (check from certificate)
+        → IsEndedCheck F.tells (F.failing old) (F.held old) (F.held new) from certificate status
         → IsAccepted (F.held old) from survey
         → AreOutputs survey limit texts
         → F.held old (file certificate) ≡ Some texts.certificate
