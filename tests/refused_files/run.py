@@ -3,11 +3,13 @@
 
     run.py [--program PATH] [--pairs N]
 
-The program adjusts, reviews and shows a project over outputs of another one. Of each run call 1 fails, then call 2, and so on
-until a run makes fewer calls: on inputs, outputs and the folder. Where a rename fails, the outputs before it are new and
-its own and later ones are as they were. Where another call fails and the run ends with status 5, no output changed, nor
-with status 3, where files cannot be compared. With status 0, after a failed close and for the folder, all are new. The lines on standard error name the device and the file, and no unfinished file is left, unless its removal was
-refused. A run whose calls all succeed makes each output durable before it renames the first one, and synchronises the
+The program adjusts, reviews and shows a project, over outputs of another one and over none. Of each run call 1 fails, then
+call 2, and so on until a run makes fewer calls: on inputs, outputs and the folder. Where a rename fails, the outputs before
+it are new and its own and later ones are as they were. Where another call fails and the run ends with status 5, no output
+changed, nor with status 3, where files cannot be compared. With status 0, after a failed close and for the folder, all are
+new. The lines on standard error name the device and the file, and no unfinished file is left, unless its removal was
+refused. A run whose calls all succeed creates each output for its owner alone: where it replaces none, after an empty file
+that shows the permissions and is gone. It makes each output durable before it renames the first one, and synchronises the
 folder after the last rename.
 
 Then two runs with one prefix and other inputs start together, again and again: each output is whole and of one of them,
@@ -52,7 +54,16 @@ def words_of(program: str, command: str, version: str) -> list:
 
 
 def outputs_of(folder: Path, command: str) -> list:
-    return [(folder / f"own.{ending}").read_bytes() for ending in OUTPUTS[command]]
+    """The bytes of each output, or nothing where it is not there."""
+    files = [folder / f"own.{ending}" for ending in OUTPUTS[command]]
+    return [file.read_bytes() if file.exists() else None for file in files]
+
+
+def put_outputs(folder: Path, command: str, texts: list) -> None:
+    for ending, text in zip(OUTPUTS[command], texts):
+        (folder / f"own.{ending}").unlink(missing_ok=True)
+        if text is not None:
+            (folder / f"own.{ending}").write_bytes(text)
 
 
 def refuse(program: str, library: Path, folder: Path, command: str, number: int):
@@ -79,11 +90,10 @@ def lines_of(what: str, device: str, name: str) -> str:
     return f"{what} failed: {device}\n  '{name}'\n"
 
 
-def look(folder: Path, command: str, texts: dict, number: int, status: int, line: str, calls: list) -> str:
+def look(folder: Path, command: str, old: list, new: list, number: int, status: int, line: str, calls: list) -> str:
     """Looks at what the run left of which this call was refused, and says which call that was."""
     name, _, path = calls[number - 1].partition(" ")
     found = outputs_of(folder, command)
-    old, new = texts["old", command], texts["new", command]
     count = next((k for k in range(len(new) + 1) if found == new[:k] + old[k:]), None)
     renames = sum(call.startswith("rename ") for call in calls[:number - 1])
     endings = list(OUTPUTS[command])
@@ -110,31 +120,40 @@ def look(folder: Path, command: str, texts: dict, number: int, status: int, line
     return f"{name} of the folder" if path == "." else name
 
 
-def refuse_each(program: str, library: Path, folder: Path, command: str, texts: dict) -> None:
+def refuse_each(program: str, library: Path, folder: Path, command: str, old: list, new: list) -> None:
+    over = "none" if old[0] is None else "outputs"
     seen = collections.Counter()
     number = 0
     while True:
         number += 1
-        for ending, text in zip(OUTPUTS[command], texts["old", command]):
-            (folder / f"own.{ending}").write_bytes(text)
+        put_outputs(folder, command, old)
         status, line, calls = refuse(program, library, folder, command, number)
         if len(calls) < number:
             break
-        seen[look(folder, command, texts, number, status, line, calls), status] += 1
-    if status != 0 or outputs_of(folder, command) != texts["new", command]:
+        seen[look(folder, command, old, new, number, status, line, calls), status] += 1
+    if status != 0 or outputs_of(folder, command) != new:
         raise Wrong(f"{command} with no call refused ends with {status}")
+    look_at_creation(command, calls, old)
     look_at_order(command, calls)
     for (name, status), count in sorted(seen.items()):
-        print(f"{command:7} {name:20} status {status}: {count:4}")
+        print(f"{command:7} over {over:8} {name:20} status {status}: {count:4}")
+
+
+def look_at_creation(command: str, calls: list, old: list) -> None:
+    """Each file is created for its owner alone, where nothing has its name. What others may use before is empty, and gone."""
+    created = [call.split(" ")[0] for call in calls if call.startswith(("create ", "share ", "unlink "))]
+    if created != (["create"] if old[0] is not None else ["share", "unlink", "create"]) * len(old):
+        raise Wrong(f"{command} creates its files as {created}")
+    shared = False
+    for call in calls:
+        shared = call.startswith("share ") or shared and not call.startswith("unlink ")
+        if shared and not call.startswith(("share ", "statx ", "close ")):
+            raise Wrong(f"{command} has '{call}' while others may use the file")
 
 
 def look_at_order(command: str, calls: list) -> None:
-    """Each file is created for its owner alone, where nothing has its name. All outputs are synchronised before the first rename, and
-    the folder after the last one."""
-    created = [call for call in calls if call.startswith(("create ", "share "))]
+    """All outputs are synchronised before the first rename, and the folder after the last one."""
     outputs = len(OUTPUTS[command])
-    if len(created) != outputs or any(call.startswith("share ") for call in created):
-        raise Wrong(f"{command} creates its files as {created}")
     renames = [place for place, call in enumerate(calls) if call.startswith("rename ")]
     files = [place for place, call in enumerate(calls) if call.startswith("fsync own.")]
     folders = [place for place, call in enumerate(calls) if call == "fsync ."]
@@ -177,7 +196,8 @@ def main() -> None:
                 texts[version, command] = outputs_of(folder, command)
         try:
             for command in OUTPUTS:
-                refuse_each(program, library, folder, command, texts)
+                for old in (texts["old", command], [None for _ in OUTPUTS[command]]):
+                    refuse_each(program, library, folder, command, old, texts["new", command])
             start_together(program, folder, texts, given.pairs)
         except Wrong as wrong:
             sys.exit(str(wrong))
