@@ -12,7 +12,7 @@ LOG := build.log
 
 help:
 	@echo 'make try       adjust an example and show its report in a few minutes, with nothing proved and no program kept (yours: MARKS=FILE BOOK="FILE ..")'
-	@echo 'make run       prove and build the program, adjust an example project, show its report and check its certificate'
+	@echo 'make run       prove the laws and the program, build it, adjust an example project, show its report and check its certificate'
 	@echo 'make refuse    prove a function of the checker, break a line of it in a copy, and show that the prover refuses it: a minute or two'
 	@echo 'make list      prove and build the program, and list a book (BOOK=$(BOOK))'
 	@echo 'make build     prove and build the program: $(PROGRAM)'
@@ -79,7 +79,7 @@ toolchain:
 	@command -v python3 > /dev/null || { echo 'this needs Python 3.8 or later: python3 is not found'; exit 1; }
 
 build: toolchain
-	@echo 'proving and building $(PROGRAM): long at first, seconds where nothing changed; the log is $(LOG)'
+	@echo 'proving the laws, and proving and building $(PROGRAM): long at first, seconds where nothing changed; the log is $(LOG)'
 	@tools/build --log $(CURDIR)/$(LOG)
 
 # For what needs the program and does not build it.
