@@ -6,3 +6,5 @@ mod BenchmarkLemmas
 mod Examples
 mod OrderLemmas
 mod PrintedLemmas
+mod OneWrongLemmas
+mod LeadLemmas

@@ -1,3 +1,4 @@
 pub mod Ties
 pub mod Parted
 pub mod Printed
+pub mod OneWrong

@@ -15,6 +15,7 @@ ghost use Rattle.th_changes.specs.Flows.{Circulates, ShowsFreed, net, value};
 ghost use Rattle.th_explained.specs.Ties.{AreTied};
 ghost use Rattle.th_explained.specs.Parted.{IsParted, IsWithoutRow, parted};
 ghost use Rattle.th_entries.specs.declared.reviews.BookReview.{BookReview};
+ghost use Rattle.th_explain.specs.Explained.{IsExact};
 ghost use Rattle.th_explain.specs.declared.freed.Freed.{Freed};
 ghost use Rattle.th_explanations.specs.Ranks.{ranked, with_number};
 ghost use Rattle.th_explanations.specs.Sentences.{most_rows};
@@ -22,7 +23,10 @@ ghost use Rattle.th_explanations.specs.declared.rows.Row.{Row};
 ghost use Rattle.th_causes.specs.Explanations.{AreExplained};
 ghost use Rattle.th_numbers.specs.Lists.{in_order, listed_of};
 ghost use Rattle.th_explained.specs.Printed.{IsAmongRows, IsOfBook, IsOfNumber};
-ghost use Rattle.th_causes.specs.Rows.{Passes};
+ghost use Rattle.th_causes.specs.Rows.{IsRow, LeavesNoMore, Passes, limit_size};
+ghost use Rattle.th_changes.specs.Reach.{reach_of};
+ghost use Rattle.th_numbers.specs.Candidates.{given_of, number_of, whole_of};
+ghost use Rattle.th_explained.specs.OneWrong.{IsMended};
 ghost use Rattle.th_numbers.specs.declared.candidates.Candidate.{Candidate};
 ghost use Rattle.th_causes.specs.declared.findings.Explanations.{Explanations};
 ghost use Rattle.th_review_rows.specs.Entries.{entries_of};
@@ -260,6 +264,76 @@ pub fn printed_rows_are_complete()
         → Passes survey limit candidate freed
         → IsAmongRows survey (cost_of survey are.heights) limit candidate explained.rows.items
         ⊎ ((length explained.rows.items ≡ most_rows) × All (λ row. row.left ≤ freed.left) explained.rows.items) }
+{
+    freed_is_one();
+}
+
+/// Where one number alone is wrong and all else is exact, its row is printed, and the right value is the
+/// only proposed one. Or as many rows as there may be are printed, and each explains all.
+///
+/// The mistake is above the limit and within reach, and something checks the number: some circulation
+/// has a net through it.
+pub fn one_wrong_number_is_printed()
+    ensures { (right : Survey) (candidate : Candidate) (wrong : ℤ) (truth : List ℕ → ℤ)
+        (flows : List ℤ) (reviews : List BookReview) (limit : ℤ) (explained : Explanations)
+        (are : AreExplained (changed (number_of candidate) wrong right) reviews limit explained)
+        → Circulates right flows
+        → net (number_of candidate) right flows ≢ pos 0
+        → Keeps right truth
+        → cost_of right truth ≡ 0
+        → limit_size limit < unsigned_abs wrong
+        → unsigned_abs wrong < reach_of (number_of candidate)
+        (changed (number_of candidate) wrong right).observations
+        → Contains (in_order (listed_of (changed (number_of candidate) wrong right)
+        (entries_of reviews) are.tied)) candidate
+        → IsMended (given_of (changed (number_of candidate) wrong right).benchmarks candidate) wrong
+        explained.rows.items
+        ⊎ ((length explained.rows.items ≡ most_rows)
+        × All (λ row. row.left ≡ 0) explained.rows.items) }
+{
+    freed_is_one();
+}
+
+/// Where one number is wrong and all else has small errors, its row is printed, and is ahead of others.
+///
+/// Its mistake, times some circulation's net through it, is above the limit by more than twice what the
+/// right survey costs, and is within reach by as much. Then the number passes, and its row is printed,
+/// or as many as there may be which leave no more (`printed`). A change that was forgotten must leave no
+/// more than its whole entry. The rows of other numbers leave more where a circulation has no net
+/// through the other number and enough through the wrong one (`ahead`). Without such a circulation the
+/// two explain alike. `proposed_is_near` says how near the right value the proposed ones are.
+pub fn wrong_number_leads()
+    ensures printed { (right : Survey) (candidate : Candidate) (wrong : ℤ) (truth : List ℕ → ℤ)
+        (flows : List ℤ) (reviews : List BookReview) (limit : ℤ) (explained : Explanations) (freed : Freed)
+        (are : AreExplained (changed (number_of candidate) wrong right) reviews limit explained)
+        → Circulates right flows
+        → Keeps right truth
+        → IsExact (changed (number_of candidate) wrong right) (number_of candidate) freed
+        → LeavesNoMore (changed (number_of candidate) wrong right) (whole_of candidate) freed.left
+        → limit_size limit * unsigned_abs (net (number_of candidate) right flows)
+        + 2 * cost_of right truth
+        < unsigned_abs wrong * unsigned_abs (net (number_of candidate) right flows)
+        → unsigned_abs wrong * unsigned_abs (net (number_of candidate) right flows)
+        + 2 * cost_of right truth
+        < reach_of (number_of candidate) (changed (number_of candidate) wrong right).observations
+        * unsigned_abs (net (number_of candidate) right flows)
+        → Contains (in_order (listed_of (changed (number_of candidate) wrong right)
+        (entries_of reviews) are.tied)) candidate
+        → IsAmongRows (changed (number_of candidate) wrong right)
+        (cost_of (changed (number_of candidate) wrong right) are.heights) limit candidate
+        explained.rows.items
+        ⊎ ((length explained.rows.items ≡ most_rows)
+        × All (λ row. row.left ≤ freed.left) explained.rows.items) }
+    ensures ahead { (right : Survey) (candidate other : Candidate) (wrong : ℤ) (truth : List ℕ → ℤ)
+        (flows : List ℤ) (limit : ℤ) (cost : ℕ) (own row : Row)
+        → Circulates right flows
+        → net (number_of other) right flows ≡ pos 0
+        → Keeps right truth
+        → 2 * cost_of right truth
+        < unsigned_abs wrong * unsigned_abs (net (number_of candidate) right flows)
+        → IsRow (changed (number_of candidate) wrong right) cost limit candidate own
+        → IsRow (changed (number_of candidate) wrong right) cost limit other row
+        → own.left < row.left }
 {
     freed_is_one();
 }
