@@ -114,11 +114,11 @@ def lines_of_code(path: pathlib.Path) -> List[Tuple[int, str]]:
     return [(number, line) for number, line in lines if line.strip() and not is_comment(line)]
 
 
-def behind_closing(text: str, start: int) -> int:
+def behind_closing(text: str, start: int, braces: str = "{}") -> int:
     """The place behind the brace that closes the one at `start`."""
     depth = 0
     for place in range(start, len(text)):
-        depth += {"{": 1, "}": -1}.get(text[place], 0)
+        depth += {braces[0]: 1, braces[1]: -1}.get(text[place], 0)
         if depth == 0:
             return place + 1
     return len(text)
@@ -333,11 +333,13 @@ class Change(NamedTuple):
 
 
 def changes_of(edit: pathlib.Path) -> List[Change]:
-    """The pairs of an edit: lines 'file: PATH', each before pairs of lines 'old: TEXT' and 'new: TEXT'."""
+    """The pairs of an edit: lines 'file: PATH', each before pairs of lines 'old: TEXT' and 'new: TEXT'. A line of comment begins with '#'."""
     changes = []
     file = ""
     old: Optional[str] = None
     for line in edit.read_text().splitlines():
+        if line.startswith("#"):
+            continue
         key, _, value = line.partition(":")
         value = value[1:]
         if key == "file":
