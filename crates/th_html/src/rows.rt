@@ -6,7 +6,7 @@ use th_observations::Observation;
 /// What a mistake would do.
 #[derive(Clone, Copy, Debug, PartialEq, Eq)]
 pub enum Mistake {
-    /// Its sights have the whole mistake as their residuals.
+    /// Its sights have the mistake as their residuals, as closely as the errors of others allow.
     Shows,
     /// They, or others, are blamed.
     Ties,

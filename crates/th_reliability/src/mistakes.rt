@@ -6,7 +6,8 @@ ghost use Rattle.th_reliability.specs.SharedMistakes.{shared_mistake_of};
 /// The effect of a mistake in one observation.
 #[derive(Clone, Copy, Debug, PartialEq, Eq)]
 pub enum Mistake {
-    /// The others that check the observation outweigh it: its residual is the whole mistake.
+    /// The others that check the observation outweigh it: its residual is the mistake, as closely as
+    /// the others' errors allow.
     Shows,
     /// The others weigh just as much: the mistake may show or hide.
     Ties,
@@ -19,7 +20,8 @@ pub enum Mistake {
 /// The effect of a mistake that several observations share, as all sights of one entry do.
 #[derive(Clone, Copy, Debug, PartialEq, Eq)]
 pub enum SharedMistake {
-    /// The others outweigh them: each of them has the whole mistake as its residual.
+    /// The others outweigh them: each has the mistake as its residual, as closely as the others' errors
+    /// allow.
     Shows,
     /// The others weigh just as much: the mistake may show, or drag points along.
     Ties,
