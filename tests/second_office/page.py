@@ -446,9 +446,9 @@ def sections(page: Page) -> bytes:
                        b"Their residuals are above the limit. Look at them first, and then at what is weak nearby: a mistake there may mark "
                        b"right sights.", table(SIGHT_HEAD, marked))
     out += section(b"heights", b"Heights",
-                   b"In metres. Where there is a second height, all heights up to it fit equally well. Strength is the least weight of "
-                   b"sights that tie the point to the benchmarks. Wrong sights that weigh less than half of it together do not drag the "
-                   b"point.", heights)
+                   b"In metres. Where there is a second height, any height up to it fits equally well if other points move with it. "
+                   b"Strength is the least weight of sights that tie the point to the benchmarks. Wrong sights that weigh less than half "
+                   b"of it together do not drag the point.", heights)
     if weak:
         out += section(b"weak", b"Weak sights",
                        b"Another sight between the same points, or of the point from elsewhere, checks them.", table(SIGHT_HEAD, weak))

@@ -135,7 +135,7 @@ unfoldable pub height_start : List ℕ
 height_start =
     codes "<section id=\"heights\">\n"
     ++ codes "<h2>Heights</h2>\n"
-    ++ codes "<p>In metres. Where there is a second height, all heights up to it fit equally well. Strength is the least weight of sights that tie the point to the benchmarks. Wrong sights that weigh less than half of it together do not drag the point.</p>\n"
+    ++ codes "<p>In metres. Where there is a second height, any height up to it fits equally well if other points move with it. Strength is the least weight of sights that tie the point to the benchmarks. Wrong sights that weigh less than half of it together do not drag the point.</p>\n"
 
 -- the beginning of the section of weak sights
 unfoldable pub weak_start : List ℕ
@@ -170,7 +170,7 @@ note_start =
 unfoldable pub foot_text : List ℕ
 foot_text =
     codes "<footer>\n"
-    ++ codes "<p>The cost is the sum of weight times size over all residuals; no heights that keep the benchmarks have less. All lengths are in metres, rounded to 0.1 mm. A mistake in a sight shows: its residual is the mistake. <b class=\"t\">=</b> ties: it or another sight is marked. <b class=\"h\">&lt;</b> hides: other sights are marked. <b class=\"u\">0</b> unchecked: nothing is marked. A mistake in a keyed-in height or a benchmark <b class=\"h\">&lt;</b> drags: points move, and other sights are marked, or none.</p>\n"
+    ++ codes "<p>The cost is the sum of weight times size over all residuals; no heights that keep the benchmarks have less. All lengths are in metres, rounded to 0.1 mm. A mistake in a sight shows: its residual is the mistake, as closely as small errors of the others allow. <b class=\"t\">=</b> ties: it or another sight is marked. <b class=\"h\">&lt;</b> hides: other sights are marked. <b class=\"u\">0</b> unchecked: nothing is marked. A mistake in a keyed-in height or a benchmark <b class=\"h\">&lt;</b> drags: points move, and other sights are marked, or none.</p>\n"
     ++ codes "<p>Height Office</p>\n"
     ++ codes "</footer>\n"
     ++ codes "</body>\n"

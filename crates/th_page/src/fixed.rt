@@ -138,7 +138,7 @@ const MARKS: &[u8] = b"\
 const HEIGHTS: &[u8] = b"\
 <section id=\"heights\">\n\
 <h2>Heights</h2>\n\
-<p>In metres. Where there is a second height, all heights up to it fit equally well. Strength is the least weight of sights that tie the point to the benchmarks. Wrong sights that weigh less than half of it together do not drag the point.</p>\n\
+<p>In metres. Where there is a second height, any height up to it fits equally well if other points move with it. Strength is the least weight of sights that tie the point to the benchmarks. Wrong sights that weigh less than half of it together do not drag the point.</p>\n\
 ";
 
 /// The beginning of the section of weak sights.
@@ -173,7 +173,7 @@ const NOTES: &[u8] = b"\
 /// The foot.
 const FOOT: &[u8] = b"\
 <footer>\n\
-<p>The cost is the sum of weight times size over all residuals; no heights that keep the benchmarks have less. All lengths are in metres, rounded to 0.1 mm. A mistake in a sight shows: its residual is the mistake. <b class=\"t\">=</b> ties: it or another sight is marked. <b class=\"h\">&lt;</b> hides: other sights are marked. <b class=\"u\">0</b> unchecked: nothing is marked. A mistake in a keyed-in height or a benchmark <b class=\"h\">&lt;</b> drags: points move, and other sights are marked, or none.</p>\n\
+<p>The cost is the sum of weight times size over all residuals; no heights that keep the benchmarks have less. All lengths are in metres, rounded to 0.1 mm. A mistake in a sight shows: its residual is the mistake, as closely as small errors of the others allow. <b class=\"t\">=</b> ties: it or another sight is marked. <b class=\"h\">&lt;</b> hides: other sights are marked. <b class=\"u\">0</b> unchecked: nothing is marked. A mistake in a keyed-in height or a benchmark <b class=\"h\">&lt;</b> drags: points move, and other sights are marked, or none.</p>\n\
 <p>Height Office</p>\n\
 </footer>\n\
 </body>\n\
