@@ -110,7 +110,9 @@ def look(folder: Path, command: str, old: list, new: list, number: int, status: 
         wanted = (3, line, 0)
     if (status, line, count) != wanted:
         raise Wrong(f"{command} with {name} of '{path}' refused: {(status, line, count)} and not {wanted}")
-    if name not in ("close", "unlink") and path != "." and status == 0:
+    # An output that is not there is no input, whatever the system says of the input.
+    needless = name == "statx" and path in INPUTS and old[0] is None
+    if name not in ("close", "unlink") and path != "." and not needless and status == 0:
         raise Wrong(f"{command} with {name} of '{path}' refused ends with status 0")
     left = list(folder.glob("*unfinished*"))
     if left and name != "unlink":
