@@ -42,8 +42,8 @@ NoneMayFail failing origins written = SomeMayFail failing origins written → �
 abbrev pub IsUnlucky : Type 0 → ℕ → Type 0
 IsUnlucky MayFail status = (status ≡ 4) ⊎ ((status ≡ 5) × MayFail)
 
--- How an adjustment may end. It was done, with status 0. It was refused, with the status of its refusal. It was not begun, with 3, since it
--- would write to a file that it reads: so it is if the folder reports its bytes. Or it was not begun, with 4, since memory ran out.
+-- How an adjustment may end: done, with status 0; refused, with the status of its refusal; with 3, and then it would write to a file that it
+-- reads, if the folder reports its bytes; or with 4. Of the files this states nothing with 3 and 4: `IsRun` states that nothing was begun.
 abbrev pub IsEndedAdjust : Bool → Failing → Told → Told → Files → ℤ → List ℕ → ℕ → Type 0
 IsEndedAdjust tells failing old new from limit prefix status =
     ((status ≡ 0) × IsAdjusted tells old new from limit prefix None)
@@ -51,8 +51,8 @@ IsEndedAdjust tells failing old new from limit prefix status =
     ⊎ ((status ≡ 3) × (tells ≡ true → SparesInputs from prefix → ⊥))
     ⊎ (status ≡ 4)
 
--- How a check may end. It was done, with the status of its verdict. It was refused, with the status of its refusal. Or it was not begun, with
--- 4, since memory ran out. It writes to no file, so it cannot overwrite an input.
+-- How a check may end: done, with the status of its verdict; refused, with the status of its refusal; or with 4. It writes to no file, so it
+-- cannot overwrite an input.
 abbrev pub IsEndedCheck : Bool → Failing → Told → Told → Files → List ℕ → ℕ → Type 0
 IsEndedCheck tells failing old new from certificate status =
     ((verdict : Verdict) × (status ≡ status_of_verdict verdict) × IsChecked tells old new from certificate verdict)

@@ -39,7 +39,7 @@ pub fn run_is_as_asked<F: Folder>()
 /// of the run may fail: reading may not at the spot of an input, nor writing at that of an output. Then
 /// its status is 0 or 4. With 0 the outputs hold the heights, the certificate, the report and the GSI
 /// blocks of the survey that the inputs give: the lowest heights of all that keep the benchmarks and cost
-/// least, shown by the printed circulation. With 4 it is out of memory.
+/// least, shown by the printed circulation. Status 4 is for a run that is out of memory.
 ///
 /// A check of a certificate that was printed so, with inputs that give the same survey, says yes or ends
 /// with 4, if none of its devices may fail. And whatever certificate a check says yes to, its heights
