@@ -9,8 +9,7 @@ use std::process::ExitCode;
 use std::rt::Env;
 use std::time::{Instant, SystemTime, UNIX_EPOCH};
 use std::{env, io, process};
-use th_devices::Reasons;
-use th_folders::HostFolder;
+use th_devices::{HostFolder, Reasons};
 use th_program::run_arguments;
 
 /// What is reported if the book to list is typed at a terminal.

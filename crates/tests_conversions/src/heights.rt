@@ -7,7 +7,7 @@ use th_book::BookKind::{
     SightToItself, TooLarge,
 };
 use th_book::{BookFault, BookKind, read_book};
-use th_height_books::book_of_heights;
+use th_conversions::book_of_heights;
 use th_report::list_text;
 
 /// A book with heights, the words that its lines get, and the list of the printed book.

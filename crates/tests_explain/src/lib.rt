@@ -1,4 +1,4 @@
-//! Tests of `th_explain` and `th_explanations`: which numbers of a worked survey explain what does not
+//! Tests of `th_explain` and `th_explain_texts`: which numbers of a worked survey explain what does not
 //! fit, and the texts that say so.
 //!
 //! They are in a crate of their own since a crate is proved a second time with its tests. They use

@@ -3,7 +3,7 @@
 use gsi_word::{Name, name_of};
 use std::alloc::Global;
 use std::process::Abort;
-use th_explanations::{Kind, Row, Summary, Values, explanations_csv, explanations_text, ranked};
+use th_explain_texts::{Kind, Row, Summary, Values, explanations_csv, explanations_text, ranked};
 
 /// The name of a point.
 fn name(rt: &impl Abort, bytes: &[u8]) -> Name {

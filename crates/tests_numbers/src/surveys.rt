@@ -2,9 +2,9 @@
 use std::alloc::Global;
 use std::process::Abort;
 use th_book::BookFeed;
-use th_causes::{Explanations, explanations_of};
 use th_entries::{SeenNames, Tally};
-use th_explanations::{explanations_csv, explanations_text};
+use th_explain_rows::{Explanations, explanations_of};
+use th_explain_texts::{explanations_csv, explanations_text};
 use th_network::Network;
 use th_progress::Silent;
 use th_tables::{read_benchmarks, read_weights};

@@ -2,7 +2,7 @@
 use crate::surveys::explained;
 use std::alloc::Global;
 use std::process::Abort;
-use th_explanations::Kind;
+use th_explain_texts::Kind;
 
 /// 20 mm.
 const LIMIT: i64 = 2_000_000;

@@ -17,7 +17,7 @@ use anyhow::{Context, Result, bail};
 use std::alloc::Global;
 use th_book::read_book;
 use th_entries::{Entry, HeightKind};
-use th_explanations::{Kind, Row, Values};
+use th_explain_texts::{Kind, Row, Values};
 use th_html::{BenchmarkRow, EntryRow, Mistake, PointRow, SightRow};
 use th_observations::Observation;
 use th_picture::{End, Sight};

@@ -2,7 +2,7 @@
 use crate::plans::words_of;
 use clap::error::ErrorKind;
 use std::process::Abort;
-use th_plans::{PlanFault, plan};
+use th_commands::{PlanFault, plan};
 
 /// The fault of words that are no plan.
 pub fn fault_of(rt: &(impl AllocGlobal + Abort), words: &str) -> PlanFault {

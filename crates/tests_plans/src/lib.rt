@@ -1,4 +1,4 @@
-//! Tests of `th_plans`: which plans command lines name, and which faults they have, with the texts of
+//! Tests of `th_commands`: which plans command lines name, and which faults they have, with the texts of
 //! these.
 //!
 //! They are a crate of their own since a crate is proved a second time with its tests. They use

@@ -1,7 +1,7 @@
 //! Command lines that are a plan, against that plan, with options in every order.
 use std::process::Abort;
 use std::test::Fail;
-use th_plans::{Inputs, Limit, Plan, plan};
+use th_commands::{Inputs, Limit, Plan, plan};
 
 /// Command lines, and the plans that they name.
 const PLANS: [(&str, &str); 44] = [

@@ -1,7 +1,7 @@
 //! The texts of faults, compared whole, and those of help, searched for parts that they must have.
 use crate::faults::fault_of;
 use std::process::Abort;
-use th_plans::{PlanFault, VERSION};
+use th_commands::{PlanFault, VERSION};
 
 const LIMIT_TOO_LARGE: &str =
     "error: invalid value '1000000001' for '--blunder <MICROMETRES>': 1000000001 is not in 0..=1000000000\n\nFor more information, try '--help'.\n";

@@ -3,7 +3,7 @@ use crate::folders::{
     ADJUST_BACK, ADJUST_SITE, LIST, ROOM, file, is_silent, prints, project, put, run, same, shown,
 };
 use crate::sure_folders::SureFolder;
-use th_folders::MemoryFolder;
+use th_devices::MemoryFolder;
 
 /// The heights file of one sight, and of two with the weights.
 const WEIGHTED: &[u8] =

@@ -1,6 +1,6 @@
 //! A folder in memory with a project, and a run over it.
 use std::process::Abort;
-use th_folders::{Folder, MemoryFolder};
+use th_devices::{Folder, MemoryFolder};
 use th_program::run_words;
 
 /// A book with one sight, from A to B: B is higher by 2.545 m.

@@ -1,7 +1,7 @@
 //! Notes of runs that are done.
 use crate::folders::{WIDE, project, put, run, same, shown};
 use std::process::Abort;
-use th_folders::MemoryFolder;
+use th_devices::MemoryFolder;
 
 /// A book of a recording mask that writes heights of targets, and no word 33.
 const MASK: &[u8] =

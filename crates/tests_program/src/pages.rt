@@ -3,7 +3,7 @@ use crate::folders::{
     ADJUST_BACK, ADJUSTED, WIDE, begins_to_report, file, is_silent, project, put, run, same,
 };
 use std::process::Abort;
-use th_folders::MemoryFolder;
+use th_devices::MemoryFolder;
 
 /// The arguments that make the page of a sight there and one back, whose residual is -0.01 m.
 const BACK: &str = "page --benchmarks heights --weights weights --out out back.gsi";

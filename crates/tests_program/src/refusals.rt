@@ -2,7 +2,7 @@
 use crate::folders::{
     ADJUST_SITE, BOOK, ROOM, begins_to_report, file, project, put, reports, run, same, shown,
 };
-use th_folders::MemoryFolder;
+use th_devices::MemoryFolder;
 
 #[test]
 fn a_fault_has_its_line(rt: HostRuntime) {

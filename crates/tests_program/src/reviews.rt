@@ -4,7 +4,7 @@ use crate::folders::{
     reports, run, same,
 };
 use std::process::Abort;
-use th_folders::MemoryFolder;
+use th_devices::MemoryFolder;
 
 /// A book with three sights over two setups. Its benchmark `X` and the pair of its weights are never
 /// observed. The texts are those of a program that shares no code with this one.

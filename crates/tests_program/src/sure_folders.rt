@@ -3,13 +3,14 @@
 //! Where a command reads what is there, no device of its run may fail. So over this folder a run meets
 //! the premise of the headline.
 ghost use Rattle.std.specs.Prelude.{false, is_none, true};
-ghost use Rattle.th_folders.specs.MemoryFolders.{memory_failed, memory_held};
+ghost use Rattle.th_devices.specs.MemoryFolders.{memory_failed, memory_held};
 
 use std::alloc::{AllocError, Global};
 use std::marker::Model;
 use std::process::Abort;
-use th_devices::{Failed, MemorySource, Reason, Sink};
-use th_folders::{Folder, MemoryFolder, MemorySink, Origin, Target};
+use th_devices::{
+    Failed, Folder, MemoryFolder, MemorySink, MemorySource, Origin, Reason, Sink, Target,
+};
 use th_progress::Silent;
 
 /// A sink of a folder in memory that takes whatever is written, or ends the process.
@@ -21,7 +22,7 @@ pub struct SureSink<'a, R: Abort> {
 
 impl<'a, R: Abort> Sink for SureSink<'a, R> {
     ghost use Rattle.std.specs.Prelude.{Some, false};
-    ghost use Rattle.th_folders.specs.MemoryFolders.{sink_of, spot_of};
+    ghost use Rattle.th_devices.specs.MemoryFolders.{sink_of, spot_of};
 
     ghost state = { λ own. record {
       spot = spot_of own.sink;

@@ -1,6 +1,6 @@
 //! What a run that explains writes, and each of its reads and writes, refused in turn.
 ghost use Rattle.th_devices.specs.Memory.{text_sink};
-ghost use Rattle.th_explaining.specs.Explained.{explaining};
+ghost use Rattle.th_run_explain.specs.Explained.{explaining};
 ghost use Rattle.th_run_parts.specs.Writes.{AreWritable};
 
 use crate::helpers::{
@@ -9,8 +9,8 @@ use crate::helpers::{
 use crate::projects::{A_AT_100, LIMIT};
 use std::process::Abort;
 use th_devices::TextSink;
-use th_explaining::{Form, run_explain};
 use th_progress::Silent;
+use th_run_explain::{Form, run_explain};
 use th_runs::Refusal;
 
 /// What is printed of a book of one sight.

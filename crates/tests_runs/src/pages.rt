@@ -2,15 +2,15 @@
 //! in turn.
 ghost use Rattle.std.specs.Prelude.{◌≤◌};
 ghost use Rattle.th_devices.specs.Memory.{text_sink};
-ghost use Rattle.th_paging.specs.Paged.{paging};
+ghost use Rattle.th_run_page.specs.Paged.{paging};
 ghost use Rattle.th_run_parts.specs.Writes.{AreWritable};
 
 use crate::helpers::{Device, HELD_BEFORE, failing_sources, refusal_of, source};
 use crate::projects::{A_AT_100, LIMIT, MISREAD_SIGHT};
 use std::process::Abort;
 use th_devices::{TextSink, write_all};
-use th_paging::run_page;
 use th_progress::Silent;
+use th_run_page::run_page;
 use th_runs::Refusal;
 
 /// The names of the two books of which one call fails.

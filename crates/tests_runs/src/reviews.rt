@@ -2,7 +2,7 @@
 //! refused in turn.
 ghost use Rattle.std.specs.Prelude.{◌≤◌};
 ghost use Rattle.th_devices.specs.Memory.{text_sink};
-ghost use Rattle.th_reviewing.specs.Reviewed.{reviewing};
+ghost use Rattle.th_run_review.specs.Reviewed.{reviewing};
 ghost use Rattle.th_run_parts.specs.Writes.{AreWritable};
 
 use crate::helpers::{
@@ -12,7 +12,7 @@ use crate::projects::{A_AT_100, LIMIT, TWO_SIGHTS};
 use std::process::Abort;
 use th_devices::{TextSink, TextSource};
 use th_progress::Silent;
-use th_reviewing::run_review;
+use th_run_review::run_review;
 use th_runs::Refusal;
 
 /// The sinks of a review, in memory, in its order.

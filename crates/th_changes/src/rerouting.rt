@@ -19,8 +19,8 @@ use crate::runs::Run;
 use crate::slopes::Sloped;
 use std::alloc::{AllocError, Global};
 use th_circulation::BestHeights;
+use th_guide::ResidualArc;
 use th_network::{Link, Network};
-use th_tree::ResidualArc;
 
 /// Flows of a network, and a walk round which an amount is being sent.
 #[derive(Drop)]

@@ -12,7 +12,7 @@ use Rattle.th_search.specs.declared.arcs.Arc.{Arc}
 use Rattle.th_circulation.specs.Inside.Bounds.{farthest, height_bound}
 use Rattle.th_circulation.specs.declared.slots.Slot.{Slot}
 use Rattle.th_circulation.specs.Inside.Cycles.{link_at}
-use Rattle.th_distances.specs.Distances.{AreWithin}
+use Rattle.th_search.specs.Distances.{AreWithin}
 use Rattle.th_circulation.specs.Inside.Graphs.{IsLinkGraph}
 use Rattle.th_circulation.specs.Inside.Listings.{AreResidual, arc_of}
 use Rattle.th_circulation.proofs.GraphLemmas.{IsNear, ends_at, near_at}

@@ -13,7 +13,7 @@ use Rattle.th_circulation.specs.declared.slots.Slot.{Slot}
 use Rattle.th_circulation.specs.Inside.Flows.{AreBounded}
 use Rattle.th_circulation.specs.Inside.Cycles.{HasRoom, link_at}
 use Rattle.th_circulation.specs.Inside.Listings.{slot_at, slots_at}
-use Rattle.th_distances.specs.Distances.{AreWithin}
+use Rattle.th_search.specs.Distances.{AreWithin}
 use Rattle.th_circulation.specs.Inside.Graphs.{IsLinkGraph}
 use Rattle.th_circulation.proofs.CycleLemmas.{bounded_at}
 use Rattle.th_network.specs.Links.{largest_link_difference}

@@ -6,8 +6,8 @@ use Rattle.std.proofs.lemmas.Int.{ints}
 use Rattle.std.proofs.lemmas.List.{get_or-replicate, get_or-set_other, length-replicate}
 use Rattle.th_search.specs.Potentials.{value_at}
 use Rattle.th_circulation.specs.Inside.Bounds.{HaveSmallRises, farthest, height_bound}
-use Rattle.th_distances.specs.Distances.{AreWithin}
-use Rattle.th_distances.proofs.WithinLemmas.{all_within}
+use Rattle.th_search.specs.Distances.{AreWithin}
+use Rattle.th_search.proofs.WithinLemmas.{all_within}
 
 set_here : (most : ℕ) (xs : List ℤ) (i : ℕ) (x : ℤ) → unsigned_abs x ≤ most → unsigned_abs (value_at (slice_set xs i x) i) ≤ most
 set_here most [] i x h = omega arith

@@ -9,7 +9,7 @@ use Rattle.th_search.specs.declared.arcs.Arc.{Arc}
 use Rattle.th_search.specs.Walks.{IsArc}
 use Rattle.th_circulation.specs.Inside.Residuals.{turned}
 use Rattle.th_circulation.specs.Inside.Bounds.{farthest}
-use Rattle.th_distances.specs.Distances.{AreTight, IsKept, KeepCosts}
+use Rattle.th_search.specs.Distances.{AreTight, IsKept, KeepCosts}
 use Rattle.th_circulation.specs.Inside.Spans.{opposite}
 use Rattle.th_circulation.proofs.MisreadLemmas.{lt_z-false}
 use Rattle.th_network.specs.Limits.{max_points}

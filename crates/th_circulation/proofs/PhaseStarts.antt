@@ -11,7 +11,7 @@ use Rattle.std.specs.List.{AllByRecursion}
 use Rattle.th_circulation.specs.Limits.{phases}
 use Rattle.th_network.specs.declared.links.Link.{Link}
 use Rattle.th_circulation.specs.Inside.Flows.{AreBounded, IsFlow, Next, ShowsLinks, arriving, gain, leaving, residuals}
-use Rattle.th_distances.specs.Distances.{AreWithin}
+use Rattle.th_search.specs.Distances.{AreWithin}
 use Rattle.th_circulation.specs.Inside.Graphs.{IsLinkGraph}
 use Rattle.th_circulation.specs.Inside.Phases.{difference_in, differences_in}
 use Rattle.th_circulation.specs.Inside.Workspaces.{IsNear}

@@ -15,7 +15,7 @@ use Rattle.th_search.specs.declared.arcs.Arc.{Arc}
 use Rattle.th_search.specs.Walks.{IsArc}
 use Rattle.th_circulation.specs.Inside.Cuts.{LeavesFull}
 use Rattle.th_circulation.specs.Inside.Residuals.{against, along, residual_arcs, residual_arcs_of, turned}
-use Rattle.th_distances.specs.Distances.{IsKept}
+use Rattle.th_search.specs.Distances.{IsKept}
 use Rattle.th_circulation.proofs.BestLemmas.{IsBounded}
 use Rattle.th_circulation.proofs.ExtremeLemmas.{bounds_of}
 use Rattle.th_circulation.proofs.Bounds.{KeepsAll}

@@ -14,7 +14,7 @@ use Rattle.th_search.specs.Potentials.{value_at}
 use Rattle.th_search.specs.Walks.{IsArc}
 use Rattle.th_circulation.specs.Extremes.{High, Low}
 use Rattle.th_circulation.specs.Settled.{AreShown}
-use Rattle.th_distances.specs.Distances.{AreTight, IsKept, KeepCosts}
+use Rattle.th_search.specs.Distances.{AreTight, IsKept, KeepCosts}
 use Rattle.th_circulation.specs.Inside.Spans.{AreAbove, AreBelow, opposite}
 use Rattle.th_circulation.specs.Inside.PointHeights.{ArePointHeights}
 use Rattle.th_circulation.specs.Inside.Residuals.{turned}

@@ -1,6 +1,6 @@
 //! The links of a network as a graph, the room along its slots, and their arcs.
 ghost use Rattle.std.specs.Prelude.{◌≡◌, ◌↔◌, ◌<◌, ◌≤◌, ◌≤ℤ◌, ℕ, pos, length, slice_index_or, unsigned_abs};
-ghost use Rattle.th_distances.specs.Distances.{AreWithin};
+ghost use Rattle.th_search.specs.Distances.{AreWithin};
 ghost use Rattle.th_circulation.specs.Inside.Graphs.{IsLinkGraph};
 ghost use Rattle.th_circulation.specs.Inside.Bounds.{height_bound, most_room};
 ghost use Rattle.th_network.specs.Links.{largest_link_difference};

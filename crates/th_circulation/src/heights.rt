@@ -1,7 +1,7 @@
 //! How heights of vertices change: raised by potentials, doubled for a phase, taken from a guide.
 ghost use Rattle.std.specs.Prelude.{◌≡◌, ◌≤◌, ℕ, ◌-ℤ◌};
 ghost use Rattle.th_circulation.specs.Inside.Bounds.{farthest, height_bound, raised_bound};
-ghost use Rattle.th_distances.specs.Distances.{AreWithin};
+ghost use Rattle.th_search.specs.Distances.{AreWithin};
 ghost use Rattle.th_search.specs.Potentials.{value_at};
 
 use crate::limits::MOST_HEIGHT;

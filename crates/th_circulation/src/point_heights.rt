@@ -1,7 +1,7 @@
 //! The heights of points, from those of vertices; benchmarks keep their own.
 ghost use Rattle.std.specs.Prelude.{◌≡◌, ◌<◌, All, length, unsigned_abs};
 ghost use Rattle.th_circulation.specs.Inside.Bounds.{HaveSmallRises, raised_bound};
-ghost use Rattle.th_distances.specs.Distances.{AreWithin};
+ghost use Rattle.th_search.specs.Distances.{AreWithin};
 ghost use Rattle.th_circulation.specs.Inside.PointHeights.{ArePointHeights};
 ghost use Rattle.th_network.specs.Limits.{height_limit};
 ghost use Rattle.th_network.specs.Networks.{points_of, vertices_of};

@@ -1,7 +1,7 @@
 //! The lowest and the highest best heights, from distances along residual arcs.
 ghost use Rattle.std.specs.Prelude.{◌≡◌, ℕ, IfOk, length};
 ghost use Rattle.th_circulation.specs.Inside.Bounds.{farthest, raised_bound};
-ghost use Rattle.th_distances.specs.Distances.{AreTight, AreWithin};
+ghost use Rattle.th_search.specs.Distances.{AreTight, AreWithin};
 ghost use Rattle.th_circulation.specs.Inside.Spans.{AreAbove, AreBelow, opposite};
 ghost use Rattle.th_circulation.specs.Settled.{AreShown, AreSpans};
 ghost use Rattle.th_network.specs.Networks.{at_points_of, points_of, vertices_of};
@@ -11,9 +11,8 @@ use crate::heights::raise;
 use crate::point_heights::set_point_heights;
 use crate::residuals::{residual_arcs, turned};
 use std::alloc::{AllocError, Global};
-use th_distances::TightArcs;
 use th_network::{Network, Settled, Spans};
-use th_search::Arc;
+use th_search::{Arc, TightArcs};
 
 /// Finds the lowest and the highest of all heights that cost least, from flows that show some of
 /// them.

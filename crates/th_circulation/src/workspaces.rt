@@ -2,7 +2,7 @@
 ghost use Rattle.std.specs.Prelude.{◌≡◌, ◌+◌, ◌<◌, ◌≤◌, ◌-◌, ◌*◌, ◌⊎◌, ◌^◌, ℤ, List, false, pos, IfOk, MatchBool, OnOk, length, replicate, sum};
 ghost use Rattle.std.specs.Bool.{OnTrue};
 ghost use Rattle.th_circulation.specs.Inside.Bounds.{height_bound};
-ghost use Rattle.th_distances.specs.Distances.{AreWithin};
+ghost use Rattle.th_search.specs.Distances.{AreWithin};
 ghost use Rattle.th_circulation.specs.Inside.Listings.{Fits, HasAllBefore, Lists};
 ghost use Rattle.th_circulation.specs.Inside.Phases.{differences_in};
 ghost use Rattle.th_circulation.specs.Inside.Proposals.{HasNoPotentials};

@@ -5,3 +5,14 @@ pub mod SeenRows
 pub mod RowLaws
 pub mod BookLemmas
 pub mod ListLaws
+pub mod BlockLemmas
+pub mod HeightWordLemmas
+pub mod LongerLemmas
+pub mod SeenLemmas
+pub mod SightLemmas
+pub mod FaultLemmas
+pub mod HeightLaws
+pub mod TextLemmas
+pub mod WholeLemmas
+pub mod LawLemmas
+pub mod HeightBookLemmas

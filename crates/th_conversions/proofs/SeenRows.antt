@@ -23,7 +23,7 @@ use Rattle.th_book.specs.Faults.{Standing, block_faults, first_applying}
 use Rattle.th_book.specs.declared.setups.Setup.{Setup}
 use Rattle.th_report.specs.Gsi.{number_word, padded_name}
 use Rattle.th_report.proofs.NameLemmas.{zeros_before}
-use Rattle.th_pages.proofs.DigitLemmas.{last_digits-all}
+use Rattle.th_columns.proofs.DigitLemmas.{last_digits-all}
 use Rattle.th_conversions.specs.Limits.{hundredth}
 use Rattle.th_conversions.specs.Rows.{IsRow}
 use Rattle.th_conversions.specs.Books.{AreSeenAs, blocks_from, length_word, row_seen, setup_block, sight_block, stands_at, zero_easting}

@@ -15,7 +15,7 @@ use Rattle.gsi_block.proofs.WrittenBlocks.{IsBlock-block_line}
 use Rattle.th_report.specs.Gsi.{number_word, padded_name}
 use Rattle.th_report.proofs.NameLemmas.{name_printable, name_short, zeros_before}
 use Rattle.th_report.proofs.WordLemmas.{spelled_number}
-use Rattle.th_pages.proofs.DigitLemmas.{digit_is_data, last_digits-all}
+use Rattle.th_columns.proofs.DigitLemmas.{digit_is_data, last_digits-all}
 use Rattle.th_conversions.specs.Limits.{hundredth}
 use Rattle.th_conversions.specs.Books.{setup_block, sight_block}
 use Rattle.th_conversions.specs.declared.rows.Row.{Row}

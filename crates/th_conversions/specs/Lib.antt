@@ -4,3 +4,9 @@ pub mod Tables
 pub mod Texts
 pub mod Books
 pub mod Lists
+pub mod Sights
+pub mod Running
+pub mod Words
+pub mod Printed
+pub mod Seen
+pub mod Inside

@@ -17,7 +17,7 @@ use gsi_word::{
     HEIGHT_DIFFERENCE, INSTRUMENT_HEIGHT, Name, REFLECTOR_HEIGHT, STATION_EASTING, Word,
 };
 use std::alloc::AllocError;
-use th_pages::last_digits;
+use th_columns::last_digits;
 use th_report::{number_word, padded_name, word_of};
 
 /// Appends the line of a setup at a station, with this number in its book. An easting of zero marks

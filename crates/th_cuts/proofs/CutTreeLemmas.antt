@@ -6,10 +6,10 @@ use Rattle.std.proofs.lemmas.List.{get_or_append_left, get_or_push, length-appen
 use Rattle.std.proofs.lemmas.List.Sums.{sum_by-cons}
 use Rattle.th_cuts.specs.declared.branches.Branch.{Branch}
 use Rattle.th_cuts.specs.declared.cuts.Cut.{Cut}
-use Rattle.th_graphs.specs.declared.edges.Edge.{Edge}
+use Rattle.th_cuts.specs.declared.edges.Edge.{Edge}
 use Rattle.th_cuts.specs.Cuts.{IsLeastCut}
-use Rattle.th_graphs.specs.Cuts.{crosses, cut_weight, separates}
-use Rattle.th_flows.specs.Drains.{on_side}
+use Rattle.th_cuts.specs.CutWeights.{crosses, cut_weight, separates}
+use Rattle.th_cuts.specs.Drains.{on_side}
 use Rattle.th_cuts.specs.Inside.CutTrees.{AreBranches, IsBranch, IsCut}
 
 -- ---- separation, in Bools

@@ -1,2 +1,9 @@
 pub mod CutTreeLemmas
 pub mod NearLemmas
+pub mod RoomLemmas
+pub mod FlowLemmas
+pub mod TreeLemmas
+pub mod DrainLemmas
+pub mod FillLemmas
+pub mod PathLemmas
+pub mod MergeLemmas

@@ -5,13 +5,13 @@ use Rattle.std.proofs.lemmas.Bool.{cases_Bool, eq-eqb, eqb-false, eqb-true, ltb-
 use Rattle.std.proofs.lemmas.List.{get_or-set_other, get_or-set_same, length-set}
 use Rattle.std.proofs.lemmas.List.Elements.{All-head, All-tail}
 use Rattle.std.proofs.lemmas.List.Sums.{sum_by-cons, sum_by_more, sum_by_more_le}
-use Rattle.th_graphs.specs.declared.edges.Edge.{Edge}
-use Rattle.th_graphs.specs.Cuts.{crosses, cut_weight, separates, weight_in}
-use Rattle.th_flows.specs.Drains.{IsLeastDrain, drain, on_side, room_at}
+use Rattle.th_cuts.specs.declared.edges.Edge.{Edge}
+use Rattle.th_cuts.specs.CutWeights.{crosses, cut_weight, separates, weight_in}
+use Rattle.th_cuts.specs.Drains.{IsLeastDrain, drain, on_side, room_at}
 use Rattle.th_cuts.specs.Inside.CutTrees.{AreLone, AreNear, IsSame, raised, with_edge}
-use Rattle.th_graphs.specs.Graphs.{AreAmong, edge_at}
+use Rattle.th_cuts.specs.Graphs.{AreAmong, edge_at}
 use Rattle.th_cuts.proofs.CutTreeLemmas.{apart_itself, least_both, other_side, separated, through}
-use Rattle.th_flows.proofs.RoomLemmas.{room_in_least, room_in_none}
+use Rattle.th_cuts.proofs.RoomLemmas.{room_in_least, room_in_none}
 
 pub same_through : (edges : List Edge) (weight u v w : ℕ) → IsSame edges weight u w → IsSame edges weight v w → IsSame edges weight u v
 same_through edges weight u v w one other = λ inside h. elim (through (inside u) (inside v) (inside w) h) [

@@ -1,7 +1,7 @@
 use Rattle.std.specs.Prelude.{◌≡◌, ℕ, ◌≤◌, Bool, true, List}
-use Rattle.th_graphs.specs.declared.edges.Edge.{Edge}
-use Rattle.th_graphs.specs.Cuts.{cut_weight, separates}
-use Rattle.th_flows.specs.Drains.{on_side}
+use Rattle.th_cuts.specs.declared.edges.Edge.{Edge}
+use Rattle.th_cuts.specs.CutWeights.{cut_weight, separates}
+use Rattle.th_cuts.specs.Drains.{on_side}
 
 -- some cut that separates two vertices has this weight, and no such cut weighs less
 pub record IsLeastCut (edges : List Edge) (u v value : ℕ) : Type 0 where

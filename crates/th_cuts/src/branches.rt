@@ -1,13 +1,13 @@
 //! The branches of a cut tree, and least cuts between any two vertices, found from them.
 ghost use Rattle.std.specs.Prelude.{◌≡◌, ◌+◌, ◌-◌, ◌<◌, ◌≤◌, ◌⊎◌, ℕ, Bool, IfOk, length, slice_index_or, true};
 ghost use Rattle.th_cuts.specs.Cuts.{IsLeastCut, IsLeastSide};
-ghost use Rattle.th_graphs.specs.Cuts.{cut_weight, separates};
+ghost use Rattle.th_cuts.specs.CutWeights.{cut_weight, separates};
 ghost use Rattle.th_cuts.specs.Inside.CutTrees.{AreBranches, AreLone, IsBranch, IsCut, IsGrown, IsPair};
 
 use crate::cuts::{Cut, cut_between};
+use crate::graphs::Graph;
 use crate::near::{lone_weights, near_rooms};
 use std::alloc::{AllocError, Global};
-use th_graphs::Graph;
 use th_progress::{Progress, Work};
 
 /// A least cut between a vertex and one before it.

@@ -1,13 +1,14 @@
 //! Cut trees as callers see them: built from a graph, they give least cuts between two vertices.
 ghost use Rattle.std.specs.Prelude.{◌≡◌, ◌≢◌, ◌<◌, ℕ, Bool, IfOk};
 ghost use Rattle.th_cuts.specs.Cuts.{IsLeastCut, IsLeastSide};
-ghost use Rattle.th_graphs.specs.Cuts.{cut_weight};
-ghost use Rattle.th_graphs.specs.Graphs.{IsGraph};
+ghost use Rattle.th_cuts.specs.CutWeights.{cut_weight};
+ghost use Rattle.th_cuts.specs.Graphs.{IsGraph};
 
 use crate::branches::Branches;
+use crate::edges::Edge;
+use crate::graphs::Graph;
 use std::alloc::{AllocError, Global};
 use std::marker::Model;
-use th_graphs::{Edge, Graph};
 use th_progress::Progress;
 
 /// One least cut for each vertex but 0 (Gusfield 1990), from which the least cut between any two

@@ -1,11 +1,11 @@
 //! A least cut between two vertices: one that flow shows, or the lighter vertex against all others.
 ghost use Rattle.std.specs.Prelude.{◌≡◌, ◌<◌, ◌==◌, ℕ, IfOk, length, not};
-ghost use Rattle.th_flows.specs.Drains.{on_side};
+ghost use Rattle.th_cuts.specs.Drains.{on_side};
 ghost use Rattle.th_cuts.specs.Inside.CutTrees.{AreNear, AreWeighed, IsCut, IsSame};
 
+use crate::drains::least_below;
+use crate::graphs::Graph;
 use std::alloc::{AllocError, Global};
-use th_flows::least_below;
-use th_graphs::Graph;
 
 /// A set of vertices, and the weight of the edges with exactly one end in it.
 #[derive(Debug, Drop)]

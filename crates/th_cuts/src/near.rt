@@ -3,11 +3,12 @@
 ghost use Rattle.std.specs.Prelude.{◌≡◌, ◌<◌, ◌≤◌, ◌+◌, IfOk, length};
 ghost use Rattle.th_limits.specs.Limits.{max_total_weight};
 ghost use Rattle.th_cuts.specs.Inside.CutTrees.{AreBranches, AreLone, AreNear, AreTops, raised, with_edge};
-ghost use Rattle.th_flows.specs.Drains.{room_at};
+ghost use Rattle.th_cuts.specs.Drains.{room_at};
 
 use crate::branches::Branch;
+use crate::edges::Edge;
+use crate::graphs::Graph;
 use std::alloc::{AllocError, Global};
-use th_graphs::{Edge, Graph};
 
 /// For each vertex what its edges weigh.
 pub(crate) fn lone_weights(alloc: Global, graph: &Graph) -> Result<Vec<u32>, AllocError>

@@ -1,2 +1,3 @@
 -- what private functions promise one another
 pub mod Opening
+pub mod Placing

@@ -5,3 +5,5 @@ pub mod Files
 pub mod Memory
 pub mod Transfer
 pub mod Inside
+pub mod Folders
+pub mod MemoryFolders

@@ -12,9 +12,9 @@ use std::alloc::{AllocError, Global};
 use th_blunders::Fit;
 use th_changes::{Number, Rerouted, Run, run_of};
 use th_circulation::BestHeights;
+use th_detours::{End, Freeing, Group, Guide, Link};
 use th_network::Network;
 use th_reliability::Runs;
-use th_rerouting::{End, Freeing, Group, Guide, Link};
 
 /// The best flows of a network, and a guide that proposes other ways for them.
 #[derive(Drop)]

@@ -6,8 +6,8 @@ use Rattle.std.proofs.lemmas.List.Elements.{All-cons}
 use Rattle.th_devices.specs.Devices.{IsOpened, IsReady, SourceState}
 use Rattle.th_devices.specs.Spots.{Spot, file}
 use Rattle.th_files.specs.Opened.{AreOpened, EachIsOpened, IsOpenedIfAny}
-use Rattle.th_plans.specs.Asked.{Files}
-use Rattle.th_plans.specs.Limits.{max_books}
+use Rattle.th_commands.specs.Asked.{Files}
+use Rattle.th_commands.specs.PlanLimits.{max_books}
 use Rattle.th_files.specs.Owed.{Told, claim_owed, given_by, given_by_books, given_from, survey_owed}
 use Rattle.th_run_parts.specs.Inputs.{claim_owed_by_sources, Given, given, given_at, given_if_any, givens, owed_by_sources, owed_for_claim, owed_for_survey, told_by}
 use Rattle.th_run_parts.specs.Reads.{AreRead, AreReady, EachBook, IfPresent, IsNamed, IsReadFor, Run, failed_reads_of}

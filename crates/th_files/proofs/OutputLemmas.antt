@@ -9,7 +9,7 @@ use Rattle.std.proofs.lemmas.Slice.Zip.{AllZip-long}
 use Rattle.th_devices.specs.Devices.{IsMade, IsReady, SinkState}
 use Rattle.th_devices.specs.Spots.{Spot, errors, file, is_file, output}
 use Rattle.th_devices.specs.Transfer.{HasTaken}
-use Rattle.th_folders.specs.Folders.{IsClosed, IsWholeFile}
+use Rattle.th_devices.specs.Folders.{IsClosed, IsWholeFile}
 use Rattle.th_files.proofs.OpenedLemmas.{zip_more}
 use Rattle.th_files.specs.Opened.{AreApart, AreMade, IsTaken, IsUntouched}
 use Rattle.th_files.specs.Outputs.{IsLeft, spot_at, spots_of}

@@ -7,7 +7,7 @@ use Rattle.std.proofs.lemmas.Option.{slice_get-get_or, slice_get-map}
 use Rattle.std.specs.List.{Contains}
 use Rattle.std.proofs.lemmas.List.Elements.{Contains-push_cases}
 use Rattle.th_devices.specs.Spots.{Spot, file}
-use Rattle.th_plans.specs.Asked.{Files}
+use Rattle.th_commands.specs.Asked.{Files}
 use Rattle.th_files.proofs.OutputLemmas.{spot_among, spots_more}
 use Rattle.th_files.specs.Stops.{AreKept, IsStop}
 use Rattle.th_files.specs.Outputs.{spot_at, spots_of}

@@ -3,8 +3,8 @@ use Rattle.std.specs.Prelude.{◌≡◌, ◌≢◌, Bool, true, false, List, [],
 use Rattle.std.specs.List.{AllByRecursion, AllZip}
 use Rattle.th_devices.specs.Devices.{IsMade, IsOpened, SinkState, SourceState}
 use Rattle.th_devices.specs.Spots.{Spot, file, is_file}
-use Rattle.th_folders.specs.Folders.{ArePlaced, Failing, IsStopped}
-use Rattle.th_plans.specs.Asked.{Files}
+use Rattle.th_devices.specs.Folders.{ArePlaced, Failing, IsStopped}
+use Rattle.th_commands.specs.Asked.{Files}
 use Rattle.th_files.specs.Owed.{Told}
 use Rattle.th_run_parts.specs.declared.outputs.Output.{Output}
 use Rattle.th_run_parts.specs.declared.refusals.Refusal.{Refusal}

@@ -1,11 +1,11 @@
 -- What a run over a folder must return, given what is in the folder.
 use Rattle.std.specs.Prelude.{◌≡◌, ◌+◌, ℕ, List, [], ◌∷◌, Option, Some, option_map, slice_get}
 use Rattle.th_observations.specs.Observed.{Observed}
-use Rattle.th_booking.specs.Booked.{converted, input_of}
-use Rattle.th_booking.specs.declared.conversions.Conversion.{Conversion}
+use Rattle.th_run_book.specs.Booked.{converted, input_of}
+use Rattle.th_run_book.specs.declared.conversions.Conversion.{Conversion}
 use Rattle.th_devices.specs.Spots.{Spot, file}
 use Rattle.th_network.specs.Networks.{Survey}
-use Rattle.th_plans.specs.Asked.{Files}
+use Rattle.th_commands.specs.Asked.{Files}
 use Rattle.th_run_parts.specs.Inputs.{Claim, Given, Owed, given_at, owed_for_book, owed_for_claim, owed_for_survey}
 use Rattle.th_run_parts.specs.Reads.{failed_reads_of}
 use Rattle.th_run_parts.specs.declared.refusals.Input.{Input}

@@ -2,7 +2,7 @@
 use Rattle.std.specs.Prelude.{◌≡◌, ◌≢◌, ℕ, Bool, true, List, Some, slice_get, string_bytes}
 use Rattle.std.specs.List.{Contains}
 use Rattle.th_devices.specs.Spots.{Spot, file}
-use Rattle.th_plans.specs.Asked.{Files}
+use Rattle.th_commands.specs.Asked.{Files}
 use Rattle.th_files.specs.Owed.{HasName}
 use Rattle.th_files.specs.declared.overwrites.Stop.{Stop}
 use Rattle.th_files.specs.declared.overwrites.Stop.TheVariants as stop

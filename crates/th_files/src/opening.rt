@@ -1,12 +1,12 @@
 //! The sources of a run, as a folder gives them.
 ghost use Rattle.std.specs.Prelude.{◌≤◌, ◌≡◌, IfOk, length, map, option_map};
-ghost use Rattle.th_plans.specs.Limits.{max_books};
-ghost use Rattle.th_plans.specs.Plans.{files};
+ghost use Rattle.th_commands.specs.PlanLimits.{max_books};
+ghost use Rattle.th_commands.specs.Plans.{files};
 ghost use Rattle.th_files.specs.Opened.{AreOpened, EachIsOpened, IsOpenedIfAny};
 
 use std::alloc::{AllocError, Global};
-use th_folders::{Folder, Origin};
-use th_plans::Inputs;
+use th_commands::Inputs;
+use th_devices::{Folder, Origin};
 
 /// The sources that `adjust`, `review` and `check` read.
 ///

@@ -9,7 +9,7 @@ ghost use Rattle.th_files.specs.Outputs.{spot_at, spots_of};
 
 use std::alloc::{AllocError, Global};
 use std::vec::IntoIter;
-use th_folders::{Folder, Target, place_all};
+use th_devices::{Folder, Target, place_all};
 use th_run_parts::{Output, Refusal};
 
 /// The sinks of these outputs, for a run with this prefix.

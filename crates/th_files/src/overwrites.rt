@@ -3,12 +3,12 @@ ghost use Rattle.std.specs.Prelude.{◌≡◌, ◌≤◌, [], ◌∷◌, IfErr, 
 ghost use Rattle.th_files.specs.Outputs.{spot_at, spots_of};
 ghost use Rattle.th_files.specs.Owed.{HasName, IsBook};
 ghost use Rattle.th_files.specs.Stops.{AreKept, IsApart, IsNoBook, IsStop};
-ghost use Rattle.th_plans.specs.Limits.{max_books};
-ghost use Rattle.th_plans.specs.Plans.{files};
+ghost use Rattle.th_commands.specs.PlanLimits.{max_books};
+ghost use Rattle.th_commands.specs.Plans.{files};
 
 use std::alloc::{AllocError, Global};
-use th_folders::Folder;
-use th_plans::Inputs;
+use th_commands::Inputs;
+use th_devices::Folder;
 use th_run_parts::{Input, Output};
 
 /// An output that would overwrite an input.

@@ -1,6 +1,10 @@
 //! Flow that is still to be sent, taken apart cycle by cycle.
+use crate::goals::Goals;
+use crate::links::Link;
+use crate::residual_arcs::ResidualArc;
+use crate::rows::push_if_room;
+use crate::sides::{Side, Sides};
 use std::alloc::{AllocError, Global};
-use th_tree::{Goals, Link, ResidualArc, Side, Sides, push_if_room};
 
 /// Among how many ways out of a vertex the next one is chosen.
 const NEAR: u32 = 8;

@@ -1,9 +1,11 @@
 //! The guide as its callers see it: links to set, flows to find, and cycles that it proposes.
 use crate::cycles::Cycles;
+use crate::links::Link;
 use crate::planting::Planting;
+use crate::residual_arcs::ResidualArc;
+use crate::scales::Scale;
 use crate::simplex::Simplex;
 use std::alloc::{AllocError, Global};
-use th_tree::{Link, ResidualArc, Scale};
 
 /// How many levels a tree has that is planted in chunks.
 const MANY_LEVELS: u32 = 64;

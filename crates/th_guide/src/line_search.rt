@@ -1,7 +1,10 @@
 //! The line search of a pivot: breakpoints that a moving part meets, up to the turn of the slope.
 use crate::breakpoints::{Breakpoints, Turn};
+use crate::goals::Goals;
+use crate::heights::{Heights, Stage};
+use crate::parts::Part;
+use crate::sides::{Side, Sides};
 use std::alloc::{AllocError, Global};
-use th_tree::{Goals, Heights, Part, Side, Sides, Stage};
 
 /// How many breakpoints are kept before those behind the turn are left out.
 const FEW: usize = 16;

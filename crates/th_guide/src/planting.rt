@@ -1,7 +1,9 @@
 //! The tree to start from, planted breadth first at weighted medians, at once or in chunks.
+use crate::heights::Stage;
+use crate::rows::push_if_room;
 use crate::simplex::Simplex;
+use crate::trees::Up;
 use std::alloc::{AllocError, Global};
-use th_tree::{Stage, Up, push_if_room};
 
 /// A tree to start from: breadth first from vertex 0, each vertex at the weighted median of the heights
 /// that its sides say which lead to vertices in the tree.

@@ -1,5 +1,5 @@
 //! Which way up leaves the tree in the next pivot, chosen block by block.
-use th_tree::{Tree, Up};
+use crate::trees::{Tree, Up};
 
 /// How many vertices, one after another, are priced together.
 const BLOCK: usize = 128;

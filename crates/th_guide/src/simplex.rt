@@ -1,9 +1,16 @@
 //! The rows that the dual network simplex works on, and its pivots.
 use crate::breakpoints::{Breakpoint, Turn};
+use crate::goals::Goals;
+use crate::heights::{Heights, Stage};
 use crate::line_search::{Line, LineSearch};
+use crate::links::Link;
+use crate::parts::Part;
 use crate::pricing::Pricing;
+use crate::residual_arcs::ResidualArc;
+use crate::scales::Scale;
+use crate::sides::Sides;
+use crate::trees::{Tree, Up};
 use std::alloc::{AllocError, Global};
-use th_tree::{Goals, Heights, Link, Part, ResidualArc, Scale, Sides, Stage, Tree, Up};
 
 /// How many pivots there may be for each vertex. In no network tried were there more than three.
 const PIVOTS_OF_A_VERTEX: u32 = 16;

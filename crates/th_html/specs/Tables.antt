@@ -1,8 +1,8 @@
 -- The tables of a page: their heads and their rows.
 use Rattle.std.specs.Prelude.{ℕ, ℤ, ◌-◌, ◌%◌, ◌==◌, ◌&&◌, false, List, [], Option, None, Some, ◌++◌, codes, decimal, if◌then◌else◌, int_lt, length, nat_lt, option_map, take}
 use Rattle.std.specs.List.{enumerate_from, flat_map}
-use Rattle.th_explanations.specs.declared.rows.Row.{Row}
-use Rattle.th_explanations.specs.declared.rows.Values.{Values}
+use Rattle.th_explain_texts.specs.declared.rows.Row.{Row}
+use Rattle.th_explain_texts.specs.declared.rows.Values.{Values}
 use Rattle.th_html.specs.declared.rows.EntryRow.{EntryRow}
 use Rattle.th_html.specs.declared.rows.SightRow.{SightRow}
 use Rattle.th_html.specs.declared.rows.PointRow.{PointRow}

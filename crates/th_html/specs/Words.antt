@@ -2,8 +2,8 @@
 use Rattle.std.specs.Prelude.{ℕ, List, codes}
 use Rattle.th_entries.specs.declared.entries.HeightKind.{HeightKind}
 use Rattle.th_entries.specs.declared.entries.HeightKind.TheVariants.{Reflector, Instrument}
-use Rattle.th_explanations.specs.declared.rows.Kind.{Kind}
-use Rattle.th_explanations.specs.declared.rows.Kind.TheVariants as kind
+use Rattle.th_explain_texts.specs.declared.rows.Kind.{Kind}
+use Rattle.th_explain_texts.specs.declared.rows.Kind.TheVariants as kind
 use Rattle.th_html.specs.declared.rows.Mistake.{Mistake}
 use Rattle.th_html.specs.declared.rows.Mistake.TheVariants as mistake
 

@@ -8,7 +8,7 @@ use crate::rows::{BenchmarkRow, Mistake};
 use crate::tables::{first_rows, write_close, write_left_out, write_open};
 use crate::words::mistake_words;
 use std::alloc::AllocError;
-use th_pages::Page;
+use th_columns::Page;
 
 /// Writes the table of some benchmarks.
 #[tactic(auto, unfolding(crate::specs::Tables::benchmark_table))]

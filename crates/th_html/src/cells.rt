@@ -7,7 +7,7 @@ use crate::places::write_place;
 use crate::texts::{write_escaped, write_number};
 use gsi_word::Name;
 use std::alloc::AllocError;
-use th_pages::Page;
+use th_columns::Page;
 
 /// Writes the cell of a number.
 pub(crate) fn write_number_cell(page: &mut Page, number: u32) -> Result<(), AllocError>

@@ -10,7 +10,7 @@ use crate::rows::EntryRow;
 use crate::tables::{first_rows, write_close, write_left_out, write_open};
 use crate::words::{entry_words, mistake_words};
 use std::alloc::AllocError;
-use th_pages::Page;
+use th_columns::Page;
 
 /// Writes the table of some entries.
 #[tactic(auto, unfolding(crate::specs::Tables::entry_table))]

@@ -11,8 +11,8 @@ use crate::texts::{write_escaped, write_number};
 use crate::words::number_words;
 use gsi_word::Name;
 use std::alloc::AllocError;
-use th_explanations::{Row, Values};
-use th_pages::Page;
+use th_columns::Page;
+use th_explain_texts::{Row, Values};
 
 /// Writes the table of explanations.
 #[tactic(auto, unfolding(crate::specs::Tables::explanation_table))]

@@ -7,7 +7,7 @@ use crate::cells::{write_height_cell, write_name_cell, write_number_cell, write_
 use crate::rows::PointRow;
 use crate::tables::write_close;
 use std::alloc::AllocError;
-use th_pages::Page;
+use th_columns::Page;
 
 /// How many points a table has.
 const BLOCK: usize = 20;

@@ -4,7 +4,7 @@ ghost use Rattle.th_html.specs.Lengths.{height_text, sign_text, signed_text, siz
 
 use itoa::Buffer;
 use std::alloc::AllocError;
-use th_pages::{Page, last_digits};
+use th_columns::{Page, last_digits};
 
 /// Writes a length, which is in units of 10 nm.
 pub fn write_height(page: &mut Page, length: i64) -> Result<(), AllocError>

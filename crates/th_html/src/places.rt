@@ -6,8 +6,8 @@ use crate::lengths::write_signed;
 use crate::rows::SightRow;
 use crate::texts::{write_escaped, write_number};
 use std::alloc::AllocError;
+use th_columns::Page;
 use th_observations::Observation;
-use th_pages::Page;
 
 /// Writes a line of a book, both from 1.
 #[tactic(auto, unfolding(crate::specs::Places::place_text))]

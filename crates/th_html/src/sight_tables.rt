@@ -11,7 +11,7 @@ use crate::rows::SightRow;
 use crate::tables::{first_rows, write_close, write_left_out, write_open};
 use crate::words::mistake_words;
 use std::alloc::AllocError;
-use th_pages::Page;
+use th_columns::Page;
 
 /// Writes the table of some sights.
 #[tactic(auto, unfolding(crate::specs::Tables::sight_table))]

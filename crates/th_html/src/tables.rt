@@ -4,7 +4,7 @@ ghost use Rattle.th_html.specs.Tables.{head_end, left_out, more_text, most_rows,
 
 use crate::texts::write_number;
 use std::alloc::AllocError;
-use th_pages::Page;
+use th_columns::Page;
 
 /// The most rows of a table.
 const MOST_ROWS: usize = 100;

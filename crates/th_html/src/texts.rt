@@ -4,7 +4,7 @@ ghost use Rattle.th_html.specs.Texts.{escaped, escaped_byte};
 
 use itoa::Buffer;
 use std::alloc::AllocError;
-use th_pages::Page;
+use th_columns::Page;
 
 /// Writes a text from outside, a name or a note, so that it makes no markup.
 pub fn write_escaped(page: &mut Page, text: &[u8]) -> Result<(), AllocError>

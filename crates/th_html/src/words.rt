@@ -4,7 +4,7 @@ ghost use Rattle.th_html.specs.Words.{entry_words, mistake_words, number_words};
 
 use crate::rows::Mistake;
 use th_entries::HeightKind;
-use th_explanations::Kind;
+use th_explain_texts::Kind;
 
 /// What a mistake would do: a sign, and a word.
 pub(crate) fn mistake_words(mistake: &Mistake) -> &[u8]

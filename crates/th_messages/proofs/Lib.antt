@@ -1,0 +1,3 @@
+pub mod ErrorLemmas
+pub mod LineLemmas
+pub mod ShownLemmas

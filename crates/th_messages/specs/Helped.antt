@@ -2,18 +2,18 @@
 use Rattle.std.specs.Prelude.{◌++◌, ◌-◌, ◌∷◌, [], ℕ, List, Option, Some, None, option_map, slice_get}
 use Rattle.th_devices.specs.declared.reasons.Reason.{Reason}
 use Rattle.th_book.specs.declared.faults.BookKind.{BookKind}
-use Rattle.th_help.specs.Books.{book_help, heights_help}
-use Rattle.th_help.specs.Certificates.{certificate_help}
-use Rattle.th_help.specs.Differences.{differences_help}
-use Rattle.th_help.specs.Helps.{help_line, read_reason, reason_line, write_reason}
-use Rattle.th_help.specs.Networks.{network_help}
-use Rattle.th_help.specs.Tables.{benchmarks_help, weights_help}
+use Rattle.th_messages.specs.Books.{book_help, heights_help}
+use Rattle.th_messages.specs.Certificates.{certificate_help}
+use Rattle.th_messages.specs.Differences.{differences_help}
+use Rattle.th_messages.specs.Helps.{help_line, read_reason, reason_line, write_reason}
+use Rattle.th_messages.specs.Networks.{network_help}
+use Rattle.th_messages.specs.Tables.{benchmarks_help, weights_help}
 use Rattle.th_network.specs.declared.faults.NetFault.{NetFault}
 use Rattle.th_network.specs.declared.faults.NetFault.TheVariants as network
-use Rattle.th_plans.specs.Asked.{Files}
-use Rattle.th_plans.specs.Plans.{files}
-use Rattle.th_plans.specs.declared.plans.Plan.{Plan}
-use Rattle.th_plans.specs.declared.plans.Plan.TheVariants as plan
+use Rattle.th_commands.specs.Asked.{Files}
+use Rattle.th_commands.specs.Plans.{files}
+use Rattle.th_commands.specs.declared.plans.Plan.{Plan}
+use Rattle.th_commands.specs.declared.plans.Plan.TheVariants as plan
 use Rattle.th_run_parts.specs.Outputs.{ending_of}
 use Rattle.th_run_parts.specs.Refusals.{refusal_text}
 use Rattle.th_run_parts.specs.declared.refusals.Input.{Input}

@@ -1,3 +1,13 @@
 pub mod Helped
 pub mod Said
 pub mod Noted
+pub mod Books
+pub mod Tables
+pub mod Certificates
+pub mod Differences
+pub mod Networks
+pub mod Notes
+pub mod Helps
+pub mod Shown
+pub mod Lines
+pub mod Errors

@@ -1,6 +1,6 @@
 -- The lines of notes on standard error.
 use Rattle.std.specs.Prelude.{◌++◌, ℕ, List, [], Option, Some, None, flat_map}
-use Rattle.th_help.specs.Notes.{many_heights_note, no_sight_note}
+use Rattle.th_messages.specs.Notes.{many_heights_note, no_sight_note}
 use Rattle.th_remarks.specs.declared.heights.ManyHeights.{ManyHeights}
 use Rattle.th_runs.specs.declared.notes.Notes.{Notes}
 

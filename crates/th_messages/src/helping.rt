@@ -1,19 +1,21 @@
 //! The second line of a refusal: it names the file as it was given, and what helps.
 ghost use Rattle.std.specs.Prelude.{◌≡◌, option_map};
-ghost use Rattle.th_help.specs.Helps.{read_reason, whole_name, write_reason};
-ghost use Rattle.th_lines.specs.Lines.{HasRoom, IsPut};
-ghost use Rattle.th_plans.specs.Plans.{files};
+ghost use Rattle.th_messages.specs.Helps.{read_reason, whole_name, write_reason};
+ghost use Rattle.th_messages.specs.Lines.{HasRoom, IsPut};
+ghost use Rattle.th_commands.specs.Plans.{files};
 ghost use Rattle.th_messages.specs.Helped.{help_of_book, name_in, name_of_input, name_of_output, network_line, second_line};
 
+use crate::books::{book_help, heights_help};
+use crate::certificates::certificate_help;
+use crate::differences::differences_help;
+use crate::helps::{FileName, put_help_line, put_reason_line, read_reason, write_reason};
+use crate::lines::Line;
+use crate::networks::network_help;
+use crate::tables::{benchmarks_help, weights_help};
 use th_book::BookKind;
+use th_commands::{Inputs, Plan};
 use th_devices::{Failed, Reason, Sink};
-use th_help::{
-    FileName, benchmarks_help, book_help, certificate_help, differences_help, heights_help,
-    network_help, put_help_line, put_reason_line, read_reason, weights_help, write_reason,
-};
-use th_lines::Line;
 use th_network::NetFault;
-use th_plans::{Inputs, Plan};
 use th_run_parts::{Input, Output, Refusal};
 
 /// Puts the second line of a refusal, where the system told this reason or none.

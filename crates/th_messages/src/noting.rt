@@ -1,18 +1,18 @@
 //! What is noted on standard error of a run that was not refused. Nothing here allocates.
 ghost use Rattle.std.specs.Prelude.{◌≡◌, ◌≢◌, ◌≤◌, ◌*◌, false, flat_map, length};
 ghost use Rattle.th_devices.specs.Spots.{errors};
-ghost use Rattle.th_help.specs.Notes.{no_sight_note};
-ghost use Rattle.th_lines.specs.Lines.{HasRoom, IsPut};
-ghost use Rattle.th_plans.specs.Limits.{max_books};
+ghost use Rattle.th_messages.specs.Notes.{no_sight_note};
+ghost use Rattle.th_messages.specs.Lines.{HasRoom, IsPut};
+ghost use Rattle.th_commands.specs.PlanLimits.{max_books};
 ghost use Rattle.th_files.specs.Outputs.{Holds};
 ghost use Rattle.th_messages.specs.Noted.{heights_line, notes_lines};
 ghost use Rattle.th_runs.specs.Noted.{AreNone};
 
-use th_devices::{Failed, Sink};
+use crate::errors::{begin_line, end_line};
+use crate::lines::Line;
+use crate::notes::{put_many_heights, put_no_sight};
+use th_devices::{Failed, Folder, Sink};
 use th_entries::NoSight;
-use th_folders::Folder;
-use th_help::{put_many_heights, put_no_sight};
-use th_lines::{Line, begin_line, end_line};
 use th_remarks::ManyHeights;
 use th_runs::Notes;
 
@@ -34,7 +34,7 @@ pub fn tell_notes<F: Folder>(folder: &mut F, notes: &Notes)
 }
 
 /// Puts the lines of notes.
-#[tactic(auto, using(th_lines::proofs::LineLemmas::appended))]
+#[tactic(auto, using(crate::proofs::LineLemmas::appended))]
 fn put_notes<K: Sink>(line: &mut Line<K>, notes: &Notes) -> Result<(), Failed>
     requires few { length notes.now.books.items ≤ max_books }
     requires room { HasRoom 1000 line.old }
@@ -45,7 +45,7 @@ fn put_notes<K: Sink>(line: &mut Line<K>, notes: &Notes) -> Result<(), Failed>
 }
 
 /// Puts the lines of books without a sight.
-#[tactic(auto, using(th_lines::proofs::LineLemmas::appended))]
+#[tactic(auto, using(crate::proofs::LineLemmas::appended))]
 fn put_books<K: Sink>(line: &mut Line<K>, books: &[NoSight]) -> Result<(), Failed>
     requires { HasRoom (40 * length books.now) line.old }
     ensures { IsPut (40 * length books.now) (flat_map no_sight_note books.now)

@@ -2,26 +2,26 @@
 //! also where memory ran out.
 ghost use Rattle.std.specs.Prelude.{◌≡◌, ◌≢◌, ◌++◌, ◌∷◌, [], codes, decimal, false, string_bytes};
 ghost use Rattle.th_devices.specs.Spots.{errors};
-ghost use Rattle.th_lines.specs.Lines.{HasRoom, IsPut};
-ghost use Rattle.th_lines.specs.Shown.{shown};
+ghost use Rattle.th_messages.specs.Lines.{HasRoom, IsPut};
+ghost use Rattle.th_messages.specs.Shown.{shown};
 ghost use Rattle.th_messages.specs.Helped.{refused_lines};
 ghost use Rattle.th_messages.specs.Said.{IsSaid, overwrite_text};
 ghost use Rattle.th_tables.specs.Texts.{fault_text};
 ghost use Rattle.th_run_parts.specs.Refusals.{input_text, refusal_text};
 
-use crate::helping::put_second_line;
-use th_book::BookFault;
-use th_certificate::CertFault;
-use th_conversions::DifferenceFault;
-use th_devices::{Failed, Reason, Sink};
-use th_files::Overwrite;
-use th_folders::Folder;
-use th_help::{
+use crate::errors::{begin_line, end_line};
+use crate::faults::{
     put_book_fault, put_certificate_fault, put_difference_fault, put_network_fault, put_table_fault,
 };
-use th_lines::{Line, begin_line, end_line};
+use crate::helping::put_second_line;
+use crate::lines::Line;
+use th_book::BookFault;
+use th_certificate::CertFault;
+use th_commands::Plan;
+use th_conversions::DifferenceFault;
+use th_devices::{Failed, Folder, Reason, Sink};
+use th_files::Overwrite;
 use th_network::NetFault;
-use th_plans::Plan;
 use th_run_parts::{Input, NO_MEMORY, Output, Refusal, USAGE};
 use th_tables::TableFault;
 
@@ -79,7 +79,7 @@ pub fn put_refusal<K: Sink>(
 }
 
 /// Puts the first line of a refusal.
-#[tactic(auto, using(th_lines::proofs::LineLemmas::appended))]
+#[tactic(auto, using(crate::proofs::LineLemmas::appended))]
 fn put_first_line<K: Sink>(line: &mut Line<K>, refusal: &Refusal) -> Result<(), Failed>
     requires { HasRoom 16 line.old }
     ensures { IsPut 16 (refusal_text refusal.now ++ 10 ∷ []) line.old line.new result }
@@ -107,7 +107,7 @@ fn put_refusal_text<K: Sink>(line: &mut Line<K>, refusal: &Refusal) -> Result<()
 }
 
 /// Puts the text of a refused book.
-#[tactic(auto, using(th_lines::proofs::LineLemmas::appended))]
+#[tactic(auto, using(crate::proofs::LineLemmas::appended))]
 fn put_book<K: Sink>(line: &mut Line<K>, number: u32, fault: &BookFault) -> Result<(), Failed>
     requires { HasRoom 12 line.old }
     ensures { IsPut 12 (refusal_text (Refusal.Book number fault.now)) line.old line.new result }
@@ -118,7 +118,7 @@ fn put_book<K: Sink>(line: &mut Line<K>, number: u32, fault: &BookFault) -> Resu
 }
 
 /// Puts the text of a refused table behind its name.
-#[tactic(auto, using(th_lines::proofs::LineLemmas::appended))]
+#[tactic(auto, using(crate::proofs::LineLemmas::appended))]
 fn put_table<K: Sink>(line: &mut Line<K>, name: &str, fault: &TableFault) -> Result<(), Failed>
     requires { HasRoom 12 line.old }
     ensures { IsPut 12 (name.now ++ fault_text fault.now) line.old line.new result }
@@ -128,7 +128,7 @@ fn put_table<K: Sink>(line: &mut Line<K>, name: &str, fault: &TableFault) -> Res
 }
 
 /// Puts the text of a refused certificate.
-#[tactic(auto, using(th_lines::proofs::LineLemmas::appended))]
+#[tactic(auto, using(crate::proofs::LineLemmas::appended))]
 fn put_certificate<K: Sink>(line: &mut Line<K>, fault: &CertFault) -> Result<(), Failed>
     requires { HasRoom 12 line.old }
     ensures { IsPut 12 (refusal_text (Refusal.Certificate fault.now)) line.old line.new result }
@@ -138,7 +138,7 @@ fn put_certificate<K: Sink>(line: &mut Line<K>, fault: &CertFault) -> Result<(),
 }
 
 /// Puts the text of a refused table of differences.
-#[tactic(auto, using(th_lines::proofs::LineLemmas::appended))]
+#[tactic(auto, using(crate::proofs::LineLemmas::appended))]
 fn put_differences<K: Sink>(line: &mut Line<K>, fault: &DifferenceFault) -> Result<(), Failed>
     requires { HasRoom 12 line.old }
     ensures { IsPut 12 (refusal_text (Refusal.Differences fault.now)) line.old line.new result }
@@ -148,7 +148,7 @@ fn put_differences<K: Sink>(line: &mut Line<K>, fault: &DifferenceFault) -> Resu
 }
 
 /// Puts the text of a refused network.
-#[tactic(auto, using(th_lines::proofs::LineLemmas::appended))]
+#[tactic(auto, using(crate::proofs::LineLemmas::appended))]
 fn put_network<K: Sink>(line: &mut Line<K>, fault: &NetFault) -> Result<(), Failed>
     requires { HasRoom 12 line.old }
     ensures { IsPut 12 (refusal_text (Refusal.Network fault.now)) line.old line.new result }
@@ -158,7 +158,7 @@ fn put_network<K: Sink>(line: &mut Line<K>, fault: &NetFault) -> Result<(), Fail
 }
 
 /// Puts the text of a failed read.
-#[tactic(auto, using(th_lines::proofs::LineLemmas::appended))]
+#[tactic(auto, using(crate::proofs::LineLemmas::appended))]
 fn put_failed_read<K: Sink>(line: &mut Line<K>, input: Input) -> Result<(), Failed>
     requires { HasRoom 12 line.old }
     ensures { IsPut 12 (refusal_text (Refusal.Read input)) line.old line.new result }
@@ -168,7 +168,7 @@ fn put_failed_read<K: Sink>(line: &mut Line<K>, input: Input) -> Result<(), Fail
 }
 
 /// Puts the text of a failed write.
-#[tactic(auto, using(th_lines::proofs::LineLemmas::appended))]
+#[tactic(auto, using(crate::proofs::LineLemmas::appended))]
 fn put_failed_write<K: Sink>(line: &mut Line<K>, output: Output) -> Result<(), Failed>
     requires { HasRoom 12 line.old }
     ensures { IsPut 12 (refusal_text (Refusal.Write output)) line.old line.new result }
@@ -178,7 +178,7 @@ fn put_failed_write<K: Sink>(line: &mut Line<K>, output: Output) -> Result<(), F
 }
 
 /// Puts the line that an output would overwrite an input.
-#[tactic(auto, using(th_lines::proofs::LineLemmas::appended))]
+#[tactic(auto, using(crate::proofs::LineLemmas::appended))]
 fn put_overwrite<K: Sink>(line: &mut Line<K>, overwrite: &Overwrite<'_>) -> Result<(), Failed>
     requires { HasRoom 16 line.old }
     ensures { IsPut 16 (overwrite_text (string_bytes overwrite.now.output) overwrite.now.input
@@ -189,7 +189,7 @@ fn put_overwrite<K: Sink>(line: &mut Line<K>, overwrite: &Overwrite<'_>) -> Resu
 }
 
 /// Puts the text that an output would overwrite an input.
-#[tactic(auto, using(th_lines::proofs::LineLemmas::appended))]
+#[tactic(auto, using(crate::proofs::LineLemmas::appended))]
 fn put_overwrite_text<K: Sink>(line: &mut Line<K>, overwrite: &Overwrite<'_>) -> Result<(), Failed>
     requires { HasRoom 12 line.old }
     ensures { IsPut 12 (overwrite_text (string_bytes overwrite.now.output) overwrite.now.input
@@ -202,7 +202,7 @@ fn put_overwrite_text<K: Sink>(line: &mut Line<K>, overwrite: &Overwrite<'_>) ->
 }
 
 /// Puts how that text begins.
-#[tactic(auto, using(th_lines::proofs::LineLemmas::appended))]
+#[tactic(auto, using(crate::proofs::LineLemmas::appended))]
 fn put_overwriting<K: Sink>(line: &mut Line<K>, output: &str) -> Result<(), Failed>
     requires { HasRoom 4 line.old }
     ensures { IsPut 4 (codes "error: output " ++ shown output.now ++ codes " would overwrite ")
@@ -228,7 +228,7 @@ fn put_input<K: Sink>(line: &mut Line<K>, input: Input) -> Result<(), Failed>
 }
 
 /// Puts the text that names a book.
-#[tactic(auto, using(th_lines::proofs::LineLemmas::appended))]
+#[tactic(auto, using(crate::proofs::LineLemmas::appended))]
 fn put_number_of_book<K: Sink>(line: &mut Line<K>, number: u32) -> Result<(), Failed>
     requires { HasRoom 2 line.old }
     ensures { IsPut 2 (codes "book " ++ decimal number) line.old line.new result }

@@ -1,1 +1,5 @@
 mod LineLemmas
+pub mod FindingLemmas
+mod UseLemmas
+mod PartLemmas
+mod PartLaws

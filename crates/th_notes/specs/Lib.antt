@@ -1,1 +1,13 @@
 pub mod Notes
+pub mod Limits
+pub mod Books
+pub mod Repeats
+pub mod Limited
+pub mod Seen
+pub mod Parts
+pub mod Uses
+pub mod Twins
+pub mod Points
+pub mod Names
+pub mod Findings
+pub mod Inside

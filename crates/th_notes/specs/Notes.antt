@@ -2,8 +2,8 @@
 use Rattle.std.specs.Prelude.{ℕ, pos, List, ◌++◌, codes, decimal, length}
 use Rattle.std.specs.List.{flat_map}
 use Rattle.th_units.specs.Metres.{metres}
-use Rattle.th_pages.specs.Columns.{line_end}
-use Rattle.th_pages.specs.Labels.{label_line}
+use Rattle.th_columns.specs.Columns.{line_end}
+use Rattle.th_columns.specs.Labels.{label_line}
 use Rattle.th_entries.specs.Sights.{no_sight_text}
 use Rattle.th_notes.specs.declared.notes.LineKind.{LineKind}
 use Rattle.th_notes.specs.declared.notes.LineKind.TheVariants.{Lookalike, OtherHeight, Direction}

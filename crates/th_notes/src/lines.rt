@@ -9,8 +9,8 @@ use crate::notes::{Kind, LineKind, Note, Pair};
 use gsi_word::Name;
 use itoa::Buffer;
 use std::alloc::{AllocError, Global};
+use th_columns::{Page, write_count};
 use th_entries::{NoSight, separator, words_lead};
-use th_pages::{Page, write_count};
 use th_units::metre_text;
 
 /// Writes how many notes there are, and a line for each.

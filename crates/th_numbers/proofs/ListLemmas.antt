@@ -3,7 +3,7 @@ use Rattle.std.proofs.Common.{◌≡◌, ◌<◌, ◌+◌, ℕ, List, ◌++◌, 
 use Rattle.std.specs.List.{flat_map}
 use Rattle.th_numbers.specs.Lists.{Listed}
 use Rattle.th_numbers.specs.declared.candidates.Candidate.{Candidate}
-use Rattle.th_pages.proofs.RowLemmas.{drop-first}
+use Rattle.th_columns.proofs.RowLemmas.{drop-first}
 
 pub flat_next : {X Y : Type 0} → (f : X → List Y) (xs : List X) (i : ℕ) (x : X) (old new all : List Y) → i < length xs → x ≡ get_or xs i x → new ≡ old ++ f x → old ++ flat_map f (drop i xs) ≡ all → new ++ flat_map f (drop (i + 1) xs) ≡ all
 flat_next f xs i x old new all within is more so_far =

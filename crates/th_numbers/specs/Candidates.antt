@@ -9,8 +9,8 @@ use Rattle.th_entries.specs.declared.entries.HeightKind.TheVariants as height
 use Rattle.th_changes.specs.declared.numbers.Number.{Number}
 use Rattle.th_changes.specs.declared.numbers.Number.TheVariants as number
 use Rattle.th_changes.specs.Numbers.{touch}
-use Rattle.th_explanations.specs.declared.rows.Kind.{Kind}
-use Rattle.th_explanations.specs.declared.rows.Kind.TheVariants as kind
+use Rattle.th_explain_texts.specs.declared.rows.Kind.{Kind}
+use Rattle.th_explain_texts.specs.declared.rows.Kind.TheVariants as kind
 use Rattle.th_network.specs.Links.{base}
 use Rattle.th_network.specs.Networks.{Survey}
 use Rattle.th_reliability.specs.Sights.{in_sights}

@@ -8,7 +8,7 @@ ghost use Rattle.th_network.specs.Links.{base};
 use gsi_word::Name;
 use th_changes::Number;
 use th_entries::{Entry, HeightKind};
-use th_explanations::Kind;
+use th_explain_texts::Kind;
 use th_network::Network;
 use th_observations::Observation;
 use th_reliability::{Runs, Sights};

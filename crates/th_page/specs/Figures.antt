@@ -3,7 +3,7 @@ use Rattle.std.specs.Prelude.{ℕ, ℤ, ◌==◌, List, [], ◌++◌, codes, dec
 use Rattle.th_picture.specs.Groups.{undrawn_count}
 use Rattle.th_picture.specs.Pictures.{picture_text}
 use Rattle.th_picture.specs.declared.sights.Sight.{Sight}
-use Rattle.th_strip.specs.Strips.{strip_text}
+use Rattle.th_picture.specs.Strips.{strip_text}
 use Rattle.th_html.specs.declared.rows.PointRow.{PointRow}
 use Rattle.th_page.specs.Fixed.{legend_text, picture_start, strip_start}
 

@@ -3,3 +3,4 @@ pub mod Fronts
 pub mod Figures
 pub mod Sections
 pub mod Pages
+pub mod Shown

@@ -1,7 +1,7 @@
 -- The page.
 use Rattle.std.specs.Prelude.{ℕ, ℤ, List, ◌++◌, length, map}
 use Rattle.std.specs.List.{flat_map}
-use Rattle.th_explanations.specs.declared.rows.Row.{Row}
+use Rattle.th_explain_texts.specs.declared.rows.Row.{Row}
 use Rattle.th_html.specs.declared.rows.BenchmarkRow.{BenchmarkRow}
 use Rattle.th_picture.specs.declared.sights.Sight.{Sight}
 use Rattle.th_html.specs.declared.rows.EntryRow.{EntryRow}

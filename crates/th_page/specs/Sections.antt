@@ -1,7 +1,7 @@
 -- The sections of a page.
 use Rattle.std.specs.Prelude.{ℕ, ℤ, Bool, List, [], ◌∷◌, ◌++◌, codes, filter, map}
 use Rattle.std.specs.List.{flat_map}
-use Rattle.th_explanations.specs.declared.rows.Row.{Row}
+use Rattle.th_explain_texts.specs.declared.rows.Row.{Row}
 use Rattle.th_html.specs.Tables.{benchmark_table, entry_table, explanation_table, height_tables, sight_table}
 use Rattle.th_html.specs.Texts.{escaped}
 use Rattle.th_html.specs.declared.rows.BenchmarkRow.{BenchmarkRow}

@@ -1,5 +1,5 @@
 //! All that a page shows, as rows and texts that it borrows.
-use th_explanations::Row;
+use th_explain_texts::Row;
 use th_html::{BenchmarkRow, EntryRow, PointRow};
 use th_picture::Sight;
 

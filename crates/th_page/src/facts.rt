@@ -4,8 +4,8 @@ ghost use Rattle.std.specs.List.{flat_map};
 ghost use Rattle.th_page.specs.Fronts.{book_item, count_items, fact_item, facts_text, fixed_count, length_item, length_items, loop_count};
 
 use std::alloc::AllocError;
+use th_columns::Page;
 use th_html::{PointRow, write_escaped, write_number, write_sized};
-use th_pages::Page;
 
 /// Writes the names of the books.
 pub(crate) fn write_books(page: &mut Page, books: &[&[u8]]) -> Result<(), AllocError>

@@ -5,10 +5,9 @@ ghost use Rattle.th_page.specs.Figures.{picture_figure, strip_figure, undrawn_no
 use crate::fixed::{write_legend_text, write_picture_start, write_strip_start};
 use itoa::Buffer;
 use std::alloc::AllocError;
+use th_columns::Page;
 use th_html::PointRow;
-use th_pages::Page;
-use th_picture::{Sight, undrawn_count, write_picture};
-use th_strip::write_strip;
+use th_picture::{Sight, undrawn_count, write_picture, write_strip};
 
 /// Writes the picture with its caption and its legend.
 #[tactic(auto, unfolding(crate::specs::Figures::picture_figure))]

@@ -3,7 +3,7 @@ ghost use Rattle.std.specs.Prelude.{◌≡◌, ◌++◌, OnOk};
 ghost use Rattle.th_page.specs.Fixed.{benchmark_start, body_text, entry_start, explanation_start, foot_text, head_text, height_start, legend_text, marked_start, note_start, picture_start, places_text, strip_start, style_text, weak_start};
 
 use std::alloc::AllocError;
-use th_pages::Page;
+use th_columns::Page;
 
 /// What is before the style.
 const HEAD: &[u8] = b"\

@@ -4,8 +4,8 @@ ghost use Rattle.th_page.specs.Fronts.{benchmark_lamp, entry_lamp, lamp_class, l
 
 use crate::weak::{weak_benchmark_count, weak_entry_count, weak_sight_count};
 use std::alloc::AllocError;
+use th_columns::Page;
 use th_html::{BenchmarkRow, EntryRow, write_number};
-use th_pages::Page;
 use th_picture::{MARKED, Sight, group_count};
 
 /// Writes the lamps.

@@ -1,7 +1,8 @@
 //! One page to hand on: a text of HTML with pictures, which has no script and loads nothing.
 //!
-//! `page_text` makes it from what a review and explanations found. `specs/Pages.antt` defines it. Out
-//! of memory is the only failure.
+//! `page_text` makes it from what a review and explanations found. `specs/Pages.antt` defines it.
+//! `page_of` makes it of a network: what a review finds of it are rows of the page. Out of memory is the
+//! only failure.
 #![tactic(auto)]
 
 // What a page shows, and the texts that every page has.
@@ -17,5 +18,14 @@ mod weak;
 // The whole.
 mod pages;
 
+// What a review found, as rows of a page.
+mod rows;
+mod sights;
+mod texts;
+
+// The page of a network.
+mod network_pages;
+
 pub use contents::Shown;
+pub use network_pages::page_of;
 pub use pages::page_text;

@@ -13,7 +13,7 @@ use crate::sections::{
     write_explanation_section, write_note_section, write_number_sections, write_sight_sections,
 };
 use std::alloc::{AllocError, Global};
-use th_pages::Page;
+use th_columns::Page;
 
 /// The page that shows what was found.
 #[tactic(auto, unfolding(crate::specs::Pages::page_text))]

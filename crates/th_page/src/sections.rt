@@ -9,12 +9,12 @@ use crate::fixed::{
 };
 use crate::weak::{marked_rows, weak_benchmarks, weak_entries, weak_rows};
 use std::alloc::{AllocError, Global};
-use th_explanations::Row;
+use th_columns::Page;
+use th_explain_texts::Row;
 use th_html::{
     BenchmarkRow, EntryRow, PointRow, SightRow, write_benchmarks, write_entries, write_escaped,
     write_explanations, write_heights, write_sights,
 };
-use th_pages::Page;
 use th_picture::Sight;
 
 /// Writes the sections of sights and points.

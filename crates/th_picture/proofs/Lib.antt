@@ -3,3 +3,4 @@ pub mod Groupings
 pub mod Distances
 pub mod Heights
 pub mod Bends
+pub mod Reaches

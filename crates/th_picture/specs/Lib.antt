@@ -7,3 +7,5 @@ pub mod Gaps
 pub mod Names
 pub mod Pictures
 pub mod Laws
+pub mod Strips
+pub mod StripLaws

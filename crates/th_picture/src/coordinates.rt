@@ -6,8 +6,8 @@ ghost use Rattle.th_picture.specs.Lines.{pair_text};
 use crate::scales::{Frame, moved, raised, x_of};
 use crate::sights::{End, Sight};
 use std::alloc::AllocError;
+use th_columns::Page;
 use th_html::write_number;
-use th_pages::Page;
 
 /// Writes two coordinates behind a text.
 #[tactic(auto, unfolding(crate::specs::Lines::pair_text))]

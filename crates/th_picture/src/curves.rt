@@ -8,8 +8,8 @@ use crate::groups::{FEW, GROUPS, MANY, group_count, is_in, mistake_letter};
 use crate::scales::Frame;
 use crate::sights::Sight;
 use std::alloc::AllocError;
+use th_columns::Page;
 use th_html::write_found;
-use th_pages::Page;
 
 /// Writes all groups of sights that are drawn.
 pub(crate) fn write_groups(

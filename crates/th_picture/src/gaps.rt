@@ -9,9 +9,9 @@ use crate::groups::{MANY, MARKED, group_count, is_in};
 use crate::scales::Frame;
 use crate::sights::Sight;
 use std::alloc::AllocError;
+use th_columns::Page;
 use th_html::{write_number, write_place};
 use th_observations::Observation;
-use th_pages::Page;
 
 /// Up to so many marked sights have their places in the picture.
 const MOST_NAMED: u64 = 20;

@@ -1,5 +1,6 @@
 //! Laws of the definitions.
 ghost use Rattle.th_picture.specs.Laws.{EachSightOnce, IsInOrder, IsInsideFrame, NamesDoNotTouch};
+ghost use Rattle.th_picture.specs.StripLaws.{ReachesAll};
 
 /// Each sight is in exactly one of the groups. So it is drawn at most once, and its residual has one
 /// bar.
@@ -21,4 +22,10 @@ pub fn places_are_inside_the_frame()
 /// Names under the picture do not touch.
 pub fn names_do_not_touch()
     ensures { NamesDoNotTouch }
+{}
+
+/// The bars and the range within the limit are inside the frame, and what is larger is not shown
+/// shorter.
+pub fn strip_reaches_all()
+    ensures { ReachesAll }
 {}

@@ -6,8 +6,8 @@ ghost use Rattle.th_picture.specs.Names.{depth_of, is_written, level_open, longe
 use crate::coordinates::write_pair;
 use crate::scales::{Frame, x_of};
 use std::alloc::AllocError;
+use th_columns::Page;
 use th_html::{PointRow, write_escaped, write_number};
-use th_pages::Page;
 
 /// Fewer than twice so many names are written.
 const NAMES: u64 = 30;

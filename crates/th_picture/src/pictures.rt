@@ -11,8 +11,8 @@ use crate::points::write_points;
 use crate::scales::{Frame, RAISE, Scale};
 use crate::sights::Sight;
 use std::alloc::AllocError;
+use th_columns::Page;
 use th_html::{PointRow, write_number, write_sized};
-use th_pages::Page;
 
 /// Writes the picture of points, in point order, and of sights. The limit of blunders is in units of
 /// 10 nm.

@@ -7,8 +7,8 @@ use crate::coordinates::write_pair;
 use crate::groups::FEW;
 use crate::scales::{Frame, x_of};
 use std::alloc::AllocError;
+use th_columns::Page;
 use th_html::{PointRow, write_escaped, write_height, write_number};
-use th_pages::Page;
 
 /// Writes all points, in point order.
 #[tactic(auto, unfolding(crate::specs::Points::point_lines))]

@@ -2,11 +2,11 @@
 use Rattle.std.proofs.Common.{◌≡◌, ◌∷◌, [], ℕ, Bool, List, Ok, Err, IfErr, subst, refl}
 use Rattle.std.specs.Prelude.{OnOk, Result}
 use Rattle.std.specs.List.{AllByRecursion}
-use Rattle.th_booking.specs.Booked.{IsOfBooking, booked as booked_texts}
-use Rattle.th_booking.specs.declared.conversions.Conversion.{Conversion}
+use Rattle.th_run_book.specs.Booked.{IsOfBooking, booked as booked_texts}
+use Rattle.th_run_book.specs.declared.conversions.Conversion.{Conversion}
 use Rattle.th_devices.specs.Devices.{SinkState}
 use Rattle.th_devices.specs.Spots.{Spot, file, output}
-use Rattle.th_folders.specs.Folders.{Failing}
+use Rattle.th_devices.specs.Folders.{Failing}
 use Rattle.th_program.specs.Done.{IsBooked, IsRefusedBook}
 use Rattle.th_program.specs.Failing.{HasCause}
 use Rattle.th_files.specs.Owed.{Told, converted_owed}

@@ -2,13 +2,13 @@
 use Rattle.std.proofs.Common.{◌≡◌, ◌<◌, ◌+◌, ◌∙◌, ℕ, Bool, true, List, [], ◌∷◌, Some, None, Ok, Err, IfErr, ap, arith, inl, inr, is_some, length, map, refl, subst, suc, sym, zero}
 use Rattle.std.specs.Prelude.{Option, Result, if◌then◌else◌, nat_eq, option_map, slice_get}
 use Rattle.std.proofs.lemmas.Option.{slice_get-map}
-use Rattle.th_booking.specs.Booked.{IsOfBooking, input_of}
-use Rattle.th_booking.specs.declared.conversions.Conversion.{Conversion}
-use Rattle.th_booking.specs.declared.conversions.Conversion.TheVariants.{Differences, Heights}
+use Rattle.th_run_book.specs.Booked.{IsOfBooking, input_of}
+use Rattle.th_run_book.specs.declared.conversions.Conversion.{Conversion}
+use Rattle.th_run_book.specs.declared.conversions.Conversion.TheVariants.{Differences, Heights}
 use Rattle.th_devices.specs.Devices.{IsOpened, SinkState, SourceState}
 use Rattle.th_devices.specs.Spots.{Spot, file}
-use Rattle.th_folders.specs.Folders.{Failing, IsStopped}
-use Rattle.th_plans.specs.Asked.{Files}
+use Rattle.th_devices.specs.Folders.{Failing, IsStopped}
+use Rattle.th_commands.specs.Asked.{Files}
 use Rattle.th_files.proofs.OpenedLemmas.{named-opened}
 use Rattle.th_program.specs.Failing.{HasCause, IsInClaim, IsInFiles, Origins}
 use Rattle.th_files.specs.Opened.{AreGivenBack, AreMade, AreOpened, EachIsOpened, IsOpenedIfAny}

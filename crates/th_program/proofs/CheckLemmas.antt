@@ -6,7 +6,7 @@ use Rattle.th_checker.specs.declared.verdicts.Verdict.{Verdict}
 use Rattle.th_checker.specs.declared.verdicts.Verdict.TheVariants as verdict
 use Rattle.th_devices.specs.Devices.{SinkState}
 use Rattle.th_devices.specs.Spots.{Spot, output}
-use Rattle.th_plans.specs.Asked.{Files}
+use Rattle.th_commands.specs.Asked.{Files}
 use Rattle.th_program.specs.Done.{IsChecked}
 use Rattle.th_files.specs.Outputs.{Holds}
 use Rattle.th_files.specs.Owed.{Told, claim_owed}

@@ -5,17 +5,17 @@ use Rattle.std.specs.Prelude.{OnOk, Result}
 use Rattle.th_devices.specs.Devices.{SinkState}
 use Rattle.th_devices.specs.Spots.{Spot, file, output}
 use Rattle.th_network.specs.Networks.{Survey}
-use Rattle.th_plans.specs.Asked.{Files}
+use Rattle.th_commands.specs.Asked.{Files}
 use Rattle.th_program.specs.Done.{IsExplained}
 use Rattle.th_files.specs.Owed.{Told, survey_owed}
 use Rattle.th_files.specs.Opened.{AreMade, IsTaken}
 use Rattle.th_files.proofs.OutputLemmas.{all_whole}
-use Rattle.th_explaining.specs.Explained.{AreOfExplanation, text_in}
+use Rattle.th_run_explain.specs.Explained.{AreOfExplanation, text_in}
 use Rattle.th_run_parts.specs.Inputs.{Meets, Owed}
 use Rattle.th_run_parts.specs.Outcomes.{Accepted}
 use Rattle.th_run_parts.specs.Reads.{refused}
 use Rattle.th_run_parts.specs.Writes.{AreWritten, IsWritten, Texts}
-use Rattle.th_explaining.specs.declared.explaining.Form.{Form}
+use Rattle.th_run_explain.specs.declared.explaining.Form.{Form}
 use Rattle.th_run_parts.specs.declared.outputs.Output.TheVariants as out
 use Rattle.th_run_parts.specs.declared.refusals.Refusal.{Refusal}
 

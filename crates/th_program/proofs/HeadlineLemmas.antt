@@ -7,16 +7,16 @@ use Rattle.th_certificate.specs.Certified.{Certified}
 use Rattle.th_checker.specs.declared.verdicts.Verdict.{Verdict}
 use Rattle.th_checker.specs.declared.verdicts.Verdict.TheVariants.{Yes}
 use Rattle.th_devices.specs.Spots.{Spot, file, output}
-use Rattle.th_folders.specs.Folders.{Failing}
+use Rattle.th_devices.specs.Folders.{Failing}
 use Rattle.th_network.specs.Networks.{Survey}
-use Rattle.th_plans.specs.Asked.{Asked, Files, adjust, check}
-use Rattle.th_plans.specs.Limits.{max_books}
-use Rattle.th_plans.specs.Plans.{AreTaken, IsFaultOf, IsPlanOf, asked, books_named, name_no_files, said_by}
+use Rattle.th_commands.specs.Asked.{Asked, Files, adjust, check}
+use Rattle.th_commands.specs.PlanLimits.{max_books}
+use Rattle.th_commands.specs.Plans.{AreTaken, IsFaultOf, IsPlanOf, asked, books_named, name_no_files, said_by}
 use Rattle.th_commands.specs.Commands.{command_line}
-use Rattle.th_plans.specs.declared.faults.PlanFault.{PlanFault}
-use Rattle.th_plans.specs.declared.faults.PlanFault.TheVariants as fault
-use Rattle.th_plans.specs.declared.plans.Plan.{Plan}
-use Rattle.th_plans.specs.declared.plans.Plan.TheVariants as plan
+use Rattle.th_commands.specs.declared.faults.PlanFault.{PlanFault}
+use Rattle.th_commands.specs.declared.faults.PlanFault.TheVariants as fault
+use Rattle.th_commands.specs.declared.plans.Plan.{Plan}
+use Rattle.th_commands.specs.declared.plans.Plan.TheVariants as plan
 use Rattle.th_files.proofs.OpenedLemmas.{owed-same}
 use Rattle.th_files.proofs.OutputLemmas.{spot_among}
 use Rattle.th_program.specs.Done.{AreDone, IsAdjustOutput, IsAdjusted, IsChecked, IsRefusedAdjust, IsRefusedCheck, IsRun, IsUsage}

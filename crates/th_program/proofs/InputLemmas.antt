@@ -1,8 +1,8 @@
 -- Inputs stay as they were.
 use Rattle.std.proofs.Common.{◌≡◌, ◌∙◌, ℕ, Bool, true, false, List, None, inl, inr, refl, sym}
 use Rattle.th_devices.specs.Spots.{Spot, file}
-use Rattle.th_folders.specs.Folders.{Failing}
-use Rattle.th_plans.specs.declared.plans.Plan.{Plan}
+use Rattle.th_devices.specs.Folders.{Failing}
+use Rattle.th_commands.specs.declared.plans.Plan.{Plan}
 use Rattle.th_files.proofs.OutputLemmas.{file-apart}
 use Rattle.th_program.specs.Done.{IsInputOf, IsRun}
 use Rattle.th_files.specs.Owed.{Told}

@@ -5,7 +5,7 @@ use Rattle.th_observations.specs.Observed.{Observed}
 use Rattle.std.specs.List.{AllByRecursion}
 use Rattle.th_devices.specs.Devices.{SinkState}
 use Rattle.th_devices.specs.Spots.{Spot, output}
-use Rattle.th_folders.specs.Folders.{Failing}
+use Rattle.th_devices.specs.Folders.{Failing}
 use Rattle.th_program.specs.Done.{IsListed, IsRefusedList}
 use Rattle.th_program.specs.Failing.{HasCause}
 use Rattle.th_files.specs.Owed.{Told, book_owed}

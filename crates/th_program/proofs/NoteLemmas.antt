@@ -3,7 +3,7 @@ use Rattle.std.proofs.Common.{◌≡◌, ◌≤◌, ◌+◌, ◌∷◌, ℕ, ℤ
 use Rattle.std.specs.Prelude.{OnOk, Option, Result, option_to_list}
 use Rattle.th_devices.specs.Devices.{SinkState, SourceState}
 use Rattle.th_devices.specs.Spots.{Spot, file}
-use Rattle.th_folders.specs.Folders.{Failing}
+use Rattle.th_devices.specs.Folders.{Failing}
 use Rattle.std.proofs.lemmas.List.{length-map}
 use Rattle.std.proofs.lemmas.Slice.Zip.{AllZip-long}
 use Rattle.th_entries.specs.Reviews.{parsed_of}
@@ -11,8 +11,8 @@ use Rattle.th_entries.specs.Several.{numbered}
 use Rattle.th_entries.specs.Sights.{no_sight_in}
 use Rattle.th_entries.specs.declared.sights.NoSight.{NoSight}
 use Rattle.th_network.specs.Networks.{Survey}
-use Rattle.th_plans.specs.Asked.{Files}
-use Rattle.th_plans.specs.Limits.{max_books}
+use Rattle.th_commands.specs.Asked.{Files}
+use Rattle.th_commands.specs.PlanLimits.{max_books}
 use Rattle.th_files.specs.Opened.{AreGivenBack}
 use Rattle.th_program.specs.Noted.{AreNotesOfFiles}
 use Rattle.th_files.specs.Owed.{Told, survey_owed}

@@ -6,8 +6,8 @@ use Rattle.th_files.specs.Owed.{HasName}
 use Rattle.th_files.specs.Stops.{IsStop}
 use Rattle.th_files.specs.declared.overwrites.Stop.{Stop}
 use Rattle.th_files.specs.declared.overwrites.Stop.TheVariants as stop
-use Rattle.th_plans.specs.Asked.{Files}
-use Rattle.th_plans.specs.declared.plans.Plan.{Plan}
+use Rattle.th_commands.specs.Asked.{Files}
+use Rattle.th_commands.specs.declared.plans.Plan.{Plan}
 use Rattle.th_program.specs.Done.{IsInputOf, IsOutputOf}
 use Rattle.th_program.specs.Inside.Stops.{IsStopOf}
 use Rattle.th_run_parts.specs.declared.refusals.Input.{Input}

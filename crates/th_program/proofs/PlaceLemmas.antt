@@ -5,9 +5,9 @@ use Rattle.std.specs.Prelude.{OnOk, Option, Result, is_some, slice_get}
 use Rattle.th_devices.specs.Devices.{IsMade, SinkState}
 use Rattle.th_devices.specs.Spots.{Spot}
 use Rattle.th_devices.specs.Transfer.{HasTaken}
-use Rattle.th_folders.specs.Folders.{ArePlaced, Failing, IsPlaced}
+use Rattle.th_devices.specs.Folders.{ArePlaced, Failing, IsPlaced}
 use Rattle.th_network.specs.Networks.{Survey}
-use Rattle.th_plans.specs.Asked.{Files}
+use Rattle.th_commands.specs.Asked.{Files}
 use Rattle.std.proofs.lemmas.Option.{get_or_from_slice_get, slice_get_within}
 use Rattle.th_program.proofs.HeadlineLemmas.{survey_same}
 use Rattle.th_files.proofs.OutputLemmas.{where_told}

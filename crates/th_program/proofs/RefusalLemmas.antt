@@ -2,7 +2,7 @@
 use Rattle.std.proofs.Common.{Some, Ok, Err, IfErr, is_some, length}
 use Rattle.std.specs.Prelude.{Option, Result}
 use Rattle.th_network.specs.Networks.{Survey}
-use Rattle.th_plans.specs.Asked.{Files}
+use Rattle.th_commands.specs.Asked.{Files}
 use Rattle.th_program.specs.Done.{IsRefusedFor, IsWrite}
 use Rattle.th_run_parts.specs.Inputs.{IsOwed, Owed}
 use Rattle.th_run_parts.specs.Reads.{IsNamed, Run, refused}

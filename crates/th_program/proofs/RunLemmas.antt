@@ -2,25 +2,25 @@
 use Rattle.std.proofs.Common.{◌≡◌, ◌≢◌, ◌∙◌, ℕ, Bool, true, List, None, Some, get_or, map, refl, [], ◌∷◌, ap₂, subst, sym}
 use Rattle.std.proofs.lemmas.List.Elements.{All-from_recursion}
 use Rattle.std.specs.List.{AllByRecursion, Contains}
-use Rattle.th_booking.specs.declared.conversions.Conversion.{Conversion}
-use Rattle.th_booking.specs.declared.conversions.Conversion.TheVariants.{Differences, Heights}
+use Rattle.th_run_book.specs.declared.conversions.Conversion.{Conversion}
+use Rattle.th_run_book.specs.declared.conversions.Conversion.TheVariants.{Differences, Heights}
 use Rattle.th_devices.specs.Spots.{Spot, errors, file, input, is_file, output}
-use Rattle.th_folders.specs.Folders.{Failing}
-use Rattle.th_paging.specs.Paged.{paging}
-use Rattle.th_plans.specs.Plans.{files}
-use Rattle.th_plans.specs.declared.plans.Plan.{Plan}
-use Rattle.th_plans.specs.declared.plans.Plan.TheVariants as plan
+use Rattle.th_devices.specs.Folders.{Failing}
+use Rattle.th_run_page.specs.Paged.{paging}
+use Rattle.th_commands.specs.Plans.{files}
+use Rattle.th_commands.specs.declared.plans.Plan.{Plan}
+use Rattle.th_commands.specs.declared.plans.Plan.TheVariants as plan
 use Rattle.th_files.proofs.OutputLemmas.{all_files, no_errors}
 use Rattle.th_program.proofs.RefusalLemmas.{refused-for-map}
 use Rattle.th_program.specs.Done.{IsBooked, IsDone, IsListed, IsOutputOf, IsRefused, IsPrinted}
 use Rattle.th_files.specs.Owed.{Told, survey_owed}
 use Rattle.th_files.specs.Outputs.{spots_of, AreLeftAs}
 use Rattle.th_runs.specs.Adjusted.{adjusting}
-use Rattle.th_reviewing.specs.Reviewed.{reviewing}
+use Rattle.th_run_review.specs.Reviewed.{reviewing}
 use Rattle.th_run_parts.specs.declared.refusals.Refusal.{Refusal}
 use Rattle.std.specs.Prelude.{Option}
 use Rattle.th_network.specs.Networks.{Survey}
-use Rattle.th_plans.specs.Asked.{Files}
+use Rattle.th_commands.specs.Asked.{Files}
 use Rattle.th_run_parts.specs.Outputs.{ending_of}
 use Rattle.th_run_parts.specs.Writes.{Texts}
 use Rattle.th_run_parts.specs.declared.outputs.Output.{Output}

@@ -7,34 +7,34 @@ use Rattle.clap.specs.declared.error.kind.ErrorKind.TheVariants.{DisplayHelp, Di
 use Rattle.th_checker.specs.declared.verdicts.Verdict.{Verdict}
 use Rattle.th_observations.specs.Observed.{Observed}
 use Rattle.th_devices.specs.Spots.{Spot, errors, file, input, output}
-use Rattle.th_folders.specs.Folders.{Failing}
+use Rattle.th_devices.specs.Folders.{Failing}
 use Rattle.th_network.specs.Networks.{Survey}
-use Rattle.th_paging.specs.Paged.{AreOfPage, paging}
-use Rattle.th_plans.specs.Asked.{Files}
-use Rattle.th_plans.specs.Plans.{IsFaultOf, IsPlanOf, files}
-use Rattle.th_plans.specs.declared.faults.PlanFault.{PlanFault}
-use Rattle.th_plans.specs.declared.faults.PlanFault.TheVariants as fault
-use Rattle.th_plans.specs.declared.plans.Plan.{Plan}
-use Rattle.th_plans.specs.declared.plans.Plan.TheVariants as plan
+use Rattle.th_run_page.specs.Paged.{AreOfPage, paging}
+use Rattle.th_commands.specs.Asked.{Files}
+use Rattle.th_commands.specs.Plans.{IsFaultOf, IsPlanOf, files}
+use Rattle.th_commands.specs.declared.faults.PlanFault.{PlanFault}
+use Rattle.th_commands.specs.declared.faults.PlanFault.TheVariants as fault
+use Rattle.th_commands.specs.declared.plans.Plan.{Plan}
+use Rattle.th_commands.specs.declared.plans.Plan.TheVariants as plan
 use Rattle.th_report.specs.Lists.{list_text}
-use Rattle.th_booking.specs.Booked.{IsOfBooking}
-use Rattle.th_booking.specs.declared.conversions.Conversion.{Conversion}
-use Rattle.th_booking.specs.declared.conversions.Conversion.TheVariants.{Differences, Heights}
+use Rattle.th_run_book.specs.Booked.{IsOfBooking}
+use Rattle.th_run_book.specs.declared.conversions.Conversion.{Conversion}
+use Rattle.th_run_book.specs.declared.conversions.Conversion.TheVariants.{Differences, Heights}
 use Rattle.th_runs.specs.Adjusted.{AreOfAdjustment, adjusting}
 use Rattle.th_runs.specs.Checked.{IsRight, checking, verdict_line, verdict_on}
-use Rattle.th_explaining.specs.Explained.{AreOfExplanation, explaining}
+use Rattle.th_run_explain.specs.Explained.{AreOfExplanation, explaining}
 use Rattle.th_run_parts.specs.Inputs.{Claim, IsOwed, MakesNetwork, Meets, MeetsRefusal, Owed}
 use Rattle.th_runs.specs.Listed.{IsOfList}
 use Rattle.th_runs.specs.Noted.{AreNone}
 use Rattle.th_run_parts.specs.Reads.{IsNamed, Run}
 use Rattle.th_run_parts.specs.Refusals.{status_of, status_of_verdict}
-use Rattle.th_reviewing.specs.Reviewed.{AreOfReview, reviewing}
+use Rattle.th_run_review.specs.Reviewed.{AreOfReview, reviewing}
 use Rattle.th_run_parts.specs.Writes.{Texts, UnlessWrite}
 use Rattle.th_runs.specs.declared.notes.Notes.{Notes}
 use Rattle.th_run_parts.specs.declared.refusals.Input.{Input}
 use Rattle.th_run_parts.specs.declared.refusals.Input.TheVariants as source
-use Rattle.th_explaining.specs.declared.explaining.Form.{Form}
-use Rattle.th_explaining.specs.declared.explaining.Form.TheVariants as form
+use Rattle.th_run_explain.specs.declared.explaining.Form.{Form}
+use Rattle.th_run_explain.specs.declared.explaining.Form.TheVariants as form
 use Rattle.th_run_parts.specs.declared.outputs.Output.{Output}
 use Rattle.th_run_parts.specs.declared.outputs.Output.TheVariants as out
 use Rattle.th_run_parts.specs.declared.refusals.Refusal.{Refusal}

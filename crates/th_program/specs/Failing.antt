@@ -1,8 +1,8 @@
 -- Where a run reads its inputs, and what a failed device shows of the folder.
 use Rattle.std.specs.Prelude.{◌≡◌, ℕ, true, List}
 use Rattle.th_devices.specs.Spots.{Spot, file}
-use Rattle.th_folders.specs.Folders.{Failing}
-use Rattle.th_plans.specs.Asked.{Files}
+use Rattle.th_devices.specs.Folders.{Failing}
+use Rattle.th_commands.specs.Asked.{Files}
 use Rattle.th_files.specs.Outputs.{spot_at}
 use Rattle.th_files.specs.Owed.{HasName}
 use Rattle.th_run_parts.specs.Outputs.{ending_of}

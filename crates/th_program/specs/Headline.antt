@@ -3,11 +3,11 @@ use Rattle.std.specs.Prelude.{◌≡◌, ◌<◌, ◌⊎◌, ℕ, ℤ, Bool, tru
 use Rattle.std.specs.List.{Contains}
 use Rattle.th_network.specs.Networks.{Survey}
 use Rattle.th_checker.specs.declared.verdicts.Verdict.{Verdict}
-use Rattle.th_plans.specs.Asked.{Asked, Files}
-use Rattle.th_plans.specs.Plans.{AreTaken, asked}
+use Rattle.th_commands.specs.Asked.{Asked, Files}
+use Rattle.th_commands.specs.Plans.{AreTaken, asked}
 use Rattle.th_run_parts.specs.Inputs.{MakesNetwork}
 use Rattle.th_devices.specs.Spots.{Spot, file}
-use Rattle.th_folders.specs.Folders.{Failing}
+use Rattle.th_devices.specs.Folders.{Failing}
 use Rattle.th_program.specs.Done.{IsAdjustOutput, IsAdjusted, IsChecked, IsRefusedAdjust, IsRefusedCheck}
 use Rattle.th_program.specs.Failing.{Origins}
 use Rattle.th_files.specs.Owed.{HasName, Told, survey_owed}

@@ -2,10 +2,10 @@
 use Rattle.std.specs.Prelude.{ℤ, List, None, Ok, map}
 use Rattle.th_devices.specs.Spots.{file, input}
 use Rattle.th_network.specs.Networks.{Survey}
-use Rattle.th_plans.specs.Asked.{Files}
-use Rattle.th_plans.specs.Plans.{files}
-use Rattle.th_plans.specs.declared.plans.Plan.{Plan}
-use Rattle.th_plans.specs.declared.plans.Plan.TheVariants as plan
+use Rattle.th_commands.specs.Asked.{Files}
+use Rattle.th_commands.specs.Plans.{files}
+use Rattle.th_commands.specs.declared.plans.Plan.{Plan}
+use Rattle.th_commands.specs.declared.plans.Plan.TheVariants as plan
 use Rattle.th_files.specs.Owed.{Told, survey_owed}
 use Rattle.th_run_parts.specs.Inputs.{MakesNetwork, Meets}
 use Rattle.th_runs.specs.Noted.{AreNone, AreNotesOfAdjustment, AreNotesOfList}

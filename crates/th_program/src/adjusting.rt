@@ -1,16 +1,16 @@
 //! Adjusting the network of files of a folder.
 ghost use Rattle.std.specs.Prelude.{◌≡◌, ◌≤◌, IfErr, None, OnOk, length};
-ghost use Rattle.th_plans.specs.Limits.{max_books};
+ghost use Rattle.th_commands.specs.PlanLimits.{max_books};
 ghost use Rattle.th_program.specs.Done.{IsAdjustOutput, IsAdjusted, IsRefusedAdjust};
-ghost use Rattle.th_plans.specs.Plans.{files};
+ghost use Rattle.th_commands.specs.Plans.{files};
 ghost use Rattle.th_program.specs.Noted.{AreNotesOfFiles};
 ghost use Rattle.th_runs.specs.Noted.{AreNone};
 ghost use Rattle.th_run_parts.specs.Writes.{UnlessWrite};
 
 use std::alloc::Global;
+use th_commands::{Inputs, Limit};
+use th_devices::Folder;
 use th_files::{place_sinks, sinks_of, sources_of};
-use th_folders::Folder;
-use th_plans::{Inputs, Limit};
 use th_runs::{ADJUSTED, Notes, Refusal, run_adjust_with_notes};
 
 /// Adjusts the network of the named files, writes the outputs of an adjustment to files whose names

@@ -5,9 +5,9 @@ ghost use Rattle.th_program.specs.Done.{IsBooked, IsRefusedBook};
 ghost use Rattle.th_run_parts.specs.Writes.{UnlessWrite};
 
 use std::alloc::Global;
-use th_booking::{BOOKED, Conversion, run_book};
+use th_devices::{Folder, Origin};
 use th_files::{close_sinks, sinks_of};
-use th_folders::{Folder, Origin};
+use th_run_book::{BOOKED, Conversion, run_book};
 use th_runs::Refusal;
 
 /// Prints the book that the named file becomes on standard output.

@@ -1,15 +1,15 @@
 //! Checking a certificate of a folder.
 ghost use Rattle.std.specs.Prelude.{◌≡◌, ◌≢◌, IfErr, IfOk};
 ghost use Rattle.th_devices.specs.Spots.{output};
-ghost use Rattle.th_plans.specs.Plans.{files};
+ghost use Rattle.th_commands.specs.Plans.{files};
 ghost use Rattle.th_program.specs.Done.{IsChecked, IsRefusedCheck};
 ghost use Rattle.th_run_parts.specs.Writes.{UnlessWrite};
 
 use std::alloc::Global;
 use th_checker::Verdict;
+use th_commands::Inputs;
+use th_devices::{Folder, Origin};
 use th_files::{close_sinks, sinks_of, sources_of};
-use th_folders::{Folder, Origin};
-use th_plans::Inputs;
 use th_runs::{CHECKED, Refusal, run_check};
 
 /// Checks the certificate in the named file against the other named files.

@@ -1,15 +1,15 @@
 //! Explaining what does not fit in the network of files of a folder.
 ghost use Rattle.std.specs.Prelude.{◌≡◌, ◌≢◌, IfErr, OnOk};
 ghost use Rattle.th_devices.specs.Spots.{output};
-ghost use Rattle.th_plans.specs.Plans.{files};
+ghost use Rattle.th_commands.specs.Plans.{files};
 ghost use Rattle.th_program.specs.Done.{IsExplained, IsRefusedExplain, form_of};
 ghost use Rattle.th_run_parts.specs.Writes.{UnlessWrite};
 
 use std::alloc::Global;
-use th_explaining::{EXPLAINED, Form, run_explain};
+use th_commands::{Inputs, Limit};
+use th_devices::Folder;
 use th_files::{close_sinks, sinks_of, sources_of};
-use th_folders::Folder;
-use th_plans::{Inputs, Limit};
+use th_run_explain::{EXPLAINED, Form, run_explain};
 use th_runs::Refusal;
 
 /// Prints on standard output which one number of the named files, if it were wrong, would explain what

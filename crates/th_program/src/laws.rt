@@ -3,8 +3,8 @@
 ghost use Rattle.std.specs.Prelude.{◌≡◌, ◌⊎◌, ℕ, ℤ, List, [], None, Ok, Some};
 ghost use Rattle.th_devices.specs.Spots.{file};
 ghost use Rattle.th_network.specs.Networks.{Survey};
-ghost use Rattle.th_plans.specs.Asked.{Files, adjust, check};
-ghost use Rattle.th_plans.specs.declared.plans.Plan.{Plan};
+ghost use Rattle.th_commands.specs.Asked.{Files, adjust, check};
+ghost use Rattle.th_commands.specs.declared.plans.Plan.{Plan};
 ghost use Rattle.th_program.specs.Done.{AreDone, IsAdjusted, IsInputOf, IsRun};
 ghost use Rattle.th_program.specs.Failing.{IsInClaim, IsInFiles};
 ghost use Rattle.th_program.specs.Headline.{AskFor, IsAccepted, IsEndedAdjust, IsEndedCheck, IsUnlucky, NoneMayFail, SomeMayFail, SparesInputs};
@@ -15,7 +15,7 @@ ghost use Rattle.th_runs.specs.Checked.{IsRight, checking};
 ghost use Rattle.th_run_parts.specs.Inputs.{Claim, Meets};
 ghost use Rattle.th_run_parts.specs.declared.refusals.Input.{Input};
 
-use th_folders::Folder;
+use th_devices::Folder;
 use th_runs::laws::{
     accepted_inputs_are_refused_for_memory_alone, printed_certificate_is_accepted,
 };

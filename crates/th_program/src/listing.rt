@@ -1,14 +1,14 @@
 //! Listing a book of a folder.
 ghost use Rattle.std.specs.Prelude.{◌≡◌, ◌≢◌, OnOk, IfErr};
-ghost use Rattle.th_folders.specs.Folders.{spot_of_origin};
+ghost use Rattle.th_devices.specs.Folders.{spot_of_origin};
 ghost use Rattle.th_devices.specs.Spots.{output};
 ghost use Rattle.th_program.specs.Done.{IsListed, IsRefusedList};
 ghost use Rattle.th_runs.specs.Noted.{AreNone, AreNotesOfList};
 ghost use Rattle.th_run_parts.specs.Writes.{UnlessWrite};
 
 use std::alloc::Global;
+use th_devices::{Folder, Origin};
 use th_files::{close_sinks, sinks_of};
-use th_folders::{Folder, Origin};
 use th_runs::{LISTED, Notes, Refusal, run_list_with_notes};
 
 /// Lists the book there on standard output, and adds its notes.

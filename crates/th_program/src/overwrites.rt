@@ -4,11 +4,11 @@ ghost use Rattle.th_program.specs.Done.{KeepsInputs};
 ghost use Rattle.th_program.specs.Inside.Stops.{IsStopOf};
 
 use std::alloc::Global;
+use th_commands::Plan;
+use th_devices::Folder;
 use th_files::{Stop, keep_all};
-use th_folders::Folder;
-use th_paging::PAGED;
-use th_plans::Plan;
-use th_reviewing::REVIEWED;
+use th_run_page::PAGED;
+use th_run_review::REVIEWED;
 use th_runs::ADJUSTED;
 
 /// Answers that a plan writes no file that it reads, or why it is not begun.

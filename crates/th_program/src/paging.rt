@@ -1,15 +1,15 @@
 //! Making a page of the network of files of a folder.
 ghost use Rattle.std.specs.Prelude.{◌≡◌, IfErr, None, OnOk};
 ghost use Rattle.th_program.specs.Done.{IsPageOutput, IsPagedFile, IsRefusedPage};
-ghost use Rattle.th_plans.specs.Plans.{files};
+ghost use Rattle.th_commands.specs.Plans.{files};
 ghost use Rattle.th_run_parts.specs.Writes.{UnlessWrite};
 
 use std::alloc::Global;
+use th_commands::{Inputs, Limit};
+use th_devices::Folder;
 use th_files::{place_sinks, sinks_of, sources_of};
-use th_folders::Folder;
-use th_paging::{PAGED, run_page};
-use th_plans::{Inputs, Limit};
 use th_progress::Progress;
+use th_run_page::{PAGED, run_page};
 use th_runs::Refusal;
 
 /// Writes the page of the network of the named files, whose name is the prefix and `.html`. That it is

@@ -1,6 +1,6 @@
 //! Running a plan.
 ghost use Rattle.std.specs.Prelude.{◌≡◌, ◌≤◌, IfErr, IfOk, OnOk, length};
-ghost use Rattle.th_plans.specs.Limits.{max_books};
+ghost use Rattle.th_commands.specs.PlanLimits.{max_books};
 ghost use Rattle.th_program.specs.Done.{IsCarriedOut, IsDone, IsOutputOf, IsRefused, IsRun};
 ghost use Rattle.th_program.specs.Noted.{AreNotesOf};
 ghost use Rattle.th_runs.specs.Noted.{AreNone};
@@ -16,11 +16,11 @@ use crate::paging::page;
 use crate::refusals::refuse;
 use crate::reviewing::review;
 use std::alloc::Global;
-use th_booking::Conversion;
+use th_commands::Plan;
+use th_devices::{Folder, Origin};
 use th_files::Stop;
-use th_folders::{Folder, Origin};
 use th_messages::{refuse_memory, refuse_overwrite, tell_notes};
-use th_plans::Plan;
+use th_run_book::Conversion;
 use th_runs::{DONE, Notes, Refusal, status_of_verdict};
 
 /// Runs a plan, and returns the exit status. A refusal has its lines on standard error. A plan whose

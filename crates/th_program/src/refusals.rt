@@ -5,11 +5,9 @@ ghost use Rattle.th_messages.specs.Said.{IsReported};
 ghost use Rattle.th_program.specs.Done.{IsOutputOf};
 ghost use Rattle.th_run_parts.specs.Refusals.{status_of};
 
-use th_devices::Reason;
-use th_folders::Folder;
-use th_lines::{begin_line, end_line};
-use th_messages::put_refusal;
-use th_plans::Plan;
+use th_commands::Plan;
+use th_devices::{Folder, Reason};
+use th_messages::{begin_line, end_line, put_refusal};
 use th_run_parts::{Refusal, status_of};
 
 /// Reports the refusal of a plan in one line on standard error, or in two, and returns the exit status.

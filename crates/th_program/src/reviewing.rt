@@ -1,15 +1,15 @@
 //! Reviewing the network of files of a folder.
 ghost use Rattle.std.specs.Prelude.{◌≡◌, IfErr, None, OnOk};
 ghost use Rattle.th_program.specs.Done.{IsRefusedReview, IsReviewOutput, IsReviewed};
-ghost use Rattle.th_plans.specs.Plans.{files};
+ghost use Rattle.th_commands.specs.Plans.{files};
 ghost use Rattle.th_run_parts.specs.Writes.{UnlessWrite};
 
 use std::alloc::Global;
+use th_commands::{Inputs, Limit};
+use th_devices::Folder;
 use th_files::{place_sinks, sinks_of, sources_of};
-use th_folders::Folder;
-use th_plans::{Inputs, Limit};
 use th_progress::Progress;
-use th_reviewing::{REVIEWED, run_review};
+use th_run_review::{REVIEWED, run_review};
 use th_runs::Refusal;
 
 /// Reviews the network of the named files: what a mistake in them would do. Writes the outputs of a

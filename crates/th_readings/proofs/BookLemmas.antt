@@ -7,7 +7,7 @@ use Rattle.th_entries.specs.declared.entries.Entry.{Entry}
 use Rattle.th_changes.specs.Freed.{cost_of}
 use Rattle.th_circulation.specs.Extremes.{AreLowest}
 use Rattle.th_blunders.specs.Blunders.{blunders_at}
-use Rattle.th_explanations.specs.declared.rows.Row.{Row}
+use Rattle.th_explain_texts.specs.declared.rows.Row.{Row}
 use Rattle.th_network.specs.Networks.{Survey, at_points_of}
 use Rattle.th_readings.specs.Readings.{IsBookRow, is_cheaper, reread, row_of_book}
 use Rattle.th_numbers.specs.declared.books.SightedBook.{SightedBook}

@@ -8,8 +8,8 @@ use Rattle.th_entries.specs.declared.entries.HeightKind.TheVariants as height
 use Rattle.th_changes.specs.Freed.{cost_of}
 use Rattle.th_circulation.specs.Extremes.{AreLowest}
 use Rattle.th_blunders.specs.Blunders.{blunders_at}
-use Rattle.th_explanations.specs.declared.rows.Kind.TheVariants as kind
-use Rattle.th_explanations.specs.declared.rows.Row.{Row}
+use Rattle.th_explain_texts.specs.declared.rows.Kind.TheVariants as kind
+use Rattle.th_explain_texts.specs.declared.rows.Row.{Row}
 use Rattle.th_network.specs.Networks.{Survey}
 use Rattle.th_reliability.specs.Sights.{in_sights}
 use Rattle.th_review_rows.specs.Entries.{sights_of}

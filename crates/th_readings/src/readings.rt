@@ -11,7 +11,7 @@ use std::alloc::{AllocError, Global};
 use th_blunders::{Fit, blunder_count};
 use th_circulation::best_heights;
 use th_entries::{Entry, HeightKind};
-use th_explanations::{Kind, Row};
+use th_explain_texts::{Kind, Row};
 use th_limits::LARGEST_DIFFERENCE;
 use th_network::laws::faults_exclude_each_other;
 use th_network::{NetFault, Network};

@@ -4,9 +4,9 @@ use Rattle.std.specs.List.{zip}
 use Rattle.std.proofs.lemmas.List.{drop_more, get_or_default}
 use Rattle.th_observations.specs.Observed.{Observed}
 use Rattle.th_network.specs.Networks.{Survey}
-use Rattle.th_graphs.specs.Cuts.{crosses as edge_crosses}
-use Rattle.th_graphs.specs.Graphs.{edge_at}
-use Rattle.th_graphs.specs.declared.edges.Edge.{Edge}
+use Rattle.th_cuts.specs.CutWeights.{crosses as edge_crosses}
+use Rattle.th_cuts.specs.Graphs.{edge_at}
+use Rattle.th_cuts.specs.declared.edges.Edge.{Edge}
 use Rattle.th_reliability.specs.Blames.{blamed_weight}
 use Rattle.th_reliability.specs.Cuts.{crosses}
 use Rattle.th_reliability.specs.Edges.{edge_of}

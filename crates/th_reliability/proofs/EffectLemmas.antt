@@ -4,7 +4,7 @@ use Rattle.th_observations.specs.Observed.{Observed}
 use Rattle.th_network.specs.Networks.{Survey}
 use Rattle.th_network.specs.Walks.{Anchored}
 use Rattle.th_cuts.specs.Cuts.{Weighted}
-use Rattle.th_flows.specs.Drains.{IsLeastDrain, drain, on_side}
+use Rattle.th_cuts.specs.Drains.{IsLeastDrain, drain, on_side}
 use Rattle.th_reliability.specs.Blames.{IsBlame}
 use Rattle.th_reliability.specs.Blunders.{weight_in}
 use Rattle.th_reliability.specs.Effects.{HasBlame, IsEffect}

@@ -7,10 +7,10 @@ use Rattle.th_observations.specs.Observed.{Observed}
 use Rattle.th_tables.specs.Rows.{weight_of}
 use Rattle.th_network.specs.Networks.{Survey}
 use Rattle.th_network.specs.Walks.{Anchored}
-use Rattle.th_graphs.specs.declared.edges.Edge.{Edge}
+use Rattle.th_cuts.specs.declared.edges.Edge.{Edge}
 use Rattle.th_cuts.specs.Cuts.{Weighted}
-use Rattle.th_graphs.specs.Cuts.{crosses as edge_crosses, cut_weight}
-use Rattle.th_flows.specs.Drains.{IsLeastDrain, drain, on_side}
+use Rattle.th_cuts.specs.CutWeights.{crosses as edge_crosses, cut_weight}
+use Rattle.th_cuts.specs.Drains.{IsLeastDrain, drain, on_side}
 use Rattle.th_cuts.proofs.CutTreeLemmas.{mirrored}
 use Rattle.th_reliability.specs.Blunders.{weight_in}
 use Rattle.th_reliability.specs.Cuts.{IsFreeSet, crosses}

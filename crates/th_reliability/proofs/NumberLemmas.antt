@@ -18,9 +18,9 @@ use Rattle.th_network.specs.Vertices.{free_before, vertex_of}
 use Rattle.th_network.specs.declared.links.Link.{Link}
 use Rattle.th_network.proofs.NetworkLemmas.{free_vertex_at, vertices_apart}
 use Rattle.th_network.proofs.FreePoints.{found_at, free_vertex}
-use Rattle.th_graphs.specs.declared.edges.Edge.{Edge}
+use Rattle.th_cuts.specs.declared.edges.Edge.{Edge}
 use Rattle.th_cuts.specs.Cuts.{IsLeastCut, Weighted}
-use Rattle.th_graphs.specs.Cuts.{cut_weight, separates}
+use Rattle.th_cuts.specs.CutWeights.{cut_weight, separates}
 use Rattle.th_cuts.proofs.CutTreeLemmas.{mirrored, other_side, separated}
 use Rattle.th_reliability.specs.Cuts.{IsControl, IsFreeSet, IsStrength, crosses, cut, differ}
 use Rattle.th_reliability.specs.Edges.{edge_of, names_in, vertices_in}

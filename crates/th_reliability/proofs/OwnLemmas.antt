@@ -6,10 +6,10 @@ use Rattle.th_observations.specs.Observed.{IsBetweenPoints, Observed}
 use Rattle.th_tables.specs.Rows.{weight_of}
 use Rattle.th_network.specs.Networks.{Survey}
 use Rattle.th_cuts.specs.Cuts.{IsLeastSide, Weighted}
-use Rattle.th_graphs.specs.Cuts.{crosses as edge_crosses, separates}
-use Rattle.th_flows.specs.Drains.{on_side}
-use Rattle.th_graphs.specs.Graphs.{edge_at}
-use Rattle.th_graphs.specs.declared.edges.Edge.{Edge}
+use Rattle.th_cuts.specs.CutWeights.{crosses as edge_crosses, separates}
+use Rattle.th_cuts.specs.Drains.{on_side}
+use Rattle.th_cuts.specs.Graphs.{edge_at}
+use Rattle.th_cuts.specs.declared.edges.Edge.{Edge}
 use Rattle.th_reliability.specs.Blames.{IsBlame}
 use Rattle.th_reliability.specs.Cuts.{IsControl, crosses, differ}
 use Rattle.th_reliability.specs.Edges.{edge_of, vertices_in}

@@ -4,8 +4,8 @@ use Rattle.std.proofs.lemmas.List.Sums.{sum_by-cons}
 use Rattle.th_observations.specs.Observed.{Observed}
 use Rattle.th_network.specs.Networks.{Survey}
 use Rattle.th_cuts.specs.Cuts.{Weighted}
-use Rattle.th_graphs.specs.Cuts.{crosses as edge_crosses, cut_weight, separates}
-use Rattle.th_graphs.specs.declared.edges.Edge.{Edge}
+use Rattle.th_cuts.specs.CutWeights.{crosses as edge_crosses, cut_weight, separates}
+use Rattle.th_cuts.specs.declared.edges.Edge.{Edge}
 use Rattle.th_cuts.proofs.CutTreeLemmas.{apart_itself}
 use Rattle.th_reliability.specs.Cuts.{IsFreeSet, crosses, cut, differ}
 use Rattle.th_reliability.specs.Edges.{edge_of}

@@ -8,10 +8,10 @@ use Rattle.std.proofs.lemmas.List.Sums.{sum_by_more, sum_by_more_le}
 use Rattle.th_observations.specs.Observed.{Observed}
 use Rattle.th_tables.specs.Rows.{weight_of}
 use Rattle.th_network.specs.Networks.{Survey, vertices_of, weights_of}
-use Rattle.th_flows.specs.Drains.{room_at, room_in}
-use Rattle.th_graphs.specs.Graphs.{edge_at}
-use Rattle.th_graphs.specs.declared.edges.Edge.{Edge}
-use Rattle.th_flows.proofs.RoomLemmas.{room_in_least, room_in_more, room_in_zeros}
+use Rattle.th_cuts.specs.Drains.{room_at, room_in}
+use Rattle.th_cuts.specs.Graphs.{edge_at}
+use Rattle.th_cuts.specs.declared.edges.Edge.{Edge}
+use Rattle.th_cuts.proofs.RoomLemmas.{room_in_least, room_in_more, room_in_zeros}
 use Rattle.th_reliability.specs.Blunders.{weight_in}
 use Rattle.th_reliability.specs.Edges.{edge_of}
 use Rattle.th_reliability.specs.Inside.Targets.{AreEdges, AreTargets, far_end, far_vertex, group_room, room_of}

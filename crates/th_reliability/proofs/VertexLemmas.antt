@@ -13,8 +13,8 @@ use Rattle.th_points.proofs.PlaceLemmas.{ends_contained}
 use Rattle.th_network.specs.Vertices.{vertex_of}
 use Rattle.th_network.proofs.NetworkLemmas.{vertices_apart}
 use Rattle.th_network.proofs.FreePoints.{fixed_vertex as vertex_of_fixed, free_vertex}
-use Rattle.th_graphs.specs.declared.edges.Edge.{Edge}
-use Rattle.th_graphs.specs.Cuts.{crosses as edge_crosses, cut_weight}
+use Rattle.th_cuts.specs.declared.edges.Edge.{Edge}
+use Rattle.th_cuts.specs.CutWeights.{crosses as edge_crosses, cut_weight}
 use Rattle.th_reliability.specs.Cuts.{IsFreeSet, crosses, cut, differ}
 use Rattle.th_reliability.specs.Edges.{edge_of, edges_of, names_in, vertices_in}
 

@@ -4,7 +4,7 @@ use Rattle.th_observations.specs.Observed.{Observed}
 use Rattle.th_tables.specs.Rows.{BenchmarkRows, WeightRows, weight_of}
 use Rattle.th_points.specs.Points.{points}
 use Rattle.th_network.specs.Vertices.{vertex_of}
-use Rattle.th_graphs.specs.declared.edges.Edge.{Edge}
+use Rattle.th_cuts.specs.declared.edges.Edge.{Edge}
 
 -- the edge of an observation in the graph over a network's vertices: it joins the vertices of the ends, and has the observation's weight
 abbrev pub edge_of : List Observed → BenchmarkRows → WeightRows → Observed → Edge

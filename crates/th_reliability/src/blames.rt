@@ -1,14 +1,14 @@
 //! What a mistake that does not show would move, and what would be blamed for it.
 ghost use Rattle.std.specs.Prelude.{◌≡◌, count_by, IfOk, length, nat_lt};
-ghost use Rattle.th_flows.specs.Drains.{on_side};
-ghost use Rattle.th_graphs.specs.Cuts.{separates};
+ghost use Rattle.th_cuts.specs.Drains.{on_side};
+ghost use Rattle.th_cuts.specs.CutWeights.{separates};
 ghost use Rattle.th_network.specs.Networks.{points_of};
 ghost use Rattle.th_reliability.specs.Blames.{IsBlame, IsHeaviest, blamed_weights};
 ghost use Rattle.th_reliability.specs.Inside.Sides.{blamed_edge, names_beyond};
 ghost use Rattle.th_reliability.specs.Inside.Targets.{AreEdges};
 
 use std::alloc::{AllocError, Global};
-use th_graphs::Edge;
+use th_cuts::Edge;
 use th_network::Network;
 
 /// What a mistake that does not show would do. The points of a set would move by the whole mistake,

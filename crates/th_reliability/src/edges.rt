@@ -5,7 +5,7 @@ ghost use Rattle.th_network.specs.Networks.{vertices_of};
 ghost use Rattle.th_reliability.specs.Edges.{edges_of as edges_in};
 
 use std::alloc::{AllocError, Global};
-use th_graphs::Edge;
+use th_cuts::Edge;
 use th_network::Network;
 
 /// The observations of a network as edges between its vertices, in their order.

@@ -9,7 +9,7 @@ use crate::ground::Ground;
 use crate::mistakes::SharedMistake;
 use crate::targets::targets_of;
 use std::alloc::{AllocError, Global};
-use th_flows::{Drained, least_drain};
+use th_cuts::{Drained, least_drain};
 
 /// What a mistake does that several observations share.
 #[derive(Clone, Copy, Debug, PartialEq, Eq)]

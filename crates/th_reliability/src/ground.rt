@@ -5,7 +5,7 @@ ghost use Rattle.th_reliability.specs.Inside.Targets.{AreEdges};
 
 use crate::edges::edges_of;
 use std::alloc::{AllocError, Global};
-use th_graphs::{Edge, Graph};
+use th_cuts::{Edge, Graph};
 use th_network::Network;
 
 /// A network, the edge of each of its observations, and their graph.

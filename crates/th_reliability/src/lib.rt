@@ -5,7 +5,7 @@
 //! both by least cuts over the network's vertices; `Mistake` says what a mistake does.
 //! `shared_mistakes` finds what a mistake does that all sights of one entry share, and
 //! `benchmark_mistakes` what a wrong height of a benchmark does. Where a mistake does not show, all say
-//! what it would move. `specs/` has the definitions, and the laws of `th_mistakes` prove what they are for.
+//! what it would move. `specs/` has the definitions, and the laws of `th_mistake_laws` prove what they are for.
 #![tactic(auto)]
 
 // The network as a graph.

@@ -10,8 +10,7 @@ use crate::blames::{Blame, blame_of};
 use crate::edges::edges_of;
 use crate::marks::mark_at;
 use std::alloc::{AllocError, Global};
-use th_cuts::CutTree;
-use th_graphs::Edge;
+use th_cuts::{CutTree, Edge};
 use th_network::Network;
 
 /// What a mistake in each observation would move and what would be blamed for it, in order; `None` where

@@ -5,7 +5,7 @@ ghost use Rattle.th_reliability.specs.Inside.Targets.{AreTargetsOf, far_end};
 
 use crate::ground::Ground;
 use std::alloc::{AllocError, Global};
-use th_graphs::Edge;
+use th_cuts::Edge;
 
 /// Some observations with an end at one vertex.
 #[derive(Drop)]

@@ -15,7 +15,7 @@ use Rattle.th_report.specs.Gsi.{gsi_text, has_minus, height_word, hundredths, na
 use Rattle.th_report.proofs.LineLemmas.{both, data_printable, last_digits_visible, printable, printable-append, visible-printable}
 use Rattle.th_report.proofs.NameLemmas.{name_printable, name_short, zeros_before}
 use Rattle.th_report.proofs.WordLemmas.{spelled_83, spelled_number, two_words}
-use Rattle.th_pages.proofs.DigitLemmas.{digit_is_data, last_digits-all}
+use Rattle.th_columns.proofs.DigitLemmas.{digit_is_data, last_digits-all}
 
 -- the line of a numbered point, without its end
 line_at : (List ℕ → ℤ) → ℕ × List ℕ → List ℕ

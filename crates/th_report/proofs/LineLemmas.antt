@@ -7,7 +7,7 @@ use Rattle.std.proofs.lemmas.Bool.Decides.{nat_tests}
 use Rattle.std.proofs.lemmas.List.Folds.{list_all-append}
 use Rattle.th_units.specs.Metres.{last_digits, metre, metres, size_in_metres}
 use Rattle.gsi_word.specs.Bytes.{is_data}
-use Rattle.th_pages.specs.Columns.{left_in, line_end, right_in}
+use Rattle.th_columns.specs.Columns.{left_in, line_end, right_in}
 use Rattle.th_report.specs.Lines.{EndsItsLines, HasNoSpaceAtEnd}
 
 -- a text behind this byte: no LF comes directly behind a space, and the text ends where a line begins

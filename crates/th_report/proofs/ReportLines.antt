@@ -16,9 +16,9 @@ use Rattle.th_blunders.specs.Opposites.{opposites}
 use Rattle.th_blunders.specs.declared.pairs.Opposite.{Opposite}
 use Rattle.th_report.specs.Lines.{EndsItsLines, HasNoSpaceAtEnd}
 use Rattle.th_points.proofs.PlaceLemmas.{ends_contained}
-use Rattle.th_pages.specs.Columns.{gap, left_in, line_end, right_in}
+use Rattle.th_columns.specs.Columns.{gap, left_in, line_end, right_in}
 use Rattle.th_report.specs.Reports.{adjusted_part, benchmark_count, benchmark_mark, blunder_lines, blunder_mark, blunder_rows, count_lines, end_columns, ends_of, head_lines, is_benchmark, line_in, number_columns, observed_part, opposite_columns, opposite_line, opposite_lines, place_columns, place_of, point_columns, point_line, point_lines, report_text, residual_columns, residual_header, residual_line, residual_lines, residual_of, residual_rows, title_line}
-use Rattle.th_pages.specs.Labels.{label_line}
+use Rattle.th_columns.specs.Labels.{label_line}
 use Rattle.th_report.proofs.NameLemmas.{name_printable}
 use Rattle.th_report.proofs.LineLemmas.{IsBody, IsSeen, IsTidy, body-append, body-right, data_printable, decimal_seen, empty_line, line_of, metres_seen, more_lines, no_lines, printable, printable-append, printable-left, printable-right, seen-printable, seen_body, tidy_has_no_space_at_end, tidy_is_ended, visible}
 

@@ -7,7 +7,7 @@ use Rattle.th_tables.specs.Rows.{weight_of}
 use Rattle.th_network.specs.Networks.{Survey, weights_of}
 use Rattle.th_blunders.specs.Blunders.{is_blunder}
 use Rattle.th_report.specs.Reports.{line_in, residual_line}
-use Rattle.th_pages.proofs.RowLemmas.{found_there, further, paired-first}
+use Rattle.th_columns.proofs.RowLemmas.{found_there, further, paired-first}
 
 module _ (survey : Survey) (residuals : List ℤ) (limit : ℤ) where
   -- the rows from a place on

@@ -10,7 +10,7 @@ use Rattle.gsi_word.specs.Words.{Parts, Spells, parts, spelling_len, spelling_of
 use Rattle.gsi_word.specs.declared.words.Width.{Width}
 use Rattle.gsi_word.specs.declared.words.Width.TheVariants.{Eight, Sixteen}
 use Rattle.gsi_block.specs.Blocks.{BlockParts, IsBlockOf, SpellsRow}
-use Rattle.th_pages.proofs.DigitLemmas.{last_digits-all}
+use Rattle.th_columns.proofs.DigitLemmas.{last_digits-all}
 
 -- a digit may stand in a word's information
 pub digit_is_info : (digit : ℕ) → digit < 10 → is_info (48 + digit) ≡ true

@@ -11,8 +11,8 @@ use Rattle.th_blunders.specs.Residuals.{residuals}
 use Rattle.th_blunders.specs.Blunders.{blunders, is_blunder}
 use Rattle.th_blunders.specs.Opposites.{opposites}
 use Rattle.th_blunders.specs.declared.pairs.Opposite.{Opposite}
-use Rattle.th_pages.specs.Columns.{gap, left_in, line_end, right_in}
-use Rattle.th_pages.specs.Labels.{label_line, limit_line}
+use Rattle.th_columns.specs.Columns.{gap, left_in, line_end, right_in}
+use Rattle.th_columns.specs.Labels.{label_line, limit_line}
 
 -- whether a point is a benchmark
 abbrev pub is_benchmark : Survey → List ℕ → Bool

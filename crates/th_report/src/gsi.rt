@@ -15,8 +15,8 @@ ghost use Rattle.th_report.specs.Gsi.{gsi_text, has_minus, hundredths, padded_na
 use gsi_block::{Block, write_block};
 use gsi_word::{Name, POINT_NUMBER, TARGET_HEIGHT, Word};
 use std::alloc::{AllocError, Global};
+use th_columns::last_digits;
 use th_network::Network;
-use th_pages::last_digits;
 
 /// A GSI-16 block for each point of a network. Word 11 has the point's number from 1 and its name.
 /// Word 83 has the height in 1/100 mm, rounded to the nearest, halves away from zero. Heights are

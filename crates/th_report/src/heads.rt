@@ -1,12 +1,12 @@
 //! The first lines of the report, and the lines that count what follows.
 ghost use Rattle.std.specs.Prelude.{◌≡◌, ◌++◌, OnOk, codes, decimal};
-ghost use Rattle.th_pages.specs.Labels.{label_line};
+ghost use Rattle.th_columns.specs.Labels.{label_line};
 ghost use Rattle.th_report.specs.Reports.{benchmark_count, count_lines, head_lines, title_line};
 
 use itoa::Buffer;
 use std::alloc::AllocError;
+use th_columns::{Page, write_count, write_label, write_limit};
 use th_network::Network;
-use th_pages::{Page, write_count, write_label, write_limit};
 
 /// Writes the title, the counts, the cost in units of 10 nm, and the limit in metres.
 #[tactic(auto, unfolding(crate::specs::Reports::head_lines))]

@@ -7,8 +7,8 @@ ghost use Rattle.th_report.specs.Reports.{number_columns, opposite_columns, oppo
 use crate::residual_tables::write_ends;
 use std::alloc::{AllocError, Global};
 use th_blunders::{Opposite, opposites};
+use th_columns::{Page, write_count};
 use th_observations::Observation;
-use th_pages::{Page, write_count};
 
 /// Writes the count of the opposites among some observations, and a line for each.
 #[tactic(auto, unfolding(crate::specs::Reports::opposite_lines))]

@@ -8,8 +8,8 @@ ghost use Rattle.th_report.specs.Reports.{benchmark_mark, point_columns, point_l
 
 use gsi_word::Name;
 use std::alloc::AllocError;
+use th_columns::Page;
 use th_network::Network;
-use th_pages::Page;
 use th_units::metre_text;
 
 /// Writes the table of points, with their heights, which are listed in point order.

@@ -11,8 +11,8 @@ use crate::point_tables::write_points;
 use crate::residual_tables::{write_blunders, write_residuals};
 use std::alloc::{AllocError, Global};
 use th_blunders::Fit;
+use th_columns::{LINE, Page};
 use th_network::Network;
-use th_pages::{LINE, Page};
 
 /// The report on the heights of a network, which are in point order and in units of 10 nm: counts,
 /// the points with their heights, the observations with their residuals, those whose residual is

@@ -3,16 +3,16 @@ ghost use Rattle.std.specs.Prelude.{◌≡◌, ◌<◌, ◌≤◌, ◌++◌, All
 ghost use Rattle.std.specs.List.{flat_map};
 ghost use Rattle.th_network.specs.Limits.{max_observations};
 ghost use Rattle.th_report.specs.Reports.{blunder_mark, blunder_rows, end_columns, ends_of, line_in, place_columns, place_of, residual_columns, residual_header, residual_line, residual_lines, residual_of, residual_rows};
-ghost use Rattle.th_pages.specs.Labels.{label_line};
+ghost use Rattle.th_columns.specs.Labels.{label_line};
 ghost use Rattle.th_blunders.specs.Blunders.{blunders, is_blunder};
 ghost use Rattle.th_blunders.specs.Residuals.{residual_limit};
 
 use itoa::Buffer;
 use std::alloc::{AllocError, Global};
 use th_blunders::{blunders, is_blunder};
+use th_columns::{LINE, Page, write_count};
 use th_network::Network;
 use th_observations::Observation;
-use th_pages::{LINE, Page, write_count};
 use th_units::metre_text;
 
 /// Writes the table of residuals, which are listed in the order of the observations, and gives the

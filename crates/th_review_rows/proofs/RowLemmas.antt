@@ -1,8 +1,8 @@
 -- Rows that are pushed one after another, and the lists side by side of which they are the rows.
 use Rattle.std.proofs.Common.{◌≡◌, ◌<◌, ◌+◌, ℕ, List, [], ◌∷◌, ◌++◌, drop, get_or, length, map, sym, ap, ◌∙◌, append_assoc}
 use Rattle.std.specs.List.{zip}
-use Rattle.th_pages.proofs.RowLemmas.{drop-first}
-use Rattle.th_pages.proofs.RowLemmas.{zipped-first}
+use Rattle.th_columns.proofs.RowLemmas.{drop-first}
+use Rattle.th_columns.proofs.RowLemmas.{zipped-first}
 
 -- one row more, where what is left begins with what it is the row of
 pub pushed : {X Y : Type 0} → (row : X → Y) (x : X) (left left' : List X) (rows rows' all : List Y) → left ≡ x ∷ left' → rows' ≡ rows ++ row x ∷ [] → rows ++ map row left ≡ all → rows' ++ map row left' ≡ all

@@ -4,3 +4,5 @@ pub mod Entries
 pub mod Labels
 pub mod Marks
 pub mod Passes
+pub mod DistanceLabels
+pub mod Spreading

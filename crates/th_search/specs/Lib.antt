@@ -6,3 +6,4 @@ pub mod Answers
 pub mod Asked
 pub mod Sweeps
 pub mod Inside
+pub mod Distances

@@ -6,7 +6,7 @@ use Rattle.std.specs.Vec.{vec_capacity}
 use Rattle.th_network.specs.Links.{largest_link_difference}
 use Rattle.th_circulation.specs.Inside.Bounds.{height_bound}
 use Rattle.th_circulation.specs.Inside.Flows.{AreBounded, residual}
-use Rattle.th_distances.specs.Distances.{AreWithin}
+use Rattle.th_search.specs.Distances.{AreWithin}
 use Rattle.th_circulation.specs.Inside.Cycles.{HasRoom, head_of, link_at, tail_of}
 use Rattle.th_circulation.specs.declared.graphs.LinkGraph.{LinkGraph}
 use Rattle.th_circulation.specs.declared.listings.Listing.{Listing}

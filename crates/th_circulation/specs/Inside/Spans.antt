@@ -2,7 +2,7 @@ use Rattle.std.specs.Prelude.{ℕ, ℤ, pos, ◌-ℤ◌, List}
 use Rattle.th_network.specs.Networks.{AreAtPoints, Survey, vertices_of}
 use Rattle.th_search.specs.declared.arcs.Arc.{Arc}
 use Rattle.th_search.specs.Potentials.{value_at}
-use Rattle.th_distances.specs.Distances.{AreDistances}
+use Rattle.th_search.specs.Distances.{AreDistances}
 use Rattle.th_circulation.specs.Inside.PointHeights.{ArePointHeights}
 
 -- the numbers with the other sign

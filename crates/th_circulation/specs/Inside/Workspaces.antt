@@ -9,7 +9,7 @@ use Rattle.th_search.specs.Walks.{IsArc}
 use Rattle.th_search.specs.declared.arcs.Arc.{Arc}
 use Rattle.th_circulation.specs.Inside.Bounds.{HaveSmallRises, height_bound, raised_bound}
 use Rattle.th_circulation.specs.Inside.Flows.{IsFlow, ShowsLinks, gain, residuals}
-use Rattle.th_distances.specs.Distances.{AreWithin}
+use Rattle.th_search.specs.Distances.{AreWithin}
 use Rattle.th_circulation.specs.Inside.Listings.{AreResidual, Fits, HasAllBefore}
 use Rattle.th_circulation.specs.Inside.Phases.{differences_in}
 use Rattle.th_circulation.specs.declared.graphs.LinkGraph.{LinkGraph}

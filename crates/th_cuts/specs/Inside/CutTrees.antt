@@ -1,9 +1,9 @@
 use Rattle.std.specs.Prelude.{◌≡◌, ◌≢◌, ℕ, ◌+◌, ◌-◌, ◌<◌, ◌≤◌, ◌==◌, Bool, true, List, if◌then◌else◌, length, min, slice_index_or, slice_set}
 use Rattle.th_cuts.specs.declared.branches.Branch.{Branch}
 use Rattle.th_cuts.specs.declared.cuts.Cut.{Cut}
-use Rattle.th_graphs.specs.declared.edges.Edge.{Edge}
-use Rattle.th_graphs.specs.Cuts.{cut_weight, separates}
-use Rattle.th_flows.specs.Drains.{on_side, room_at}
+use Rattle.th_cuts.specs.declared.edges.Edge.{Edge}
+use Rattle.th_cuts.specs.CutWeights.{cut_weight, separates}
+use Rattle.th_cuts.specs.Drains.{on_side, room_at}
 
 -- a least cut between two vertices
 pub record IsCut (vertices : ℕ) (edges : List Edge) (u v : ℕ) (cut : Cut) : Type 0 where

@@ -2,7 +2,7 @@
 use Rattle.std.specs.Prelude.{Bool, string_bytes}
 use Rattle.th_files.specs.declared.overwrites.Stop.{Stop}
 use Rattle.th_files.specs.declared.overwrites.Stop.TheVariants as stop
-use Rattle.th_plans.specs.declared.plans.Plan.{Plan}
+use Rattle.th_commands.specs.declared.plans.Plan.{Plan}
 use Rattle.th_program.specs.Done.{WouldOverwrite}
 
 -- an output of the plan would change an input of it, or memory ran out

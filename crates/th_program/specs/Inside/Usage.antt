@@ -1,7 +1,7 @@
 -- Arguments that are no plan, where memory may run out before this is reported.
 use Rattle.std.specs.Prelude.{◌⊎◌, ℕ}
-use Rattle.th_plans.specs.declared.faults.PlanFault.{PlanFault}
-use Rattle.th_plans.specs.declared.faults.PlanFault.TheVariants as fault
+use Rattle.th_commands.specs.declared.faults.PlanFault.{PlanFault}
+use Rattle.th_commands.specs.declared.faults.PlanFault.TheVariants as fault
 use Rattle.th_program.specs.Done.{IsUsage}
 use Rattle.th_files.specs.Owed.{Told}
 

@@ -4,7 +4,7 @@ use Rattle.th_network.specs.Networks.{Survey}
 use Rattle.th_reliability.specs.Blunders.{weight_in}
 use Rattle.th_reliability.specs.Cuts.{IsFreeSet}
 use Rattle.th_reliability.specs.SharedMistakes.{own, rest}
-use Rattle.th_flows.specs.Drains.{on_side}
+use Rattle.th_cuts.specs.Drains.{on_side}
 use Rattle.th_reliability.specs.Blames.{IsBlame}
 use Rattle.th_reliability.specs.Effects.{IsEffect}
 use Rattle.th_reliability.specs.Inside.Sides.{names_beyond}

@@ -1,6 +1,6 @@
 use Rattle.std.specs.Prelude.{◌≡◌, ℕ, ◌+◌, ◌≤◌, Bool}
 use Rattle.th_cuts.specs.Cuts.{Weighted}
-use Rattle.th_graphs.specs.Cuts.{cut_weight}
+use Rattle.th_cuts.specs.CutWeights.{cut_weight}
 use Rattle.th_network.specs.Limits.{max_points}
 use Rattle.th_network.specs.Networks.{Survey, vertices_of}
 use Rattle.th_reliability.specs.Edges.{edges_of}

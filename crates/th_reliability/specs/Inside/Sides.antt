@@ -1,7 +1,7 @@
 use Rattle.std.specs.Prelude.{ℕ, Bool, List, if◌then◌else◌}
 use Rattle.th_network.specs.Networks.{Survey}
-use Rattle.th_graphs.specs.Cuts.{crosses, separates}
-use Rattle.th_graphs.specs.declared.edges.Edge.{Edge}
+use Rattle.th_cuts.specs.CutWeights.{crosses, separates}
+use Rattle.th_cuts.specs.declared.edges.Edge.{Edge}
 use Rattle.th_reliability.specs.Edges.{names_in}
 
 -- the names whose vertices a side separates from vertex 0

@@ -5,8 +5,8 @@ use Rattle.th_tables.specs.Rows.{weight_of}
 use Rattle.th_network.specs.Networks.{Survey, vertices_of}
 use Rattle.th_network.specs.Vertices.{vertex_of}
 use Rattle.th_network.specs.Walks.{Anchored}
-use Rattle.th_flows.specs.Drains.{room_in}
-use Rattle.th_graphs.specs.declared.edges.Edge.{Edge}
+use Rattle.th_cuts.specs.Drains.{room_in}
+use Rattle.th_cuts.specs.declared.edges.Edge.{Edge}
 use Rattle.th_reliability.specs.Blunders.{weight_in}
 use Rattle.th_reliability.specs.Edges.{edge_of, edges_of}
 use Rattle.th_reliability.specs.declared.targets.Targets.{Targets}

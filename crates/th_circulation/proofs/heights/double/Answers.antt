@@ -1,7 +1,7 @@
 use Rattle.std.proofs.Common.{arith}
 use Rattle.std.proofs.lemmas.Int.{ints}
 use Rattle.th_circulation.specs.Inside.Bounds.{height_bound, raised_bound}
-use Rattle.th_distances.proofs.WithinLemmas.{all_within, set_any}
+use Rattle.th_search.proofs.WithinLemmas.{all_within, set_any}
 use Rattle.th_circulation.proofs.HeightLemmas.{near_more}
 use Rattle.th_circulation.proofs.heights.double.Goals as goal
 

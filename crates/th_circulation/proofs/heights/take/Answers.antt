@@ -1,7 +1,7 @@
 use Rattle.std.proofs.Common.{arith}
 use Rattle.std.proofs.lemmas.Int.{ints}
 use Rattle.th_circulation.specs.Inside.Bounds.{height_bound}
-use Rattle.th_distances.proofs.WithinLemmas.{all_within, set_any}
+use Rattle.th_search.proofs.WithinLemmas.{all_within, set_any}
 use Rattle.th_circulation.proofs.heights.take.Goals as goal
 
 pub loop-vertex-preserved : goal.loop-vertex-preserved

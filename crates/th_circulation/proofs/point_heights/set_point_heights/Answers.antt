@@ -8,7 +8,7 @@ use Rattle.th_network.specs.Limits.{height_limit}
 use Rattle.th_network.specs.Networks.{points_of}
 use Rattle.th_search.specs.Potentials.{value_at}
 use Rattle.th_circulation.specs.Inside.PointHeights.{point_height}
-use Rattle.th_distances.proofs.WithinLemmas.{all_within}
+use Rattle.th_search.proofs.WithinLemmas.{all_within}
 use Rattle.th_network.proofs.FreePoints.{found_at}
 use Rattle.th_circulation.proofs.PointHeightLemmas.{point_height_fixed, point_height_free, set_more}
 use Rattle.th_circulation.proofs.point_heights.set_point_heights.Goals as goal

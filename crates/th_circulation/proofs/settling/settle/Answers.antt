@@ -4,7 +4,7 @@ use Rattle.th_tables.specs.Limits.{max_weight}
 use Rattle.th_circulation.specs.Inside.PointHeights.{ArePointHeights}
 use Rattle.th_circulation.specs.Settled.{IsSettled}
 use Rattle.th_circulation.proofs.AskedLemmas.{is_asked_last}
-use Rattle.th_distances.proofs.WithinLemmas.{written}
+use Rattle.th_search.proofs.WithinLemmas.{written}
 use Rattle.th_circulation.proofs.SettledLemmas.{is_settled}
 use Rattle.th_circulation.proofs.settling.settle.Goals as goal
 

@@ -7,7 +7,7 @@ use Rattle.th_tables.specs.Rows.{weight_of}
 use Rattle.th_network.specs.Links.{link_of}
 use Rattle.th_network.specs.Networks.{at_points_of, vertices_of}
 use Rattle.th_search.specs.declared.arcs.Arc.{Arc}
-use Rattle.th_distances.specs.Distances.{AreTight}
+use Rattle.th_search.specs.Distances.{AreTight}
 use Rattle.th_circulation.specs.Inside.Residuals.{turned}
 use Rattle.th_circulation.specs.Inside.Spans.{AreAbove, AreBelow}
 use Rattle.th_circulation.proofs.BestLemmas.{best_is_shown}

@@ -2,7 +2,7 @@ use Rattle.std.proofs.Common.{◌≡◌, ◌+◌, ◌<◌, ◌∷◌, ◌++◌, 
 use Rattle.std.proofs.lemmas.Bool.Decides.{nat_tests}
 use Rattle.std.specs.declared.alloc.Global.{Global}
 use Rattle.gsi_block.specs.Writing.{block_text}
-use Rattle.th_pages.proofs.RowLemmas.{drop-first}
+use Rattle.th_columns.proofs.RowLemmas.{drop-first}
 use Rattle.th_conversions.specs.Books.{setup_block, stands_at}
 use Rattle.th_conversions.proofs.BookLemmas.{begins, stays}
 use Rattle.th_conversions.proofs.books.book_of.Goals as goal

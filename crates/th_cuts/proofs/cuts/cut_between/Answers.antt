@@ -1,6 +1,6 @@
 use Rattle.std.proofs.Common.{◌≡◌, ◌<◌, ◌≤◌, ℕ, Bool, Global, Option, Vec, length, true, subst, arith}
 use Rattle.std.specs.Prelude.{IfNone, IfSome}
-use Rattle.th_flows.specs.Drains.{IsLeastDrain, drain, on_side}
+use Rattle.th_cuts.specs.Drains.{IsLeastDrain, drain, on_side}
 use Rattle.th_cuts.proofs.CutTreeLemmas.{separated}
 use Rattle.th_cuts.proofs.NearLemmas.{near_least, near_out, near_weighs}
 use Rattle.th_cuts.proofs.cuts.cut_between.Goals as goal

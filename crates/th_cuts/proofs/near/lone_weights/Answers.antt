@@ -1,10 +1,10 @@
 use Rattle.std.proofs.Common.{◌≡◌, ℕ, ◌<◌, ◌≤◌, ◌+◌, ◌∙◌, List, [], length, take, ap, sym, subst, arith}
 use Rattle.th_limits.specs.Limits.{max_total_weight}
-use Rattle.th_graphs.specs.declared.edges.Edge.{Edge}
-use Rattle.th_graphs.specs.Cuts.{cut_weight}
+use Rattle.th_cuts.specs.declared.edges.Edge.{Edge}
+use Rattle.th_cuts.specs.CutWeights.{cut_weight}
 use Rattle.th_cuts.specs.Inside.CutTrees.{with_edge}
-use Rattle.th_graphs.specs.Graphs.{edge_at}
-use Rattle.th_flows.specs.Drains.{room_at}
+use Rattle.th_cuts.specs.Graphs.{edge_at}
+use Rattle.th_cuts.specs.Drains.{room_at}
 use Rattle.th_cuts.proofs.NearLemmas.{alone, length_with_edge, lone_fits, lone_step}
 use Rattle.th_cuts.proofs.near.lone_weights.Goals as goal
 

@@ -1,6 +1,6 @@
 use Rattle.std.proofs.Common.{◌≡◌, ℕ, ◌<◌, length, take}
-use Rattle.th_graphs.specs.Cuts.{cut_weight}
-use Rattle.th_flows.specs.Drains.{room_at}
+use Rattle.th_cuts.specs.CutWeights.{cut_weight}
+use Rattle.th_cuts.specs.Drains.{room_at}
 use Rattle.th_cuts.proofs.NearLemmas.{alone}
 use Rattle.th_cuts.proofs.near.lone_weights.Given as goal
 

@@ -1,7 +1,7 @@
 use Rattle.std.proofs.Common.{◌≡◌, ℕ, ◌+◌, ◌<◌, ap, sym, subst, ◌∙◌, Global, Vec, length, arith}
 use Rattle.std.proofs.lemmas.Grind.{get_or_default_zero}
 use Rattle.th_cuts.specs.Inside.CutTrees.{IsSame}
-use Rattle.th_flows.specs.Drains.{room_at}
+use Rattle.th_cuts.specs.Drains.{room_at}
 use Rattle.th_cuts.proofs.NearLemmas.{AreNearTo, near_more, near_skip, same_through}
 use Rattle.th_cuts.proofs.near.near_rooms.Goals as goal
 use Rattle.th_cuts.proofs.near.near_rooms.Goals.{then-index-top, else-index-top}

@@ -1,7 +1,7 @@
 use Rattle.std.proofs.Common.{◌≡◌, ◌∷◌, [], ℕ, Err, List, rules, subst}
 use Rattle.std.proofs.lemmas.List.{take_all}
 use Rattle.std.specs.Prelude.{Option}
-use Rattle.th_plans.specs.Plans.{files}
+use Rattle.th_commands.specs.Plans.{files}
 use Rattle.th_files.specs.Stops.{AreKept, IsStop}
 use Rattle.th_files.specs.Outputs.{spot_at, spots_of}
 use Rattle.th_files.proofs.OverwriteLemmas.{kept_more, stop_wider}

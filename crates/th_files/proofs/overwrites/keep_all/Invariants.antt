@@ -1,5 +1,5 @@
 use Rattle.std.proofs.Common.{take}
-use Rattle.th_plans.specs.Plans.{files}
+use Rattle.th_commands.specs.Plans.{files}
 use Rattle.th_files.specs.Stops.{AreKept}
 use Rattle.th_files.specs.Outputs.{spots_of}
 use Rattle.th_files.proofs.overwrites.keep_all.Given as goal

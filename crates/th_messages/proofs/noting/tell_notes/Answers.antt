@@ -1,4 +1,4 @@
-use Rattle.th_lines.proofs.ErrorLemmas.{put_whole}
+use Rattle.th_messages.proofs.ErrorLemmas.{put_whole}
 use Rattle.th_messages.proofs.noting.tell_notes.Goals as goal
 
 pub returns-clause-noted : goal.returns-clause-noted

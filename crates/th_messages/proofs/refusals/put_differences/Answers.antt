@@ -1,5 +1,5 @@
 use Rattle.std.proofs.Common.{arith}
-use Rattle.th_lines.proofs.LineLemmas.{put_then}
+use Rattle.th_messages.proofs.LineLemmas.{put_then}
 use Rattle.th_messages.proofs.refusals.put_differences.Goals as goal
 
 pub returns : goal.returns

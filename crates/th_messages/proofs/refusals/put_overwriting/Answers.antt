@@ -1,6 +1,6 @@
 use Rattle.std.proofs.Common.{◌*◌, arith}
-use Rattle.th_lines.proofs.LineLemmas.{put_then}
-use Rattle.th_lines.specs.Lines.{part_calls}
+use Rattle.th_messages.proofs.LineLemmas.{put_then}
+use Rattle.th_messages.specs.Lines.{part_calls}
 use Rattle.th_messages.proofs.refusals.put_overwriting.Goals as goal
 
 pub returns : goal.returns

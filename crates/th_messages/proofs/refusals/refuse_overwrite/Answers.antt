@@ -1,4 +1,4 @@
-use Rattle.th_lines.proofs.ErrorLemmas.{put_whole}
+use Rattle.th_messages.proofs.ErrorLemmas.{put_whole}
 use Rattle.th_messages.proofs.refusals.refuse_overwrite.Goals as goal
 
 pub returns-clause-reported : goal.returns-clause-reported

@@ -2,7 +2,7 @@ use Rattle.std.proofs.Common.{◌≡◌, ◌++◌, ℤ, codes, ap, ◌∙◌}
 use Rattle.std.proofs.Math.Facts.{to_z-of_z}
 use Rattle.th_page.specs.Figures.{strip_figure}
 use Rattle.th_page.specs.Fixed.{strip_start}
-use Rattle.th_strip.specs.Strips.{strip_text}
+use Rattle.th_picture.specs.Strips.{strip_text}
 use Rattle.th_picture.proofs.Joins.{more, on_ok}
 use Rattle.th_page.proofs.figures.write_strip_figure.Goals as goal
 

@@ -2,7 +2,7 @@ use Rattle.std.proofs.Common.{◌≡◌, ◌∙◌, [], ap, refl, subst, sym, ar
 use Rattle.std.specs.List.{AllByRecursion}
 use Rattle.std.specs.Prelude.{IfErr}
 use Rattle.th_devices.specs.Spots.{file}
-use Rattle.th_plans.specs.Plans.{files}
+use Rattle.th_commands.specs.Plans.{files}
 use Rattle.th_program.proofs.CheckLemmas.{checked}
 use Rattle.th_program.proofs.CauseLemmas.{certificate_blamed, files_caused, output_caused, run_caused, widened}
 use Rattle.th_files.proofs.OpenedLemmas.{claim-opened, named-opened, opened-are-ready}

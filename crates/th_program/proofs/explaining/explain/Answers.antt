@@ -2,7 +2,7 @@ use Rattle.std.proofs.Common.{to_z, of_z, w64, ◌≡◌, ◌∙◌, [], ap, rul
 use Rattle.std.specs.List.{AllByRecursion}
 use Rattle.std.specs.Prelude.{IfErr}
 use Rattle.th_network.specs.Networks.{Survey}
-use Rattle.th_plans.specs.Plans.{files}
+use Rattle.th_commands.specs.Plans.{files}
 use Rattle.th_program.proofs.ExplainedLemmas.{explained}
 use Rattle.th_program.proofs.CauseLemmas.{files_caused, output_caused, run_caused}
 use Rattle.th_files.proofs.OpenedLemmas.{named-opened, opened-are-ready, survey-opened, tells-opened}
@@ -12,7 +12,7 @@ use Rattle.th_program.specs.Failing.{HasCause, IsInFiles}
 use Rattle.th_files.specs.Opened.{AreApart, AreMade, AreOpened, IsTaken, IsUntouched}
 use Rattle.th_files.specs.Outputs.{spots_of}
 use Rattle.th_files.specs.Owed.{survey_owed}
-use Rattle.th_explaining.specs.Explained.{explaining}
+use Rattle.th_run_explain.specs.Explained.{explaining}
 use Rattle.th_run_parts.specs.Inputs.{IsOwed, Owed}
 use Rattle.th_run_parts.specs.Reads.{refused}
 use Rattle.th_run_parts.specs.Writes.{Texts, UnlessWrite}

@@ -1,6 +1,6 @@
 use Rattle.std.proofs.Common.{◌≡◌, ◌∙◌, [], ap, map, refl, subst, sym, arith, ◌≢◌}
 use Rattle.std.specs.List.{AllByRecursion}
-use Rattle.th_folders.specs.Folders.{spot_of_origin}
+use Rattle.th_devices.specs.Folders.{spot_of_origin}
 use Rattle.th_program.proofs.CauseLemmas.{book_caused, output_caused, run_caused}
 use Rattle.th_program.proofs.ListLemmas.{listed, refused-list}
 use Rattle.th_files.proofs.OutputLemmas.{lent, made_ready, made_untouched, none_among, spots_after}

@@ -1,16 +1,16 @@
 use Rattle.std.proofs.Common.{◌≡◌, IfErr, IfOk, subst, sym, true}
 use Rattle.std.proofs.lemmas.Result.{IfErr-weaker}
-use Rattle.th_paging.specs.Paged.{paging}
-use Rattle.th_plans.specs.Plans.{files}
-use Rattle.th_plans.specs.declared.plans.Plan.{Plan}
-use Rattle.th_plans.specs.declared.plans.Plan.TheVariants as plan
+use Rattle.th_run_page.specs.Paged.{paging}
+use Rattle.th_commands.specs.Plans.{files}
+use Rattle.th_commands.specs.declared.plans.Plan.{Plan}
+use Rattle.th_commands.specs.declared.plans.Plan.TheVariants as plan
 use Rattle.th_program.specs.Done.{KeepsInputs}
 use Rattle.th_program.specs.Inside.Stops.{IsStopOf}
 use Rattle.th_files.specs.Outputs.{spots_of}
 use Rattle.th_program.proofs.OverwriteLemmas.{stop_of}
 use Rattle.th_program.proofs.overwrites.keep_inputs.Goals as goal
 use Rattle.th_runs.specs.Adjusted.{adjusting}
-use Rattle.th_reviewing.specs.Reviewed.{reviewing}
+use Rattle.th_run_review.specs.Reviewed.{reviewing}
 
 pub returns-in-Adjust-clause-apart : goal.returns-in-Adjust-clause-apart
 returns-in-Adjust-clause-apart g c =

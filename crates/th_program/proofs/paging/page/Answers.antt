@@ -4,8 +4,8 @@ use Rattle.std.specs.List.{AllByRecursion}
 use Rattle.std.specs.Prelude.{IfErr}
 use Rattle.th_devices.specs.Spots.{file, is_file}
 use Rattle.th_network.specs.Networks.{Survey}
-use Rattle.th_paging.specs.Paged.{AreOfPage, paging}
-use Rattle.th_plans.specs.Plans.{files}
+use Rattle.th_run_page.specs.Paged.{AreOfPage, paging}
+use Rattle.th_commands.specs.Plans.{files}
 use Rattle.th_program.proofs.CauseLemmas.{files_caused, given_caused, output_caused, run_caused}
 use Rattle.th_files.proofs.OpenedLemmas.{named-opened, opened-are-ready, survey-opened, tells-opened}
 use Rattle.th_files.proofs.OutputLemmas.{all_apart, all_files, lent, made_ready, none_among, not_among, of_map, spots_after}

@@ -1,7 +1,7 @@
 use Rattle.std.proofs.Common.{◌∙◌, Option, Some, ap}
 use Rattle.th_devices.specs.declared.reasons.Reason.{Reason}
 use Rattle.th_messages.specs.Helped.{refused_lines}
-use Rattle.th_lines.proofs.ErrorLemmas.{put_whole}
+use Rattle.th_messages.proofs.ErrorLemmas.{put_whole}
 use Rattle.th_program.proofs.refusals.refuse.Goals as goal
 
 pub returns-clause-reported : goal.returns-clause-reported

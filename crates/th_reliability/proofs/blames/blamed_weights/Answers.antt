@@ -1,5 +1,5 @@
 use Rattle.std.proofs.Common.{◌<◌, length, ap, arith}
-use Rattle.th_flows.specs.Drains.{on_side}
+use Rattle.th_cuts.specs.Drains.{on_side}
 use Rattle.th_reliability.specs.Blames.{blamed_weights}
 use Rattle.th_reliability.specs.Inside.Sides.{names_beyond}
 use Rattle.th_reliability.proofs.BlameLemmas.{blamed_more}

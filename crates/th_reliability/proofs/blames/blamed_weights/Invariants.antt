@@ -1,6 +1,6 @@
 use Rattle.std.proofs.Common.{◌≡◌, ◌++◌, drop, map}
 use Rattle.std.specs.List.{zip}
-use Rattle.th_flows.specs.Drains.{on_side}
+use Rattle.th_cuts.specs.Drains.{on_side}
 use Rattle.th_reliability.specs.Blames.{blamed_weight, blamed_weights}
 use Rattle.th_reliability.specs.Inside.Sides.{names_beyond}
 use Rattle.th_reliability.proofs.blames.blamed_weights.Given as goal

@@ -1,7 +1,7 @@
 use Rattle.std.proofs.Common.{◌≡◌, ◌≤◌, take}
 use Rattle.std.specs.List.{count_by}
-use Rattle.th_flows.specs.Drains.{on_side}
-use Rattle.th_graphs.specs.Cuts.{separates}
+use Rattle.th_cuts.specs.Drains.{on_side}
+use Rattle.th_cuts.specs.CutWeights.{separates}
 use Rattle.th_reliability.proofs.blames.moved_points.Given as goal
 
 abbrev pub invariant-loop-vertex : goal.invariant-loop-vertex

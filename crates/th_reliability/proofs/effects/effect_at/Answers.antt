@@ -1,9 +1,9 @@
 use Rattle.std.proofs.Common.{◌≡◌, ◌+◌, ℕ, Bool, List, subst, sym}
 use Rattle.th_observations.specs.Observed.{Observed}
 use Rattle.th_network.specs.Networks.{Survey}
-use Rattle.th_flows.specs.declared.drains.Drained.{Drained}
+use Rattle.th_cuts.specs.declared.drains.Drained.{Drained}
 use Rattle.th_cuts.specs.Cuts.{Weighted}
-use Rattle.th_flows.specs.Drains.{IsDrained}
+use Rattle.th_cuts.specs.Drains.{IsDrained}
 use Rattle.th_reliability.specs.Inside.Effects.{Moves}
 use Rattle.th_reliability.specs.Inside.Targets.{AreTargets}
 use Rattle.th_reliability.specs.declared.mistakes.SharedMistake.{SharedMistake}

@@ -2,7 +2,7 @@ use Rattle.std.proofs.Common.{◌≡◌, ◌==◌, ℕ, pos, List, [], Bool, Opt
 use Rattle.std.proofs.lemmas.List.FromFn.{length-map-range_with_len}
 use Rattle.std.proofs.lemmas.Option.{slice_get-get_or}
 use Rattle.th_observations.specs.Observed.{Observed}
-use Rattle.th_flows.specs.Drains.{on_side}
+use Rattle.th_cuts.specs.Drains.{on_side}
 use Rattle.th_reliability.specs.Blames.{IsBlame}
 use Rattle.th_reliability.specs.Effects.{HasOwnBlame, only_at}
 use Rattle.th_reliability.specs.Inside.Sides.{names_beyond}

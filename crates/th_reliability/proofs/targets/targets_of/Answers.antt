@@ -3,11 +3,11 @@ use Rattle.std.specs.Prelude.{slice_set}
 use Rattle.std.proofs.lemmas.Grind.{get_or_default_zero}
 use Rattle.std.proofs.lemmas.List.{get_or_default}
 use Rattle.std.proofs.lemmas.List.Sums.{sum_by-take-le}
-use Rattle.th_graphs.specs.declared.edges.Edge.{Edge}
+use Rattle.th_cuts.specs.declared.edges.Edge.{Edge}
 use Rattle.th_observations.specs.Observed.{Observed}
 use Rattle.th_network.specs.Networks.{vertices_of}
-use Rattle.th_graphs.specs.Graphs.{edge_at}
-use Rattle.th_flows.specs.Drains.{room_at}
+use Rattle.th_cuts.specs.Graphs.{edge_at}
+use Rattle.th_cuts.specs.Drains.{room_at}
 use Rattle.th_reliability.specs.Inside.Targets.{far_end}
 use Rattle.th_reliability.proofs.TargetLemmas.{AreFound, AreSized, edges_long, far_inside, found_all, found_hold, found_skip, found_start, heavy_is, mark_is, nowhere, room_fits, same_found, same_sized, sized_hold, sized_skip, sized_start, weight_fits}
 use Rattle.th_reliability.proofs.WeightLemmas.{heavy_listed}

@@ -3,7 +3,7 @@ use Rattle.std.specs.List.{IsDistinct, enumerate_from}
 use Rattle.th_network.specs.Heights.{heights_at}
 use Rattle.th_network.specs.Networks.{points_of}
 use Rattle.th_report.specs.Gsi.{point_text, text_of_point}
-use Rattle.th_pages.proofs.RowLemmas.{further, numbered-first}
+use Rattle.th_columns.proofs.RowLemmas.{further, numbered-first}
 use Rattle.th_blunders.proofs.HeightLemmas.{height_there}
 use Rattle.th_report.proofs.gsi.heights_gsi.Goals as goal
 

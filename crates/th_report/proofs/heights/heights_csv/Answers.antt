@@ -4,7 +4,7 @@ use Rattle.th_csv.specs.Texts.{row_text}
 use Rattle.th_network.specs.Heights.{heights_at}
 use Rattle.th_network.specs.Networks.{points_of}
 use Rattle.th_report.specs.Heights.{height_fields, height_record}
-use Rattle.th_pages.proofs.RowLemmas.{drop-first, further}
+use Rattle.th_columns.proofs.RowLemmas.{drop-first, further}
 use Rattle.th_blunders.proofs.HeightLemmas.{height_there}
 use Rattle.th_report.proofs.heights.heights_csv.Goals as goal
 

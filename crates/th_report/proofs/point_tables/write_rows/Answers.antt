@@ -6,7 +6,7 @@ use Rattle.th_tables.specs.Rows.{height_of}
 use Rattle.th_network.specs.Heights.{heights_at}
 use Rattle.th_network.specs.Networks.{points_of}
 use Rattle.th_report.specs.Reports.{benchmark_mark, is_benchmark, point_columns, point_line}
-use Rattle.th_pages.proofs.RowLemmas.{drop-first, found_there, further}
+use Rattle.th_columns.proofs.RowLemmas.{drop-first, found_there, further}
 use Rattle.th_blunders.proofs.HeightLemmas.{height_there}
 use Rattle.th_report.proofs.point_tables.write_rows.Goals as goal
 

@@ -8,7 +8,7 @@ use Rattle.th_tables.specs.Rows.{BenchmarkRows}
 use Rattle.th_reliability.specs.declared.benchmarks.BenchmarkEffect.{BenchmarkEffect}
 use Rattle.th_review_rows.specs.declared.rows.BenchmarkRow.{BenchmarkRow}
 use Rattle.th_review_rows.specs.Rows.{benchmark_row}
-use Rattle.th_pages.proofs.RowLemmas.{zipped-first}
+use Rattle.th_columns.proofs.RowLemmas.{zipped-first}
 use Rattle.th_review_rows.proofs.RowLemmas.{pushed}
 use Rattle.th_review_rows.proofs.benchmark_list.benchmark_rows.Goals as goal
 

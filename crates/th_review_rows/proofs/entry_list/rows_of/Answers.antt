@@ -6,7 +6,7 @@ use Rattle.th_reliability.specs.declared.effects.Effect.{Effect}
 use Rattle.th_reliability.specs.declared.mistakes.SharedMistake.TheVariants.{Shows}
 use Rattle.th_review_rows.specs.declared.rows.EntryRow.{EntryRow}
 use Rattle.th_review_rows.specs.Rows.{entry_row, entry_rows}
-use Rattle.th_pages.proofs.RowLemmas.{zipped-first}
+use Rattle.th_columns.proofs.RowLemmas.{zipped-first}
 use Rattle.th_review_rows.proofs.RowLemmas.{pushed}
 use Rattle.th_review_rows.proofs.entry_list.rows_of.Goals as goal
 

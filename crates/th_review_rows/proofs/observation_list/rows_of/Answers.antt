@@ -4,7 +4,7 @@ use Rattle.std.proofs.lemmas.List.{get_or_default}
 use Rattle.th_observations.specs.Observed.{Observed}
 use Rattle.th_tables.specs.Rows.{weight_of}
 use Rattle.th_reliability.specs.declared.blames.Blame.{Blame}
-use Rattle.th_pages.proofs.RowLemmas.{found_there}
+use Rattle.th_columns.proofs.RowLemmas.{found_there}
 use Rattle.th_blunders.proofs.HeightLemmas.{same_units}
 use Rattle.th_review_rows.specs.declared.rows.ObservationRow.{ObservationRow}
 use Rattle.th_review_rows.specs.Rows.{observation_row, observation_row_of, rows_of}

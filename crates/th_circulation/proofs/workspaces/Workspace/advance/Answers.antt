@@ -12,7 +12,7 @@ use Rattle.th_circulation.specs.Inside.Bounds.{farthest, raised_bound}
 use Rattle.th_circulation.specs.declared.slots.Slot.{Slot}
 use Rattle.th_circulation.specs.Inside.Cycles.{leads_to}
 use Rattle.th_circulation.specs.Inside.Flows.{ShowsLinks, residuals}
-use Rattle.th_distances.specs.Distances.{AreWithin}
+use Rattle.th_search.specs.Distances.{AreWithin}
 use Rattle.th_circulation.specs.Inside.Listings.{AreOpen, AreResidual, HasAllBefore, Lists, arc_of, slots_at}
 use Rattle.th_circulation.specs.Inside.Workspaces.{IsAskedFor}
 use Rattle.th_circulation.specs.declared.graphs.LinkGraph.{LinkGraph}
@@ -21,7 +21,7 @@ use Rattle.th_circulation.specs.declared.states.State.{State}
 use Rattle.th_circulation.proofs.AdvanceLemmas.{all_listed, sent_flow, sent_gain_more, sent_retold}
 use Rattle.th_circulation.proofs.ArcLemmas.{arcs_are, potentials_within}
 use Rattle.th_circulation.proofs.HeightLemmas.{raised_rises}
-use Rattle.th_distances.proofs.WithinLemmas.{written}
+use Rattle.th_search.proofs.WithinLemmas.{written}
 use Rattle.th_circulation.proofs.NegativeCycles.{cycle_enters_once, numbers_of_cycle}
 use Rattle.th_circulation.proofs.PotentialLemmas.{potentials_show}
 use Rattle.th_circulation.proofs.workspaces.Workspace.advance.Goals as goal

@@ -2,7 +2,7 @@ use Rattle.std.proofs.Common.{ℤ, List, length, ap, pos, sym, ◌∙◌, subst}
 use Rattle.std.proofs.lemmas.List.{length-replicate}
 use Rattle.th_circulation.specs.Inside.Flows.{IsFlow}
 use Rattle.th_circulation.specs.Inside.Bounds.{raised_bound}
-use Rattle.th_distances.specs.Distances.{AreWithin}
+use Rattle.th_search.specs.Distances.{AreWithin}
 use Rattle.th_circulation.proofs.HeightLemmas.{none_within}
 use Rattle.th_circulation.proofs.PhaseStarts.{none_flows}
 use Rattle.th_circulation.proofs.workspaces.Workspace.new.Goals as goal

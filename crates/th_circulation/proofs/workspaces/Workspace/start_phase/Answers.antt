@@ -1,7 +1,7 @@
 use Rattle.std.proofs.Common.{ℤ, List, length, ap, sym, ◌∙◌, subst, arith}
 use Rattle.th_circulation.specs.Inside.Bounds.{height_bound}
-use Rattle.th_distances.specs.Distances.{AreWithin}
-use Rattle.th_distances.proofs.WithinLemmas.{written}
+use Rattle.th_search.specs.Distances.{AreWithin}
+use Rattle.th_search.proofs.WithinLemmas.{written}
 use Rattle.th_circulation.proofs.PhaseStarts.{differences_within}
 use Rattle.th_network.specs.Links.{largest_link_difference}
 use Rattle.th_circulation.proofs.workspaces.Workspace.start_phase.Goals as goal

@@ -1,6 +1,6 @@
 use Rattle.std.proofs.Common.{◌≡◌, inl, inr, ap, sym, ◌∙◌, arith}
 use Rattle.std.proofs.lemmas.Bool.{false≢true}
-use Rattle.th_graphs.specs.Cuts.{separates}
+use Rattle.th_cuts.specs.CutWeights.{separates}
 use Rattle.th_cuts.proofs.CutTreeLemmas.{apart_itself}
 use Rattle.th_cuts.proofs.branches.Branches.lightest.Goals as goal
 

@@ -1,6 +1,6 @@
 use Rattle.std.proofs.Common.{◌≡◌, ℕ, ◌≤◌, ◌<◌, ◌⊎◌, Bool, true, length, slice_index_or}
 use Rattle.th_cuts.specs.declared.branches.Branch.{Branch}
-use Rattle.th_graphs.specs.Cuts.{cut_weight, separates}
+use Rattle.th_cuts.specs.CutWeights.{cut_weight, separates}
 use Rattle.th_cuts.proofs.branches.Branches.lightest.Given as goal
 
 abbrev pub invariant-walking : goal.invariant-walking

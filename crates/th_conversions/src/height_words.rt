@@ -1,0 +1,142 @@
+//! The words that a height sight gets.
+ghost use Rattle.std.specs.Prelude.{◌≡◌, ◌<◌, ◌^◌};
+ghost use Rattle.gsi_word.specs.Words.{data_len, parts_of};
+ghost use Rattle.th_units.specs.Units.{step};
+
+use gsi_word::{Width, Word};
+use std::marker::Model;
+use th_book::BookKind;
+use th_columns::last_digits;
+use th_units::{MAX_LEN, Unit, step};
+
+/// A length as a word writes it: its sign, and its number in a unit, in the data of each width.
+#[derive(Drop)]
+pub(crate) struct Written {
+    unit: Unit,
+    length: i64,
+    narrow: [u8; 8],
+    wide: [u8; 16],
+}
+
+impl Model for Written {
+    ghost use Rattle.std.specs.Prelude.{◌≡◌, ◌/◌, unsigned_abs};
+    ghost use Rattle.th_units.specs.Metres.{last_digits};
+    ghost use Rattle.th_units.specs.Units.{step};
+    ghost use Rattle.th_conversions.specs.Words.{Written};
+
+    ghost Value = { Written };
+
+    ghost view = { λ own. record { unit = own.unit; length = own.length } };
+
+    ghost invariant = { λ own. (own.narrow ≡ last_digits 8 (unsigned_abs own.length / step own.unit))
+        × (own.wide ≡ last_digits 16 (unsigned_abs own.length / step own.unit)) };
+}
+
+impl Written {
+    ghost use Rattle.std.specs.Int.{is_negative};
+    ghost use Rattle.th_units.specs.Metres.{last_digits};
+    ghost use Rattle.th_conversions.specs.Words.{if_room, info_of, number_of, word_of, written_of, zero_height};
+
+    /// A length of zero, in 1/100 mm.
+    pub(crate) fn zero() -> Written
+        ensures { result ≡ zero_height }
+    {
+        Written::in_unit(0, Unit::HundredthMm)
+    }
+
+    /// A length in 1/100 mm, or in 1/10,000 ft where it is no whole number of these. `BadUnit` if it
+    /// is no whole number of either, `TooLarge` if it is more than 10 km in size, or if its number
+    /// has more digits than a word of this width.
+    pub(crate) fn of(width: Width, length: i64) -> Result<Written, BookKind>
+        ensures { result ≡ written_of width length }
+    {
+        let size = length.unsigned_abs();
+        if size % units_in(Unit::HundredthMm) == 0 {
+            Written::if_room(width, length, Unit::HundredthMm)
+        } else if size % units_in(Unit::TenMilliFoot) == 0 {
+            Written::if_room(width, length, Unit::TenMilliFoot)
+        } else {
+            Err(BookKind::BadUnit)
+        }
+    }
+
+    /// A length in a unit, if it is at most 10 km and its number has room.
+    fn if_room(width: Width, length: i64, unit: Unit) -> Result<Written, BookKind>
+        ensures { result ≡ if_room width (record { unit = unit; length = length }) }
+    {
+        let size = length.unsigned_abs();
+        if size > MAX_LEN || size / units_in(unit) >= numbers_of(width) {
+            return Err(BookKind::TooLarge);
+        }
+        Ok(Written::in_unit(length, unit))
+    }
+
+    /// A length in a unit.
+    fn in_unit(length: i64, unit: Unit) -> Written
+        ensures { result ≡ record { unit = unit; length = length } }
+    {
+        let number = length.unsigned_abs() / units_in(unit);
+        Written {
+            unit,
+            length,
+            narrow: last_digits(number),
+            wide: last_digits(number),
+        }
+    }
+
+    /// The word of this index, in a width.
+    pub(crate) fn word(&self, width: Width, index: u8) -> Word<'_>
+        requires { index < 100 }
+        ensures { parts_of result ≡ word_of width index self.now }
+    {
+        match Word::new(index, self.info(), self.is_negative(), self.digits(width)) {
+            Some(word) => word,
+            None => unreachable!(),
+        }
+    }
+
+    /// The information of a word in the unit.
+    fn info(&self) -> [u8; 4]
+        ensures { result ≡ info_of self.now.unit }
+    {
+        match self.unit {
+            Unit::TenMilliFoot => *b"..47",
+            _ => *b"..48",
+        }
+    }
+
+    /// Whether the length is below zero.
+    fn is_negative(&self) -> bool
+        ensures { result ≡ is_negative self.now.length }
+    {
+        self.length.is_negative()
+    }
+
+    /// The digits of the number, in the data of a width.
+    fn digits(&self, width: Width) -> &[u8]
+        ensures { result.now ≡ last_digits (data_len width) (number_of self.now) }
+    {
+        match width {
+            Width::Eight => &self.narrow,
+            Width::Sixteen => &self.wide,
+        }
+    }
+}
+
+/// How many units of 10 nm a unit has.
+fn units_in(unit: Unit) -> u64
+    ensures value { result ≡ step unit }
+    ensures some { 0 < result }
+{
+    step(unit).unsigned_abs()
+}
+
+/// How many numbers the data of a word can write.
+fn numbers_of(width: Width) -> u64
+    ensures { result ≡ 10 ^ data_len width }
+{
+    match width {
+        Width::Eight => 100_000_000,
+        Width::Sixteen => 10_000_000_000_000_000,
+    }
+}

@@ -1,3 +1,0 @@
-pub mod WithinLemmas
-pub mod QueueLemmas
-pub mod DistanceLemmas

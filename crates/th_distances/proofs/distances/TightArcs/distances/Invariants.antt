@@ -1,8 +1,0 @@
-use Rattle.th_distances.specs.Inside.Labels.{AreLabels, room}
-use Rattle.th_distances.proofs.distances.TightArcs.distances.Given as goal
-
-abbrev pub invariant-passes : goal.invariant-passes
-invariant-passes l = AreLabels l.self.vertices l.self.arcs.now l.labels.items
-
-abbrev pub decreases-passes : goal.decreases-passes
-decreases-passes l = room l.labels.items

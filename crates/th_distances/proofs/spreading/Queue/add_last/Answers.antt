@@ -1,8 +1,0 @@
-use Rattle.std.proofs.Common.{ℕ, ℤ, ◌<◌}
-use Rattle.th_distances.proofs.QueueLemmas.{all_last}
-use Rattle.th_distances.proofs.spreading.Queue.add_last.Goals as goal
-
-pub invariant_of-self : goal.invariant_of-self
-invariant_of-self c = record {
-  within = all_last (λ (entry : ℕ × ℤ). entry.0 < c.args.self.now.vertices) _ _ _ _ c.push_back.ensures.items c.requires c.args.self.now.within;
-}

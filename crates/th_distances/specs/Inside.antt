@@ -1,3 +1,0 @@
--- what private functions promise one another
-pub mod Labels
-pub mod Spreading

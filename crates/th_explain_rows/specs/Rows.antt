@@ -1,0 +1,77 @@
+-- The row of a number, where it explains what does not fit.
+use Rattle.std.specs.Prelude.{◌≡◌, ℕ, ◌-◌, ◌≤◌, ℤ, pos, ◌+ℤ◌, List, Option, Some, None, if◌then◌else◌, int_lt, unsigned_abs}
+use Rattle.th_explain.specs.Explained.{Explains, IsMore}
+use Rattle.th_changes.specs.Freed.{Keeps, cost_of}
+use Rattle.th_explain.specs.Mended.{LeavesBlunders}
+use Rattle.th_changes.specs.Numbers.{changed}
+use Rattle.th_changes.specs.Reach.{reach_of}
+use Rattle.th_explain.specs.declared.freed.Freed.{Freed}
+use Rattle.th_changes.specs.declared.numbers.Number.{Number}
+use Rattle.th_explain_texts.specs.declared.rows.Row.{Row}
+use Rattle.th_explain_texts.specs.declared.rows.Values.{Values}
+use Rattle.th_network.specs.Networks.{Survey}
+use Rattle.th_numbers.specs.Candidates.{given_of, label_of, number_of, sight_count, whole_of}
+use Rattle.th_numbers.specs.declared.candidates.Candidate.{Candidate}
+use Rattle.th_numbers.specs.declared.candidates.Label.{Label}
+
+-- a limit of blunders as a size: 0 where it is below
+abbrev pub limit_size : ℤ → ℕ
+limit_size limit = if int_lt limit (pos 0) then 0 else unsigned_abs limit
+
+-- the mildest of the changes that are proposed, the one nearest to none
+abbrev pub mildest_change : Freed → ℤ
+mildest_change freed = if int_lt (pos 0) freed.low then freed.low else (if int_lt freed.high (pos 0) then freed.high else pos 0)
+
+-- no change within reach of a whole entry leaves less; that is so of a number that is no part of one
+abbrev pub LeavesNoMore : Survey → Option Number → ℕ → Type 0
+LeavesNoMore survey None left = Unit {0}
+LeavesNoMore survey (Some whole) left =
+    (x : ℤ) (heights : List ℕ → ℤ) → unsigned_abs x ≤ reach_of whole survey.observations → Keeps (changed whole x survey) heights → left ≤ cost_of (changed whole x survey) heights
+
+-- A number is a row: it explains what does not fit, with even its mildest value further from the given one than the limit. If it is a
+-- change that was forgotten, no change within reach of the whole entry leaves less.
+pub record Passes (survey : Survey) (limit : ℤ) (candidate : Candidate) (freed : Freed) : Type 0 where
+  pub explains : Explains survey (limit_size limit) (number_of candidate) freed
+  pub leads : LeavesNoMore survey (whole_of candidate) freed.left
+
+-- a given value, with the lowest and the highest value that are proposed
+abbrev pub values_of : ℤ → Freed → Values
+values_of given freed = record { given = given; low = given +ℤ freed.low; high = given +ℤ freed.high }
+
+-- a row from its columns; rows are numbered when they are ranked
+abbrev pub row_with : Label → ℕ → Values → ℕ → ℕ → ℕ → Row
+row_with label sights values cost left blunders = record {
+  number = 0;
+  kind = label.kind;
+  book = label.book;
+  line = label.line;
+  from = label.from;
+  to = label.to;
+  sights = sights;
+  values = Some values;
+  explains = cost - left;
+  left = left;
+  blunders = blunders;
+}
+
+-- the row of a number, given what the survey costs and how many blunders are left
+abbrev pub row_of : Survey → ℕ → Candidate → Freed → ℕ → Row
+row_of survey cost candidate freed blunders =
+    row_with (label_of candidate) (sight_count survey (number_of candidate)) (values_of (given_of survey.benchmarks candidate) freed) cost freed.left blunders
+
+-- the row of a number that passes, with the blunders that are left where it has its mildest value
+pub record IsRow (survey : Survey) (cost : ℕ) (limit : ℤ) (candidate : Candidate) (row : Row) : Type 0 where
+  pub freed : Freed
+  pub passes : Passes survey limit candidate freed
+  pub blunders : LeavesBlunders survey (number_of candidate) (mildest_change freed) limit row.blunders
+  pub printed : row ≡ row_of survey cost candidate freed row.blunders
+
+-- the row of a number, or none if it does not pass
+abbrev pub IsRowOrNone : Survey → ℕ → ℤ → Candidate → Option Row → Type 0
+IsRowOrNone survey cost limit candidate None = (freed : Freed) → ¬ Passes survey limit candidate freed
+IsRowOrNone survey cost limit candidate (Some row) = IsRow survey cost limit candidate row
+
+-- the row of a number; or none if it does not pass, or leaves more than this
+abbrev pub IsRowOrMore : Survey → ℕ → ℤ → Option ℕ → Candidate → Option Row → Type 0
+IsRowOrMore survey cost limit most candidate None = (freed : Freed) → Passes survey limit candidate freed → IsMore most freed.left
+IsRowOrMore survey cost limit most candidate (Some row) = IsRow survey cost limit candidate row

@@ -1,0 +1,34 @@
+-- The words for kinds of numbers.
+use Rattle.std.specs.Prelude.{ℕ, List, [], codes}
+use Rattle.th_explain_texts.specs.declared.rows.Kind.{Kind}
+use Rattle.th_explain_texts.specs.declared.rows.Kind.TheVariants.{Instrument, Reflector, InstrumentSince, ReflectorSince, Sight, Benchmark, Book}
+
+-- the name of a kind
+abbrev pub kind_word : Kind → List ℕ
+kind_word Instrument = codes "instrument"
+kind_word Reflector = codes "reflector"
+kind_word InstrumentSince = codes "instrument since"
+kind_word ReflectorSince = codes "reflector since"
+kind_word Sight = codes "sight"
+kind_word Benchmark = codes "benchmark"
+kind_word Book = codes "book"
+
+-- the index of the word that a number is; none for a sight and a benchmark
+abbrev pub word_index : Kind → List ℕ
+word_index Instrument = codes "88"
+word_index Reflector = codes "87"
+word_index InstrumentSince = codes "88"
+word_index ReflectorSince = codes "87"
+word_index Sight = []
+word_index Benchmark = []
+word_index Book = codes "33"
+
+-- what follows the line of a change that was forgotten
+abbrev pub since_mark : Kind → List ℕ
+since_mark Instrument = []
+since_mark Reflector = []
+since_mark InstrumentSince = codes "  since"
+since_mark ReflectorSince = codes "  since"
+since_mark Sight = []
+since_mark Benchmark = []
+since_mark Book = []

@@ -1,5 +1,0 @@
-use Rattle.th_explained.proofs.BenchmarkLemmas.{row_left_out}
-use Rattle.th_explained.proofs.laws.benchmark_left_out_is_freed.Goals as goal
-
-pub returns : goal.returns
-returns c = row_left_out

@@ -1,5 +1,0 @@
-use Rattle.th_changes.proofs.Bounds.{bounds}
-use Rattle.th_explained.proofs.laws.flows_bound_cost.Goals as goal
-
-pub returns : goal.returns
-returns c = bounds

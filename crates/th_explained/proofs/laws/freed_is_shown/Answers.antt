@@ -1,6 +1,0 @@
-use Rattle.th_changes.proofs.Bounds.{shown_by_value, shown_each}
-use Rattle.th_explained.proofs.WrongLemmas.{explains_nothing}
-use Rattle.th_explained.proofs.laws.freed_is_shown.Goals as goal
-
-pub returns : goal.returns
-returns c = record { value = shown_by_value; each = shown_each; nothing = explains_nothing }

@@ -1,5 +1,0 @@
-use Rattle.th_explained.proofs.EntryLemmas.{parted_freed}
-use Rattle.th_explained.proofs.laws.parted_entry_is_freed.Goals as goal
-
-pub returns : goal.returns
-returns c = parted_freed

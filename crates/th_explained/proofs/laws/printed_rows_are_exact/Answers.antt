@@ -1,5 +1,0 @@
-use Rattle.th_explained.proofs.PrintedLemmas.{each_printed}
-use Rattle.th_explained.proofs.laws.printed_rows_are_exact.Goals as goal
-
-pub returns : goal.returns
-returns c = λ survey reviews limit explained are. each_printed survey reviews limit explained are

@@ -1,5 +1,0 @@
-use Rattle.th_changes.proofs.Bounds.{low_bound, high_bound}
-use Rattle.th_explained.proofs.laws.proposed_are_bounded.Goals as goal
-
-pub returns : goal.returns
-returns c = record { low = low_bound; high = high_bound }

@@ -1,9 +1,0 @@
-use Rattle.th_explained.proofs.OrderLemmas.{complete_ranked, each_ranked, sorted_ranked}
-use Rattle.th_explained.proofs.laws.ranked_rows_leave_least.Goals as goal
-
-pub returns : goal.returns
-returns c = record {
-  each = each_ranked;
-  sorted = sorted_ranked;
-  complete = complete_ranked;
-}

@@ -1,5 +1,0 @@
-use Rattle.th_explained.proofs.LeftOutLemmas.{left_out}
-use Rattle.th_explained.proofs.laws.sight_left_out_is_freed.Goals as goal
-
-pub returns : goal.returns
-returns c = left_out

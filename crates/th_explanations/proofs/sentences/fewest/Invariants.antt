@@ -1,6 +1,0 @@
-use Rattle.std.proofs.Common.{◌≡◌, fold, take}
-use Rattle.th_explanations.specs.Sentences.{fewer}
-use Rattle.th_explanations.proofs.sentences.fewest.Given as goal
-
-abbrev pub invariant-loop-row : goal.invariant-loop-row
-invariant-loop-row l = l.least ≡ fold fewer l.blunders (take l.row-index l.rows)

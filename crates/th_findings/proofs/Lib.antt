@@ -1,4 +1,0 @@
-pub mod FindingLemmas
-mod UseLemmas
-mod PartLemmas
-mod PartLaws

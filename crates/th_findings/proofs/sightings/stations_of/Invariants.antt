@@ -1,7 +1,0 @@
-use Rattle.std.proofs.Common.{◌≡◌, ℕ, List, take}
-use Rattle.th_findings.specs.Inside.Sets.{has_name}
-use Rattle.th_findings.specs.Seen.{is_station}
-use Rattle.th_findings.proofs.sightings.stations_of.Given as goal
-
-abbrev pub invariant-loop-o : goal.invariant-loop-o
-invariant-loop-o l = (name : List ℕ) → has_name l.stations name ≡ is_station (take l.o-index l.observations) name

@@ -1,6 +1,0 @@
-use Rattle.std.proofs.Common.{◌≡◌, ℕ, ◌<◌, get_or, true}
-use Rattle.th_flows.specs.Inside.Trees.{reached}
-use Rattle.th_flows.proofs.trees.Tree.has_all.Given as goal
-
-abbrev pub invariant-loop-vertex : goal.invariant-loop-vertex
-invariant-loop-vertex l = (k d : ℕ) → k < l.vertex-index → reached l.self.places.items (get_or l.wanted k d) ≡ true

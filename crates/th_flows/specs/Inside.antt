@@ -1,6 +1,0 @@
--- what private functions promise one another
-pub mod Flows
-pub mod Guides
-pub mod Trees
-pub mod Paths
-pub mod OfFlows

@@ -1,2 +1,0 @@
-pub mod Drains
-pub mod Inside

@@ -1,6 +1,0 @@
-use Rattle.std.proofs.Common.{take}
-use Rattle.th_graphs.specs.Inside.Merges.{IsMerged}
-use Rattle.th_graphs.proofs.merges.merged.Given as goal
-
-abbrev pub invariant-loop-edge : goal.invariant-loop-edge
-invariant-loop-edge l = IsMerged (take l.edge-index l.edges) l.merging.edges.items

@@ -1,2 +1,0 @@
--- what private functions promise one another
-pub mod Merges

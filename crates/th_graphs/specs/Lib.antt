@@ -1,4 +1,0 @@
-pub mod Cuts
-pub mod Graphs
-pub mod Neighbours
-pub mod Inside

@@ -1,5 +1,0 @@
-use Rattle.std.proofs.Common.{length}
-use Rattle.th_height_books.proofs.sights.+some_height.Given as goal
-
-abbrev pub decreases-some_height : goal.decreases-some_height
-decreases-some_height l = length l.words.now

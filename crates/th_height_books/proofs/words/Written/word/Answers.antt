@@ -1,6 +1,0 @@
-use Rattle.th_height_books.proofs.WordLemmas.{written_has_spelling}
-use Rattle.th_height_books.proofs.words.Written.word.Goals as goal
-
-pub unreachable-requires : goal.unreachable-requires
-unreachable-requires c =
-    c.in-None.ensures (written_has_spelling c.args.width c.args.index c.args.self.now _ _ _ c.requires c.info.ensures c.is_negative.ensures c.digits.ensures)

@@ -1,9 +1,0 @@
-use Rattle.std.proofs.Common.{◌*◌, arith}
-use Rattle.th_lines.proofs.LineLemmas.{put_then}
-use Rattle.th_lines.specs.Lines.{part_calls}
-use Rattle.th_help.proofs.notes.put_no_sight.Goals as goal
-
-pub returns : goal.returns
-returns g c =
-    let from_put_text = put_then _ _ _ _ (39 * part_calls) _ _ _ _ _ (rw c.in_ok-put_text.was at c.put_text.ensures) c.put-2.ensures (omega arith) in
-    put_then _ _ _ _ _ _ _ _ _ _ (rw c.in_ok-put.was at c.put.ensures) from_put_text (omega arith)

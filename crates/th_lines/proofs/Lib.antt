@@ -1,3 +1,0 @@
-pub mod ErrorLemmas
-pub mod LineLemmas
-pub mod ShownLemmas

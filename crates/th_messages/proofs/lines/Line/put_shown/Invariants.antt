@@ -1,0 +1,12 @@
+use Rattle.std.proofs.Common.{◌≡◌, ◌+◌, ◌*◌, ◌≤◌, take}
+use Rattle.std.specs.Io.KnownBytes.{Appends}
+use Rattle.std.specs.List.{flat_map}
+use Rattle.th_messages.specs.Shown.{shown_byte}
+use Rattle.th_messages.proofs.lines.Line.put_shown.Given as goal
+
+abbrev pub invariant-loop-byte : goal.invariant-loop-byte
+invariant-loop-byte g l =
+    Appends l.fn.self.held l.self.held (flat_map shown_byte (take l.byte-index l.byte-items))
+    × (l.self.counts.calls ≤ l.fn.self.counts.calls + 4096 * l.byte-index)
+    × (l.fn.self.counts.failures ≤ l.self.counts.failures)
+    × (l.self.spot ≡ l.fn.self.spot)

@@ -1,5 +1,0 @@
-pub mod Limits
-pub mod Prefixes
-pub mod Asked
-pub mod Books
-pub mod Plans

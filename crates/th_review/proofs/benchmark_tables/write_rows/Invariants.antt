@@ -1,7 +1,0 @@
-use Rattle.std.proofs.Common.{◌≡◌, ◌++◌, drop}
-use Rattle.std.specs.List.{flat_map}
-use Rattle.th_review.specs.Reviews.{benchmark_line}
-use Rattle.th_review.proofs.benchmark_tables.write_rows.Given as goal
-
-abbrev pub invariant-loop-row : goal.invariant-loop-row
-invariant-loop-row l = l.page ++ flat_map benchmark_line (drop l.row-index l.benchmarks) ≡ l.fn.page ++ flat_map benchmark_line l.benchmarks

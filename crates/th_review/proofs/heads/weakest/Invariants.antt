@@ -1,6 +1,0 @@
-use Rattle.std.proofs.Common.{◌≡◌, None, fold, take}
-use Rattle.th_review.specs.Heads.{lesser}
-use Rattle.th_review.proofs.heads.weakest.Given as goal
-
-abbrev pub invariant-loop-row : goal.invariant-loop-row
-invariant-loop-row l = l.least ≡ fold (λ least row. lesser least row.strength) None (take l.row-index l.points)

@@ -1,7 +1,0 @@
-use Rattle.std.proofs.Common.{◌≡◌, ◌++◌, drop}
-use Rattle.std.specs.List.{flat_map}
-use Rattle.th_review.specs.Reviews.{observation_line}
-use Rattle.th_review.proofs.observation_tables.write_rows.Given as goal
-
-abbrev pub invariant-loop-row : goal.invariant-loop-row
-invariant-loop-row l = l.page ++ flat_map observation_line (drop l.row-index l.observations) ≡ l.fn.page ++ flat_map observation_line l.observations

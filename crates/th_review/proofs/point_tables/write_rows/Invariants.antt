@@ -1,7 +1,0 @@
-use Rattle.std.proofs.Common.{◌≡◌, ◌++◌, drop}
-use Rattle.std.specs.List.{flat_map}
-use Rattle.th_review.specs.Reviews.{point_line}
-use Rattle.th_review.proofs.point_tables.write_rows.Given as goal
-
-abbrev pub invariant-loop-row : goal.invariant-loop-row
-invariant-loop-row l = l.page ++ flat_map (point_line l.largest) (drop l.row-index l.points) ≡ l.fn.page ++ flat_map (point_line l.largest) l.points

@@ -1,7 +1,0 @@
-use Rattle.std.proofs.Common.{◌≡◌, ◌++◌, drop, map}
-use Rattle.th_csv.specs.Texts.{csv_text}
-use Rattle.th_review.specs.Tables.{entries_text, entry_record}
-use Rattle.th_review.proofs.tables.entries_csv.Given as goal
-
-abbrev pub invariant-loop-row : goal.invariant-loop-row
-invariant-loop-row l = l.rows.text ++ csv_text (map entry_record (drop l.row-index l.entries)) ≡ entries_text l.entries

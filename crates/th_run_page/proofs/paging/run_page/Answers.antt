@@ -1,0 +1,83 @@
+use Rattle.std.proofs.Common.{◌≡◌, ◌∙◌, ◌∷◌, ℕ, ℤ, [], Err, IfErr, List, w64, ap, length, map, refl, rules, subst, sym, arith}
+use Rattle.std.proofs.lemmas.Int.{to_z-of_z}
+use Rattle.std.proofs.lemmas.List.{length-map}
+use Rattle.std.specs.List.{All}
+use Rattle.th_entries.specs.Stations.{HasOneStation}
+use Rattle.th_entries.specs.declared.reviews.BookReview.{BookReview}
+use Rattle.th_network.specs.Networks.{Survey}
+use Rattle.th_review_rows.specs.Entries.{entries_of}
+use Rattle.th_run_parts.specs.Inputs.{told_by}
+use Rattle.th_run_parts.specs.Reads.{refused}
+use Rattle.th_run_review.specs.Reviewed.{AreReviewsOf}
+use Rattle.th_run_parts.specs.Writes.{AreWritten, IsFailedWrite, Texts}
+use Rattle.th_run_review.specs.declared.reviews.ReviewReader.{ReviewReader}
+use Rattle.th_run_parts.specs.declared.refusals.Input.TheVariants as input
+use Rattle.th_run_parts.specs.declared.outputs.Output.{Output}
+use Rattle.th_run_parts.specs.declared.outputs.Output.TheVariants as output
+use Rattle.th_run_review.proofs.ReviewLemmas.{AreAllRead, all_read, all_stationed, as_many, reviews_of_all}
+use Rattle.th_run_parts.proofs.RunLemmas.{begun_of, named_of, network_behind, network_refused, of_inputs, survey_begun, survey_refused, written_behind}
+use Rattle.th_run_parts.proofs.SourceLemmas.{all_before}
+use Rattle.th_run_page.specs.Paged.{IsPaged, paging}
+use Rattle.th_run_page.proofs.paging.run_page.Goals as goal
+
+pub returns-in_err-survey : goal.returns-in_err-survey
+returns-in_err-survey g c =
+    let is : c.from_residual.result ≡ Err c.in_err-survey.field-0.0 = search rules in
+    rw is (record {
+      outcome = survey_refused (λ (survey : Survey). survey) _ _ c.in_err-survey.field-0.0 _ _ (of_inputs _ _ c.in_err-survey.field-0.0 c.in_err-survey.ensures.named) c.in_err-survey.ensures.answer (search rules);
+      named = search rules;
+      sources = c.in_err-survey.ensures.sources;
+    })
+
+pub returns-in_err-page : goal.returns-in_err-page
+returns-in_err-page g c =
+    let is : c.from_residual-in_err-page.result ≡ Err c.in_err-page.field-0.0 = search rules in
+    rw is (record {
+      outcome = network_refused (λ (survey : Survey). survey) _ _ c.in_ok-survey.survey c.in_err-page.field-0.0 _ _ c.in_ok-survey.ensures.answer c.in_err-page.ensures (search rules);
+      named = search rules;
+      sources = all_before _ _ _ _ _ _ _ _ _ _ (network_behind input.Weights c.in_ok-survey.survey c.in_err-page.field-0.0 c.in_err-page.ensures) c.in_ok-survey.ensures.sources;
+    })
+
+pub returns : goal.returns
+returns g c =
+    let begun = begun_of (c.new.result.0 ∷ []) c.write_outs.result c.write_outs.ensures.named in
+    record {
+      outcome = survey_begun (λ (survey : Survey). survey) _ _ c.in_ok-survey.survey c.write_outs.result _ _ begun c.in_ok-survey.ensures.answer c.in_ok-page.ensures.0 (
+        (output.Page, c.in_ok-page.page.items) ∷ [],
+        (
+          c.as_slice-reviews.result.now,
+          c.found.result.now,
+          subst (λ (own : List BookReview). AreReviewsOf 1 (told_by g.B.Source.state c.args.books.now) own c.found.result.now) (sym c.as_slice-reviews.ensures.value)
+              (reviews_of_all 1 (told_by g.B.Source.state c.args.books.now) c.in_ok-survey.survey.observations c.read_survey.new.reader.reviews.items c.new-reader.result.names c.read_survey.new.reader.names c.found.result.now
+              (subst (λ (old : List BookReview). AreAllRead 1 (told_by g.B.Source.state c.args.books.now) [] c.in_ok-survey.survey.observations old c.read_survey.new.reader.reviews.items c.new-reader.result.names c.read_survey.new.reader.names)
+              c.new-reader.ensures.reviews (all_read (λ (own : ReviewReader). own.reviews.items) (λ (own : ReviewReader). own.names) 1 _ _ _ c.new-reader.result c.read_survey.new.reader c.in_ok-survey.ensures.read))
+              c.new-reader.ensures.names c.found.ensures),
+          (
+            c.in_ok-page.page.items,
+            subst (λ (limit : ℤ). IsPaged c.in_ok-survey.survey (map (λ name. name.now) c.args.names.now) c.as_slice-reviews.result.now c.found.result.now limit c.in_ok-page.page.items) (to_z-of_z w64 c.args.limit c.ranges.limit)
+                c.in_ok-page.ensures.1,
+            refl,
+          ),
+        ),
+        subst (λ (own : Texts). AreWritten g.K.Sink.state (refused c.write_outs.result) own c.args.outs.now c.write_outs.new.outs)
+            (ap (λ (own : Output × List ℕ). own ∷ []) c.new.ensures) c.write_outs.ensures.written,
+      );
+      named = named_of _ _ paging c.write_outs.result (subst (λ (own : Output). IfErr c.write_outs.result (IsFailedWrite (own ∷ []))) (ap (λ (own : Output × List ℕ). own.0) c.new.ensures) c.write_outs.ensures.named);
+      sources = all_before _ _ _ (refused c.write_outs.result) _ _ _ _ _ _ (written_behind input.Weights c.write_outs.result begun) c.in_ok-survey.ensures.sources;
+    }
+
+pub page_of_survey-requires-clause-few : goal.page_of_survey-requires-clause-few
+page_of_survey-requires-clause-few g c =
+    let same = as_many 1 (told_by g.B.Source.state c.args.books.now) c.in_ok-survey.survey.observations c.read_survey.new.reader.reviews.items c.new-reader.result.names c.read_survey.new.reader.names
+    (subst (λ (old : List BookReview). AreAllRead 1 (told_by g.B.Source.state c.args.books.now) [] c.in_ok-survey.survey.observations old c.read_survey.new.reader.reviews.items c.new-reader.result.names c.read_survey.new.reader.names)
+    c.new-reader.ensures.reviews (all_read (λ (own : ReviewReader). own.reviews.items) (λ (own : ReviewReader). own.names) 1 _ _ _ c.new-reader.result c.read_survey.new.reader c.in_ok-survey.ensures.read)) in
+    let number = ap length c.as_slice-reviews.ensures.value ∙ same ∙ length-map c.args.books.now (λ book. (g.B.Source.state book).left) in
+    omega (arith, number, c.requires.ready.few_books)
+
+pub page_of_survey-requires-clause-stations : goal.page_of_survey-requires-clause-stations
+page_of_survey-requires-clause-stations g c =
+    subst (λ (own : List BookReview). All (HasOneStation c.in_ok-survey.survey.observations) (entries_of own)) (sym c.as_slice-reviews.ensures.value)
+    (all_stationed 1 (told_by g.B.Source.state c.args.books.now) c.in_ok-survey.survey.observations c.read_survey.new.reader.reviews.items c.new-reader.result.names c.read_survey.new.reader.names
+    (subst (λ (old : List BookReview). AreAllRead 1 (told_by g.B.Source.state c.args.books.now) [] c.in_ok-survey.survey.observations old c.read_survey.new.reader.reviews.items c.new-reader.result.names c.read_survey.new.reader.names)
+    c.new-reader.ensures.reviews (all_read (λ (own : ReviewReader). own.reviews.items) (λ (own : ReviewReader). own.names) 1 _ _ _ c.new-reader.result c.read_survey.new.reader c.in_ok-survey.ensures.read))
+    c.entry_of_several_books_has_one_station.ensures)

@@ -1,0 +1,81 @@
+-- What a review prints.
+use Rattle.std.specs.Prelude.{◌≡◌, ℕ, ℤ, false, List, [], ◌∷◌, Option}
+use Rattle.std.specs.List.{AllZip}
+use Rattle.th_book.specs.Lines.{ParsedLine}
+use Rattle.th_circulation.specs.Best.{Best, IsBest}
+use Rattle.th_entries.specs.Listed.{IsListed}
+use Rattle.th_entries.specs.Reviews.{Reviews}
+use Rattle.th_entries.specs.Several.{numbered}
+use Rattle.th_entries.specs.Spellings.{spellings_of}
+use Rattle.th_entries.specs.declared.listed.Listed.{Listed}
+use Rattle.th_entries.specs.declared.reviews.BookReview.{BookReview}
+use Rattle.th_network.specs.Networks.{Survey, at_points_of}
+use Rattle.th_reliability.specs.Numbers.{AreControls, AreStrengths}
+use Rattle.th_reliability.specs.BenchmarkEffects.{IsBenchmarkEffect}
+use Rattle.th_reliability.specs.Effects.{AreBlames, IsEffect}
+use Rattle.th_reliability.specs.Sights.{in_sights}
+use Rattle.th_entries.specs.declared.spellings.Spelling.{Spelling}
+use Rattle.th_review_rows.specs.Entries.{entries_of, sights_of}
+use Rattle.th_review_texts.specs.Texts.{AreReviewTexts, Found, ReviewOutTexts}
+use Rattle.th_run_parts.specs.Inputs.{AreTold}
+use Rattle.th_run_parts.specs.Reads.{Run}
+use Rattle.th_run_parts.specs.Writes.{Texts}
+use Rattle.th_run_parts.specs.declared.outputs.Output.TheVariants as output
+
+-- a review, and what it writes
+abbrev pub reviewing : Run
+reviewing = record { has_certificate = false; outputs = output.Points ∷ output.Observations ∷ output.Entries ∷ output.Benchmarks ∷ output.Review ∷ [] }
+
+-- the texts of its outputs, in the order in which they are written
+abbrev pub in_order : ReviewOutTexts → Texts
+in_order texts =
+    (output.Points, texts.points) ∷ (output.Observations, texts.observations) ∷ (output.Entries, texts.entries)
+    ∷ (output.Benchmarks, texts.benchmarks) ∷ (output.Review, texts.review) ∷ []
+
+-- a review is that of a numbered book
+abbrev pub IsReviewOf : ℕ × List ParsedLine → BookReview → Type 0
+IsReviewOf book review = Reviews book.0 book.1 review
+
+-- the reviews are those of books with the texts that sources gave, numbered from 1 on
+pub record AreReviewsOfBooks (tolds : List (Option (List ℕ))) (reviews : List BookReview) : Type 0 where
+  pub texts : List (List ℕ)
+  pub told : AreTold tolds texts
+  pub reviewed : AllZip IsReviewOf (numbered 1 texts) reviews
+
+-- the reviews are those of books with the texts that sources gave, numbered from this one on; so is the list of names that are spelled in more than one way
+pub record AreReviewsOf (number : ℕ) (tolds : List (Option (List ℕ))) (reviews : List BookReview) (spellings : Listed Spelling) : Type 0 where
+  pub texts : List (List ℕ)
+  pub told : AreTold tolds texts
+  pub reviewed : AllZip IsReviewOf (numbered number texts) reviews
+  pub spelled : IsListed (spellings_of (numbered number texts)) spellings
+
+-- What was found about a survey and the entries of its books: the strengths of its points, with its weights and with
+-- all weights 1; the controls of its observations, and what a mistake in each would move; for each entry what a mistake in it would do; and for each
+-- benchmark, in the order of their table, what a wrong height would do.
+pub record AreFound (survey : Survey) (books : List BookReview) (found : Found) : Type 0 where
+  pub strengths : AreStrengths survey found.strengths
+  pub unit_strengths : AreStrengths (record survey { weights = [] }) found.unit_strengths
+  pub controls : AreControls survey found.controls
+  pub blames : AreBlames survey found.controls found.blames
+  pub effects : AllZip (λ entry effect. IsEffect survey (in_sights (sights_of entry)) effect) (entries_of books) found.effects
+  pub benchmarks : AllZip (λ row effect. IsBenchmarkEffect survey row.0 effect) survey.benchmarks found.benchmarks
+
+-- The texts are the review of a survey and of its books, for this limit of blunders in units
+-- of 10 nm. The heights in them are best, and the rest is what was found.
+pub record AreReviewed (survey : Survey) (books : List BookReview) (spellings : Listed Spelling) (limit : ℤ) (texts : ReviewOutTexts) : Type 0 where
+  pub answer : Best
+  pub answers : IsBest survey answer
+  pub found : Found
+  pub finds : AreFound survey books found
+  pub printed : AreReviewTexts survey (at_points_of survey answer.low) (at_points_of survey answer.high) found books spellings limit texts
+
+-- these are the texts of a review with these reviews of its books
+abbrev pub ArePrintedOf : List BookReview → Listed Spelling → ℤ → Survey → Texts → Type 0
+ArePrintedOf reviews spellings limit survey texts =
+    (own : ReviewOutTexts) × AreReviewed survey reviews spellings limit own × (texts ≡ in_order own)
+
+-- a run that ends in a review of this survey, and of the books that sources told, writes these texts
+abbrev pub AreOfReview : List (Option (List ℕ)) → ℤ → Survey → Texts → Type 0
+AreOfReview tolds limit survey texts =
+    (reviews : List BookReview) × (spellings : Listed Spelling) × AreReviewsOf 1 tolds reviews spellings
+    × ArePrintedOf reviews spellings limit survey texts

@@ -1,0 +1,76 @@
+//! What is read of books beside their observations, for a review.
+ghost use Rattle.std.specs.Prelude.{◌≡◌, [], OnOk};
+ghost use Rattle.th_entries.specs.Seen.{AreSeenInBooks};
+ghost use Rattle.th_run_review.specs.Inside.Readers.{IsAdded};
+
+use std::alloc::{AllocError, Global};
+use std::mem;
+use th_book::BookFeed;
+use th_devices::Source;
+use th_entries::{BookReview, SeenNames, Tally};
+use th_observations::Observation;
+use th_run_parts::{BookReader, Refusal, SeenFeed, feed_from, refusal_of};
+
+/// Reads the review of each book beside its observations.
+#[derive(Drop)]
+pub struct ReviewReader {
+    /// The reviews of the books that were read, in their order.
+    pub reviews: Vec<BookReview>,
+    /// The names that these books mention.
+    pub names: SeenNames,
+}
+
+impl ReviewReader {
+    /// No book was read.
+    pub fn new(alloc: Global) -> ReviewReader
+        ensures reviews { result.reviews.items ≡ [] }
+        ensures names { AreSeenInBooks [] result.names }
+    {
+        ReviewReader {
+            reviews: Vec::new(alloc),
+            names: SeenNames::new(alloc),
+        }
+    }
+
+    /// Puts the review of the next book, which has no fault, behind the others.
+    fn add(&mut self, tally: Tally) -> Result<(), AllocError>
+        ensures { OnOk result (IsAdded tally self.old.reviews.items self.new.reviews.items self.new.names) }
+    {
+        let (review, names) = tally.review()?;
+        self.reviews.push(review)?;
+        self.names = names;
+        Ok(())
+    }
+}
+
+impl BookReader for ReviewReader {
+    ghost use Rattle.th_run_review.specs.Inside.Readers.{IsReviewedNext};
+
+    ghost has_read = { λ number told observations old new.
+        IsReviewedNext number told observations old.reviews.items new.reviews.items old.names new.names };
+
+    fn read<S: Source>(
+        &mut self,
+        alloc: Global,
+        number: u32,
+        book: &mut S,
+    ) -> Result<Vec<Observation>, Refusal> {
+        let names = mem::replace(&mut self.names, SeenNames::new(alloc));
+        let mut feed = SeenFeed {
+            observations: BookFeed::new(alloc, number),
+            witness: Tally::new(alloc, number, names),
+        };
+        feed_from(number, book, &mut feed)?;
+        let SeenFeed {
+            observations,
+            mut witness,
+        } = feed;
+        match observations.finish_to(&mut witness) {
+            Ok(observations) => {
+                self.add(witness)?;
+                Ok(observations)
+            }
+            Err(fault) => Err(refusal_of(number, fault)),
+        }
+    }
+}

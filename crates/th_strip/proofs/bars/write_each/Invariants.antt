@@ -1,7 +1,0 @@
-use Rattle.std.proofs.Common.{◌≡◌, ◌++◌, drop}
-use Rattle.std.specs.List.{flat_map}
-use Rattle.th_strip.specs.Strips.{bar_in}
-use Rattle.th_strip.proofs.bars.write_each.Given as goal
-
-abbrev pub invariant-loop-sight : goal.invariant-loop-sight
-invariant-loop-sight l = l.page ++ flat_map (bar_in l.reach l.limit l.count l.group) (drop l.sight-index l.sights) ≡ l.fn.page ++ flat_map (bar_in l.reach l.limit l.count l.group) l.sights

@@ -1,2 +1,0 @@
-pub mod Strips
-pub mod Laws
