@@ -1,6 +1,8 @@
 """Inputs that cannot be read or are refused, books that `book` makes, and notes."""
 
 import itertools
+import re
+from pathlib import Path
 from typing import Iterator
 
 from rows import Case, Row, RowCase
@@ -114,6 +116,15 @@ NOTES = [
     Row(0, "", "list blank.gsi", LIST, {"blank.gsi": "\n  \n"}),
 ]
 
+# Points move together between their lowest and highest heights (`heights_between_are_best`): a certificate whose lowest heights have the
+# highest one of a point is no answer.
+SITE = Path(__file__).resolve().parents[2] / "examples" / "building_site"
+MIXED = {
+    "monday.gsi": lambda: (SITE / "monday.gsi").read_bytes(),
+    "site_marks.csv": lambda: (SITE / "marks.csv").read_bytes(),
+    "mixed.csv": lambda: re.sub(rb"(?m)^H,KO1,250\.11100000", b"H,KO1,250.11200000", (SITE / "site.certificate.csv").read_bytes()),
+}
+
 DONE = [
     Row(0, "", "", LIST),
     Row(0, "", "book differences.csv", BOOK_OF_DIFFERENCES),
@@ -122,6 +133,7 @@ DONE = [
     Row(0, "", f"explain {MARKS} --csv cellar.gsi", ROWS_OF_EXPLANATIONS),
     Row(0, "", f"check {MARKS} --certificate cellar.certificate.csv cellar.gsi", "yes"),
     Row(1, "", f"check {MARKS} --certificate wrong.certificate.csv cellar.gsi", "no: wrong cost"),
+    Row(1, "", "check --benchmarks site_marks.csv --certificate mixed.csv monday.gsi", "no: not slack at 2", MIXED),
 ]
 
 
