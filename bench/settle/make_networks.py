@@ -13,7 +13,7 @@ import argparse
 import sys
 from pathlib import Path
 from random import Random
-from typing import Callable, Dict, List, NamedTuple, Tuple
+from typing import Callable, Dict, List, NamedTuple, Optional, Set, Tuple
 
 SEED = 11
 UNITS_PER_METRE = 100_000_000
@@ -163,8 +163,8 @@ KINDS: Dict[str, Callable[[int, int, Random], Network]] = {
 }
 
 
-def connected(network: Network) -> Network:
-    """The network without the observations that are not tied to a benchmark."""
+def tied_points(network: Network) -> Set[int]:
+    """The points that observations join to a benchmark."""
     neighbours: Dict[int, List[int]] = {}
     for tail, head in network.pairs:
         neighbours.setdefault(tail, []).append(head)
@@ -176,6 +176,12 @@ def connected(network: Network) -> Network:
             if point not in tied:
                 tied.add(point)
                 todo.append(point)
+    return tied
+
+
+def connected(network: Network) -> Network:
+    """The network without the observations that are not tied to a benchmark."""
+    tied = tied_points(network)
     kept = [i for i, (tail, _) in enumerate(network.pairs) if tail in tied]
     return Network([network.pairs[i] for i in kept], [network.rises[i] for i in kept], network.benchmarks)
 
@@ -207,9 +213,10 @@ def book_of(network: Network) -> str:
     return "\n".join(lines) + "\n"
 
 
-def write(folder: Path, network: Network, weights: Dict[Pair, int]) -> None:
+def write(folder: Path, network: Network, weights: Dict[Pair, int], book: Optional[str] = None) -> None:
+    """Writes the files of a network, with a book that has its sights in order, or the plainest one."""
     folder.mkdir(parents=True, exist_ok=True)
-    (folder / "book.gsi").write_text(book_of(network))
+    (folder / "book.gsi").write_text(book_of(network) if book is None else book)
     heights = [f"{name_of(point)},{height // STEPS_PER_METRE}.{height % STEPS_PER_METRE:05}\n" for point, height in network.benchmarks.items()]
     (folder / "benchmarks.csv").write_text("point,height\n" + "".join(heights))
     rows = [f"{name_of(a)},{name_of(b)},{weight}\n" for (a, b), weight in weights.items() if weight != 1]
