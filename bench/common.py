@@ -9,13 +9,14 @@ import sys
 import tempfile
 import time
 from pathlib import Path
-from typing import List, NamedTuple, Optional, Tuple, Union
+from typing import Iterable, List, NamedTuple, Optional, Tuple, Union
 
 BENCH = Path(__file__).resolve().parent
 ROOT = BENCH.parent
 CRATES = ROOT / "crates"
 DEFAULT_PROGRAM = CRATES / "height_office" / "out" / "height_office"
 NETWORKS = BENCH / "settle" / "make_networks.py"
+SURVEYS = BENCH / "explain" / "surveys.py"
 MIB = 1 << 20
 TITLE_WIDTH = 34
 
@@ -72,6 +73,12 @@ def made_networks(folder: Path, points: Union[int, str], observations: Union[int
     words = [sys.executable, str(NETWORKS), str(folder), "--points", str(points), "--observations", str(observations), *more]
     subprocess.run(words, check=True)
     return sorted(path for path in folder.iterdir() if path.is_dir())
+
+
+def made_surveys(folder: Path, shapes: Iterable[str], size: str, *more: str) -> List[Path]:
+    """The folders of the surveys of `surveys.py` of these shapes and this size, made likewise: one for each greatest weight and mistake."""
+    subprocess.run([sys.executable, str(SURVEYS), str(folder), "--sizes", size, "--shapes", *shapes, *more], check=True)
+    return sorted(path for path in folder.glob("*/*") if path.is_dir())
 
 
 def tables_of(folder: Path) -> Command:

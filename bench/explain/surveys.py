@@ -1,7 +1,7 @@
 #!/usr/bin/env python3
 """Makes surveys in which one number is wrong: those that `explain` exists for.
 
-    surveys.py FOLDER [--shapes SHAPE ...] [--sizes POINTS:SIGHTS ...]
+    surveys.py FOLDER [--shapes SHAPE ...] [--sizes POINTS:SIGHTS ...] [--mistakes MISTAKE ...]
 
 Writes a folder for each shape, size and greatest weight into FOLDER, and in it a folder for each mistake with the files that
 `../settle/make_networks.py` writes. Unlike its networks, these have setups of several sights, with an instrument height and a pole of some
@@ -12,7 +12,7 @@ import argparse
 import sys
 from pathlib import Path
 from random import Random
-from typing import Callable, Dict, Iterator, List, NamedTuple, Tuple
+from typing import Callable, Dict, Iterator, List, NamedTuple, Sequence, Tuple
 
 HERE = Path(__file__).resolve().parent
 sys.path.insert(0, str(HERE.parent / "settle"))
@@ -126,6 +126,10 @@ SIZES: Dict[str, Tuple[str, ...]] = {
 }
 
 
+# Those that stand for a shape where it does not matter what is wrong: a wrong entry, and two sets as they are.
+PLAIN_MISTAKES = ("entry", "as they are")
+
+
 # Sights of a plan
 
 
@@ -169,10 +173,18 @@ def two_sets(points: int, sights: int, rng: Random) -> Survey:
 # Mistakes
 
 
-def in_middle(survey: Survey, change: Callable[[Setup], Setup]) -> Survey:
-    """A survey in which the setup in the middle is changed."""
-    setups, middle = list(survey.setups), len(survey.setups) // 2
-    setups[middle] = change(setups[middle])
+MIDDLE = 0.5
+
+
+def placed(where: float, count: int) -> int:
+    """The place of so many that is at this part of them."""
+    return min(int(where * count), count - 1)
+
+
+def in_setup(survey: Survey, where: float, change: Callable[[Setup], Setup]) -> Survey:
+    """A survey in which one setup is changed."""
+    setups, place = list(survey.setups), placed(where, len(survey.setups))
+    setups[place] = change(setups[place])
     return survey._replace(setups=setups)
 
 
@@ -187,37 +199,38 @@ def forgotten_in(setup: Setup) -> Setup:
     return raised_from(setup, len(setup.sights) // 2, len(setup.sights), POLE_OFF)
 
 
-def wrong_entry(survey: Survey) -> Survey:
-    return in_middle(survey, lambda setup: setup._replace(instrument=setup.instrument + INSTRUMENT_OFF))
+def wrong_entry(survey: Survey, where: float = MIDDLE) -> Survey:
+    return in_setup(survey, where, lambda setup: setup._replace(instrument=setup.instrument + INSTRUMENT_OFF))
 
 
-def forgotten_change(survey: Survey) -> Survey:
-    return in_middle(survey, forgotten_in)
+def forgotten_change(survey: Survey, where: float = MIDDLE) -> Survey:
+    return in_setup(survey, where, forgotten_in)
 
 
-def forgotten_changes(survey: Survey) -> Survey:
+def forgotten_changes(survey: Survey, where: float = MIDDLE) -> Survey:
     """A forgotten change in each setup."""
     return survey._replace(setups=[forgotten_in(setup) for setup in survey.setups])
 
 
-def wrong_sight(survey: Survey) -> Survey:
-    return in_middle(survey, lambda setup: raised_from(setup, len(setup.sights) // 2, len(setup.sights) // 2 + 1, METRE_OFF))
+def wrong_sight(survey: Survey, where: float = MIDDLE) -> Survey:
+    return in_setup(survey, where, lambda setup: raised_from(setup, len(setup.sights) // 2, len(setup.sights) // 2 + 1, METRE_OFF))
 
 
-def wrong_benchmark(survey: Survey) -> Survey:
-    """The last benchmark is wrong. Where there is one alone, the point in the middle is another, since nothing shows that a single one is."""
-    point = list(survey.benchmarks)[-1] if len(survey.benchmarks) > 1 else len(survey.heights) // 2
+def wrong_benchmark(survey: Survey, where: float = MIDDLE) -> Survey:
+    """The last benchmark is wrong. Where there is one alone, another point is one too, since nothing shows that a single one is wrong."""
+    point = list(survey.benchmarks)[-1] if len(survey.benchmarks) > 1 else placed(where, len(survey.heights))
     return survey._replace(benchmarks={**survey.benchmarks, point: survey.heights[point] + METRE_OFF})
 
 
-MISTAKES: Dict[str, Callable[[Survey], Survey]] = {
+Mistake = Callable[..., Survey]
+MISTAKES: Dict[str, Mistake] = {
     "entry": wrong_entry,
     "change": forgotten_change,
     "benchmark": wrong_benchmark,
     "sight": wrong_sight,
 }
 # Mistakes of one shape alone.
-MORE_MISTAKES: Dict[str, Dict[str, Callable[[Survey], Survey]]] = {"pillars": {"changes": forgotten_changes}}
+MORE_MISTAKES: Dict[str, Dict[str, Mistake]] = {"pillars": {"changes": forgotten_changes}}
 
 
 # Files
@@ -249,11 +262,41 @@ def mistaken(shape: str, points: int, sights: int, rng: Random) -> Iterator[Tupl
         yield name, mistake(survey)
 
 
-def make(folder: Path, shape: str, size: str) -> None:
+# Surveys at random
+
+
+def rekeyed(setup: Setup, rng: Random) -> Setup:
+    """A setup in which the pole was changed before some sight, and its new height keyed in."""
+    first, higher = rng.randrange(len(setup.sights)), rng.choice((-20_000, 1, 50_000))
+    changed = [sight._replace(raised=sight.raised + higher, pole=sight.pole + higher) if k >= first else sight
+               for k, sight in enumerate(setup.sights)]
+    return setup._replace(sights=changed)
+
+
+def random_survey(points: int, sights: int, rng: Random) -> Tuple[str, Survey]:
+    """A survey of any shape, some of whose poles were changed and keyed in, with up to three mistakes anywhere; and what it is."""
+    shape = rng.choice(list(SIZES))
+    survey = two_sets(points, sights, rng) if shape == "two sets" else surveyed(SHAPES[shape](points, sights, rng), points, rng)
+    survey = survey._replace(setups=[rekeyed(setup, rng) if rng.randrange(4) == 0 else setup for setup in survey.setups])
+    mistakes = [rng.choice(list(MISTAKES)) for _ in range(rng.randrange(4))]
+    for name in mistakes:
+        survey = MISTAKES[name](survey, rng.random())
+    return " ".join([shape, *mistakes]), survey
+
+
+# Folders
+
+
+def make(folder: Path, shape: str, size: str, mistakes: Sequence[str] = ()) -> List[Path]:
+    """The folders of the surveys of a shape, one for each greatest weight and mistake, or those with these mistakes alone."""
     points, sights = map(int, size.split(":"))
+    folders = []
     for most in (1, MAX_WEIGHT):
         for name, survey in mistaken(shape, points, sights, Random(SEED)):
-            write_survey(folder / f"{shape}, {size}, weights to {most}" / name, survey, some_weights(survey, most, Random(SEED)))
+            if not mistakes or name in mistakes:
+                folders.append(folder / f"{shape}, {size}, weights to {most}" / name)
+                write_survey(folders[-1], survey, some_weights(survey, most, Random(SEED)))
+    return folders
 
 
 def main() -> int:
@@ -261,10 +304,11 @@ def main() -> int:
     parser.add_argument("folder", type=Path)
     parser.add_argument("--shapes", nargs="+", choices=list(SIZES), default=list(SIZES))
     parser.add_argument("--sizes", nargs="+", help="points and sights, in place of the sizes of each shape")
+    parser.add_argument("--mistakes", nargs="+", default=[], help="the mistakes to be made, in place of all")
     chosen = parser.parse_args()
     for shape in chosen.shapes:
         for size in chosen.sizes or SIZES[shape]:
-            make(chosen.folder, shape, size)
+            make(chosen.folder, shape, size, chosen.mistakes)
     return 0
 
 

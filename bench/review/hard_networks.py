@@ -1,6 +1,7 @@
-"""Networks on which cuts are hard to find: many flows are long, or many ways lead to dead ends.
+"""Networks on which cuts are hard to find: many flows are long, many ways lead to dead ends, or entries overlap.
 
-Each is made as those of `../settle/make_networks.py` are, with weights of its own.
+Each is made as those of `../settle/make_networks.py` are, with weights of its own. Those of `SETUPS` have setups of two sights, as the
+surveys of `../explain/surveys.py` have, so that each setup has an entry of two sights.
 """
 
 import sys
@@ -9,8 +10,9 @@ from random import Random
 from typing import Callable, Dict, List, Tuple
 
 HERE = Path(__file__).resolve().parent
-sys.path.insert(0, str(HERE.parent / "settle"))
-from make_networks import MAX_WEIGHT, Network, connected, sighted, some, terrain, write  # noqa: E402
+sys.path[:0] = [str(HERE.parent / "settle"), str(HERE.parent / "explain")]
+from make_networks import MAX_WEIGHT, Network, Pair, connected, sighted, some, terrain, write  # noqa: E402
+from surveys import Plan, network_of, surveyed, write_survey  # noqa: E402
 
 SEED = 5
 FORWARD = 10
@@ -97,8 +99,41 @@ KINDS: Dict[str, Callable[[int, int, Random], List[Sight]]] = {
 }
 
 
-def make(folder: Path, points: int, observations: int) -> List[Path]:
-    """The folders of the networks, one for each kind."""
+# Setups with entries of two sights
+
+
+Setups = List[Tuple[int, List[int]]]
+
+
+def rungs(points: int) -> Setups:
+    """Two rows of points: each sights the one across, and the next one of its row."""
+    return [(a, [a ^ 1, a + 2]) for a in range(points - 2)]
+
+
+def overlapping(points: int) -> Setups:
+    """A row of points: each sights the next two, so that its entry overlaps those of its neighbours."""
+    return [(a, [a + 1, a + 2]) for a in range(points - 2)]
+
+
+def any_weight(pair: Pair, rng: Random) -> int:
+    return rng.randint(1, MAX_WEIGHT)
+
+
+def weight_of_hop(pair: Pair, rng: Random) -> int:
+    """Every second sight, that of the point after the next, weighs as much as it may."""
+    return MAX_WEIGHT if pair[1] - pair[0] == 2 else 1
+
+
+SETUPS: Dict[str, Tuple[Callable[[int], Setups], Callable[[Pair, Random], int]]] = {
+    "two-row ladder": (rungs, any_weight),
+    "overlapping entries": (overlapping, weight_of_hop),
+}
+
+
+# Folders
+
+
+def make_sights(folder: Path, points: int, observations: int) -> List[Path]:
     folders = []
     for number, (kind, build) in enumerate(KINDS.items()):
         rng = Random(SEED + number)
@@ -109,3 +144,18 @@ def make(folder: Path, points: int, observations: int) -> List[Path]:
         folders.append(folder / kind)
         write(folders[-1], network, {(a, b): weight for a, b, weight in sights})
     return folders
+
+
+def make_setups(folder: Path, points: int, observations: int) -> List[Path]:
+    folders = []
+    for number, (kind, (build, weight)) in enumerate(SETUPS.items()):
+        rng, round_of = Random(SEED + number), build(points)
+        survey = surveyed(Plan([round_of[k % len(round_of)] for k in range(observations // 2)], [0]), points, rng)
+        folders.append(folder / kind)
+        write_survey(folders[-1], survey, {pair: weight(pair, rng) for pair in sorted(set(network_of(survey).pairs))})
+    return folders
+
+
+def make(folder: Path, points: int, observations: int) -> List[Path]:
+    """The folders of the networks, one for each kind."""
+    return make_sights(folder, points, observations) + make_setups(folder, points, observations)
