@@ -76,7 +76,7 @@ def made_networks(folder: Path, points: Union[int, str], observations: Union[int
 
 
 def made_surveys(folder: Path, shapes: Iterable[str], size: str, *more: str) -> List[Path]:
-    """The folders of the surveys of `surveys.py` of these shapes and this size, made likewise: one for each greatest weight and mistake."""
+    """The folders of the surveys of `surveys.py` of these shapes and this size, made likewise: one for each range of weights and mistake."""
     subprocess.run([sys.executable, str(SURVEYS), str(folder), "--sizes", size, "--shapes", *shapes, *more], check=True)
     return sorted(path for path in folder.glob("*/*") if path.is_dir())
 

@@ -3,7 +3,7 @@
 
     surveys.py FOLDER [--shapes SHAPE ...] [--sizes POINTS:SIGHTS ...] [--mistakes MISTAKE ...]
 
-Writes a folder for each shape, size and greatest weight into FOLDER, and in it a folder for each mistake with the files that
+Writes a folder for each shape, size and range of weights into FOLDER, and in it a folder for each mistake with the files that
 `../settle/make_networks.py` writes. Unlike its networks, these have setups of several sights, with an instrument height and a pole of some
 height, and all sights but the wrong ones agree within millimetres.
 """
@@ -126,6 +126,8 @@ SIZES: Dict[str, Tuple[str, ...]] = {
 }
 
 
+# The least and the greatest weight. Where all legs weigh much, none is weak, and a mistake can be spread over them in many ways.
+WEIGHTS: Tuple[Tuple[int, int], ...] = ((1, 1), (1, MAX_WEIGHT), (MAX_WEIGHT // 2, MAX_WEIGHT))
 # Those that stand for a shape where it does not matter what is wrong: a wrong entry, and two sets as they are.
 PLAIN_MISTAKES = ("entry", "as they are")
 
@@ -248,8 +250,8 @@ def write_survey(folder: Path, survey: Survey, weights: Dict[Tuple[int, int], in
     write(folder, network_of(survey), weights, book_of(survey))
 
 
-def some_weights(survey: Survey, most: int, rng: Random) -> Dict[Tuple[int, int], int]:
-    return {pair: rng.randint(1, most) for pair in sorted(set(network_of(survey).pairs))}
+def some_weights(survey: Survey, least: int, most: int, rng: Random) -> Dict[Tuple[int, int], int]:
+    return {pair: rng.randint(least, most) for pair in sorted(set(network_of(survey).pairs))}
 
 
 def mistaken(shape: str, points: int, sights: int, rng: Random) -> Iterator[Tuple[str, Survey]]:
@@ -288,14 +290,15 @@ def random_survey(points: int, sights: int, rng: Random) -> Tuple[str, Survey]:
 
 
 def make(folder: Path, shape: str, size: str, mistakes: Sequence[str] = ()) -> List[Path]:
-    """The folders of the surveys of a shape, one for each greatest weight and mistake, or those with these mistakes alone."""
+    """The folders of the surveys of a shape, one for each range of weights and mistake, or those with these mistakes alone."""
     points, sights = map(int, size.split(":"))
     folders = []
-    for most in (1, MAX_WEIGHT):
-        for name, survey in mistaken(shape, points, sights, Random(SEED)):
-            if not mistakes or name in mistakes:
-                folders.append(folder / f"{shape}, {size}, weights to {most}" / name)
-                write_survey(folders[-1], survey, some_weights(survey, most, Random(SEED)))
+    for name, survey in mistaken(shape, points, sights, Random(SEED)):
+        if mistakes and name not in mistakes:
+            continue
+        for least, most in WEIGHTS:
+            folders.append(folder / f"{shape}, {size}, weights {least} to {most}" / name)
+            write_survey(folders[-1], survey, some_weights(survey, least, most, Random(SEED)))
     return folders
 
 

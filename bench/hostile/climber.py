@@ -82,14 +82,14 @@ def survey_of(network: make_networks.Network, points: int) -> Survey:
 
 
 def beginning(climb: Climb, rng: Random) -> State:
-    most = rng.choice((1, make_networks.MAX_WEIGHT))
+    least, most = rng.choice(surveys.WEIGHTS)
     if rng.randrange(4):
         origin, survey = surveys.random_survey(climb.points, climb.sights, rng)
     else:
         origin = rng.choice(list(make_networks.KINDS))
         network = make_networks.connected(make_networks.KINDS[origin](climb.points, climb.sights, rng))
         survey = survey_of(network, climb.points)
-    return State(survey, surveys.some_weights(survey, most, rng), origin)
+    return State(survey, surveys.some_weights(survey, least, most, rng), origin)
 
 
 # Changes of a setup
