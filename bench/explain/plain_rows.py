@@ -283,17 +283,19 @@ def with_entries(chosen: List[Number], numbers: Dict[Tuple[str, Optional[int]], 
 
 
 def plain_rows(lemon: Path, folder: Path, printed: List[List[str]], sample: int) -> Tuple[List[List[str]], int]:
-    """The rows that a network has to have, and how many numbers they were found from: those of the printed rows and each Nth number."""
+    """The rows that a network has to have, and how many numbers they were found from: those of the printed rows, each Nth number, the
+    benchmarks and the book."""
     book, network = read_book(folder / "book.gsi"), read_network(folder / "network.txt")
     numbers = numbers_of(book, read_benchmarks(folder / "benchmarks.csv"))
     keys = [(row[1], int(row[3])) for row in printed if row[1] != "book"]
-    chosen = with_entries([numbers[key] for key in keys if key in numbers] + list(numbers.values())[::sample], numbers)
+    some = [own for k, own in enumerate(numbers.values()) if k % sample == 0 or own.kind == "benchmark"]
+    chosen = with_entries([numbers[key] for key in keys if key in numbers] + some, numbers)
     whole = book_number(book)
     now, *freed = freed_by(lemon, network, [whole, *chosen], folder / "numbers.txt")
     (read,) = freed_by(lemon, mark_to_mark(network, book), [whole], folder / "numbers.txt")
     found = {own.key: one for own, one in zip(chosen, freed)}
     rows = [row for row in [Row(whole, read), *map(Row, chosen, freed)] if is_row(row, found, now.left)]
-    return numbered(rows, now.left, len(book.sights)), len(chosen)
+    return numbered(rows, now.left, len(book.sights)), len(chosen) + 1
 
 
 def compared(lemon: Path, folder: Path, table: Path, sample: int) -> int:
