@@ -65,7 +65,7 @@ class Survey(NamedTuple):
 
 def loop(points: int, sights: int, rng: Random) -> Plan:
     """Each point sights the next one as often as there are sights for it; the last one sights the first, which is the benchmark."""
-    return Plan([(point, [(point + 1) % points] * (sights // points)) for point in range(points)], [0])
+    return Plan([(point, [(point + 1) % points] * max(1, sights // points)) for point in range(points)], [0])
 
 
 def line(points: int, sights: int, rng: Random) -> Plan:
@@ -163,10 +163,11 @@ def surveyed(plan: Plan, points: int, rng: Random) -> Survey:
 
 
 def two_sets(points: int, sights: int, rng: Random) -> Survey:
-    """Two surveys of all points, each of setups with ten sights to any others, which contradict each other by metres."""
+    """Two surveys of all points, each of setups with ten sights to any others, which contradict each other by metres. Both begin at the
+    benchmark."""
     survey, setups = surveyed(Plan([], [0]), points, rng), []
     for heights in (survey.heights, terrain(points, rng)):
-        stations = [rng.randrange(points) for _ in range(sights // 20)]
+        stations = [0] + [rng.randrange(points) for _ in range(sights // 20 - 1)]
         plan = Plan([(a, [(a + rng.randrange(1, points)) % points for _ in range(10)]) for a in stations], [0])
         setups += observed(plan, heights, rng)
     return tied(survey._replace(setups=setups))
