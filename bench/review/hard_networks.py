@@ -106,8 +106,8 @@ Setups = List[Tuple[int, List[int]]]
 
 
 def rungs(points: int) -> Setups:
-    """Two rows of points: each sights the one across, and the next one of its row."""
-    return [(a, [a ^ 1, a + 2]) for a in range(points - 2)]
+    """Two rows of points: each sights both points of the next rung, that of its own row and the other one."""
+    return [(a, [(a | 1) + 1, (a | 1) + 2]) for a in range(points // 2 * 2 - 2)]
 
 
 def overlapping(points: int) -> Setups:
@@ -115,18 +115,19 @@ def overlapping(points: int) -> Setups:
     return [(a, [a + 1, a + 2]) for a in range(points - 2)]
 
 
-def any_weight(pair: Pair, rng: Random) -> int:
-    return rng.randint(1, MAX_WEIGHT)
+def heavy_across(pair: Pair) -> int:
+    """A sight to the other row weighs as much as it may, and one along a row as little."""
+    return 1 if pair[1] - pair[0] == 2 else MAX_WEIGHT
 
 
-def weight_of_hop(pair: Pair, rng: Random) -> int:
+def heavy_hops(pair: Pair) -> int:
     """Every second sight, that of the point after the next, weighs as much as it may."""
     return MAX_WEIGHT if pair[1] - pair[0] == 2 else 1
 
 
-SETUPS: Dict[str, Tuple[Callable[[int], Setups], Callable[[Pair, Random], int]]] = {
-    "two-row ladder": (rungs, any_weight),
-    "overlapping entries": (overlapping, weight_of_hop),
+SETUPS: Dict[str, Tuple[Callable[[int], Setups], Callable[[Pair], int]]] = {
+    "two-row ladder": (rungs, heavy_across),
+    "overlapping entries": (overlapping, heavy_hops),
 }
 
 
@@ -152,7 +153,7 @@ def make_setups(folder: Path, points: int, observations: int) -> List[Path]:
         rng, round_of = Random(SEED + number), build(points)
         survey = surveyed(Plan([round_of[k % len(round_of)] for k in range(observations // 2)], [0]), points, rng)
         folders.append(folder / kind)
-        write_survey(folders[-1], survey, {pair: weight(pair, rng) for pair in sorted(set(network_of(survey).pairs))})
+        write_survey(folders[-1], survey, {pair: weight(pair) for pair in sorted(set(network_of(survey).pairs))})
     return folders
 
 
