@@ -402,7 +402,7 @@ def lamp(count: int, total: int, what: bytes, good: bytes, bad: bytes) -> bytes:
     return b'<li class="%s"><b>%d of %d %s.</b> %s\n' % (b"no" if count else b"ok", count, total, what, bad if count else good)
 
 
-ALL_SHOW = b"A mistake in any single one shows in the residuals of its sights."
+ALL_SHOW = b"A mistake in any single one with sights shows in their residuals."
 
 
 def lamps(page: Page) -> bytes:
@@ -439,7 +439,7 @@ def sections(page: Page) -> bytes:
     out = b""
     if page.explanations:
         out += section(b"explanations", b"One wrong number that would explain the marks",
-                       b"With the proposed number in place of the given one, the cost and the marks of the last two columns are left.",
+                       b"With the proposed number nearest to the given one, the cost and the marks of the last two columns are left.",
                        table(EXPLANATION_HEAD, [explanation_row(row) for row in page.explanations]))
     if marked:
         out += section(b"marked", b"Marked sights",

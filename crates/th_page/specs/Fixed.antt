@@ -121,7 +121,7 @@ unfoldable pub explanation_start : List ℕ
 explanation_start =
     codes "<section id=\"explanations\">\n"
     ++ codes "<h2>One wrong number that would explain the marks</h2>\n"
-    ++ codes "<p>With the proposed number in place of the given one, the cost and the marks of the last two columns are left.</p>\n"
+    ++ codes "<p>With the proposed number nearest to the given one, the cost and the marks of the last two columns are left.</p>\n"
 
 -- the beginning of the section of marked sights
 unfoldable pub marked_start : List ℕ

@@ -101,12 +101,12 @@ weak_lamp count total =
 
 unfoldable pub benchmark_lamp : ℕ → ℕ → List ℕ
 benchmark_lamp count total =
-    lamp_item count total (codes "benchmarks weak") (codes "A mistake in any single one shows in the residuals of its sights.")
+    lamp_item count total (codes "benchmarks weak") (codes "A mistake in any single one with sights shows in their residuals.")
     (codes "A mistake in one of these may move points. See <a href=\"#benchmarks\">weak benchmarks</a>.")
 
 unfoldable pub entry_lamp : ℕ → ℕ → List ℕ
 entry_lamp count total =
-    lamp_item count total (codes "keyed-in heights weak") (codes "A mistake in any single one shows in the residuals of its sights.")
+    lamp_item count total (codes "keyed-in heights weak") (codes "A mistake in any single one with sights shows in their residuals.")
     (codes "A mistake in one of these may move points. See <a href=\"#entries\">weak keyed-in heights</a>.")
 
 -- the lamps

@@ -124,7 +124,7 @@ const STRIP: &[u8] = b"\
 const EXPLANATIONS: &[u8] = b"\
 <section id=\"explanations\">\n\
 <h2>One wrong number that would explain the marks</h2>\n\
-<p>With the proposed number in place of the given one, the cost and the marks of the last two columns are left.</p>\n\
+<p>With the proposed number nearest to the given one, the cost and the marks of the last two columns are left.</p>\n\
 ";
 
 /// The beginning of the section of marked sights.

@@ -76,7 +76,7 @@ fn write_benchmarks(page: &mut Page, count: u64, total: u64) -> Result<(), Alloc
         count,
         total,
         b"benchmarks weak",
-        b"A mistake in any single one shows in the residuals of its sights.",
+        b"A mistake in any single one with sights shows in their residuals.",
         b"A mistake in one of these may move points. See <a href=\"#benchmarks\">weak benchmarks</a>.",
     )
 }
@@ -91,7 +91,7 @@ fn write_entries(page: &mut Page, count: u64, total: u64) -> Result<(), AllocErr
         count,
         total,
         b"keyed-in heights weak",
-        b"A mistake in any single one shows in the residuals of its sights.",
+        b"A mistake in any single one with sights shows in their residuals.",
         b"A mistake in one of these may move points. See <a href=\"#entries\">weak keyed-in heights</a>.",
     )
 }
