@@ -208,7 +208,7 @@ def cited_in(text: str) -> Iterator[Key]:
 
 # The head of a declaration, or of a line that goes on with it.
 HEAD = re.compile(r"(?:(?:pub|unfoldable|abbrev|record|data|def|rec) )*(?P<name>[^\s(){}:]+)")
-NO_HEAD = re.compile(r"--|use |pub use |mod |pub mod |module |syntax |[\s)}\]]|$")
+NO_HEAD = re.compile(r"--|use |pub use |mod |pub mod |module |syntax |infix[lr]? |[\s)}\]]|$")
 SPEC_HEAD = re.compile(r"(?:unfoldable pub|unfoldable|abbrev|pub record|record|pub data|data|pub|def|syntax)\b(?: pub)?(?: rec)? ([^\s:]+)")
 SPEC_NEXT = re.compile(r"abbrev|unfoldable|pub |record|data|def|use |--|syntax")
 CONSTRUCTOR = re.compile(r"^ +(?:pub )?([A-Z]\w*) :", re.MULTILINE)

@@ -4,3 +4,4 @@ pub mod Figures
 pub mod Sections
 pub mod Pages
 pub mod Shown
+pub mod Laws

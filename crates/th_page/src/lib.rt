@@ -26,6 +26,9 @@ mod texts;
 // The page of a network.
 mod network_pages;
 
+// Laws of the definitions.
+pub mod laws;
+
 pub use contents::Shown;
 pub use network_pages::page_of;
 pub use pages::page_text;

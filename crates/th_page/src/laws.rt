@@ -1,0 +1,12 @@
+//! Laws of the definitions. A law is its contract: it computes nothing.
+ghost use Rattle.th_page.specs.Laws.{PagesAreOfPieces};
+
+/// No name is markup, nor is a note: a page is a list of fixed pieces and of texts from outside, each of
+/// which is escaped.
+///
+/// The pieces stay the same if texts of the same lengths come in place of those from outside. So no byte of
+/// one decides what else is on the page; only how long names are decides how they are written.
+/// `th_html::laws::escaped_text_makes_no_markup` says that none has a byte of markup.
+pub fn no_name_is_markup()
+    ensures { PagesAreOfPieces }
+{}
