@@ -14,7 +14,7 @@ use Rattle.th_reliability.specs.declared.sights.Sights.{Sights}
 use Rattle.th_changes.specs.declared.numbers.Number.{Number}
 use Rattle.th_changes.specs.declared.numbers.Number.TheVariants.{Added}
 use Rattle.th_changes.specs.Numbers.{touch, changed}
-use Rattle.th_changes.specs.Freed.{IsFreed, Keeps, cost_of}
+use Rattle.th_changes.specs.Freed.{Costs, IsFreed, IsProposed, Keeps, cost_of}
 use Rattle.th_explain_laws.specs.Parted.{IsParted, parted}
 use Rattle.th_changes.proofs.Tilts.{tilted}
 use Rattle.th_changes.proofs.Changes.{lowered, raised, lowered_raised, cost_changed, keeps_lowered, keeps_raised}
@@ -76,45 +76,90 @@ placed_cost sights station own height x weights new heights (o ∷ observations)
     let rest = placed_cost sights station own height x weights new heights observations all.1 in
     omega arith
 
-pub parted_freed : (survey : Survey) (sights : Sights) (station own : List ℕ) (new : WeightRows) (heights : List ℕ → ℤ) → own ≢ station → height_of survey.benchmarks own ≡ None → All (λ o. IsParted sights station own survey.weights new o) survey.observations → Least (map (parted sights own) survey.observations) survey.benchmarks new heights → IsFreed survey (Added sights) (cost (map (parted sights own) survey.observations) new heights)
-parted_freed survey sights station own new heights apart free all best = record {
-  reached = (x, (raised number x heights, keeps_raised survey number x heights best.kept, reaches));
-  least = at_least;
-}
-  where
-    number : Number
-    number = Added sights
+module _ (survey : Survey) (sights : Sights) (station own : List ℕ) (new : WeightRows) (apart : own ≢ station) (free : height_of survey.benchmarks own ≡ None) (all : All (λ o. IsParted sights station own survey.weights new o) survey.observations) where
+  abbrev number : Number
+  number = Added sights
 
-    x : ℤ
-    x = heights own -ℤ heights station
+  abbrev others_of : List Observed
+  others_of = map (parted sights own) survey.observations
 
-    each : AllByRecursion (λ o. IsParted sights station own survey.weights new o) survey.observations
-    each = recursion_from_All (λ o. IsParted sights station own survey.weights new o) survey.observations all
+  each : AllByRecursion (λ o. IsParted sights station own survey.weights new o) survey.observations
+  each = recursion_from_All (λ o. IsParted sights station own survey.weights new o) survey.observations all
 
-    reaches : cost_of (changed number x survey) (raised number x heights) ≡ cost (map (parted sights own) survey.observations) new heights
-    reaches =
+  -- heights of the parted survey are heights with the change by which their own point is higher than the station
+  reached_at : (heights : List ℕ → ℤ) → Keeps survey heights → Costs survey number (heights own -ℤ heights station) (cost others_of new heights)
+  reached_at heights kept =
+      let x = heights own -ℤ heights station in (
+        raised number x heights,
+        keeps_raised survey number x heights kept,
         cost_changed survey number x (raised number x heights)
-        ∙ ap (λ h. tilted (λ o. x *ℤ touch number o) survey.observations survey.weights h) (lowered_raised number x heights)
-        ∙ sym (parted_cost sights station own x survey.weights new heights survey.observations refl each)
+            ∙ ap (λ h. tilted (λ o. x *ℤ touch number o) survey.observations survey.weights h) (lowered_raised number x heights)
+            ∙ sym (parted_cost sights station own x survey.weights new heights survey.observations refl each),
+      )
 
-    keeps_placed : (height : ℤ) (g : List ℕ → ℤ) → Keeps survey g → Keeps survey (placed own height g)
-    keeps_placed height g kept name listed_height listed = placed_other own name height g (λ same. absurd (clash (ap (height_of survey.benchmarks) same))) ∙ kept name listed_height listed
-      where
-        clash : height_of survey.benchmarks own ≡ height_of survey.benchmarks name → ⊥
-        clash same = none_some (sym free ∙ same ∙ listed)
-          where
-            none_some : None ≡ Some listed_height → ⊥
-            none_some e = absurd (grind arith)
+  keeps_placed : (height : ℤ) (g : List ℕ → ℤ) → Keeps survey g → Keeps survey (placed own height g)
+  keeps_placed height g kept name listed_height listed = placed_other own name height g (λ same. absurd (clash (ap (height_of survey.benchmarks) same))) ∙ kept name listed_height listed
+    where
+      clash : height_of survey.benchmarks own ≡ height_of survey.benchmarks name → ⊥
+      clash same = none_some (sym free ∙ same ∙ listed)
+        where
+          none_some : None ≡ Some listed_height → ⊥
+          none_some e = absurd (grind arith)
 
-    at_least : (y : ℤ) (others : List ℕ → ℤ) → Keeps (changed number y survey) others → cost (map (parted sights own) survey.observations) new heights ≤ cost_of (changed number y survey) others
-    at_least y others kept =
-        let g = lowered number y others in
-        let h = placed own (g station +ℤ y) g in
-        let least = best.least h (keeps_placed (g station +ℤ y) g (keeps_lowered survey number y others kept)) in
-        let up = placed_own own (g station +ℤ y) g in
-        let at = placed_other own station (g station +ℤ y) g apart in
-        let rise : y ≡ h own -ℤ h station = omega (arith, ints) in
-        let parts = parted_cost sights station own y survey.weights new h survey.observations rise each in
-        let unseen = placed_cost sights station own (g station +ℤ y) y survey.weights new g survey.observations each in
-        let same = cost_changed survey number y others in
-        omega arith
+  -- and heights with a change are heights of the parted survey, with a place for their own point
+  parted_at : ℤ → (List ℕ → ℤ) → List ℕ → ℤ
+  parted_at y others = placed own (lowered number y others station +ℤ y) (lowered number y others)
+
+  keeps_parted : (y : ℤ) (others : List ℕ → ℤ) → Keeps (changed number y survey) others → Keeps survey (parted_at y others)
+  unfolding parted_at
+  keeps_parted y others kept = keeps_placed (lowered number y others station +ℤ y) (lowered number y others) (keeps_lowered survey number y others kept)
+
+  rise : (y : ℤ) (others : List ℕ → ℤ) → y ≡ parted_at y others own -ℤ parted_at y others station
+  unfolding parted_at
+  rise y others =
+      let g = lowered number y others in
+      let up = placed_own own (g station +ℤ y) g in
+      let at = placed_other own station (g station +ℤ y) g apart in
+      omega (arith, ints)
+
+  parted_costs : (y : ℤ) (others : List ℕ → ℤ) → cost others_of new (parted_at y others) ≡ cost_of (changed number y survey) others
+  unfolding parted_at
+  parted_costs y others =
+      let g = lowered number y others in
+      parted_cost sights station own y survey.weights new (parted_at y others) survey.observations (rise y others) each
+      ∙ placed_cost sights station own (g station +ℤ y) y survey.weights new g survey.observations each
+      ∙ sym (cost_changed survey number y others)
+
+  pub parted_freed : (heights : List ℕ → ℤ) → Least others_of survey.benchmarks new heights → IsFreed survey number (cost others_of new heights)
+  parted_freed heights best = record {
+    reached = (heights own -ℤ heights station, reached_at heights best.kept);
+    least = λ y others kept.
+        let least = best.least (parted_at y others) (keeps_parted y others kept) in
+        let same = parted_costs y others in
+        omega arith;
+  }
+
+  -- ---- what is proposed is what best heights of the parted survey say
+  pub proposed_at_best : (heights : List ℕ → ℤ) → Least others_of survey.benchmarks new heights → IsProposed survey number (heights own -ℤ heights station)
+  proposed_at_best heights best = record {
+    freed = cost others_of new heights;
+    is_freed = parted_freed heights best;
+    reached = reached_at heights best.kept;
+  }
+
+  pub best_of_proposed : (x : ℤ) → IsProposed survey number x → (heights : List ℕ → ℤ) × Least others_of survey.benchmarks new heights × (heights own -ℤ heights station ≡ x)
+  best_of_proposed x is = by is.reached
+    where
+      by : Costs survey number x is.freed → (heights : List ℕ → ℤ) × Least others_of survey.benchmarks new heights × (heights own -ℤ heights station ≡ x)
+      by (g, keeps, costs) =
+          let same = parted_costs x g in (
+            parted_at x g,
+            record {
+              kept = keeps_parted x g keeps;
+              least = λ others kept.
+                  let (one, one_keeps, one_cost) = reached_at others kept in
+                  let less = is.is_freed.least (others own -ℤ others station) one one_keeps in
+                  omega arith;
+            },
+            sym (rise x g),
+          )

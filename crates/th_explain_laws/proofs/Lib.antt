@@ -8,3 +8,5 @@ mod OrderLemmas
 mod PrintedLemmas
 mod OneWrongLemmas
 mod LeadLemmas
+mod GapLemmas
+mod Word33Lemmas

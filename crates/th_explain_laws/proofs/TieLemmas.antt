@@ -22,7 +22,7 @@ use Rattle.th_changes.proofs.Tilts.{tilted}
 use Rattle.th_changes.proofs.Changes.{lowered, raised, lowered_raised, cost_changed, keeps_lowered, keeps_raised}
 
 -- ---- the tie is mutual
-turned : (q a b kt ks : ℤ) → ((q ≡ pos 1) ⊎ (q ≡ negsuc 0)) → a ≡ q *ℤ b +ℤ (kt -ℤ ks) → b ≡ q *ℤ a +ℤ ((pos 0 -ℤ q *ℤ kt) -ℤ (pos 0 -ℤ q *ℤ ks))
+pub turned : (q a b kt ks : ℤ) → ((q ≡ pos 1) ⊎ (q ≡ negsuc 0)) → a ≡ q *ℤ b +ℤ (kt -ℤ ks) → b ≡ q *ℤ a +ℤ ((pos 0 -ℤ q *ℤ kt) -ℤ (pos 0 -ℤ q *ℤ ks))
 turned q a b kt ks turn same =
     elim turn [
       | inl up ↦
@@ -39,7 +39,7 @@ turned q a b kt ks turn same =
           omega (arith, ints)
     ]
 
-pub tied_back : (survey : Survey) (first second : Number) → AreTied survey first second → AreTied survey second first
+unfoldable pub tied_back : (survey : Survey) (first second : Number) → AreTied survey first second → AreTied survey second first
 tied_back survey first second tied = record {
   turn = tied.turn;
   is_turn = tied.is_turn;
@@ -121,7 +121,7 @@ tied_proposed survey first second x tied proposed = record {
 }
 
 -- ---- what is added to some sights, and what is subtracted from them
-pub lengths_tied : (survey : Survey) (sights : Sights) → AreTied survey (Added sights) (Subtracted sights)
+unfoldable pub lengths_tied : (survey : Survey) (sights : Sights) → AreTied survey (Added sights) (Subtracted sights)
 lengths_tied survey sights = record {
   turn = negsuc 0;
   is_turn = inr refl;

@@ -2,3 +2,5 @@ pub mod Ties
 pub mod Parted
 pub mod Printed
 pub mod OneWrong
+pub mod OnePoint
+pub mod Word33

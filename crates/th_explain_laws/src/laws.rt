@@ -1,9 +1,9 @@
 //! Laws that relate the definitions to one another. A law is its contract: it computes nothing.
 
-ghost use Rattle.std.specs.Prelude.{◌≡◌, ◌≢◌, ℕ, ◌≤◌, ◌<◌, ◌+◌, ◌*◌, ℤ, pos, ◌+ℤ◌, ◌*ℤ◌, ◌≤ℤ◌, ◌<ℤ◌, List, ◌∷◌, ◌++◌, All, None, map, neg_ℤ, unsigned_abs, ◌⊎◌, Contains, length, slice_index_or};
+ghost use Rattle.std.specs.Prelude.{◌≡◌, ◌≢◌, ℕ, ◌≤◌, ◌<◌, ◌+◌, ◌*◌, ℤ, pos, ◌+ℤ◌, ◌-ℤ◌, ◌*ℤ◌, ◌≤ℤ◌, ◌<ℤ◌, List, [], ◌∷◌, ◌++◌, All, None, map, neg_ℤ, unsigned_abs, ◌⊎◌, Contains, length, slice_index_or};
 ghost use Rattle.th_observations.specs.Observed.{Observed};
-ghost use Rattle.th_tables.specs.Rows.{BenchmarkRows, WeightRows, height_of};
-ghost use Rattle.th_network.specs.Heights.{Least, cost};
+ghost use Rattle.th_tables.specs.Rows.{BenchmarkRows, WeightRows, height_of, weight_of};
+ghost use Rattle.th_network.specs.Heights.{Least, cost, residual};
 ghost use Rattle.th_network.specs.Circulation.{Shows};
 ghost use Rattle.th_network.specs.Networks.{Survey, surveyed};
 ghost use Rattle.th_reliability.specs.declared.sights.Sights.{Sights};
@@ -14,6 +14,7 @@ ghost use Rattle.th_changes.specs.Freed.{IsFreed, IsProposed, Keeps, cost_of};
 ghost use Rattle.th_changes.specs.Flows.{Circulates, ShowsFreed, net, value};
 ghost use Rattle.th_explain_laws.specs.Ties.{AreTied};
 ghost use Rattle.th_explain_laws.specs.Parted.{IsParted, IsWithoutRow, parted};
+ghost use Rattle.th_entries.specs.Several.{AreObserved};
 ghost use Rattle.th_entries.specs.declared.reviews.BookReview.{BookReview};
 ghost use Rattle.th_explain.specs.Explained.{IsExact};
 ghost use Rattle.th_explain.specs.declared.freed.Freed.{Freed};
@@ -26,11 +27,16 @@ ghost use Rattle.th_explain_laws.specs.Printed.{IsAmongRows, IsOfBook, IsOfNumbe
 ghost use Rattle.th_explain_rows.specs.Rows.{IsRow, LeavesNoMore, Passes, limit_size};
 ghost use Rattle.th_changes.specs.Reach.{reach_of};
 ghost use Rattle.th_numbers.specs.Candidates.{given_of, number_of, whole_of};
+ghost use Rattle.th_explain_laws.specs.OnePoint.{IsAtOnePoint};
 ghost use Rattle.th_explain_laws.specs.OneWrong.{IsMended};
+ghost use Rattle.th_explain_laws.specs.Word33.{AreReviews, IsWord33};
 ghost use Rattle.th_numbers.specs.declared.candidates.Candidate.{Candidate};
 ghost use Rattle.th_explain_rows.specs.declared.findings.Explanations.{Explanations};
+ghost use Rattle.th_readings.specs.Readings.{word_33};
 ghost use Rattle.th_review_rows.specs.Entries.{entries_of};
 
+use th_book::laws::observation_is_of_a_sight;
+use th_entries::laws::{entry_has_the_height_of_its_sights, sights_from_line_to_last_use_it};
 use th_explain::laws::freed_is_one;
 
 /// Changes of a number add up, and a change by 0 is none.
@@ -132,6 +138,58 @@ pub fn parted_entry_is_freed()
         (cost (map (parted sights own) survey.observations) new heights) }
 {}
 
+/// What is proposed for a number is what best heights say of it in the network without it.
+///
+/// A sight that is changed by what is proposed is the difference of its ends in some best heights without
+/// the sight, a benchmark its height in some best heights without its row, and the change of an entry is
+/// by how much the point of its own is above the station in some best heights of the parted survey. And
+/// each of these best heights proposes what it says. So the extremes over all of them are the lowest and
+/// the highest proposed value. (`ties_are_of_the_network` has the same of what is subtracted.)
+pub fn proposed_are_of_best_heights()
+    ensures of_sight { (number : Number) (before after : List Observed) (o : Observed)
+        (benchmarks : BenchmarkRows) (weights : WeightRows) (x : ℤ)
+        → touch number o ≡ pos 1
+        → All (λ other. touch number other ≡ pos 0) (before ++ after)
+        → 0 < weight_of weights o.station o.target
+        → IsProposed (surveyed (before ++ o ∷ after) benchmarks weights) number x
+        → (heights : List ℕ → ℤ)
+        × Least (before ++ after) benchmarks weights heights
+        × (residual o heights +ℤ x ≡ pos 0) }
+    ensures sight { (number : Number) (before after : List Observed) (o : Observed)
+        (benchmarks : BenchmarkRows) (weights : WeightRows) (heights : List ℕ → ℤ)
+        → touch number o ≡ pos 1
+        → All (λ other. touch number other ≡ pos 0) (before ++ after)
+        → Least (before ++ after) benchmarks weights heights
+        → IsProposed (surveyed (before ++ o ∷ after) benchmarks weights) number
+        (pos 0 -ℤ residual o heights) }
+    ensures of_benchmark { (survey : Survey) (name : List ℕ) (fewer : BenchmarkRows) (x : ℤ)
+        (without : IsWithoutRow survey.benchmarks name fewer)
+        → IsProposed survey (Benchmark name) x
+        → (heights : List ℕ → ℤ)
+        × Least survey.observations fewer survey.weights heights
+        × (heights name ≡ without.given +ℤ x) }
+    ensures benchmark { (survey : Survey) (name : List ℕ) (fewer : BenchmarkRows)
+        (heights : List ℕ → ℤ) (without : IsWithoutRow survey.benchmarks name fewer)
+        → Least survey.observations fewer survey.weights heights
+        → IsProposed survey (Benchmark name) (heights name -ℤ without.given) }
+    ensures of_entry { (survey : Survey) (sights : Sights) (station own : List ℕ) (new : WeightRows)
+        (x : ℤ)
+        → own ≢ station
+        → height_of survey.benchmarks own ≡ None
+        → All (λ o. IsParted sights station own survey.weights new o) survey.observations
+        → IsProposed survey (Added sights) x
+        → (heights : List ℕ → ℤ)
+        × Least (map (parted sights own) survey.observations) survey.benchmarks new heights
+        × (heights own -ℤ heights station ≡ x) }
+    ensures entry { (survey : Survey) (sights : Sights) (station own : List ℕ) (new : WeightRows)
+        (heights : List ℕ → ℤ)
+        → own ≢ station
+        → height_of survey.benchmarks own ≡ None
+        → All (λ o. IsParted sights station own survey.weights new o) survey.observations
+        → Least (map (parted sights own) survey.observations) survey.benchmarks new heights
+        → IsProposed survey (Added sights) (heights own -ℤ heights station) }
+{}
+
 /// A circulation shows that no change beyond some bound is proposed.
 ///
 /// With a net below 0 it costs more than what is left to change the number by less; with a net
@@ -218,6 +276,37 @@ pub fn proposed_is_near()
         → IsProposed (changed number wrong right) number x
         → x ≡ neg_ℤ wrong }
 {}
+
+/// What is proposed has no gap: each change between two that are proposed is proposed.
+///
+/// The sights of the number are from one station, as those of an entry are. Best heights with the one
+/// change become those with the other step by step, and no step changes the number by more than 1.
+pub fn proposed_have_no_gap()
+    ensures { (survey : Survey) (number : Number) (low x high : ℤ)
+        → IsAtOnePoint survey number
+        → IsProposed survey number low
+        → IsProposed survey number high
+        → low ≤ℤ x
+        → x ≤ℤ high
+        → IsProposed survey number x }
+{}
+
+/// What explanations take for word 33 of a sight is word 33 in its line of its book.
+///
+/// They take the sight's difference without the instrument height and with the reflector height of the
+/// entries that it is among. It is among one entry of each height that it has, which has that length.
+pub fn word_33_is_that_of_the_book()
+    ensures { (texts : List (List ℕ)) (observations : List Observed) (reviews : List BookReview)
+        (o : Observed)
+        → AreObserved 1 [] texts observations
+        → AreReviews texts reviews
+        → Contains observations o
+        → IsWord33 texts o (word_33 (entries_of reviews) o) }
+{
+    observation_is_of_a_sight();
+    sights_from_line_to_last_use_it();
+    entry_has_the_height_of_its_sights();
+}
 
 /// Ranked rows are the rows that leave least, in that order.
 ///
