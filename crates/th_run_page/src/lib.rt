@@ -6,4 +6,7 @@
 
 mod paging;
 
+// Laws of a page beside other runs.
+pub mod laws;
+
 pub use paging::{PAGED, run_page};
