@@ -10,3 +10,4 @@ pub mod OverwriteLemmas
 pub mod HeadlineLemmas
 pub mod PlaceLemmas
 mod NoteLemmas
+mod AcceptedLemmas

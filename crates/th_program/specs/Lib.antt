@@ -2,4 +2,5 @@ pub mod Failing
 pub mod Noted
 pub mod Done
 pub mod Headline
+pub mod Accepted
 pub mod Inside

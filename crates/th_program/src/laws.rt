@@ -1,19 +1,28 @@
 //! The headline of the program. A law is its contract: it calls nothing of the product.
 
-ghost use Rattle.std.specs.Prelude.{◌≡◌, ◌⊎◌, ℕ, ℤ, List, [], None, Ok, Some};
-ghost use Rattle.th_devices.specs.Spots.{file};
+ghost use Rattle.std.specs.Prelude.{◌≡◌, ◌⊎◌, ℕ, ℤ, List, [], None, Ok, Some, Bool};
+ghost use Rattle.th_devices.specs.Spots.{file, output};
 ghost use Rattle.th_network.specs.Networks.{Survey};
-ghost use Rattle.th_commands.specs.Asked.{Files, adjust, check};
+ghost use Rattle.th_commands.specs.Asked.{Files, adjust, check, book, book_of_heights, explain, list, page, review};
 ghost use Rattle.th_commands.specs.declared.plans.Plan.{Plan};
-ghost use Rattle.th_program.specs.Done.{AreDone, IsAdjusted, IsInputOf, IsRun};
+ghost use Rattle.th_program.specs.Done.{AreDone, IsAdjusted, IsInputOf, IsRun, IsExplained, IsPagedFile, IsReviewed, form_of};
 ghost use Rattle.th_program.specs.Failing.{IsInClaim, IsInFiles};
 ghost use Rattle.th_program.specs.Headline.{AskFor, IsAccepted, IsEndedAdjust, IsEndedCheck, IsUnlucky, NoneMayFail, SomeMayFail, SparesInputs};
-ghost use Rattle.th_files.specs.Outputs.{spots_of};
-ghost use Rattle.th_files.specs.Owed.{claim_owed};
+ghost use Rattle.th_files.specs.Outputs.{spots_of, Holds};
+ghost use Rattle.th_files.specs.Owed.{claim_owed, book_owed, converted_owed};
 ghost use Rattle.th_runs.specs.Adjusted.{AreOutputs, OutTexts, adjusting};
 ghost use Rattle.th_runs.specs.Checked.{IsRight, checking};
 ghost use Rattle.th_run_parts.specs.Inputs.{Claim, Meets};
 ghost use Rattle.th_run_parts.specs.declared.refusals.Input.{Input};
+ghost use Rattle.th_run_book.specs.Booked.{booking};
+ghost use Rattle.th_run_book.specs.declared.conversions.Conversion.TheVariants.{Differences, Heights};
+ghost use Rattle.th_run_explain.specs.Explained.{explaining};
+ghost use Rattle.th_observations.specs.Observed.{Observed};
+ghost use Rattle.th_run_page.specs.Paged.{paging};
+ghost use Rattle.th_program.specs.Accepted.{IsReadAt, OutputsSpare};
+ghost use Rattle.th_report.specs.Lists.{list_text};
+ghost use Rattle.th_run_review.specs.Reviewed.{reviewing};
+ghost use Rattle.th_runs.specs.Listed.{listing};
 
 use th_devices::Folder;
 use th_runs::laws::{
@@ -99,4 +108,83 @@ pub fn inputs_are_kept<F: Folder>()
         → (which : Input) (name : List ℕ)
         → IsInputOf asked which name
         → F.held new (file name) ≡ F.held old (file name) }
+{}
+
+/// `list` of a book without a fault prints the list of its observations, or runs out of memory, if no
+/// device of the run may fail.
+pub fn accepted_book_is_listed<F: Folder>()
+    ensures { (old new : _) (words : List (List ℕ)) (status : ℕ) (name : List ℕ)
+        (observations : List Observed)
+        → AreDone F.tells F.held F.has_failed F.failing old new words status
+        → AskFor words (list name)
+        → book_owed (F.held old) None (file name) ≡ Some (Ok observations)
+        → NoneMayFail (F.failing old) (IsReadAt (file name)) (spots_of [] listing)
+        → ((status ≡ 0) × Holds F.tells (F.held new) output (list_text observations))
+        ⊎ (status ≡ 4) }
+{}
+
+/// `review` of accepted inputs writes the five texts of their review, or runs out of memory, if no
+/// device of the run may fail and no output is an input.
+pub fn accepted_inputs_are_reviewed<F: Folder>()
+    ensures { (old new : _) (words : List (List ℕ)) (status : ℕ)
+        (from : Files) (limit : ℤ) (prefix : List ℕ) (survey : Survey)
+        → AreDone F.tells F.held F.has_failed F.failing old new words status
+        → AskFor words (review from limit prefix)
+        → IsAccepted (F.held old) from survey
+        → OutputsSpare reviewing.outputs from prefix
+        → NoneMayFail (F.failing old) (IsInFiles from) (spots_of prefix reviewing.outputs)
+        → ((status ≡ 0) × IsReviewed F.tells (F.held old) (F.held new) from limit prefix None)
+        ⊎ (status ≡ 4) }
+{
+    accepted_inputs_are_refused_for_memory_alone();
+}
+
+/// `explain` of accepted inputs prints their explanation, or runs out of memory, if no device of the run
+/// may fail.
+pub fn accepted_inputs_are_explained<F: Folder>()
+    ensures { (old new : _) (words : List (List ℕ)) (status : ℕ)
+        (from : Files) (limit : ℤ) (table : Bool) (survey : Survey)
+        → AreDone F.tells F.held F.has_failed F.failing old new words status
+        → AskFor words (explain from limit table)
+        → IsAccepted (F.held old) from survey
+        → NoneMayFail (F.failing old) (IsInFiles from) (spots_of [] explaining.outputs)
+        → ((status ≡ 0) × IsExplained F.tells (F.held old) (F.held new) from limit (form_of table))
+        ⊎ (status ≡ 4) }
+{
+    accepted_inputs_are_refused_for_memory_alone();
+}
+
+/// `page` of accepted inputs writes their page, or runs out of memory, if no device of the run may fail
+/// and the page is no input.
+pub fn accepted_inputs_are_paged<F: Folder>()
+    ensures { (old new : _) (words : List (List ℕ)) (status : ℕ)
+        (from : Files) (limit : ℤ) (prefix : List ℕ) (survey : Survey)
+        → AreDone F.tells F.held F.has_failed F.failing old new words status
+        → AskFor words (page from limit prefix)
+        → IsAccepted (F.held old) from survey
+        → OutputsSpare paging.outputs from prefix
+        → NoneMayFail (F.failing old) (IsInFiles from) (spots_of prefix paging.outputs)
+        → ((status ≡ 0) × IsPagedFile F.tells (F.held old) (F.held new) from limit prefix None)
+        ⊎ (status ≡ 4) }
+{
+    accepted_inputs_are_refused_for_memory_alone();
+}
+
+/// `book` of a table of differences, or of a book with heights, prints the book that it gives, or runs
+/// out of memory, if no device of the run may fail.
+pub fn accepted_table_becomes_a_book<F: Folder>()
+    ensures differences { (old new : _) (words : List (List ℕ)) (status : ℕ) (name text : List ℕ)
+        → AreDone F.tells F.held F.has_failed F.failing old new words status
+        → AskFor words (book name)
+        → converted_owed (F.held old) None Differences name ≡ Some (Ok text)
+        → NoneMayFail (F.failing old) (IsReadAt (file name)) (spots_of [] booking)
+        → ((status ≡ 0) × Holds F.tells (F.held new) output text)
+        ⊎ (status ≡ 4) }
+    ensures heights { (old new : _) (words : List (List ℕ)) (status : ℕ) (name text : List ℕ)
+        → AreDone F.tells F.held F.has_failed F.failing old new words status
+        → AskFor words (book_of_heights name)
+        → converted_owed (F.held old) None Heights name ≡ Some (Ok text)
+        → NoneMayFail (F.failing old) (IsReadAt (file name)) (spots_of [] booking)
+        → ((status ≡ 0) × Holds F.tells (F.held new) output text)
+        ⊎ (status ≡ 4) }
 {}

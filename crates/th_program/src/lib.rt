@@ -21,7 +21,7 @@ mod overwrites;
 mod plans;
 mod refusals;
 
-// The headline.
+// The headline, and what the other commands make of accepted inputs.
 pub mod laws;
 
 pub use arguments::{run_arguments, run_words};
