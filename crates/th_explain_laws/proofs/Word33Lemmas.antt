@@ -1,11 +1,11 @@
 -- What was read at a sight is told by the entries that it is among.
 use Rattle.std.proofs.Common.{◌≡◌, ◌≢◌, ◌+◌, ◌<◌, ◌≤◌, ◌⊎◌, inl, inr, ◌-◌, ◌==◌, ◌&&◌, ◌||◌, ℕ, zero, suc, ℤ, pos, ◌+ℤ◌, ◌-ℤ◌, Bool, true, false, not, cond, List, [], ◌∷◌, ◌++◌, Option, Some, None, Ok, length, refl, ap, ap₂, sym, subst, ◌∙◌, arith}
-use Rattle.std.specs.Prelude.{All, Contains, find, nat_le, option_and_then, option_map, option_to_list, if◌then◌else◌, slice_index_or}
+use Rattle.std.specs.Prelude.{All, Contains, find, nat_le, option_and_then, option_map, option_to_list, slice_index_or}
 use Rattle.std.specs.Option.{option_map_or}
 use Rattle.std.specs.List.{AllByRecursion, AllZip}
 use Rattle.std.specs.Ordering.{int_eq}
 use Rattle.std.proofs.lemmas.Int.{ints}
-use Rattle.std.proofs.lemmas.Bool.{and_from, and_parts, cases_order, cond-false, cond-true, eq-eqb, eqb-true, false≢true, le-leb, leb-true}
+use Rattle.std.proofs.lemmas.Bool.{and_from, and_parts, cases_order, cond-false, eq-eqb, eqb-true, false≢true, le-leb, leb-true}
 use Rattle.std.proofs.lemmas.List.Elements.{All-append, All-cons, All-contains, All-contains_itself, All-from_recursion, All-nil, All-weaker, Contains-append_cases, Contains-append_left, Contains-append_right, recursion_from_All}
 use Rattle.std.proofs.lemmas.List.{get_or_past}
 use Rattle.std.proofs.lemmas.Option.{none-some, same_Some}
@@ -19,8 +19,8 @@ use Rattle.th_entries.specs.Below.{all_below}
 use Rattle.th_book.specs.Books.{book_answer, known, observed_at}
 use Rattle.th_entries.specs.Reviews.{Reviews, parsed_of}
 use Rattle.th_book.specs.Lines.{ParsedLine, holds, is_setup, is_sight, length_in, words_in}
-use Rattle.th_book.specs.Places.{height_at, holds_from, last_below, last_with, setup_of, words_at}
-use Rattle.th_entries.specs.Entries.{begins, begins_from, continues, entries_at, entries_of, entry_at, entry_line, entry_until, index_of, last_before, length_at, uses}
+use Rattle.th_book.specs.Places.{height_at, holds_from, last_below, setup_of, words_at}
+use Rattle.th_entries.specs.Entries.{begins_from, continues, entries_at, entries_of, entry_at, entry_line, entry_until, index_of, last_before, length_at, uses}
 use Rattle.th_entries.specs.Several.{AreObserved, entries_of_books, numbered}
 use Rattle.th_reliability.specs.Sights.{in_sights}
 use Rattle.th_review_rows.specs.Entries.{sights_of, entries_of as entries_in}

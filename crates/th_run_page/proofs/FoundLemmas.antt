@@ -1,13 +1,12 @@
 -- What is found of a survey is one, but for which of several sets a mistake moves.
-use Rattle.std.proofs.Common.{◌≡◌, ◌≢◌, ◌+◌, ◌<◌, ◌≤◌, ℕ, suc, ℤ, pos, Bool, true, false, List, [], ◌∷◌, Option, Some, None, length, map, get_or, slice_get, refl, ap, ap₂, sym, subst, ◌∙◌, arith, bytes_eq}
-use Rattle.std.specs.Prelude.{All, IsSome, option_map, slice_index_or}
+use Rattle.std.proofs.Common.{◌≡◌, ◌≢◌, ◌+◌, ◌<◌, ℕ, suc, ℤ, pos, Bool, true, false, List, [], ◌∷◌, Option, Some, None, length, map, get_or, slice_get, refl, ap, ap₂, sym, ◌∙◌, arith, bytes_eq}
+use Rattle.std.specs.Prelude.{All, slice_index_or}
 use Rattle.std.specs.List.{AllZip, IsDistinct, enumerate_from, zip}
 use Rattle.std.proofs.lemmas.Bool.{false≢true}
 use Rattle.std.proofs.lemmas.Bool.Decides.{Decides-like, same_from_decides}
 use Rattle.std.proofs.lemmas.List.{get_or_default, same_lists}
 use Rattle.std.proofs.lemmas.List.Sums.{position_or_len_is}
 use Rattle.std.proofs.lemmas.Map.Keys.{apart_from_distinct}
-use Rattle.std.proofs.lemmas.Option.{slice_get_read}
 use Rattle.std.proofs.lemmas.Slice.Eq.{bytes_eq-Decides}
 use Rattle.th_observations.specs.Observed.{Observed}
 use Rattle.th_reliability.specs.declared.benchmarks.BenchmarkEffect.{BenchmarkEffect}
@@ -26,18 +25,17 @@ use Rattle.th_circulation.specs.Best.{Best, IsBest}
 use Rattle.th_circulation.specs.Extremes.{High, Low}
 use Rattle.th_network.specs.Heights.{heights_at}
 use Rattle.th_network.specs.Networks.{AreAtPoints, Survey, at_points_of, points_of}
-use Rattle.th_points.specs.Places.{place_of}
 use Rattle.th_points.specs.Points.{points}
-use Rattle.th_tables.specs.Rows.{BenchmarkRows, WeightRows, height_of, weight_of}
+use Rattle.th_tables.specs.Rows.{BenchmarkRows, WeightRows}
 use Rattle.th_reliability.specs.BenchmarkEffects.{HasBenchmarkEffect, IsBenchmarkEffect}
 use Rattle.th_reliability.specs.Benchmarks.{has_end}
-use Rattle.th_reliability.specs.Cuts.{IsControl, IsStrength, crosses, differ}
+use Rattle.th_reliability.specs.Cuts.{differ}
 use Rattle.th_reliability.specs.Effects.{IsEffect}
 use Rattle.th_reliability.specs.Numbers.{AreControls, AreStrengths, HasControl, HasStrength}
 use Rattle.th_reliability.specs.SharedMistakes.{IsSharedMistake}
 use Rattle.th_reliability.specs.Sights.{in_sights}
 use Rattle.th_review_rows.specs.Entries.{entries_of, sights_of}
-use Rattle.th_review_rows.specs.Rows.{benchmark_row, benchmark_rows, entry_row, entry_rows, observation_row, observation_rows, point_rows}
+use Rattle.th_review_rows.specs.Rows.{benchmark_row, entry_row, entry_rows, observation_row}
 use Rattle.th_review_texts.specs.Texts.{Found}
 use Rattle.th_page.specs.Shown.{benchmark_shown, effect_shown, entry_shown, shared_shown, shown_of, sight_shown}
 use Rattle.th_page.specs.Pages.{page_text}
