@@ -123,7 +123,7 @@ pub fn accepted_book_is_listed<F: Folder>()
         ⊎ (status ≡ 4) }
 {}
 
-/// `review` of accepted inputs writes the five texts of their review, or runs out of memory, if no
+/// `review` of accepted inputs writes the texts of their review, or runs out of memory, if no
 /// device of the run may fail and no output is an input.
 pub fn accepted_inputs_are_reviewed<F: Folder>()
     ensures { (old new : _) (words : List (List ℕ)) (status : ℕ)
