@@ -59,6 +59,16 @@ class Help(Case):
         self.assertGreater(len(adjust.printed.splitlines()), 20)
 
 
+class Library(Case):
+    """README says of which version the C library has to be: the highest one that the program names."""
+
+    def runTest(self) -> None:
+        named = re.findall(rb"GLIBC_(\d+)\.(\d+)", self.program.read_bytes())
+        told = re.search(r"of glibc (\d+)\.(\d+) or later", (ROOT / "README.md").read_text())
+        self.assertIsNotNone(told)
+        self.assertEqual(max((int(major), int(minor)) for major, minor in named), (int(told[1]), int(told[2])))
+
+
 def rows() -> Iterator[Row]:
     yield from (Row(3, line, words) for line, words in LINES)
     for command, prefix in itertools.product(("adjust", "review", "page"), PREFIXES):
@@ -68,4 +78,4 @@ def rows() -> Iterator[Row]:
 
 
 def cases() -> Iterator[Case]:
-    return itertools.chain(map(RowCase, rows()), [NoTip(), Help()])
+    return itertools.chain(map(RowCase, rows()), [NoTip(), Help(), Library()])

@@ -151,6 +151,7 @@ def rows() -> Iterator[Row]:
     yield from DONE
     yield from (Row(5, f"read failed: {what}", words) for what, words in READ_FAILED)
     yield from (Row(5, f"write failed: {what}", words) for what, words in WRITE_FAILED)
+    yield Row(5, "read failed: book 1", ["list", "no\x1f.gsi"], second="  'no\\x1F.gsi': no such file")
     yield from (Row(2, line, words) for line, words in REFUSED)
     yield from (Row(2, f"differences {line}", "book table.csv", files={"table.csv": table}) for line, table in DIFFERENCES)
     yield from (Row(2, f"book 1 {line}", "book --heights refused.gsi", files={"refused.gsi": book}) for line, book in HEIGHTS)
