@@ -34,7 +34,7 @@ help-all: help
 	@echo 'make examples  compare what the built program gives for examples/ with the files there'
 	@echo 'make statuses  run the built program on command lines and inputs that fail, and compare status and lines'
 	@echo 'make killed    kill runs over existing outputs, which must stay whole files, old or new (RUNS=$(RUNS))'
-	@echo 'make files     run the built program with each call on files refused in turn, and two runs at once (PAIRS=$(PAIRS))'
+	@echo 'make files     run the built program with each call on files refused in turn, two runs at once (PAIRS=$(PAIRS)), planted outputs'
 	@echo 'make completions  test the completions for bash, zsh and fish'
 	@echo 'make reserved  run the built program with little room to reserve memory, on small and on full inputs'
 	@echo 'make compare   compare the built program with the second reader on mutated books (BOOKS=$(BOOKS) SEED=$(SEED))'
@@ -121,9 +121,10 @@ RUNS ?= 100
 killed: built
 	@tests/killed --program $(PROGRAM) --runs $(RUNS)
 
-PAIRS ?= 100
+PAIRS ?= 500
 files: built
 	@tests/refused_files/run.py --program $(PROGRAM) --pairs $(PAIRS)
+	@tests/refused_files/planted.py --program $(PROGRAM)
 
 completions: built
 	@tests/completions --program $(PROGRAM)

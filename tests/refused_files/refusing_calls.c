@@ -1,8 +1,8 @@
 /* Stands before the C library's calls on files and refuses one of a program, counted from its `main` on.
 
-   REFUSE=N refuses call number N: it does nothing and fails with EIO. The calls are open, read, write, fsync, fchmod,
-   rename, unlink, statx and close. An open that creates a file is `create` where nothing may have its name and its owner
-   alone may use it, else `share`. Each is written to descriptor 3 as a line: its name and, where it has one, the path
+   REFUSE=N refuses call number N: it does nothing and fails with EIO, or with the number in ERROR. The calls are open,
+   read, write, fsync, fchmod, flock, rename, unlink, statx and close. An open that may write a file is `alter`. One that
+   creates a file is `create` where nothing may have its name and its owner alone may use it, else `share`. Each is written to descriptor 3 as a line: its name and, where it has one, the path
    that was handed in or opened. A closed descriptor is closed also where the call is refused, as Linux does. */
 #define _GNU_SOURCE
 #include <dlfcn.h>
@@ -12,6 +12,7 @@
 #include <stdio.h>
 #include <stdlib.h>
 #include <string.h>
+#include <sys/file.h>
 #include <sys/stat.h>
 #include <sys/syscall.h>
 #include <unistd.h>
@@ -22,11 +23,19 @@ static main_function *program_main;
 static int is_counting;
 static unsigned long calls;
 static unsigned long refused;
+static int error = EIO;
 static char paths[64][512];
 
 static const char *path_of(int descriptor)
 {
     return descriptor >= 0 && descriptor < 64 ? paths[descriptor] : "";
+}
+
+static const char *name_of_open(int flags, mode_t mode)
+{
+    if (!(flags & O_CREAT))
+        return (flags & O_ACCMODE) == O_RDONLY ? "open" : "alter";
+    return (flags & O_EXCL) && mode == 0600 ? "create" : "share";
 }
 
 static int is_refused(const char *name, const char *path)
@@ -42,7 +51,7 @@ static int is_refused(const char *name, const char *path)
         abort();
     if (calls != refused)
         return 0;
-    errno = EIO;
+    errno = error;
     return 1;
 }
 
@@ -57,7 +66,7 @@ int open(const char *path, int flags, ...)
         mode = va_arg(rest, mode_t);
         va_end(rest);
     }
-    if (is_refused(!(flags & O_CREAT) ? "open" : (flags & O_EXCL) && mode == 0600 ? "create" : "share", path))
+    if (is_refused(name_of_open(flags, mode), path))
         return -1;
     descriptor = (int)syscall(SYS_openat, AT_FDCWD, path, flags, mode);
     if (descriptor >= 0 && descriptor < 64)
@@ -90,6 +99,11 @@ int fchmod(int descriptor, mode_t mode)
     return is_refused("fchmod", path_of(descriptor)) ? -1 : (int)syscall(SYS_fchmod, descriptor, mode);
 }
 
+int flock(int descriptor, int operation)
+{
+    return is_refused("flock", path_of(descriptor)) ? -1 : (int)syscall(SYS_flock, descriptor, operation);
+}
+
 int rename(const char *from, const char *to)
 {
     return is_refused("rename", to) ? -1 : (int)syscall(SYS_renameat2, AT_FDCWD, from, AT_FDCWD, to, 0);
@@ -113,7 +127,7 @@ int close(int descriptor)
     int status = (int)syscall(SYS_close, descriptor);
 
     if (is_bad)
-        errno = EIO;
+        errno = error;
     return is_bad ? -1 : status;
 }
 
@@ -135,6 +149,7 @@ int __libc_start_main(main_function *given, int count, char **words, void (*init
     const char *refuse = getenv("REFUSE");
 
     refused = refuse == NULL ? 0 : strtoul(refuse, NULL, 10);
+    error = getenv("ERROR") == NULL ? EIO : atoi(getenv("ERROR"));
     program_main = given;
     return start(counting_main, count, words, init, fini, rtld_fini, stack);
 }

@@ -8,22 +8,28 @@ call 2, and so on until a run makes fewer calls: on inputs, outputs and the fold
 it are new and its own and later ones are as they were. Where another call fails and the run ends with status 5, no output
 changed, nor with status 3, where files cannot be compared. With status 0, after a failed close and for the folder, all are
 new. The lines on standard error name the device and the file, and no unfinished file is left, unless its removal was
-refused. A run whose calls all succeed creates each output for its owner alone: where it replaces none, after an empty file
+refused. A run that cannot lock the folder goes on. A run whose calls all succeed creates each output for its owner alone: where it replaces none, after an empty file
 that shows the permissions and is gone. It makes each output durable before it renames the first one, and synchronises the
-folder after the last rename.
+folder after the last rename. Over links it opens nothing for writing that is not its own. The reason of a failed rename is
+told.
 
-Then two runs with one prefix and other inputs start together, again and again: each output is whole and of one of them,
-both end with status 0, and no unfinished file is left.
+Then two runs with one prefix and other inputs start together, again and again: both end with status 0, all outputs are of
+one of them, and no unfinished file is left. A run that is stopped while it holds the lock of the folder makes another one
+wait, and a killed one does not.
 
 Calls are counted and refused by `refusing_calls.c`, which is compiled with `cc` and stands before the C library's calls.
 Prints a table. Status 0 only where all is right.
 """
 import argparse
 import collections
+import errno
+import fcntl
 import os
+import re
 import subprocess
 import sys
 import tempfile
+import time
 from pathlib import Path
 
 HERE = Path(__file__).resolve().parent
@@ -66,10 +72,10 @@ def put_outputs(folder: Path, command: str, texts: list) -> None:
             (folder / f"own.{ending}").write_bytes(text)
 
 
-def refuse(program: str, library: Path, folder: Path, command: str, number: int):
-    """Runs with this call refused: its status, its line, and its calls."""
+def refuse(program: str, library: Path, folder: Path, command: str, number: int, error: int = errno.EIO):
+    """Runs with this call refused, with this error: its status, its line, and its calls."""
     reader, writer = os.pipe()
-    environment = dict(os.environ, LD_PRELOAD=str(library), REFUSE=str(number))
+    environment = dict(os.environ, LD_PRELOAD=str(library), REFUSE=str(number), ERROR=str(error))
 
     def trace_to_3() -> None:
         os.dup2(writer, 3)
@@ -85,9 +91,15 @@ def refuse(program: str, library: Path, folder: Path, command: str, number: int)
     return run.returncode, line.decode(), calls
 
 
-def lines_of(what: str, device: str, name: str) -> str:
-    """The lines on standard error. The system gives no reason that the program has words for."""
-    return f"{what} failed: {device}\n  '{name}'\n"
+# Errors of a rename, and what the second line says of them.
+REASONS = {errno.EIO: "the device failed", errno.EXDEV: "on another file system", errno.EBUSY: "in use by the system", errno.EMFILE: "too many open files",
+           errno.ENFILE: "too many open files", errno.ELOOP: "a link that leads nowhere", errno.EACCES: "permission denied"}
+
+
+def lines_of(what: str, device: str, name: str, error: int = errno.EIO) -> str:
+    """The lines on standard error after a call that failed with this error."""
+    why = f": {REASONS[error]}" if error in REASONS else ""
+    return f"{what} failed: {device}\n  '{name}'{why}\n"
 
 
 def look(folder: Path, command: str, old: list, new: list, number: int, status: int, line: str, calls: list) -> str:
@@ -104,8 +116,10 @@ def look(folder: Path, command: str, old: list, new: list, number: int, status: 
     elif path in INPUTS:
         wanted = (5, lines_of("read", INPUTS[path], path), 0)
     else:
-        ending = next((ending for ending in endings if path.startswith(f"own.{ending}")), None)
-        wanted = (5, lines_of("write", OUTPUTS[command].get(ending), f"own.{ending}"), 0)
+        ending = ending_of(path, endings)
+        # Where an empty file was not removed, another one cannot have its name.
+        error = errno.EEXIST if name == "unlink" else errno.EIO
+        wanted = (5, lines_of("write", OUTPUTS[command].get(ending), f"own.{ending}", error), 0)
     if name == "statx" and status == 3 and line.startswith("error: output own.") and " would overwrite " in line:
         wanted = (3, line, 0)
     if (status, line, count) != wanted:
@@ -120,6 +134,40 @@ def look(folder: Path, command: str, old: list, new: list, number: int, status: 
     for file in left:
         file.unlink()
     return f"{name} of the folder" if path == "." else name
+
+
+def ending_of(path: str, endings: list):
+    """Which output a call is about: by its name, or by the number in the name of its unfinished file."""
+    unfinished = re.search(r"-([0-9]+)\.unfinished$", path)
+    if unfinished:
+        return endings[int(unfinished[1]) - 1]
+    return next((ending for ending in endings if path.startswith(f"own.{ending}")), None)
+
+
+def tell_reasons(program: str, library: Path, folder: Path) -> None:
+    """The first rename fails with each error, and the second line has its reason."""
+    calls = refuse(program, library, folder, "page", 0)[2]
+    number = 1 + next(place for place, call in enumerate(calls) if call.startswith("rename "))
+    for error in REASONS:
+        answer = refuse(program, library, folder, "page", number, error)[:2]
+        if answer != (5, lines_of("write", "page", "own.html", error)):
+            raise Wrong(f"a rename that fails with {os.strerror(error)} is told as {answer}")
+    print(f"{len(REASONS)} reasons of a failed rename")
+
+
+def follow_links(program: str, library: Path, folder: Path, command: str, new: list) -> None:
+    """Each output is a link to a file elsewhere: what it leads to is not opened for writing, and stays."""
+    others = folder.parent / "others"
+    others.mkdir(exist_ok=True)
+    put_outputs(folder, command, [None for _ in OUTPUTS[command]])
+    for ending in OUTPUTS[command]:
+        (others / ending).write_text("another's\n")
+        (folder / f"own.{ending}").symlink_to(others / ending)
+    status, _, calls = refuse(program, library, folder, command, 0)
+    opened = [call for call in calls if call.startswith("alter ")]
+    if (status, outputs_of(folder, command)) != (0, new) or opened or any((others / ending).read_text() != "another's\n" for ending in OUTPUTS[command]):
+        raise Wrong(f"{command} over links ends with {status}, and opens {opened}")
+    print(f"{command:7} over links: nothing else is opened for writing")
 
 
 def refuse_each(program: str, library: Path, folder: Path, command: str, old: list, new: list) -> None:
@@ -157,14 +205,13 @@ def look_at_order(command: str, calls: list) -> None:
     """All outputs are synchronised before the first rename, and the folder after the last one."""
     outputs = len(OUTPUTS[command])
     renames = [place for place, call in enumerate(calls) if call.startswith("rename ")]
-    files = [place for place, call in enumerate(calls) if call.startswith("fsync own.")]
+    files = [place for place, call in enumerate(calls) if call.startswith("fsync ") and call.endswith(".unfinished")]
     folders = [place for place, call in enumerate(calls) if call == "fsync ."]
     if (len(renames), len(files), len(folders)) != (outputs, outputs, 1) or not max(files) < min(renames) <= max(renames) < folders[0]:
         raise Wrong(f"{command} has its renames at {renames}, and synchronises files at {files}, folders at {folders}")
 
 
 def start_together(program: str, folder: Path, texts: dict, pairs: int) -> None:
-    mixed = 0
     for number in range(pairs):
         command = list(OUTPUTS)[number % len(OUTPUTS)]
         runs = [subprocess.Popen(words_of(program, command, version), cwd=folder) for version in ("old", "new")]
@@ -172,10 +219,31 @@ def start_together(program: str, folder: Path, texts: dict, pairs: int) -> None:
         found = outputs_of(folder, command)
         both = list(zip(found, texts["old", command], texts["new", command]))
         left = list(folder.glob("*unfinished*"))
-        if statuses != [0, 0] or left or any(text not in (old, new) for text, old, new in both):
-            raise Wrong(f"two runs of {command} at once end with {statuses}, and leave {left} or a file of neither")
-        mixed += found not in (texts["old", command], texts["new", command])
-    print(f"{pairs} pairs of runs at once: each output whole, outputs of both in {mixed}")
+        if statuses != [0, 0] or left or found not in (texts["old", command], texts["new", command]):
+            raise Wrong(f"two runs of {command} at once end with {statuses}, and leave {left} or outputs of both")
+    print(f"{pairs} pairs of runs at once: all outputs of one of them")
+
+
+def wait_for_lock(program: str, folder: Path) -> None:
+    """While another run has the lock of the folder, a run waits, and says so in the end. That of a killed run is gone."""
+    words = words_of(program, "page", "new")
+    lock = os.open(folder, os.O_RDONLY)
+    fcntl.flock(lock, fcntl.LOCK_EX)
+    given_up = subprocess.run(words, cwd=folder, stderr=subprocess.PIPE, check=False)
+    waiting = subprocess.Popen(words, cwd=folder)
+    time.sleep(0.5)
+    is_waiting = waiting.poll() is None
+    os.close(lock)
+    other = subprocess.Popen([sys.executable, "-c", "import fcntl, os, time; fcntl.flock(os.open('.', 0), fcntl.LOCK_EX); print(); time.sleep(60)"],
+                             cwd=folder, stdout=subprocess.PIPE)
+    other.stdout.readline()
+    other.kill()
+    other.communicate()
+    after = subprocess.run(words, cwd=folder, check=False).returncode
+    found = (given_up.returncode, given_up.stderr.decode(), is_waiting, waiting.wait(), after)
+    if found != (5, "write failed: page\n  'own.html': another run writes here\n", True, 0, 0) or list(folder.glob("*unfinished*")):
+        raise Wrong(f"runs beside a lock end with {found}")
+    print("a run waits for the lock of its folder, gives up in the end, and needs none of a killed run")
 
 
 def main() -> None:
@@ -200,6 +268,9 @@ def main() -> None:
             for command in OUTPUTS:
                 for old in (texts["old", command], [None for _ in OUTPUTS[command]]):
                     refuse_each(program, library, folder, command, old, texts["new", command])
+                follow_links(program, library, folder, command, texts["new", command])
+            tell_reasons(program, library, folder)
+            wait_for_lock(program, folder)
             start_together(program, folder, texts, given.pairs)
         except Wrong as wrong:
             sys.exit(str(wrong))

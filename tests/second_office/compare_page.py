@@ -16,6 +16,7 @@ from pathlib import Path
 from random import Random
 from typing import List, Tuple
 
+from inputs import Input
 from page import Benchmark, Entry, Page, Point, Sight, page_text
 from pages import HOSTILE, page_of
 from projects import MILLIMETRE, BookWriter, random_project
@@ -39,8 +40,14 @@ def keyed_in(length: int) -> str:
     return f"{'-' if length < 0 else '+'} {abs(length) // step} {code}"
 
 
+def named(names: List[bytes]) -> List[Input]:
+    """Books of these names, whose bytes are their names. What prints the page gets last parts."""
+    parts = [name.rsplit(b"/", 1)[-1] for name in names]
+    return [Input(f"book {number}", name, name) for number, name in enumerate(parts, start=1)]
+
+
 def rows_text(page: Page, books: List[bytes]) -> str:
-    lines = [f"limit {page.limit}", f"cost {page.cost}"] + [f"book {name.hex()}" for name in page.books]
+    lines = [f"limit {page.limit}", f"cost {page.cost}"] + [f"book {own.name.hex()}" for own in page.inputs]
     lines += [f"note {note.hex()}" for note in page.notes] + [f"observations {book.hex()}" for book in books if book]
     lines += [f"point {own.name.hex()} {own.low} {own.high} {optional(own.strength)}" for own in page.points]
     lines += [f"sight {own.weight} {own.residual} {optional(own.control)} {own.mistake} {own.station} {page.points[own.station].low} {own.target} "
@@ -61,7 +68,7 @@ def write_case(folder: Path, seed: int, number: int) -> bool:
     reviewed, explained = second_review(project), second_explanations(project, "table")[0]
     if reviewed.review is None or explained.explanation is None or not all(project.inputs.books):
         return False
-    page = page_of(reviewed.review, explained.explanation, [rng.choice(HOSTILE) for _ in project.inputs.books])
+    page = page_of(reviewed.review, explained.explanation, named([rng.choice(HOSTILE) for _ in project.inputs.books]))
     page.notes.extend(rng.sample(HOSTILE, rng.randrange(3)))
     (folder / f"project_{number}").write_text(rows_text(page, project.inputs.books))
     (folder / f"project_{number}.stdout").write_bytes(page_text(page))
@@ -97,7 +104,7 @@ def large_page(rng: Random, count: int, sights: int) -> Tuple[Page, List[bytes]]
     entries = [Entry(1, line, rng.choice(("reflector", "instrument")), points[0].name, rng.randrange(-2_000, 2_000) * MILLIMETRE, 3, line,
                      rng.choice(("shows", "drags", "ties"))) for line in range(1, count + 1)]
     benchmarks = [Benchmark(own.name, own.low, 2, 9, rng.choice(("shows", "drags", None))) for own in points if own.strength is None]
-    return Page(HOSTILE[:2], points, rows, entries, benchmarks, [], HOSTILE, 10**12 + 1, rng.choice((0, 10**6, 10**9))), [writer.text()]
+    return Page(named(HOSTILE[:2]), points, rows, entries, benchmarks, [], HOSTILE, 10**12 + 1, rng.choice((0, 10**6, 10**9))), [writer.text()]
 
 
 def write_large(folder: Path, seed: int) -> int:

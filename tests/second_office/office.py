@@ -20,6 +20,7 @@ from typing import Dict, List, NamedTuple, Optional
 
 from certificates import CertificateFault, certificate_text, read_certificate, verdict_line
 from explain import Explanation, csv_text, explanation_of, people_text
+from inputs import Input, inputs_of
 from network import Heights, Network, NetworkFault, Sight, best_flows, cost_of, highest_heights, lowest_heights, make_network
 from page import page_text
 from pages import page_of
@@ -32,11 +33,17 @@ DEFAULT_BLUNDER = 20_000
 
 
 class Inputs(NamedTuple):
-    """The bytes that an adjustment and a check read."""
+    """The bytes that an adjustment and a check read, and the names of the files, if they are not those of `runs.saved`."""
 
     books: List[bytes]
     benchmarks: bytes
     weights: Optional[bytes]
+    names: Optional[List[bytes]] = None
+
+    def named(self) -> List[Input]:
+        """The inputs with their names."""
+        names = self.names or [b"book_%d.gsi" % number for number, _ in enumerate(self.books, start=1)] + [b"benchmarks.csv", b"weights.csv"]
+        return inputs_of(names, self.books, self.benchmarks, self.weights)
 
 
 class Adjusted(NamedTuple):
@@ -130,7 +137,8 @@ def notes_of(books: List[bytes], answer: Adjusted, limit: int) -> bytes:
     if widest > limit:
         loose = sum(gap > 0 for gap in gaps.values())
         first = next(name for name, gap in gaps.items() if gap == widest).decode("ascii")
-        lines.append(f"note: {loose} points have more than one best height, up to {metres(widest)} m apart at {first}\n".encode("ascii"))
+        have = "point has" if loose == 1 else "points have"
+        lines.append(f"note: {loose} {have} more than one best height, up to {metres(widest)} m apart at {first}\n".encode("ascii"))
     return b"".join(lines)
 
 
@@ -154,7 +162,7 @@ def review(inputs: Inputs, limit: int) -> Answer:
         return refused(fault)
     answer = adjusted(network)
     weights = read_weights(inputs.weights or b"")
-    found = reviews.review_of(network, answer.low, answer.high, limit, inputs.books, weights)
+    found = reviews.review_of(network, answer.low, answer.high, limit, inputs.books, weights, inputs.named())
     return Answer(0, b"", b"", reviews.files_of(found), found)
 
 
@@ -181,7 +189,8 @@ def page(reviewed: Answer, explained: Answer, books: List[bytes]) -> Answer:
     """The page of a project whose books have these names, given what `review` and `explain` find."""
     if reviewed.review is None or explained.explanation is None:
         return reviewed
-    return Answer(0, b"", b"", {".html": page_text(page_of(reviewed.review, explained.explanation, books))})
+    named = [own._replace(name=name) for own, name in zip(reviewed.review.inputs, books)] + reviewed.review.inputs[len(books):]
+    return Answer(0, b"", b"", {".html": page_text(page_of(reviewed.review, explained.explanation, named))})
 
 
 # The command line
@@ -207,7 +216,8 @@ def arguments(words: Optional[List[str]] = None) -> argparse.Namespace:
 def run(chosen: argparse.Namespace) -> Answer:
     books = [path.read_bytes() for path in chosen.books]
     weights = chosen.weights.read_bytes() if chosen.weights else None
-    inputs = Inputs(books, chosen.benchmarks.read_bytes(), weights)
+    names = [os.fsencode(path) for path in chosen.books + [chosen.benchmarks] + ([chosen.weights] if chosen.weights else [])]
+    inputs = Inputs(books, chosen.benchmarks.read_bytes(), weights, names)
     if chosen.command == "check":
         return check(inputs, chosen.certificate.read_bytes())
     limit = UNITS_IN_MICROMETRE * chosen.blunder

@@ -1,7 +1,10 @@
 """The page: section 10 of docs/FORMATS.md. Lengths are in units of 10 nm, coordinates in tenths of a pixel."""
 
+import re
 from pathlib import Path
 from typing import List, NamedTuple, Optional, Tuple
+
+from inputs import Input
 
 LEFT, WIDTH = 900, 7000
 TOP, HEIGHT = 300, 3000
@@ -80,7 +83,7 @@ class Explanation(NamedTuple):
 class Page(NamedTuple):
     """What a page shows."""
 
-    books: List[bytes]
+    inputs: List[Input]
     points: List[Point]
     sights: List[Sight]
     entries: List[Entry]
@@ -96,7 +99,12 @@ class Page(NamedTuple):
 ENTITIES = {ord("&"): b"&amp;", ord("<"): b"&lt;", ord(">"): b"&gt;", ord('"'): b"&quot;", ord("'"): b"&#39;"}
 
 
+# C1 controls, and what is no character.
+HIDDEN = re.compile(rb"\xc2[\x80-\x9f]|\xef\xbf[\xbe\xbf]")
+
+
 def escaped(text: bytes) -> bytes:
+    text = HIDDEN.sub(b"?", text)
     return b"".join(ENTITIES.get(byte, b"?" if byte < 32 or byte == 127 else bytes([byte])) for byte in text)
 
 
@@ -470,9 +478,10 @@ def page_text(page: Page) -> bytes:
     left_out = b"<p>Not drawn, because they are too many: %d sights.</p>\n" % undrawn if undrawn else b""
     return (b'<!DOCTYPE html>\n<html lang="en">\n<head>\n<meta charset="utf-8">\n<meta name="viewport" content="width=device-width, initial-scale=1">\n'
             b"<title>Height network</title>\n<style>\n" + STYLE
-            + b'</style>\n</head>\n<body>\n<h1>Height network</h1>\n<ol class="books">\n'
-            + b"".join(b"<li><bdi>%s</bdi>\n" % escaped(book) for book in page.books)
-            + b'</ol>\n<p>A place such as 2:14 is line 14 of book 2.</p>\n<ul class="facts">\n' + facts(page) + b'</ul>\n<ul class="lamps">\n'
+            + b'</style>\n</head>\n<body>\n<h1>Height network</h1>\n<ul class="inputs">\n'
+            + b"".join(b"<li>%s: <bdi>%s</bdi> <small>%d B, SHA-256 %s</small>\n" % (own.label.encode(), escaped(own.last_part), len(own.text), own.digest.encode())
+                       for own in page.inputs)
+            + b'</ul>\n<p>A place such as 2:14 is line 14 of book 2.</p>\n<ul class="facts">\n' + facts(page) + b'</ul>\n<ul class="lamps">\n'
             + lamps(page) + b"</ul>\n<figure>\n<figcaption><b>Heights.</b> Each sight is drawn from its station to where it puts its target. It bends up if it "
             b'runs to the right, and down if to the left.</figcaption>\n<div class="w">\n' + picture(page) + b"</div>\n" + LEGEND + left_out
             + b"</figure>\n<figure>\n<figcaption><b>Residuals</b> in metres, in the order of the books. Linear up to a millimetre, then a step for each "

@@ -3,6 +3,7 @@
 from typing import List
 
 from explain import Explanation as Explained
+from inputs import Input
 from network import cost_of
 from page import Benchmark, Entry, Explanation, Page, Point, Sight
 from review import Review
@@ -12,8 +13,8 @@ HOSTILE = [b"<script>alert(1)</script>.gsi", b"a&amp;b.gsi", b'"quoted" & \'so\'
            b"control\x01\x1f\x7f.gsi", b"\xff\xfe.gsi", b"</style></bdi>.gsi", b"monday.gsi"]
 
 
-def page_of(review: Review, found: Explained, books: List[bytes]) -> Page:
-    """The page of a network whose books have these names."""
+def page_of(review: Review, found: Explained, inputs: List[Input]) -> Page:
+    """The page of a network of these inputs."""
     network = review.network
     place = {name: k for k, name in enumerate(network.points)}
     points = [Point(name, review.low[name], review.high[name], review.strengths[name]) for name in network.points]
@@ -26,4 +27,4 @@ def page_of(review: Review, found: Explained, books: List[bytes]) -> Page:
     rows = [Explanation(number, row.number.kind, row.number.book, row.number.line, row.number.station or None, row.number.target or None,
                         row.number.given, row.low, row.high, row.left, row.blunders) for number, row in found.rows]
     notes = [note.encode("ascii") for note in review.notes]
-    return Page(books, points, sights, entries, benchmarks, rows, notes, cost_of(network, review.low), review.limit)
+    return Page(inputs, points, sights, entries, benchmarks, rows, notes, cost_of(network, review.low), review.limit)

@@ -4,6 +4,7 @@ from collections import Counter
 from typing import Dict, Iterator, List, NamedTuple, Optional, Sequence, Set, Tuple
 
 from certificates import csv_row, number_text
+from inputs import Input, input_line
 from moves import Blame, blames_of, free_sets
 from network import Heights, Network, Observation, anchored_points
 from reliability import Benchmark, Entry, benchmarks_of, controls_of, entries_of, mistake_of, shared_mistake_of, strengths_of
@@ -43,6 +44,7 @@ class Review(NamedTuple):
     controls: List[Optional[int]]
     entries: List[Entry]
     books: List[BookCount]
+    inputs: List[Input]
     notes: List[str]
     own_blames: List[Set[Blame]]  # of each observation, what the least sets would move; none where it shows
     shared_blames: List[Set[Blame]]  # of each entry
@@ -270,22 +272,23 @@ def other_spellings(books: List[bytes]) -> List[str]:
             if compared == MOST_COMPARED or not (reader.is_sight(words) or reader.is_setup(words)):
                 continue
             compared += 1
-            spelling = words[0].data
-            name = reader.name_of(spelling)
+            name = reader.name_of(words[0].data)
+            spelling = words[0].data.lstrip(b"0")
             if first.setdefault(name, spelling) != spelling and name not in noted:
                 noted.add(name)
                 notes.append(f"book {number} line {line}: {name.decode('ascii')} is spelled in another way than before")
     return limited(notes, "names spelled in another way than before")
 
 
-def review_of(network: Network, low: Heights, high: Heights, limit: int, books: List[bytes], weights: Dict[Pair, int]) -> Review:
+def review_of(network: Network, low: Heights, high: Heights, limit: int, books: List[bytes], weights: Dict[Pair, int],
+              inputs: List[Input]) -> Review:
     counts = [count_of(book) for book in books]
     entries = [entry for number, book in enumerate(books, start=1) for entry in entries_of(number, book)]
     notes = (without_sight(books) + repeated_books(network, len(books)) + lookalikes(books) + other_heights(books) + directions(books)
              + unused_weights(network, weights) + unseen_benchmarks(network) + hanging_parts(network) + sighted_once(network)
              + twins(network, low) + other_spellings(books) + formulas(network))
     benchmarks = benchmarks_of(network)
-    review = Review(network, low, high, limit, strengths_of(network), controls_of(network), entries, counts, notes, [], [], benchmarks, [])
+    review = Review(network, low, high, limit, strengths_of(network), controls_of(network), entries, counts, inputs, notes, [], [], benchmarks, [])
     places = [{place} for place in range(len(network.observations))]
     return review._replace(own_blames=blames_of_all(network, review.mistakes(), places),
                            shared_blames=blames_of_all(network, review.shared_mistakes(), [places_of(network, own) for own in entries]),
@@ -446,7 +449,7 @@ def benchmark_lines(review: Review) -> List[str]:
 
 
 def review_text(review: Review) -> bytes:
-    parts = (summary(review), book_lines(review), largest_lines(review), point_lines(review), observation_lines(review), entry_lines(review),
+    parts = (summary(review), book_lines(review), [input_line(own) for own in review.inputs], largest_lines(review), point_lines(review), observation_lines(review), entry_lines(review),
              benchmark_lines(review),
              [label_line("notes", str(len(review.notes)))] + review.notes)
     return "\n\n".join("\n".join(part) for part in parts).encode("ascii") + b"\n"

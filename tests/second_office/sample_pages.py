@@ -6,6 +6,7 @@ from typing import Dict, List
 
 import office
 from explain import csv_text
+from inputs import Input
 from page import Benchmark, Entry, Explanation, Page, Point, Sight
 from pages import HOSTILE, page_of
 
@@ -24,10 +25,11 @@ def page_of_example(folder: Path) -> Page:
     books = [word for word in words if word.endswith(".gsi")]
     weights = value("--weights", "")
     inputs = office.Inputs([(folder / book).read_bytes() for book in books], (folder / value("--benchmarks", "")).read_bytes(),
-                           (folder / weights).read_bytes() if weights else None)
+                           (folder / weights).read_bytes() if weights else None,
+                           [name.encode() for name in books + [value("--benchmarks", "")] + [weights]])
     limit = int(value("--blunder", "20000")) * 100
     reviewed, explained = office.review(inputs, limit), office.explain(inputs, limit, csv_text)[0]
-    return page_of(reviewed.review, explained.explanation, [book.encode() for book in books])
+    return page_of(reviewed.review, explained.explanation, reviewed.review.inputs)
 
 
 def profile(count: int, rng: Random) -> List[Point]:
@@ -50,8 +52,13 @@ def sights(points: List[Point], *rows: tuple) -> List[Sight]:
     return [sight(number, points, *row) for number, row in enumerate(rows, start=1)]
 
 
+def named(name: bytes) -> Input:
+    """A book whose bytes are its name."""
+    return Input("book 1", name, name)
+
+
 def page(points: List[Point], rows: List[Sight], **others) -> Page:
-    usual = Page([b"monday.gsi"], points, rows, [], [Benchmark(own.name, own.low, 3, 3, "shows") for own in points if own.strength is None],
+    usual = Page([named(b"monday.gsi")], points, rows, [], [Benchmark(own.name, own.low, 3, 3, "shows") for own in points if own.strength is None],
                  [], [], sum(abs(own.residual) for own in rows), LIMIT)
     return usual._replace(**others)
 
@@ -69,7 +76,7 @@ def random_page(count: int, many: int) -> Page:
         station = rng.randrange(count)
         target = (station + rng.choice([-3, -2, -1, 1, 2, 3])) % count
         rows.append(sight(number, points, station, target, residual(), rng.choice(["shows"] * 12 + ["ties", "hides", "unchecked"])))
-    return page(points, rows, books=[b"monday.gsi", b"tuesday.gsi", b"wednesday.gsi"])
+    return page(points, rows, inputs=[named(name) for name in (b"monday.gsi", b"tuesday.gsi", b"wednesday.gsi")])
 
 
 # What is hard to draw
@@ -114,7 +121,7 @@ def longest() -> Page:
     kinds = ("instrument since", "reflector since", "sight", "benchmark", "book")
     found = [Explanation(20, kind, None if kind == "benchmark" else 16, 99_999, points[1].name, points[2].name if kind == "sight" else None,
                          -far, -far, far, 10**17, 40_000) for kind in kinds]
-    return page(points, rows, entries=entries, explanations=found, books=[b"book_without_a_blank_" * 12, *hostile], cost=10**19,
+    return page(points, rows, entries=entries, explanations=found, inputs=[named(name) for name in (b"book_without_a_blank_" * 12, *hostile)], cost=10**19,
                 benchmarks=[Benchmark(points[0].name, far, 40_000, 40_000_000, "drags")],
                 notes=[b"book 16 line 99999: " + b"a_note_without_a_blank" * 12, *hostile])
 

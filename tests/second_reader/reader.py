@@ -385,7 +385,7 @@ def without_sight(number: int, book: bytes) -> Optional[str]:
     told = [own.decode("ascii") for own in NOTED_NUMBERS if own in there]
     joined = " and ".join(([", ".join(told[:-1])] if told[1:] else []) + told[-1:])
     words = f"; it has word{'s' if told[1:] else ''} {joined}" if told else ""
-    return f"book {number} has no sight in {len(blocks)} blocks (no word 33{words})"
+    return f"book {number} has no sight in {len(blocks)} block{'s' if blocks[1:] else ''} (no word 33{words})"
 
 
 def note_of(number: int, book: bytes) -> bytes:

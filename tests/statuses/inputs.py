@@ -2,6 +2,7 @@
 
 import itertools
 import re
+from hashlib import sha256
 from pathlib import Path
 from typing import Iterator
 
@@ -85,17 +86,21 @@ BOOK_OF_HEIGHTS = f"{STATION}\r\n{SIGHT} 87..48+00000000 33..48-00027300 \r"
 
 HEIGHTS = [
     ("line 2: B1 word 1: short", f"{STATION}\nx\n"),
-    ("line 2: B2 repeated word", f"{STATION}\n{SIGHT} 33..00+00000001\n"),
+    ("line 2: B2 has a word 33", f"{STATION}\n{SIGHT} 33..00+00000001\n"),
     ("line 2: B2 repeated word", f"{STATION}\n{SIGHT} 83..00+00251384\n"),
     ("line 1: B2 repeated word", f"{STATION} 84..00+00000000 84..00+00000000\n{SIGHT}\n"),
     ("line 2: B4 bad name", f"{STATION}\n110002+         31..00+00000001 83..00+00000001\n"),
     ("line 1: B5 bad number", f"{STATION} 83..00+0000000A\n"),
     ("line 1: B6 bad unit", "110001+0000000A 86..09+00000000\n"),
-    ("line 2: B6 bad unit", f"{STATION}\n110002+0000000B 31..01+00000001 83..01+00000001\n"),
+    ("line 2: B6 no unit for word 33", f"{STATION}\n110002+0000000B 31..01+00000001 83..01+00000001\n"),
     ("line 2: B7 too large", f"{STATION}\n110002+0000000B 31..00+00000001 83..00+99999999\n"),
-    ("line 2: B7 too large", f"{STATION}\n110002+0000000B 31..00+00000001 83..00+01260000\n"),
+    ("line 2: B7 too large for word 33", f"{STATION}\n110002+0000000B 31..00+00000001 83..00+01260000\n"),
+    # A height in force is wrong, whatever else a line has: no other height is added in its place.
+    ("line 2: B5 bad number", "110001+0000000A 86..10+00000000\n110002+0000000B 83..10+00001000 31..00+00000001 87..10+0000A500\n"),
+    ("line 1: B6 bad unit", "110001+0000000A 86..10+00000000 88..19+00001500\n"),
+    ("line 2: B7 too large", "110001+0000000A 86..10+00000000\n110002+0000000B 83..10+00001000 31..00+00000001 88..10+99999999\n"),
     ("line 1: B8 sight before setup", f"{SIGHT}\n{STATION}\n"),
-    ("line 2: B9 no instrument height", f"110001+0000000A 84..40+00250112\n{SIGHT}\n"),
+    ("line 2: B9 no station height", f"110001+0000000A 84..40+00250112\n{SIGHT}\n"),
     ("line 2: B11 sight to itself", f"{STATION}\n110002+0000000A 31..00+00000001 83..00+00000001\n"),
     # A book of 50 MiB, of which the printed book has 69: each line of 48 bytes gets 66.
     ("line 0: B12 book too long", lambda: f"{STATION}\n".encode() + f"{SIGHT}\n".encode() * 1_100_000),
@@ -112,7 +117,7 @@ NOTES = [
     Row(0, "", f"adjust {MARKS} --blunder 2000 --out mask cellar.gsi"),
     Row(0, "", f"review {MARKS} --out mask with_heights.gsi", files=WITH_HEIGHTS),
     Row(0, "", f"page {MARKS} --out mask with_heights.gsi", files=WITH_HEIGHTS),
-    Row(0, "note: book 1 has no sight in 1 blocks (no word 33)", "list code.gsi", LIST, {"code.gsi": "410001+0000000A\n\n"}),
+    Row(0, "note: book 1 has no sight in 1 block (no word 33)", "list code.gsi", LIST, {"code.gsi": "410001+0000000A\n\n"}),
     Row(0, "", "list blank.gsi", LIST, {"blank.gsi": "\n  \n"}),
 ]
 
@@ -147,6 +152,39 @@ class NotesOfReview(Case):
         self.assertEqual(notes, [f"book 1 {NO_SIGHT}"])
 
 
+class NotesOfNames(Case):
+    """A name in blocks of both widths is spelled in one way, and one with a blank in front in another. A block with a word 21, whatever
+    its position 3, measures something and looks like no setup."""
+
+    def runTest(self) -> None:
+        self.write({"widths.gsi": "110001+000000G1 84..10+00000000 88..10+00001500 87..10+00001500\n110002+000000G2 33..00+00001000\n"
+                                  "*110003+00000000000000G1 84..10+0000000000000000 88..10+0000000000001500 87..10+0000000000001500\n"
+                                  "*110004+00000000000000G2 33..00+0000000000001000\n110005+      G2 33..00+00001000\n"
+                                  "110006+000000G7 88..10+00001500 213.00+00000000\n110007+000000G8 88..10+00001500\n"})
+        self.check(f"review {MARKS} --out mask widths.gsi", 0)
+        notes = [line for line in (self.folder / "mask.review.txt").read_text().splitlines() if "spelled" in line or "looks like" in line]
+        self.assertEqual(notes, ["book 1 line 7: looks like a setup, but has no word 84, 85 or 86", "book 1 line 5: G2 is spelled in another way than before"])
+
+
+class NamedInputs(Case):
+    """A review and a page name each input by the last part of its name, its length and its SHA-256."""
+
+    def runTest(self) -> None:
+        names = {"book 1": "client/no\x07n.gsi", "book 2": "empty.gsi", "benchmarks": "marks.csv", "weights": "client/unused.csv"}
+        (self.folder / "client").mkdir()
+        self.write({names["book 1"]: (self.folder / "cellar.gsi").read_text(), names["book 2"]: "", names["weights"]: "from,to,weight\n"})
+        given = {label: (name.rsplit("/", 1)[-1], (self.folder / name).read_bytes()) for label, name in names.items()}
+        words = f"--benchmarks {names['benchmarks']} --weights {names['weights']} --out own"
+        for command in ("review", "page"):
+            self.check(f"{command} {words} {names['book 1']} {names['book 2']}", 0)
+        lines = (self.folder / "own.review.txt").read_text().splitlines()
+        self.assertEqual(lines[lines.index("") + 5:][:4], [f"{label:<10}{len(text):>10}  {sha256(text).hexdigest()}  {name}".replace("\x07", "\\x07")
+                                                           for label, (name, text) in given.items()])
+        items = [f"<li>{label}: <bdi>{name}</bdi> <small>{len(text)} B, SHA-256 {sha256(text).hexdigest()}</small>\n".replace("\x07", "?")
+                 for label, (name, text) in given.items()]
+        self.assertIn('<ul class="inputs">\n' + "".join(items) + "</ul>\n", (self.folder / "own.html").read_text())
+
+
 def rows() -> Iterator[Row]:
     yield from DONE
     yield from (Row(5, f"read failed: {what}", words) for what, words in READ_FAILED)
@@ -159,4 +197,4 @@ def rows() -> Iterator[Row]:
 
 
 def cases() -> Iterator[Case]:
-    return itertools.chain(map(RowCase, rows()), [NotesOfReview()])
+    return itertools.chain(map(RowCase, rows()), [NotesOfReview(), NotesOfNames(), NamedInputs()])

@@ -20,7 +20,8 @@ OUTPUTS = {
                "review.txt": "review"},
     "page": {"html": "page"},
 }
-SYSTEM_DEVICES = Path("/dev/shm")
+# A folder below /dev to which all may write.
+SHARED = Path("/dev/shm")
 IS_ROOT = os.getuid() == 0
 
 
@@ -29,8 +30,8 @@ def adjust(prefix: str, book: str = "cellar.gsi") -> List[str]:
 
 
 class Unwritable(Case):
-    """The name of an output, over outputs of an earlier run, leads to a device, to a pipe that nobody reads or to a folder, or was typed
-    below /dev and leads to a device that is full. No output changes."""
+    """The name of an output, over outputs of an earlier run, leads to a device, to a pipe that nobody reads, to a folder or to itself, or
+    was typed below /dev and leads to a device or a pipe there. No output changes."""
 
     def __init__(self, command: str, end: str, what: str) -> None:
         super().__init__()
@@ -38,42 +39,95 @@ class Unwritable(Case):
 
     def runTest(self) -> None:
         way = self.folder / "way"
-        if self.what == "full":
-            if not os.access(SYSTEM_DEVICES, os.W_OK):
-                self.skipTest(f"no folder below {SYSTEM_DEVICES}")
-            below = tempfile.TemporaryDirectory(dir=SYSTEM_DEVICES)
-            self.addCleanup(below.cleanup)
-            way = Path(below.name) / "way"
+        if self.what.startswith("shared"):
+            way = Path(shared_folder(self)) / "way"
         way.mkdir()
         for other in OUTPUTS[self.command]:
             if other != self.end:
                 (way / f"own.{other}").write_text("old\n")
         at = way / f"own.{self.end}"
-        if self.what == "pipe":
+        if self.what.endswith("pipe"):
             os.mkfifo(at)
         elif self.what == "folder":
             at.mkdir()
         else:
-            at.symlink_to("/dev/null" if self.what == "device" else "/dev/full")
+            at.symlink_to(at.name if self.what == "loop" else "/dev/null")
         before, kind = texts_of(way), os.lstat(at).st_mode
         words = [self.command, *MARKS.split(), "--out", str(way / "own"), "cellar.gsi"]
-        self.check(words, 5, f"write failed: {OUTPUTS[self.command][self.end]}")
+        answer = self.check(words, 5, f"write failed: {OUTPUTS[self.command][self.end]}")
+        self.assertEqual(answer.lines[1:], [f"  '{at}': {WHY_NOT[self.what.split()[-1]]}"])
         self.assertEqual((texts_of(way), os.lstat(at).st_mode), (before, kind))
 
 
+# What the second line says of an output that leads to a device, to a pipe, to a folder, or to itself.
+WHY_NOT = {"device": "not a file", "pipe": "not a file", "folder": "a folder", "loop": "a link that leads nowhere"}
+
+
+def shared_folder(case: unittest.TestCase) -> str:
+    """A folder of the case below /dev, if there is one that all may write to."""
+    if not os.access(SHARED, os.W_OK):
+        case.skipTest(f"no folder {SHARED}")
+    below = tempfile.TemporaryDirectory(dir=SHARED)
+    case.addCleanup(below.cleanup)
+    return below.name
+
+
 class Device(Case):
-    """A device that was typed below /dev takes its text."""
+    """A device takes its text if it is the very output that was typed below /dev."""
 
     def runTest(self) -> None:
-        if not os.access(SYSTEM_DEVICES, os.W_OK):
-            self.skipTest(f"no folder below {SYSTEM_DEVICES}")
-        with tempfile.TemporaryDirectory(dir=SYSTEM_DEVICES) as below:
-            own = Path(below) / "own"
-            report = own.with_name("own.report.txt")
-            report.symlink_to("/dev/null")
-            self.check(adjust(str(own)), 0)
-            self.assertTrue(report.is_symlink())
-            self.assertTrue(own.with_name("own.heights.gsi").is_file())
+        own = Path(shared_folder(self)) / "own"
+        report = own.with_name("own.report.txt")
+        try:
+            os.mknod(report, 0o666 | stat.S_IFCHR, os.makedev(1, 3))
+        except PermissionError:
+            self.skipTest("only root may make a device")
+        self.check(adjust(str(own)), 0)
+        self.assertTrue(stat.S_ISCHR(report.lstat().st_mode))
+        self.assertTrue(own.with_name("own.heights.gsi").is_file())
+
+
+class Linked(Case):
+    """Outputs that are links to files of others: the links are replaced, and what they lead to is as it was and never opened."""
+
+    def __init__(self, below_devices: bool, broken: bool) -> None:
+        super().__init__()
+        self.title = f"outputs that are links to {'no files' if broken else 'files'}{' below /dev' if below_devices else ''}"
+        self.below_devices, self.broken = below_devices, broken
+
+    def runTest(self) -> None:
+        way = Path(shared_folder(self)) if self.below_devices else self.folder / "way"
+        way.mkdir(exist_ok=True)
+        others = self.folder / "others"
+        others.mkdir()
+        for end in OUTPUTS["adjust"]:
+            if not self.broken:
+                (others / end).write_text("another's\n")
+                # Nobody may write it, so that a run of another user than root that opens it fails.
+                (others / end).chmod(0o444)
+            (way / f"own.{end}").symlink_to(others / end)
+        before = texts_of(others)
+        self.check(adjust(str(way / "own")), 0)
+        self.assertEqual(texts_of(others), before)
+        for end in OUTPUTS["adjust"]:
+            self.assertTrue(stat.S_ISREG((way / f"own.{end}").lstat().st_mode), end)
+
+
+class TwoNames(Case):
+    """An output that is another name of one open file gets the permissions of a new one."""
+
+    def runTest(self) -> None:
+        lent = self.folder / "lent"
+        lent.mkdir()
+        opened = {end: self.folder / f"open.{end}" for end in OUTPUTS["adjust"]}
+        for end, path in opened.items():
+            path.write_text("another's\n")
+            path.chmod(0o666)
+            os.link(path, lent / f"own.{end}")
+        self.check(adjust("lent/own"), 0, preexec_fn=lambda: os.umask(0o027))
+        for end in OUTPUTS["adjust"]:
+            self.assertEqual(oct(stat.S_IMODE((lent / f"own.{end}").stat().st_mode)), oct(0o640), end)
+            self.assertEqual(opened[end].read_text(), "another's\n")
 
 
 class Mode(Case):
@@ -112,7 +166,7 @@ class Unwritten(Case):
 
 
 class LongName(Case):
-    """Names that are too long, or get too long with what is added while they are written: no output, or all."""
+    """Names that are as long as the system takes, or longer: all outputs, or none."""
 
     def __init__(self, length: int) -> None:
         super().__init__()
@@ -123,11 +177,12 @@ class LongName(Case):
         long.mkdir()
         answer = self.answer(adjust("long/" + "x" * self.length))
         count = len(list(long.iterdir()))
-        if answer.status == 0:
-            self.assertEqual((count, answer.lines), (len(OUTPUTS["adjust"]), []))
+        if self.length + max(len(f".{end}") for end in OUTPUTS["adjust"]) <= os.pathconf(long, "PC_NAME_MAX"):
+            self.assertEqual((answer.status, count, answer.lines), (0, len(OUTPUTS["adjust"]), []))
         else:
             self.assertEqual((answer.status, count), (5, 0))
             self.assertRegex(answer.line(), "^write failed: ")
+            self.assertRegex(answer.lines[1], "': file name too long$")
 
 
 class Beside(Case):
@@ -139,6 +194,7 @@ class Beside(Case):
         for end in OUTPUTS["adjust"]:
             for left in ("unfinished", "1000000000.unfinished"):
                 (beside / f"own.{end}.{left}").write_text("left\n")
+        (beside / "1000000000-1.unfinished").write_text("left\n")
         before = texts_of(beside)
         self.check(adjust("beside/own"), 0)
         after = texts_of(beside)
@@ -270,11 +326,13 @@ def mode_cases() -> Iterator[Mode]:
 
 def cases() -> Iterator[unittest.TestCase]:
     ends = [(command, end) for command, outputs in OUTPUTS.items() for end in outputs]
-    yield from (Unwritable(*at, what) for at in ends for what in ("device", "pipe", "folder", "full"))
+    yield from (Unwritable(*at, what) for at in ends for what in ("device", "pipe", "folder", "loop", "shared device", "shared pipe"))
     yield Device()
+    yield from (Linked(below_devices, broken) for below_devices in (False, True) for broken in (False, True))
+    yield TwoNames()
     yield from mode_cases()
     yield Unwritten()
-    yield from map(LongName, range(200, 255, 5))
+    yield from map(LongName, [*range(200, 255, 5), 239, 240])
     yield Beside()
     inputs, ways = ("book 1", "book 2", "benchmarks", "weights"), ("same", "path", "hard", "symbolic", "turned")
     yield from (Overwrites(*at, what, way) for at, what, way in itertools.product(ends, inputs, ways))

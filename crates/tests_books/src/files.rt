@@ -23,7 +23,7 @@ fn named(rt: &(impl AllocGlobal + Abort), name: &str) -> String {
         .expect(rt, "the name")
 }
 
-/// A sink for the file of this name, in the run with number 7.
+/// The first sink of the run with number 7, for the file of this name.
 fn sink<'a, R: Files>(
     rt: &(impl AllocGlobal + Abort),
     files: &'a R,
@@ -32,7 +32,7 @@ fn sink<'a, R: Files>(
 ) -> FileSink<'a, R>
     ensures { result.device.counts.calls ≡ 0 }
 {
-    FileSink::new(rt.alloc(), files, name, 7, reasons)
+    FileSink::new(rt.alloc(), files, name, 7, 1, reasons)
         .ok()
         .expect(rt, "the sink")
 }
@@ -116,7 +116,7 @@ fn reads_none(rt: &(impl AllocGlobal + Abort + Files), name: &str) -> bool {
 #[test]
 fn a_finished_file_is_left_alone(rt: HostRuntime) {
     let reasons = Reasons::new();
-    let name = "left_alone.csv";
+    let (name, beside) = ("left_alone.csv", "7-1.unfinished");
     let mut out = sink(&rt, &rt, name, &reasons);
     assert_eq!(rt; write_all(&mut out, TEXT), Ok(()));
     assert_eq!(rt; out.write(b"Z"), Err(Failed));
@@ -125,14 +125,14 @@ fn a_finished_file_is_left_alone(rt: HostRuntime) {
     assert!(rt; is_absent(&rt, name));
     assert_eq!(rt; [out.place(), out.place()], [Ok(()), Err(Failed)]);
     out.discard();
-    assert!(rt; holds(&rt, name, "left_alone.csv.7.unfinished", TEXT) && reads_none(&rt, name));
+    assert!(rt; holds(&rt, name, beside, TEXT) && reads_none(&rt, name));
     assert!(rt; fs::remove_file(&rt, name).is_ok());
 }
 
 #[test]
 fn a_file_stays_until_another_one_is_placed(rt: HostRuntime) {
     let reasons = Reasons::new();
-    let (name, beside) = ("stays.csv", "stays.csv.7.unfinished");
+    let (name, beside) = ("stays.csv", "7-1.unfinished");
     assert!(rt; fs::write(&rt, name, b"before").is_ok());
     let mut out = sink(&rt, &rt, name, &reasons);
     assert_eq!(rt; (out.begin(), out.write(TEXT)), (Ok(()), Ok(70)));
@@ -151,7 +151,7 @@ fn a_file_stays_until_another_one_is_placed(rt: HostRuntime) {
 #[test]
 fn a_file_of_another_run_stays(rt: HostRuntime) {
     let reasons = Reasons::new();
-    let (name, beside) = ("another.csv", "another.csv.7.unfinished");
+    let (name, beside) = ("another.csv", "7-1.unfinished");
     assert!(rt; fs::write(&rt, beside, b"of another run").is_ok());
     let mut out = sink(&rt, &rt, name, &reasons);
     assert_eq!(rt; write_all(&mut out, TEXT), Err(Failed));
@@ -204,7 +204,7 @@ fn a_folder_in_the_way_stays(rt: HostRuntime) {
     let mut out = sink(&rt, &rt, name, &reasons);
     assert_eq!(rt; [out.begin(), write_all(&mut out, TEXT)], [Err(Failed); 2]);
     out.discard();
-    assert!(rt; is_absent(&rt, "in_the_way.csv.7.unfinished"));
+    assert!(rt; is_absent(&rt, "7-1.unfinished"));
     assert!(rt; fs::remove_dir(&rt, name).is_ok());
 }
 

@@ -3,11 +3,12 @@ use gsi_block::BlockFault::BadWord;
 use gsi_word::WordFault::Short;
 use std::process::Abort;
 use th_book::BookKind::{
-    BadName, BadNumber, BadUnit, Block, NoInstrumentHeight, RepeatedWord, SightBeforeSetup,
+    BadName, BadNumber, BadUnit, Block, NoPointNumber, RepeatedWord, SightBeforeSetup,
     SightToItself, TooLarge,
 };
-use th_book::{BookFault, BookKind, read_book};
-use th_conversions::book_of_heights;
+use th_book::read_book;
+use th_conversions::HeightKind::{Book, FarTarget, HasDifference, NoStationHeight, NoUnit};
+use th_conversions::{HeightFault, HeightKind, book_of_heights};
 use th_report::list_text;
 
 /// A book with heights, the words that its lines get, and the list of the printed book.
@@ -87,59 +88,70 @@ fn is_printed(rt: &(impl AllocGlobal + Abort), heights: &[u8], book: &[u8], list
 }
 
 /// Books with heights that are refused, the line and the kind of the fault.
-const REFUSED: [(&[u8], u32, BookKind); 14] = [
-    (b"110001+0000000A 33..00+00000001\n", 1, RepeatedWord),
+const REFUSED: [(&[u8], u32, HeightKind); 16] = [
+    (b"110001+0000000A 33..00+00000001\n", 1, HasDifference),
     (
         b"110001+0000000A 86..40+00000000\n110002+0000000B 21..00+00000001 33..00+00000001 83..00+00001000\n",
         2,
-        RepeatedWord,
+        HasDifference,
     ),
     (
         b"110001+0000000A 86..40+00000000\n110002+0000000B 21..00+00000001 83..00+00000001 83..00+00001000\n",
         2,
-        RepeatedWord,
+        Book(RepeatedWord),
     ),
-    (b"110001+0000000A 86..40+0000000A\n", 1, BadNumber),
-    (b"110001+0000000A 83..09+00000000\n", 1, BadUnit),
-    (b"110001+0000000A 83..00+99999999\n", 1, TooLarge),
+    (b"110001+0000000A 86..40+0000000A\n", 1, Book(BadNumber)),
+    (b"110001+0000000A 83..09+00000000\n", 1, Book(BadUnit)),
+    (b"110001+0000000A 83..00+99999999\n", 1, Book(TooLarge)),
     (
         b"110002+0000000B 21..00+00000001 83..00+00001000\n",
         1,
-        SightBeforeSetup,
+        Book(SightBeforeSetup),
     ),
     (
         b"110001+0000000A 84..40+00000000\n110002+0000000B 21..00+00000001 83..00+00001000\n",
         2,
-        NoInstrumentHeight,
+        NoStationHeight,
     ),
     (
         b"110001+0000000A 86..40+00000000\n110002+0000000A 21..00+00000001 83..00+00001000\n",
         2,
-        SightToItself,
+        Book(SightToItself),
     ),
     (
         b"110001+0000000A 86..40+00000000\n110002+         21..00+00000001 83..00+00001000\n",
         2,
-        BadName,
+        Book(BadName),
     ),
-    (b"x", 1, Block(BadWord(1, Short))),
+    (b"x", 1, Book(Block(BadWord(1, Short)))),
     // Not a whole number of 1/100 mm, nor of 1/10,000 ft.
     (
         b"110001+0000000A 86..48+00000001\n110002+0000000B 21..00+00000001 83..01+00000001\n",
         2,
-        BadUnit,
+        NoUnit,
     ),
     // More than the data of GSI-8 hold.
     (
         b"110001+0000000A 86..48+00000001\n110002+0000000B 21..00+00000001 83..48-99999999\n",
         2,
-        TooLarge,
+        FarTarget,
     ),
     // A fault of a book counts where it comes first.
     (
         b"41....+00000001 84..40+00000000\n110001+0000000A 86..40+0000000A\n",
         1,
-        BookKind::NoPointNumber,
+        Book(NoPointNumber),
+    ),
+    // A height of a reflector or an instrument that is wrong is in force, and no zero comes in its place.
+    (
+        b"110001+0000000A 86..10+00000000\n110002+0000000B 83..10+00001000 31..00+00000001 87..10+0000A500\n",
+        2,
+        Book(BadNumber),
+    ),
+    (
+        b"110001+0000000A 86..10+00000000 88..19+00001500\n",
+        1,
+        Book(BadUnit),
     ),
 ];
 
@@ -150,8 +162,8 @@ fn a_faulty_book_is_refused(rt: HostRuntime) {
     }
 }
 
-fn is_refused(rt: &(impl AllocGlobal + Abort), heights: &[u8], line: u32, kind: BookKind) {
+fn is_refused(rt: &(impl AllocGlobal + Abort), heights: &[u8], line: u32, kind: HeightKind) {
     let answer = book_of_heights(rt.alloc(), heights);
     let fault = answer.err().expect(rt, "a fault");
-    assert_eq!(rt; fault, BookFault { line, kind }, "{fault}");
+    assert_eq!(rt; fault, HeightFault { line, kind }, "{fault}");
 }

@@ -10,11 +10,14 @@ type Row = (
     &'static [(u32, u32, &'static [u8])],
 );
 
-/// Setups at A and at B, and sights of A and of B, in two spellings each: in GSI-8 and GSI-16.
+/// Setups at A and at B, and sights of A and of B: with zeros in front in blocks of both widths, and in
+/// other spellings.
 const SETUP_A: &[u8] = b"110001+0000000A 84..10+00000000 87..10+00001300 88..10+00001500 ";
 
 const WIDE_SETUP_A: &[u8] =
     b"*110001+000000000000000A 84..10+0000000000000000 87..10+0000000000001300 88..10+0000000000001500 ";
+
+const SPACED_SETUP_A: &[u8] = b"110001+       A 84..10+00000000 87..10+00001300 88..10+00001500 ";
 
 const SETUP_B: &[u8] = b"110001+0000000B 84..10+00000000 87..10+00001300 88..10+00001500 ";
 
@@ -22,25 +25,42 @@ const SIGHT_A: &[u8] = b"110002+0000000A 33..00+00002345 ";
 
 const WIDE_SIGHT_A: &[u8] = b"*110002+000000000000000A 33..00+0000000000002345 ";
 
+const SPACED_SIGHT_A: &[u8] = b"110002+       A 33..00+00002345 ";
+
 const SIGHT_B: &[u8] = b"110002+0000000B 33..00+00002345 ";
 
 const SPACED_SIGHT_B: &[u8] = b"110002+       B 33..00+00002345 ";
 
 const LEFT_SIGHT_B: &[u8] = b"110002+B        33..00+00002345 ";
 
-const ROWS: [Row; 14] = [
+const ROWS: [Row; 15] = [
     (&[], &[]),
     (&[&[], &[b"", b"410001+00000007 42....+000SITE3 "]], &[]),
     // one spelling each, in two books
     (&[&[SETUP_A, SIGHT_B], &[SETUP_B, SIGHT_A], &[SETUP_A]], &[]),
+    // zeros in front are no other spelling
+    (
+        &[
+            &[SETUP_A, WIDE_SETUP_A, SETUP_B, WIDE_SIGHT_A],
+            &[SETUP_B, SIGHT_A, WIDE_SETUP_A],
+        ],
+        &[],
+    ),
     // a station
-    (&[&[SETUP_A, WIDE_SETUP_A]], &[(1, 2, b"A")]),
-    (&[&[WIDE_SETUP_A, SETUP_A]], &[(1, 2, b"A")]),
+    (&[&[SETUP_A, SPACED_SETUP_A]], &[(1, 2, b"A")]),
+    (&[&[SPACED_SETUP_A, WIDE_SETUP_A]], &[(1, 2, b"A")]),
     // a target
     (&[&[SETUP_A, SIGHT_B, SPACED_SIGHT_B]], &[(1, 3, b"B")]),
     // a name that is the station of one block and the target of another
     (
-        &[&[SETUP_A, SPACED_SIGHT_B, b"", SETUP_B, SIGHT_A, WIDE_SIGHT_A]],
+        &[&[
+            SETUP_A,
+            SPACED_SIGHT_B,
+            b"",
+            SETUP_B,
+            SIGHT_A,
+            SPACED_SIGHT_A,
+        ]],
         &[(1, 4, b"B"), (1, 6, b"A")],
     ),
     // each name once: a third spelling, and the first one again
@@ -57,19 +77,19 @@ const ROWS: [Row; 14] = [
     ),
     // in the order of lines, whichever name was seen first
     (
-        &[&[SETUP_A, SIGHT_B, LEFT_SIGHT_B, WIDE_SETUP_A]],
+        &[&[SETUP_A, SIGHT_B, LEFT_SIGHT_B, SPACED_SETUP_A]],
         &[(1, 3, b"B"), (1, 4, b"A")],
     ),
     // across books, each name once in all of them
     (
-        &[&[SETUP_A, SIGHT_B], &[WIDE_SETUP_A, SIGHT_B]],
+        &[&[SETUP_A, SIGHT_B], &[SPACED_SETUP_A, SIGHT_B]],
         &[(2, 1, b"A")],
     ),
     (
         &[
             &[SETUP_A, SIGHT_B],
             &[b"", SETUP_A, SPACED_SIGHT_B],
-            &[WIDE_SETUP_A, LEFT_SIGHT_B],
+            &[SPACED_SETUP_A, LEFT_SIGHT_B],
         ],
         &[(2, 3, b"B"), (3, 1, b"A")],
     ),
@@ -103,7 +123,7 @@ const ROWS: [Row; 14] = [
             b"*110005+0000000000000000 33..00+0000000000002345 ",
             b"110006+       0 33..00+00002345 ",
         ]],
-        &[(1, 5, b"0")],
+        &[(1, 6, b"0")],
     ),
 ];
 
@@ -214,7 +234,7 @@ fn most_spellings(rt: HostRuntime) {
         for part in [
             b"110001+",
             &digits as &[u8],
-            b" 84..10+00000000 \n*110001+00000000",
+            b" 84..10+00000000 \n*110001+        ",
             &digits,
             wide,
         ] {

@@ -9,7 +9,7 @@ use std::process::Abort;
 use th_blunders::Fit;
 use th_book::read_book;
 use th_circulation::best_heights;
-use th_explain::{Number, explanation};
+use th_explain::{Case, Number, explanation};
 use th_network::Network;
 use th_reliability::Sights;
 use th_tables::{read_benchmarks, read_weights};
@@ -157,17 +157,18 @@ fn compare(rt: &impl Abort, alloc: Global, sample: &Sample, limit: u64) -> usize
     );
     let best = best_heights(alloc, &network).expect(rt, "memory");
     let fit = Fit::of(alloc, &network, best.low()).expect(rt, "memory");
+    let case = Case::of(&network, &best, fit.cost);
     let found = explained(rt, alloc, &network, &sample.numbers, limit, None);
     assert_eq!(rt; found.len(), sample.numbers.len());
     let half = fit.cost / 2;
     let few = explained(rt, alloc, &network, &sample.numbers, limit, Some(half));
     for (own, one) in few.iter().zip(&found) {
-        let is_missing = own.is_none() && one.is_some_and(|freed| freed.left > half);
+        let is_missing = own.is_none() && one.is_some_and(|freed| freed.left >= half);
         assert!(rt; is_missing || own == one);
     }
     let mut explain = 0usize;
     for (number, own) in sample.numbers.iter().zip(&found) {
-        let one = explanation(alloc, &network, &best, fit.cost, number, limit).expect(rt, "memory");
+        let one = explanation(alloc, &case, number, limit).expect(rt, "memory");
         assert!(rt; *own == one, "{number:?}");
         if own.is_some() {
             explain = explain.saturating_add(1);

@@ -3,21 +3,26 @@ use std::alloc::Global;
 use std::process::Abort;
 use th_blunders::Fit;
 use th_circulation::best_heights;
-use th_explain::{Freed, Number, Sieve, explanations};
+use th_explain::{Case, Freed, Number, Sieve, explanation_or_more};
 use th_network::Network;
-use th_progress::Silent;
 
-/// What each of some numbers of a network explains, or none where it explains nothing or leaves more than the most.
+/// What each of some numbers of a network explains, or none where it explains nothing or leaves at least `least`.
 pub fn explained(
     rt: &impl Abort,
     alloc: Global,
     network: &Network,
     numbers: &[Number],
     limit: u64,
-    most: Option<u128>,
+    least: Option<u128>,
 ) -> Vec<Option<Freed>> {
     let best = best_heights(alloc, network).expect(rt, "memory");
     let fit = Fit::of(alloc, network, best.low()).expect(rt, "memory");
-    let mut sieve = Sieve::of(alloc, network, &best, &fit).expect(rt, "memory");
-    explanations(alloc, &best, &mut sieve, numbers, limit, most, &mut Silent).expect(rt, "memory")
+    let case = Case::of(network, &best, fit.cost);
+    let mut sieve = Sieve::of(alloc, &case, &fit).expect(rt, "memory");
+    let mut found = Vec::with_capacity(alloc, numbers.len()).expect(rt, "memory");
+    for number in numbers {
+        let own = explanation_or_more(alloc, &mut sieve, number, limit, least).expect(rt, "memory");
+        found.push(own).expect(rt, "memory");
+    }
+    found
 }

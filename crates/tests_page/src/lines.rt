@@ -1,6 +1,6 @@
 //! The rows that a page shows, read from a text. Its lines are:
 //!
-//! - `limit UNITS`, `cost UNITS`, `book HEX`, `note HEX`;
+//! - `limit UNITS`, `cost UNITS`, `book HEX`, a name that the page sums as the book's bytes, `note HEX`;
 //! - `point HEX LOW HIGH STRENGTH`;
 //! - `observations HEX`, the bytes of the next book;
 //! - `sight WEIGHT RESIDUAL CONTROL MISTAKE FROM LOW TO LOW`, one for each observation of the books in order,

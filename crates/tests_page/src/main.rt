@@ -9,6 +9,7 @@ use anyhow::Result;
 use lines::Rows;
 use std::alloc::Global;
 use std::io::{self, Write};
+use th_inputs::{Input, Sum, add_sum};
 use th_page::{Shown, page_text};
 
 fn main(rt: HostRuntime) -> Result<()> {
@@ -21,12 +22,14 @@ fn main(rt: HostRuntime) -> Result<()> {
 
 /// The page of rows.
 fn page_of(alloc: Global, rows: &Rows) -> Result<Vec<u8>> {
-    let books = lent(alloc, &rows.books)?;
+    let names = lent(alloc, &rows.books)?;
+    let sums = sums_of(alloc, &names)?;
     let notes = lent(alloc, &rows.notes)?;
     let page = page_text(
         alloc,
         &Shown {
-            books: &books,
+            names: &names,
+            sums: &sums,
             points: &rows.points,
             sights: &rows.sights,
             entries: &rows.entries,
@@ -38,6 +41,17 @@ fn page_of(alloc: Global, rows: &Rows) -> Result<Vec<u8>> {
         },
     )?;
     Ok(page)
+}
+
+/// The sums of books that consist of the bytes of their names.
+fn sums_of(alloc: Global, books: &[&[u8]]) -> Result<Vec<Sum>> {
+    let mut sums = Vec::with_capacity(alloc, books.len())?;
+    let mut number = 0u32;
+    for book in books {
+        number = number.saturating_add(1);
+        add_sum(&mut sums, Input::Book(number), book)?;
+    }
+    Ok(sums)
 }
 
 /// The texts, lent.

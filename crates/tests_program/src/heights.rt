@@ -32,11 +32,11 @@ fn the_printed_book_has_the_difference_of_heights(rt: HostRuntime) {
 const REFUSED: [(&[u8], &[u8]); 4] = [
     (
         DIFFERENCES,
-        b"book 1 line 2: B2 repeated word\n  'site.gsi': a book with words 33 needs no conversion; a line has one word each of 83, 84, 85, 86, 87 and 88\n",
+        b"book 1 line 2: B2 has a word 33\n  'site.gsi': a book with words 33 needs no conversion\n",
     ),
     (
         b"110001+0000000A 84..40+01000000 \r\n110002+0000000B 31..00+00027472 83..00+00251384 \r\n",
-        b"book 1 line 2: B9 no instrument height\n  'site.gsi': the station line needs word 86, the height of the station\n",
+        b"book 1 line 2: B9 no station height\n  'site.gsi': the station line needs word 86, the height of the station\n",
     ),
     (
         b"110002+0000000B 31..00+00027472 83..00+00251384 \r\n",

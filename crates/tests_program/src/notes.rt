@@ -22,11 +22,11 @@ const NOTED: [(&str, &[u8]); 10] = [
     ),
     (
         "adjust --benchmarks heights --out out site.gsi mask.gsi blank.gsi level.gsi",
-        b"note: book 2 has no sight in 2 blocks (no word 33; it has words 22, 31 and 83)\nnote: book 4 has no sight in 1 blocks (no word 33; it has word 331)\n",
+        b"note: book 2 has no sight in 2 blocks (no word 33; it has words 22, 31 and 83)\nnote: book 4 has no sight in 1 block (no word 33; it has word 331)\n",
     ),
     (
         "adjust --benchmarks heights --blunder 1000 --out out code.gsi back.gsi",
-        b"note: book 1 has no sight in 1 blocks (no word 33)\nnote: 1 points have more than one best height, up to 0.01000000 m apart at B\n",
+        b"note: book 1 has no sight in 1 block (no word 33)\nnote: 1 point has more than one best height, up to 0.01000000 m apart at B\n",
     ),
     (
         "adjust --benchmarks heights --blunder 10000 --out out back.gsi",

@@ -10,9 +10,11 @@ const BACK: &str = "page --benchmarks heights --weights weights --out out back.g
 
 /// Lines of that page, in order: of its head, of its picture, of its sections and of its end. They are
 /// those of a program that shares no code with this one.
-const LINES: [&str; 9] = [
+const LINES: [&str; 11] = [
     "<!DOCTYPE html>\n<html lang=\"en\">\n",
-    "<li><bdi>back.gsi</bdi>\n</ol>\n",
+    "<li>book 1: <bdi>back.gsi</bdi> <small>228 B, SHA-256 88b572b71bd32bc347efaf3eb069022a2a7ebb24ae58efd8008e6172290499d3</small>\n",
+    "<li>benchmarks: <bdi>heights</bdi> <small>19 B, SHA-256 c15a70569a2e2d0025454e42e8ef947dc907df9de97213f74d4ed8795fbdba58</small>\n",
+    "<li>weights: <bdi>weights</bdi> <small>21 B, SHA-256 c8f3a58f1f4f356bc7b76a8c0ad9044b7924ebb9e180b5a0a75f26afb28df694</small>\n</ul>\n",
     "<li>Points <b>2</b>\n<li>Benchmarks <b>1</b>\n<li>Sights <b>2</b>\n<li>Loops <b>1</b>\n<li>Keyed-in heights <b>4</b>\n<li>Cost <b>0.0100 m</b>\n<li>Limit <b>0.0200 m</b>\n",
     "<li class=\"ok\"><b>0 of 2 sights marked.</b> No residual is above the limit.\n<li class=\"no\"><b>1 of 2 sights weak.</b>",
     "<circle cx=\"6150\" cy=\"755\" r=\"38\"><title>B 102.5450</title></circle>\n",

@@ -29,4 +29,6 @@ mod refusals;
 #[cfg(test)]
 mod reports;
 #[cfg(test)]
+mod review_rows;
+#[cfg(test)]
 mod reviews;

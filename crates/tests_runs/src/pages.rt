@@ -13,8 +13,8 @@ use th_progress::Silent;
 use th_run_page::run_page;
 use th_runs::Refusal;
 
-/// The names of the two books of which one call fails.
-const NAMES: [&str; 2] = ["monday.gsi", "none.gsi"];
+/// The names of the inputs of which one call fails.
+const NAMES: [&str; 4] = ["monday.gsi", "none.gsi", "marks.csv", "weights.csv"];
 
 /// How many bytes a sink takes a write.
 const PIECE: usize = 4_096;
@@ -31,8 +31,10 @@ const CALLS: [(Device, u8); 5] = [
 
 /// Lines of the page of a misread sight, in order. They are those of a program that shares no code with
 /// this one.
-const LINES: [&str; 12] = [
-    "<li><bdi>&lt;b&gt; &amp; &#39;so&#39;.gsi</bdi>\n",
+const LINES: [&str; 14] = [
+    "<li>book 1: <bdi>&lt;b&gt; &amp; &#39;so&#39;.gsi</bdi> <small>196 B, SHA-256 ee792ecd53e9be0d8c2f78ad2f5ce487418d40f7c53a952e55070151b5cb8493</small>\n",
+    "<li>benchmarks: <bdi>marks.csv</bdi> <small>19 B, SHA-256 c15a70569a2e2d0025454e42e8ef947dc907df9de97213f74d4ed8795fbdba58</small>\n",
+    "<li>weights: <bdi>weights.csv</bdi> <small>21 B, SHA-256 25342a3d84e0c31ca539d7c2a9b326eb2dbf6a51e13c8d5e1a0fe0bbe69eb97e</small>\n",
     "<li>Keyed-in heights <b>2</b>\n<li>Cost <b>1.0000 m</b>\n<li>Limit <b>0.0200 m</b>\n",
     "<li class=\"no\"><b>1 of 3 sights marked.</b> Their residuals are above the limit.",
     "<li class=\"ok\"><b>0 of 3 sights weak.</b> A mistake in any single sight shows in its own residual.\n",
@@ -73,9 +75,9 @@ fn page_where<R: AllocGlobal + Abort>(
     let answer = run_page(
         rt.alloc(),
         &mut books,
-        &NAMES,
         &mut table,
         &mut weights,
+        &NAMES,
         LIMIT,
         &mut outs,
         &mut Silent,
@@ -122,9 +124,9 @@ fn a_misread_sight_is_shown(rt: HostRuntime) {
     let answer = run_page(
         rt.alloc(),
         &mut books,
-        &["<b> & 'so'.gsi"],
         &mut benchmarks,
         &mut weights,
+        &["client/<b> & 'so'.gsi", "marks.csv", "weights.csv"],
         LIMIT,
         &mut outs,
         &mut Silent,

@@ -7,3 +7,5 @@ pub mod SlopeLemmas
 pub mod ReroutedLemmas
 pub mod PriceLemmas
 pub mod NetLemmas
+pub mod LineLemmas
+pub mod BalanceLemmas

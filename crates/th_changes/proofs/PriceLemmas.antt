@@ -10,14 +10,15 @@ use Rattle.th_network.specs.Links.{link_of}
 use Rattle.th_network.specs.Networks.{Survey}
 use Rattle.th_network.specs.declared.links.Link.{Link}
 use Rattle.th_changes.specs.declared.numbers.Number.{Number}
-use Rattle.th_changes.specs.Flows.{net}
 use Rattle.th_changes.specs.Freed.{Costs}
-use Rattle.th_changes.specs.Rerouted.{IsRerouted, heights_over, priced}
+use Rattle.th_changes.specs.Lines.{IsLine}
+use Rattle.th_changes.specs.Rerouted.{heights_over, priced}
+use Rattle.th_changes.specs.declared.lines.Line.{Line}
 use Rattle.th_changes.specs.Tilted.{tilted_observation}
 use Rattle.th_changes.specs.Numbers.{touch}
 use Rattle.th_changes.specs.Slopes.{IsSlopedAt}
 use Rattle.th_changes.proofs.Changes.{keeps_raised, raised}
-use Rattle.th_changes.proofs.ReroutedLemmas.{bounds_closed, lifted_kept, minus_times}
+use Rattle.th_changes.proofs.ReroutedLemmas.{lifted_kept, minus_times}
 use Rattle.th_changes.proofs.TiltLemmas.{cost_moved}
 
 pub nowhere : Observed
@@ -64,13 +65,12 @@ costs_over survey number x levels total sum =
       sym (cost_moved number x survey.weights heights survey.observations) ∙ tilted_sum number x survey.weights heights survey.observations ∙ sym sum,
     )
 
--- flows that show such a cost are a slope
-pub sloped_closed : (survey : Survey) (number : Number) (cost : ℕ) (flows : List ℤ) (lost : ℤ) (start at amount : ℕ) (x : ℤ) (total : ℕ) → IsRerouted survey cost flows lost start at amount → start ≡ at → Costs survey number x total → pos total ≡ pos cost -ℤ lost +ℤ x *ℤ net number survey flows → IsSlopedAt survey number x total (net number survey flows)
-sloped_closed survey number cost flows lost start at amount x total is closed reached shown = record {
+-- a line that reaches such a cost is a slope
+pub sloped_line : (survey : Survey) (number : Number) (cost : ℕ) (line : Line) (x : ℤ) (total : ℕ) → IsLine survey number cost line → Costs survey number x total → pos total ≡ pos cost -ℤ line.lost +ℤ x *ℤ line.net → IsSlopedAt survey number x total line.net
+sloped_line survey number cost line x total is_line reached shown = record {
   reached = reached;
   bounds = λ y heights kept.
-      let most = bounds_closed survey number cost flows lost start at amount y heights is closed kept in
-      let valued = is.valued in
-      let apart = minus_times y x (net number survey flows) in
+      let most = is_line y heights kept in
+      let apart = minus_times y x line.net in
       omega (arith, ints);
 }

@@ -28,13 +28,16 @@ use Rattle.th_circulation.proofs.VertexNumbers.{matched_numbers, numbers_of}
 use Rattle.th_changes.specs.declared.numbers.Number.{Number}
 use Rattle.th_changes.specs.declared.numbers.Number.TheVariants.{Benchmark}
 use Rattle.th_changes.specs.Flows.{net, value}
-use Rattle.th_changes.specs.Freed.{Keeps, cost_of}
-use Rattle.th_changes.specs.Rerouted.{IsCostlyBeyond, LeavesMore, IsNext, IsRerouted, IsSteep, rise, summed}
+use Rattle.th_changes.specs.Freed.{Costs, Keeps, cost_of}
+use Rattle.th_changes.specs.Kept.{IsKept}
+use Rattle.th_changes.specs.Lines.{IsLine}
+use Rattle.th_changes.specs.Rerouted.{IsNext, IsRerouted, rise, summed}
+use Rattle.th_changes.specs.Slopes.{IsSlopedAt}
+use Rattle.th_changes.specs.declared.lines.Line.{Line}
 use Rattle.th_changes.specs.Numbers.{changed, touch}
 use Rattle.th_changes.proofs.Changes.{cost_changed, keeps_lowered, lowered}
 use Rattle.th_changes.proofs.Sums.{changed_by_none}
 use Rattle.th_changes.proofs.Bounds.{shown_value}
-use Rattle.th_changes.proofs.SlopeLemmas.{both_above, both_below}
 use Rattle.th_changes.proofs.Tilts.{above, bounds_balanced, none_carried, summed-cons, summed-times}
 
 -- ---- one flow changes
@@ -204,20 +207,39 @@ down survey heights potential matched (o ∷ observations) (flow ∷ flows) ends
     let nothing = ap (λ z. flow *ℤ z) none ∙ *ℤ-zero flow in
     omega (arith, ints)
 
-pub bounds_closed : (survey : Survey) (number : Number) (cost : ℕ) (flows : List ℤ) (lost : ℤ) (start at amount : ℕ) (x : ℤ) (heights : List ℕ → ℤ) → IsRerouted survey cost flows lost start at amount → start ≡ at → Keeps (changed number x survey) heights → unsigned_abs (value survey flows +ℤ x *ℤ net number survey flows) ≤ cost_of (changed number x survey) heights
-bounds_closed survey number cost flows lost start at amount x heights is closed kept =
+pub bounds_kept : (survey : Survey) (number : Number) (cost : ℕ) (flows : List ℤ) (lost x : ℤ) (heights : List ℕ → ℤ) → IsKept survey cost flows lost → Keeps (changed number x survey) heights → unsigned_abs (value survey flows +ℤ x *ℤ net number survey flows) ≤ cost_of (changed number x survey) heights
+bounds_kept survey number cost flows lost x heights is kept =
     let own = lowered number x heights in
     let own_kept = keeps_lowered survey number x heights kept in
     let potential = numbers_of survey.observations survey.benchmarks own in
     let sum = down survey own potential (matched_numbers survey.observations survey.benchmarks own own_kept) survey.observations flows (ends_are_points survey.observations survey.benchmarks) in
-    let all = is.carried potential in
-    let back : potential at -ℤ potential start ≡ pos 0 = let same = ap potential closed in omega (arith, ints) in
-    let nothing = ap (λ z. pos amount *ℤ z) back ∙ *ℤ-zero (pos amount) in
+    let all = is.closed potential in
     let none : carried (above survey.benchmarks own) survey.observations flows ≡ pos 0 = omega (arith, ints) in
     let most = bounds_balanced (λ o. x *ℤ touch number o) survey.observations survey.benchmarks survey.weights flows own (all_light survey.weights survey.observations flows is.each_flow.each is.bounded) none in
     let times = ap (λ z. unsigned_abs (value survey flows +ℤ z)) (summed-times x (touch number) survey.observations flows) in
     let same = cost_changed survey number x heights in
     omega arith
+
+-- a circulation is a line
+pub line_of : (survey : Survey) (number : Number) (cost : ℕ) (flows : List ℤ) (line : Line) → IsKept survey cost flows line.lost → line.net ≡ net number survey flows → IsLine survey number cost line
+line_of survey number cost flows line is flowing x heights kept =
+    let most = bounds_kept survey number cost flows line.lost x heights is kept in
+    let valued = is.valued in
+    let times = ap (λ z. x *ℤ z) flowing in
+    omega (arith, ints)
+
+-- a closed walk is kept
+pub closed_walk : (survey : Survey) (cost : ℕ) (flows : List ℤ) (lost : ℤ) (start at amount : ℕ) → IsRerouted survey cost flows lost start at amount → start ≡ at → IsKept survey cost flows lost
+closed_walk survey cost flows lost start at amount is closed = record {
+  each_flow = is.each_flow;
+  bounded = is.bounded;
+  valued = is.valued;
+  closed = λ potential.
+      let all = is.carried potential in
+      let back : potential at -ℤ potential start ≡ pos 0 = let same = ap potential closed in omega (arith, ints) in
+      let nothing = ap (λ z. pos amount *ℤ z) back ∙ *ℤ-zero (pos amount) in
+      all ∙ nothing;
+}
 
 -- ---- the best flows
 -- heights that are above the benchmarks by a potential of the vertices
@@ -253,78 +275,42 @@ best_value survey best own =
     let same = ap (λ (s : Survey). cost_of s heights) none in
     omega (arith, ints)
 
-pub rerouted_at_first : (survey : Survey) (best : Best) (cost : ℕ) → IsBest survey best → cost ≡ cost_of survey (at_points_of survey best.low) → IsRerouted survey cost best.flows (pos 0) 0 0 0
-rerouted_at_first survey best cost own costs = record {
+-- the best flows lose nothing
+pub best_is_kept : (survey : Survey) (best : Best) (cost : ℕ) → IsBest survey best → cost ≡ cost_of survey (at_points_of survey best.low) → IsKept survey cost best.flows (pos 0)
+best_is_kept survey best cost own costs = record {
   each_flow = own.each_flow;
   bounded = at_each survey.weights survey.observations best.flows own.circulation.bounded;
   valued = let all = best_value survey best own in omega (arith, ints);
+  closed = λ potential.
+      up survey potential survey.observations best.flows
+      ∙ none_carried survey.observations survey.benchmarks survey.weights best.flows (lifted survey potential) own.circulation (lifted_kept survey potential);
+}
+
+-- a circulation before the first walk
+pub walk_at_first : (survey : Survey) (cost : ℕ) (flows : List ℤ) (lost : ℤ) → IsKept survey cost flows lost → IsRerouted survey cost flows lost 0 0 0
+walk_at_first survey cost flows lost is = record {
+  each_flow = is.each_flow;
+  bounded = is.bounded;
+  valued = is.valued;
   carried = λ potential.
-      let same = up survey potential survey.observations best.flows in
-      let none = none_carried survey.observations survey.benchmarks survey.weights best.flows (lifted survey potential) own.circulation (lifted_kept survey potential) in
+      let none = is.closed potential in
       let nothing = zero-*ℤ (potential 0 -ℤ potential 0) in
       omega (arith, ints);
 }
 
--- ---- what closed walks show
-pub steep : (survey : Survey) (number : Number) (cost : ℕ) (flows : List ℤ) (lost : ℤ) (start at amount : ℕ) → IsRerouted survey cost flows lost start at amount → start ≡ at → lost ≡ pos 0 → IsSteep survey number cost (net number survey flows)
-steep survey number cost flows lost start at amount is closed all x heights kept =
-    let most = bounds_closed survey number cost flows lost start at amount x heights is closed kept in
-    let valued = is.valued in
-    omega (arith, ints)
+-- what the survey costs as it is, with the number as given
+pub costs_as_given : (survey : Survey) (number : Number) (cost : ℕ) (heights : List ℕ → ℤ) → Keeps survey heights → cost ≡ cost_of survey heights → Costs survey number (pos 0) cost
+costs_as_given survey number cost heights kept costs =
+    let none = changed_by_none survey number in
+    (heights, subst (λ (s : Survey). Keeps s heights) (sym none) kept, ap (λ (s : Survey). cost_of s heights) none ∙ sym costs)
 
--- a product that is not below zero is that of the sizes
-of_sizes : (x n : ℤ) → pos 0 ≤ℤ (x *ℤ n) → x *ℤ n ≡ pos (unsigned_abs x * unsigned_abs n)
-of_sizes x n over = let size = unsigned_abs-mul x n in omega (arith, ints)
-
--- if one product is below zero and the other factor is not on its factor's side, the other product is that of the sizes
-other_side : (x slope n : ℤ) → (x *ℤ slope) <ℤ pos 0 → ¬ ((pos 0 <ℤ slope) × (pos 0 <ℤ n)) → ¬ ((slope <ℤ pos 0) × (n <ℤ pos 0)) → x *ℤ n ≡ pos (unsigned_abs x * unsigned_abs n)
-other_side (pos a) (pos s) n under up_too down_too =
-    let over = both_above (pos a) (pos s) (omega (arith, ints)) (omega (arith, ints)) in
-    absurd (omega (arith, ints))
-other_side (pos a) (negsuc s) (negsuc m) under up_too down_too = absurd (down_too (omega (arith, ints), omega (arith, ints)))
-other_side (pos a) (negsuc s) (pos m) under up_too down_too = of_sizes (pos a) (pos m) (both_above (pos a) (pos m) (omega (arith, ints)) (omega (arith, ints)))
-other_side (negsuc a) (negsuc s) n under up_too down_too =
-    let over = both_below (negsuc a) (negsuc s) (omega (arith, ints)) (omega (arith, ints)) in
-    absurd (omega (arith, ints))
-other_side (negsuc a) (pos zero) n under up_too down_too =
-    let over = both_below (negsuc a) (pos zero) (omega (arith, ints)) (omega (arith, ints)) in
-    absurd (omega (arith, ints))
-other_side (negsuc a) (pos (suc s)) (pos (suc m)) under up_too down_too = absurd (up_too (omega (arith, ints), omega (arith, ints)))
-other_side (negsuc a) (pos (suc s)) (pos zero) under up_too down_too = of_sizes (negsuc a) (pos zero) (both_below (negsuc a) (pos zero) (omega (arith, ints)) (omega (arith, ints)))
-other_side (negsuc a) (pos (suc s)) (negsuc m) under up_too down_too = of_sizes (negsuc a) (negsuc m) (both_below (negsuc a) (negsuc m) (omega (arith, ints)) (omega (arith, ints)))
-
-pub costly : (survey : Survey) (number : Number) (cost limit : ℕ) (flows : List ℤ) (lost slope : ℤ) (start at amount : ℕ) → IsRerouted survey cost flows lost start at amount → start ≡ at → IsSteep survey number cost slope → ¬ ((pos 0 <ℤ slope) × (pos 0 <ℤ net number survey flows)) → ¬ ((slope <ℤ pos 0) × (net number survey flows <ℤ pos 0)) → lost ≤ℤ pos (limit * unsigned_abs (net number survey flows)) → IsCostlyBeyond survey number cost limit
-costly survey number cost limit flows lost slope start at amount is closed rising up_too down_too within x heights beyond kept =
-    by (x *ℤ slope) refl
-  where
-    n : ℤ
-    n = net number survey flows
-
-    most : unsigned_abs (value survey flows +ℤ x *ℤ n) ≤ cost_of (changed number x survey) heights
-    most = bounds_closed survey number cost flows lost start at amount x heights is closed kept
-
-    by : (product : ℤ) → x *ℤ slope ≡ product → cost ≤ cost_of (changed number x survey) heights
-    by (pos p) e = let more = rising x heights kept in omega (arith, ints)
-    by (negsuc p) e =
-        let product = other_side x slope n (omega (arith, ints)) up_too down_too in
-        let far : limit ≤ unsigned_abs x = omega arith in
-        let more = mul-le-mul_right (unsigned_abs n) far in
-        let valued = is.valued in
-        omega (arith, ints, most)
-
-pub more_left : (survey : Survey) (number : Number) (cost most : ℕ) (flows : List ℤ) (lost slope : ℤ) (start at amount : ℕ) → IsRerouted survey cost flows lost start at amount → start ≡ at → IsSteep survey number cost slope → ¬ ((pos 0 <ℤ slope) × (pos 0 <ℤ net number survey flows)) → ¬ ((slope <ℤ pos 0) × (net number survey flows <ℤ pos 0)) → (most + unsigned_abs lost) < cost → LeavesMore survey number most
-more_left survey number cost most flows lost slope start at amount is closed rising up_too down_too far x heights kept =
-    by (x *ℤ slope) refl
-  where
-    n : ℤ
-    n = net number survey flows
-
-    bound : unsigned_abs (value survey flows +ℤ x *ℤ n) ≤ cost_of (changed number x survey) heights
-    bound = bounds_closed survey number cost flows lost start at amount x heights is closed kept
-
-    by : (product : ℤ) → x *ℤ slope ≡ product → most < cost_of (changed number x survey) heights
-    by (pos p) e = let more = rising x heights kept in omega (arith, ints)
-    by (negsuc p) e =
-        let product = other_side x slope n (omega (arith, ints)) up_too down_too in
-        let valued = is.valued in
-        omega (arith, ints, bound)
+pub sloped_as_given : (survey : Survey) (number : Number) (cost : ℕ) (flows : List ℤ) (heights : List ℕ → ℤ) → IsKept survey cost flows (pos 0) → Keeps survey heights → cost ≡ cost_of survey heights → IsSlopedAt survey number (pos 0) cost (net number survey flows)
+sloped_as_given survey number cost flows heights is kept costs = record {
+  reached = costs_as_given survey number cost heights kept costs;
+  bounds = λ y others others_kept.
+      let most = bounds_kept survey number cost flows (pos 0) y others is others_kept in
+      let valued = is.valued in
+      let same : y -ℤ pos 0 ≡ y = omega (arith, ints) in
+      let times = ap (λ z. z *ℤ net number survey flows) same in
+      omega (arith, ints);
+}

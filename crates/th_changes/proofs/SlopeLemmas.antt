@@ -18,7 +18,6 @@ use Rattle.th_changes.specs.Slopes.{IsSlopedAt}
 use Rattle.th_circulation.specs.Best.{Best, IsBest}
 use Rattle.th_changes.specs.Tilted.{tilted, tilted_observation}
 use Rattle.th_changes.proofs.Changes.{keeps_raised, raised}
-use Rattle.th_changes.proofs.Sums.{changed_by_none}
 use Rattle.th_changes.proofs.TiltLemmas.{circulation_tilted, cost_moved, shows_moved}
 use Rattle.th_changes.proofs.Bounds.{bounds, high_product, low_product, same_freed, shown_value}
 
@@ -137,15 +136,6 @@ slope_of_best survey number x best own =
     let shown = shows_moved number x survey.weights heights survey.observations best.flows own.shows_low in
     subst (λ total. IsSlopedAt survey number x total (net number survey best.flows)) (sym (cost_moved number x survey.weights heights survey.observations))
     (sloped_by survey number x (raised number x heights) best.flows circulation kept shown)
-
-pub slope_of_given : (survey : Survey) (number : Number) (best : Best) → IsBest survey best → IsSlopedAt survey number (pos 0) (cost_of survey (at_points_of survey best.low)) (net number survey best.flows)
-slope_of_given survey number best own =
-    let heights = at_points_of survey best.low in
-    let none = changed_by_none survey number in
-    let kept = subst (λ (s : Survey). Keeps s heights) (sym none) own.low.best.kept in
-    let shown = subst (λ (s : Survey). Shows s.observations survey.weights best.flows heights) (sym none) own.shows_low in
-    subst (λ total. IsSlopedAt survey number (pos 0) total (net number survey best.flows)) (ap (λ (s : Survey). cost_of s heights) none)
-    (sloped_by survey number (pos 0) heights best.flows own.circulation kept shown)
 
 pub as_many_flows : (survey : Survey) (number : Number) (x : ℤ) (flows : List ℤ) → AreOfObservations (tilted number x survey) flows → AreOfObservations survey flows
 as_many_flows survey number x flows own = record {

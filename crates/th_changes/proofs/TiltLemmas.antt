@@ -1,24 +1,19 @@
 -- A change that is moved to the differences: the points, the walks and the balances are the same, and so are the residuals at heights that
 -- are lower by the change where it was.
-use Rattle.std.proofs.Common.{◌≡◌, ◌≢◌, ℕ, zero, suc, Bool, true, false, ◌+◌, ◌-◌, ◌*◌, ◌<◌, ◌≤◌, ℤ, pos, negsuc, ◌+ℤ◌, ◌-ℤ◌, ◌*ℤ◌, List, [], ◌∷◌, ◌++◌, All, Contains, None, Result, Ok, Err, IfErr, bytes_eq, fold, get_or, if◌then◌else◌, min, inl, inr, length, map, unsigned_abs, zip, refl, ap, ◌∙◌, sym, subst, arith}
+use Rattle.std.proofs.Common.{◌≡◌, ◌≢◌, ℕ, zero, suc, Bool, true, false, ◌+◌, ◌-◌, ◌*◌, ◌<◌, ◌≤◌, ℤ, pos, negsuc, ◌+ℤ◌, ◌-ℤ◌, ◌*ℤ◌, List, [], ◌∷◌, ◌++◌, All, None, bytes_eq, fold, get_or, if◌then◌else◌, length, min, map, unsigned_abs, zip, refl, ap, ◌∙◌, sym, subst, arith}
 use Rattle.std.proofs.lemmas.Bool.Decides.{Decides-int_eq}
 use Rattle.std.proofs.lemmas.Int.{ints}
-use Rattle.std.proofs.lemmas.List.{get_or-map}
-use Rattle.std.proofs.Math.ListN.{length-map}
 use Rattle.std.proofs.lemmas.List.Elements.{All-nil, All-cons, All-get_or, All-head, All-tail, All-weaker}
 use Rattle.std.proofs.lemmas.List.Sums.{sum_by-cons}
 use Rattle.std.specs.List.{AllZip}
 use Rattle.th_observations.specs.Observed.{Observed, largest_difference}
 use Rattle.th_tables.specs.Rows.{BenchmarkRows, WeightRows, height_of, weight_of}
-use Rattle.th_points.specs.Points.{distinct, ends, points}
-use Rattle.th_network.specs.Faults.{HasFault, IsNetwork}
-use Rattle.th_network.specs.declared.faults.NetFault.{NetFault}
-use Rattle.th_network.specs.declared.faults.NetFault.TheVariants.{TooManyObservations, TooManyPoints, NoBenchmark, NoMemory}
+use Rattle.th_points.specs.Points.{points}
 use Rattle.th_network.specs.Heights.{cost, residual}
 use Rattle.th_network.specs.Circulation.{Circulation, Shows, arriving, leaving}
-use Rattle.th_network.specs.Limits.{max_points}
-use Rattle.th_network.specs.Walks.{Leads, IsTied}
+use Rattle.th_network.specs.Networks.{HaveSameEnds, points_between}
 use Rattle.th_network.proofs.Balance.{total_by-cons}
+use Rattle.th_network.proofs.EndLemmas.{same_points}
 use Rattle.th_network.proofs.Products.{times-plus, times-minus}
 use Rattle.th_changes.specs.declared.numbers.Number.{Number}
 use Rattle.th_changes.specs.Tilted.{tilted_observation}
@@ -27,45 +22,12 @@ use Rattle.th_changes.specs.Reach.{nearer, reach_of}
 use Rattle.std.specs.Ordering.{int_eq}
 use Rattle.th_changes.proofs.Changes.{raised}
 
-pub ends_tilted : (number : Number) (x : ℤ) (observations : List Observed) → ends (map (tilted_observation number x) observations) ≡ ends observations
-ends_tilted number x [] = refl
-ends_tilted number x (o ∷ observations) = ap (λ names. o.station ∷ o.target ∷ [] ++ names) (ends_tilted number x observations)
+pub same_ends_tilted : (number : Number) (x : ℤ) (observations : List Observed) → HaveSameEnds observations (map (tilted_observation number x) observations)
+same_ends_tilted number x [] = refl
+same_ends_tilted number x (o ∷ observations) = ap (λ ends. points_between o ∷ ends) (same_ends_tilted number x observations)
 
 pub points_tilted : (number : Number) (x : ℤ) (observations : List Observed) (benchmarks : BenchmarkRows) → points (map (tilted_observation number x) observations) benchmarks ≡ points observations benchmarks
-unfolding points
-points_tilted number x observations benchmarks = ap (λ names. distinct (names ++ map (λ row. row.0) benchmarks)) (ends_tilted number x observations)
-
-contains_tilted : (number : Number) (x : ℤ) (observations : List Observed) (o : Observed) → Contains observations o → Contains (map (tilted_observation number x) observations) (tilted_observation number x o)
-contains_tilted number x observations o (k, within, is) =
-    (k, omega (arith, length-map observations (tilted_observation number x)), get_or-map (tilted_observation number x) observations k o (tilted_observation number x o) within ∙ ap (tilted_observation number x) is)
-
-leads_tilted : (number : Number) (x : ℤ) (chain : List Observed) (start goal : List ℕ) → Leads chain start goal → Leads (map (tilted_observation number x) chain) start goal
-leads_tilted number x [] start goal leads = leads
-leads_tilted number x (o ∷ chain) start goal leads =
-    elim leads [
-      | inl h ↦ inl (h.0, leads_tilted number x chain o.target goal h.1)
-      | inr h ↦ inr (h.0, leads_tilted number x chain o.station goal h.1)
-    ]
-
-among_tilted : (number : Number) (x : ℤ) (observations chain : List Observed) → All (Contains observations) chain → All (Contains (map (tilted_observation number x) observations)) (map (tilted_observation number x) chain)
-among_tilted number x observations [] among = All-nil (Contains (map (tilted_observation number x) observations))
-among_tilted number x observations (o ∷ chain) among =
-    All-cons (Contains (map (tilted_observation number x) observations)) (tilted_observation number x o) (map (tilted_observation number x) chain)
-    (contains_tilted number x observations o (All-head (Contains observations) o chain among))
-    (among_tilted number x observations chain (All-tail (Contains observations) o chain among))
-
-tied_tilted : (number : Number) (x : ℤ) (observations : List Observed) (benchmarks : BenchmarkRows) (name : List ℕ) → IsTied observations benchmarks name → IsTied (map (tilted_observation number x) observations) benchmarks name
-tied_tilted number x observations benchmarks name tied = (tied.0, tied.1, (map (tilted_observation number x) tied.2.0, among_tilted number x observations tied.2.0 tied.2.1, leads_tilted number x tied.2.0 name tied.0 tied.2.2))
-
-pub network_tilted : (number : Number) (x : ℤ) (observations : List Observed) (benchmarks : BenchmarkRows) → IsNetwork observations benchmarks → IsNetwork (map (tilted_observation number x) observations) benchmarks
-network_tilted number x observations benchmarks network =
-    let same = points_tilted number x observations benchmarks in
-    record {
-      few_observations = omega (arith, length-map observations (tilted_observation number x), network.few_observations);
-      few_points = subst (λ names. length names ≤ max_points) (sym same) network.few_points;
-      anchored = subst (All (IsTied (map (tilted_observation number x) observations) benchmarks)) (sym same)
-          (All-weaker (IsTied observations benchmarks) (IsTied (map (tilted_observation number x) observations) benchmarks) (tied_tilted number x observations benchmarks) (points observations benchmarks) network.anchored);
-    }
+points_tilted number x observations benchmarks = same_points observations (map (tilted_observation number x) observations) benchmarks (same_ends_tilted number x observations)
 
 -- ---- flows
 arriving_tilted : (number : Number) (x : ℤ) (observations : List Observed) (flows : List ℤ) (point : List ℕ) → arriving (map (tilted_observation number x) observations) flows point ≡ arriving observations flows point
@@ -163,13 +125,6 @@ room_at number x observations o i low within here is =
 
 pub reach_small : (number : Number) (observations : List Observed) → reach_of number observations ≤ largest_difference
 reach_small number observations = shorter number largest_difference observations
-
-pub only_memory : {A : Type 0} (observations : List Observed) (benchmarks : BenchmarkRows) → ((fault : NetFault) → ¬ HasFault observations benchmarks fault) → (result : Result A NetFault) → IfErr result (λ fault. fault ≢ NoMemory → HasFault observations benchmarks fault) → IfErr result (λ fault. fault ≡ NoMemory)
-only_memory observations benchmarks none (Ok own) faulty = tt
-only_memory observations benchmarks none (Err NoMemory) faulty = refl
-only_memory observations benchmarks none (Err TooManyObservations) faulty = absurd (none TooManyObservations (faulty (λ e. cc)))
-only_memory observations benchmarks none (Err TooManyPoints) faulty = absurd (none TooManyPoints (faulty (λ e. cc)))
-only_memory observations benchmarks none (Err (NoBenchmark name)) faulty = absurd (none (NoBenchmark name) (faulty (λ e. cc)))
 
 -- ---- one difference
 pub moved_in_range : (d x t : ℤ) → unsigned_abs d ≤ largest_difference → unsigned_abs (x *ℤ t) ≤ unsigned_abs x → (t ≢ pos 0 → (unsigned_abs d + unsigned_abs x) ≤ largest_difference) → unsigned_abs (d +ℤ x *ℤ t) ≤ largest_difference

@@ -1,2 +1,4 @@
 -- what private functions promise each other
 pub mod Sums
+pub mod Paid
+pub mod Balances

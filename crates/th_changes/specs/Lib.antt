@@ -2,7 +2,9 @@ pub mod Numbers
 pub mod Freed
 pub mod Flows
 pub mod Slopes
+pub mod Lines
 pub mod Reach
 pub mod Tilted
 pub mod Rerouted
+pub mod Kept
 pub mod Inside

@@ -55,15 +55,3 @@ heights_over survey levels name = base survey.benchmarks name +ℤ (slice_index_
 -- what an observation costs at these heights, if a number grows by so much
 abbrev pub priced : Survey → Number → ℤ → List ℤ → Observed → ℕ
 priced survey number x levels o = weight_of survey.weights o.station o.target * unsigned_abs (residual (tilted_observation number x o) (heights_over survey levels))
-
--- for each unit that the number grows, the survey costs at least the slope more
-abbrev pub IsSteep : Survey → Number → ℕ → ℤ → Type 0
-IsSteep survey number cost slope = (x : ℤ) (heights : List ℕ → ℤ) → Keeps (changed number x survey) heights → (pos cost +ℤ x *ℤ slope) ≤ℤ pos (cost_of (changed number x survey) heights)
-
--- if the number changes by more than the limit, the survey costs no less
-abbrev pub IsCostlyBeyond : Survey → Number → ℕ → ℕ → Type 0
-IsCostlyBeyond survey number cost limit = (x : ℤ) (heights : List ℕ → ℤ) → limit < unsigned_abs x → Keeps (changed number x survey) heights → cost ≤ cost_of (changed number x survey) heights
-
--- whatever the number is changed by, more than this is left
-abbrev pub LeavesMore : Survey → Number → ℕ → Type 0
-LeavesMore survey number most = (x : ℤ) (heights : List ℕ → ℤ) → Keeps (changed number x survey) heights → most < cost_of (changed number x survey) heights

@@ -10,16 +10,25 @@
 mod numbers;
 
 // Networks with a changed number, and what they cost.
+mod cases;
 mod slopes;
 mod tilting;
 
-// What flows through a number, and flows that are sent other ways.
+// What flows through a number.
 mod nets;
-mod rerouting;
 mod runs;
 
-pub use nets::net_in;
+// What circulations show: those that are kept, and flows that are sent other ways.
+mod kept;
+mod lines;
+mod prices;
+mod rerouting;
+
+pub use cases::Case;
+pub use kept::KeptFlows;
+pub use lines::Line;
 pub use numbers::Number;
+pub use prices::sloped;
 pub use rerouting::Rerouted;
 pub use runs::{Run, run_of};
 pub use slopes::{Sloped, slope_as_given, slope_at};

@@ -1,21 +1,19 @@
 //! What a survey costs as one number grows, and how steeply.
-ghost use Rattle.std.specs.Prelude.{◌≡◌, ◌≤◌, ◌*◌, ℤ, pos, All, IfErr, IfOk, length, unsigned_abs, zip};
-ghost use Rattle.th_circulation.specs.Best.{IsBest};
+ghost use Rattle.std.specs.Prelude.{◌≡◌, ◌≤◌, ◌*◌, ℤ, pos, All, IfOk, length, unsigned_abs, zip};
 ghost use Rattle.th_changes.specs.Reach.{reach_of};
 ghost use Rattle.th_changes.specs.Flows.{net};
-ghost use Rattle.th_changes.specs.Freed.{cost_of};
 ghost use Rattle.th_changes.specs.Slopes.{IsSloped};
-ghost use Rattle.th_network.specs.Networks.{AreOfObservations, at_points_of};
-ghost use Rattle.th_network.specs.declared.faults.NetFault.TheVariants.{NoMemory};
+ghost use Rattle.th_network.specs.Networks.{AreOfObservations};
 ghost use Rattle.th_tables.specs.Limits.{max_weight};
 ghost use Rattle.th_network.specs.Limits.{max_observations};
 
+use crate::cases::Case;
 use crate::numbers::Number;
 use crate::tilting::tilted;
-use std::alloc::Global;
+use std::alloc::{AllocError, Global};
 use th_blunders::Fit;
-use th_circulation::{BestHeights, best_heights};
-use th_network::{NetFault, Network};
+use th_circulation::best_heights;
+use th_network::Network;
 
 /// What a survey costs at least if one number grows by so much. For each unit that it grows further,
 /// the survey costs at least the slope more.
@@ -30,31 +28,27 @@ pub struct Sloped {
 }
 
 /// What a network costs as it is, and how steeply that rises as a number grows.
-pub fn slope_as_given(network: &Network, best: &BestHeights, cost: u128, number: &Number) -> Sloped
-    requires best { IsBest network.now best.now }
-    requires cost { cost ≡ cost_of network.now (at_points_of network.now best.now.low) }
+pub fn slope_as_given(case: &Case<'_>, number: &Number) -> Sloped
     ensures at { result.change ≡ pos 0 }
-    ensures sloped { IsSloped network.now number.now result }
+    ensures sloped { IsSloped case.now.network.now number.now result }
 {
     Sloped {
         change: 0,
-        cost,
-        slope: net_of(network, number, best.flows()),
+        cost: case.cost,
+        slope: net_of(case.network, number, case.best.flows()),
     }
 }
 
-/// What a network costs if a number grows by so much, and how steeply that rises. The only fault is
-/// `NoMemory`.
+/// What a network costs if a number grows by so much, and how steeply that rises.
 pub fn slope_at(
     alloc: Global,
     network: &Network,
     number: &Number,
     change: i64,
-) -> Result<Sloped, NetFault>
+) -> Result<Sloped, AllocError>
     requires { unsigned_abs change ≤ reach_of number.now network.now.observations }
     ensures at { IfOk result (λ own. own.change ≡ change) }
     ensures sloped { IfOk result (IsSloped network.now number.now) }
-    ensures refused { IfErr result (λ fault. fault ≡ NoMemory) }
 {
     let own = tilted(alloc, network, number, change)?;
     let best = best_heights(alloc, &own)?;

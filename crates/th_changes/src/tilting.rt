@@ -1,16 +1,14 @@
 //! Networks in which the change of a number was moved to the differences that it touches.
-ghost use Rattle.std.specs.Prelude.{◌≡◌, ◌≢◌, ◌+◌, ◌≤◌, All, IfErr, IfOk, map, pos, unsigned_abs};
+ghost use Rattle.std.specs.Prelude.{◌≡◌, ◌≢◌, ◌+◌, ◌≤◌, All, IfOk, map, pos, unsigned_abs};
 ghost use Rattle.th_observations.specs.Observed.{largest_difference};
 ghost use Rattle.th_changes.specs.Reach.{nearer, reach_of};
 ghost use Rattle.th_changes.specs.Tilted.{tilted, tilted_observation};
 ghost use Rattle.th_changes.specs.Numbers.{touch};
-ghost use Rattle.th_network.specs.declared.faults.NetFault.TheVariants.{NoMemory};
 
 use crate::numbers::Number;
 use std::alloc::{AllocError, Global};
 use th_limits::LARGEST_DIFFERENCE;
-use th_network::laws::faults_exclude_each_other;
-use th_network::{NetFault, Network};
+use th_network::Network;
 use th_observations::Observation;
 
 /// How far a number may change before a difference that it touches could be more than a book can
@@ -39,26 +37,18 @@ fn nearer(number: &Number, reach: u64, o: &Observation) -> u64
     }
 }
 
-/// The network in which a number's change was moved to the differences that it touches. The only
-/// fault is `NoMemory`.
+/// The network in which a number's change was moved to the differences that it touches.
 pub fn tilted<'a>(
     alloc: Global,
     network: &'a Network,
     number: &Number,
     change: i64,
-) -> Result<Network<'a>, NetFault>
+) -> Result<Network<'a>, AllocError>
     requires { unsigned_abs change ≤ reach_of number.now network.now.observations }
-    ensures network { IfOk result (λ own. own ≡ tilted number.now change network.now) }
-    ensures refused { IfErr result (λ fault. fault ≡ NoMemory) }
+    ensures { IfOk result (λ own. own ≡ tilted number.now change network.now) }
 {
-    faults_exclude_each_other();
     let observations = tilted_observations(alloc, network.observations(), number, change)?;
-    Network::build(
-        alloc,
-        observations,
-        network.benchmarks(),
-        network.weight_table(),
-    )
+    network.with_differences(alloc, observations)
 }
 
 /// The observations with a number's change in the differences that it touches.

@@ -1,3 +1,4 @@
 pub mod ColumnLemmas
 pub mod DigitLemmas
 pub mod RowLemmas
+pub mod FileNameLemmas

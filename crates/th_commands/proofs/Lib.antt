@@ -1,4 +1,3 @@
 pub mod CommandLemmas
 pub mod LimitLemmas
 pub mod PlanLemmas
-pub mod PrefixLemmas

@@ -1,12 +1,8 @@
 -- What a prefix of the outputs' names must be.
-use Rattle.std.specs.Prelude.{◌&&◌, ◌++◌, ◌∷◌, [], Bool, codes, if◌then◌else◌, nat_eq, not}
-use Rattle.std.specs.List.{fold}
+use Rattle.std.specs.Prelude.{◌&&◌, [], Bool, codes, not}
 use Rattle.std.specs.Str.{bytes_eq}
 use Rattle.clap.specs.Words.{Text}
-
--- the last part of a name: what follows its last slash, or all of it where it has none
-abbrev pub last_part : Text → Text
-last_part name = fold (λ part byte. if nat_eq byte 47 then [] else part ++ byte ∷ []) [] name
+use Rattle.th_columns.specs.FileNames.{last_part}
 
 -- a prefix names files: its last part is not empty, nor `.`, nor `..`
 abbrev pub names_files : Text → Bool

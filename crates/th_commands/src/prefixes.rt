@@ -1,6 +1,8 @@
 //! Prefixes of the outputs' names.
 ghost use Rattle.std.specs.Prelude.{◌≡◌};
-ghost use Rattle.th_commands.specs.Prefixes.{last_part, names_files};
+ghost use Rattle.th_commands.specs.Prefixes.{names_files};
+
+use th_columns::last_part;
 
 /// Whether the names that begin with the prefix are those of files: its last part is not empty, `.` or
 /// `..`.
@@ -9,17 +11,4 @@ pub(crate) fn names_files(prefix: &str) -> bool
 {
     let part = last_part(prefix.as_bytes());
     !part.is_empty() && part != b".".as_slice() && part != b"..".as_slice()
-}
-
-/// What follows the last slash of a name, or all of it where it has none.
-fn last_part(name: &[u8]) -> &[u8]
-    ensures { result.now ≡ last_part name.entry.now }
-{
-    let mut start = 0;
-    for index in 0..name.len() {
-        if name[index] == b'/' {
-            start = index + 1;
-        }
-    }
-    &name[start..]
 }

@@ -13,7 +13,7 @@ use Rattle.th_book.specs.Due.{due_parsed, latest, observed_in, setup_after}
 use Rattle.th_book.specs.Due as book
 use Rattle.th_book.specs.Lines.{ParsedLine, holds, is_setup, is_sight, length_in, point_name, words_in}
 use Rattle.th_observations.specs.Observed.{Observed}
-use Rattle.th_book.specs.declared.faults.BookKind.{BookKind}
+use Rattle.th_conversions.specs.declared.height_faults.HeightKind.{HeightKind}
 use Rattle.th_book.specs.declared.setups.Setup.{Setup}
 use Rattle.th_conversions.specs.Printed.{Step, parsed_line, printed_from, printed_line, sight_line, sighted, sound_line, then_lines, unless_faulty}
 use Rattle.th_conversions.specs.Running.{running_after, with_heights}
@@ -178,7 +178,7 @@ module _ (reads : (line : List ℕ) (block : BlockParts) → IsBlock line block 
           plain_seen lines later (Ok (Some block)) number n room place running step.1 setup observations obs station agrees next (sound_no_sight block.words sound) e whole
           (subst (λ (own : ParsedLine). due_parsed (going number n setup observations room) (own ∷ map block_at (printed_from step.1 (place + 1) lines).0) ≡ Ok obs) parsed due)
 
-      by_fault : (step : Step) (block : BlockParts) → block_at line ≡ Ok (Some block) → (fault : Option BookKind) → height_fault block.words ≡ fault
+      by_fault : (step : Step) (block : BlockParts) → block_at line ≡ Ok (Some block) → (fault : Option HeightKind) → height_fault block.words ≡ fault
           → unless_faulty fault (sound_line running line block) ≡ Ok step
           → (printed_from step.1 (place + 1) lines).1 ≡ None → due_parsed (going number n setup observations room) (block_at step.0 ∷ map block_at (printed_from step.1 (place + 1) lines).0) ≡ Ok obs
           → IsSeen obs observations station (Ok (Some block) ∷ map block_at lines)
@@ -197,7 +197,7 @@ module _ (reads : (line : List ℕ) (block : BlockParts) → IsBlock line block 
           (subst (λ (own : ParsedLine). due_parsed (going number n setup observations room) (own ∷ map block_at (printed_from step.1 (place + 1) lines).0) ≡ Ok obs) parsed due)
       by_parsed step (Ok (Some block)) is printed whole due = by_fault step block is (height_fault block.words) refl printed whole due
 
-      by_step : (step : Result Step BookKind) → printed_line running line ≡ step → (then_lines place step (λ next. printed_from next (place + 1) lines)).1 ≡ None
+      by_step : (step : Result Step HeightKind) → printed_line running line ≡ step → (then_lines place step (λ next. printed_from next (place + 1) lines)).1 ≡ None
           → due_parsed (going number n setup observations room) (map block_at (then_lines place step (λ next. printed_from next (place + 1) lines)).0) ≡ Ok obs
           → IsSeen obs observations station (block_at line ∷ map block_at lines)
       by_step (Err kind) e none due = absurd (cc none)

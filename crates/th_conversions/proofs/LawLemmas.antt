@@ -12,6 +12,8 @@ use Rattle.th_book.specs.Limits.{max_book}
 use Rattle.th_observations.specs.Observed.{Observed}
 use Rattle.th_book.specs.declared.faults.BookFault.{BookFault}
 use Rattle.th_conversions.specs.Printed.{book_of_heights, checked, checked_lines, ended, printed_from}
+use Rattle.th_conversions.specs.HeightFaults.{of_book}
+use Rattle.th_conversions.specs.declared.height_faults.HeightFault.{HeightFault}
 use Rattle.th_conversions.specs.Seen.{AreSeenAs, nowhere, sights_from}
 use Rattle.th_conversions.proofs.HeightLaws.{seen_from}
 use Rattle.th_conversions.proofs.TextLemmas.{lines_whole, text_answer}
@@ -24,7 +26,7 @@ pub printed_is_seen : (one : WordHasOneSpelling) → ((line : List ℕ) (block :
     → (bytes text : List ℕ) (number : ℕ) → book_of_heights bytes ≡ Ok text → AreSeenAs (book_answer number text) (sights_from nowhere (parsed_of bytes))
 printed_is_seen one reads blocks lines owes bytes text number is = by_short (nat_lt max_book (length bytes)) is
   where
-    by_fault : (fault : Option BookFault) → (printed_from None 0 (lines_of bytes)).1 ≡ fault → (answer : Result (List Observed) BookFault)
+    by_fault : (fault : Option HeightFault) → (printed_from None 0 (lines_of bytes)).1 ≡ fault → (answer : Result (List Observed) BookFault)
         → book_answer 1 (flat_map ended (printed_from None 0 (lines_of bytes)).0) ≡ answer → checked answer (flat_map ended (printed_from None 0 (lines_of bytes)).0) fault ≡ Ok text
         → AreSeenAs (book_answer number text) (sights_from nowhere (parsed_of bytes))
     by_fault fault e (Err first) seen is = absurd (cc is)
@@ -38,7 +40,7 @@ printed_is_seen one reads blocks lines owes bytes text number is = by_short (nat
         (seen_from reads blocks one (lines_of bytes) number 0 0 0 None None [] (observations_of number (map block_at (printed_from None 0 (lines_of bytes)).0)) nowhere tt e
         (owes number (printed_from None 0 (lines_of bytes)).0 ∙ answered.of_lines)))
 
-    by_short : (long : Bool) → (if long then Err too_long else checked_lines (printed_from None 0 (lines_of bytes))) ≡ Ok text
+    by_short : (long : Bool) → (if long then Err (of_book too_long) else checked_lines (printed_from None 0 (lines_of bytes))) ≡ Ok text
         → AreSeenAs (book_answer number text) (sights_from nowhere (parsed_of bytes))
     by_short true is = absurd (cc is)
     by_short false is =

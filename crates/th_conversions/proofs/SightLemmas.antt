@@ -13,8 +13,9 @@ use Rattle.gsi_block.specs.Writing.{block_line}
 use Rattle.gsi_block.specs.declared.faults.BlockFault.TheVariants.{TooManyWords}
 use Rattle.th_book.specs.Books.{known}
 use Rattle.th_book.specs.Lines.{length_in}
-use Rattle.th_book.specs.declared.faults.BookKind.{BookKind}
-use Rattle.th_book.specs.declared.faults.BookKind.TheVariants.{BadUnit, Block, TooLarge}
+use Rattle.th_book.specs.declared.faults.BookKind.TheVariants.{Block}
+use Rattle.th_conversions.specs.declared.height_faults.HeightKind.{HeightKind}
+use Rattle.th_conversions.specs.declared.height_faults.HeightKind.TheVariants.{Book, FarTarget, NoUnit}
 use Rattle.th_conversions.specs.Printed.{Step, longer, sight_from, sight_line, sighted, with_word}
 use Rattle.th_conversions.specs.Running.{with_heights}
 use Rattle.th_conversions.specs.Words.{Written, if_room, number_of, written_of}
@@ -30,10 +31,10 @@ has_room width given own unit whole is = by (nat_lt max_len (unsigned_abs given.
   where
     by : (none : Bool) → (nat_lt max_len (unsigned_abs given.length) || nat_le (10 ^ data_len width) (number_of given)) ≡ none → CanBeWritten width own × (own.length ≡ given.length)
     by true e =
-        let bad : Err TooLarge ≡ Ok own = sym (ap (λ b. if b then Err TooLarge else Ok given) e) ∙ is in
+        let bad : Err FarTarget ≡ Ok own = sym (ap (λ b. if b then Err FarTarget else Ok given) e) ∙ is in
         absurd (cc bad)
     by false e =
-        let good : Ok given ≡ Ok own = sym (ap (λ b. if b then Err TooLarge else Ok given) e) ∙ is in
+        let good : Ok given ≡ Ok own = sym (ap (λ b. if b then Err FarTarget else Ok given) e) ∙ is in
         let same : given ≡ own = cc in
         let can : CanBeWritten width given = record { unit = unit; small = grind (arith, nat_tests); whole = whole; room = grind (arith, nat_tests) } in
         (subst (CanBeWritten width) same can, ap (λ (w : Written). w.length) (sym same))
@@ -43,7 +44,7 @@ pub written_can : (width : Width) (length : ℤ) (own : Written) → written_of 
 written_can width length own is = by_hundredths (unsigned_abs length % step HundredthMm == 0) refl
   where
     by_feet : (whole : Bool) → (unsigned_abs length % step TenMilliFoot == 0) ≡ whole
-        → (if whole then if_room width (record { unit = TenMilliFoot; length = length }) else Err BadUnit) ≡ Ok own → CanBeWritten width own × (own.length ≡ length)
+        → (if whole then if_room width (record { unit = TenMilliFoot; length = length }) else Err NoUnit) ≡ Ok own → CanBeWritten width own × (own.length ≡ length)
     by_feet false e is = absurd (cc is)
     by_feet true e is =
         let none : unsigned_abs length % 3048 ≡ 0 = grind (arith, nat_tests) in
@@ -53,10 +54,10 @@ written_can width length own is = by_hundredths (unsigned_abs length % step Hund
     by_hundredths true e =
         let none : unsigned_abs length % 1000 ≡ 0 = grind (arith, nat_tests) in
         has_room width (record { unit = HundredthMm; length = length }) own (inl refl) (omega (arith, none))
-        (sym (ap (λ b. if b then if_room width (record { unit = HundredthMm; length = length }) else (if unsigned_abs length % step TenMilliFoot == 0 then if_room width (record { unit = TenMilliFoot; length = length }) else Err BadUnit)) e) ∙ is)
+        (sym (ap (λ b. if b then if_room width (record { unit = HundredthMm; length = length }) else (if unsigned_abs length % step TenMilliFoot == 0 then if_room width (record { unit = TenMilliFoot; length = length }) else Err NoUnit)) e) ∙ is)
     by_hundredths false e =
         by_feet (unsigned_abs length % step TenMilliFoot == 0) refl
-        (sym (ap (λ b. if b then if_room width (record { unit = HundredthMm; length = length }) else (if unsigned_abs length % step TenMilliFoot == 0 then if_room width (record { unit = TenMilliFoot; length = length }) else Err BadUnit)) e) ∙ is)
+        (sym (ap (λ b. if b then if_room width (record { unit = HundredthMm; length = length }) else (if unsigned_abs length % step TenMilliFoot == 0 then if_room width (record { unit = TenMilliFoot; length = length }) else Err NoUnit)) e) ∙ is)
 
 -- ---- the sight
 
@@ -82,7 +83,7 @@ sight_printed (Some setup) block step is = by_station setup.station refl
   where
     few_words : (station : ℤ) (written : Written) → setup.station ≡ Some station → written_of block.width (sighted (known (length_in 83 block.words)) station (with_heights block.words setup)) ≡ Ok written
         → (many : Bool) → nat_lt max_words (length (words_of block setup written)) ≡ many
-        → (if many then Err (Block TooManyWords) else Ok (block_line (record { width = block.width; words = words_of block setup written }), Some (with_heights (words_of block setup written) setup))) ≡ Ok step
+        → (if many then Err (Book (Block TooManyWords)) else Ok (block_line (record { width = block.width; words = words_of block setup written }), Some (with_heights (words_of block setup written) setup))) ≡ Ok step
         → IsSight (Some setup) block step
     few_words station written above valued true e is = absurd (cc is)
     few_words station written above valued false e is =
@@ -99,7 +100,7 @@ sight_printed (Some setup) block step is = by_station setup.station refl
           next = ap (λ (s : Step). s.1) (sym same);
         }
 
-    by_written : (station : ℤ) → setup.station ≡ Some station → (written : Result Written BookKind)
+    by_written : (station : ℤ) → setup.station ≡ Some station → (written : Result Written HeightKind)
         → written_of block.width (sighted (known (length_in 83 block.words)) station (with_heights block.words setup)) ≡ written
         → with_word setup block (with_heights block.words setup) written ≡ Ok step → IsSight (Some setup) block step
     by_written station above (Err kind) e is = absurd (cc is)

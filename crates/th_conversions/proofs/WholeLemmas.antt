@@ -16,7 +16,7 @@ use Rattle.gsi_block.specs.Spelled.{AreSpelled}
 use Rattle.gsi_block.specs.Writing.{block_line}
 use Rattle.gsi_block.proofs.WrittenBlocks.{AreSpelled-row, WordHasOneSpelling}
 use Rattle.th_book.specs.Lines.{ParsedLine}
-use Rattle.th_book.specs.declared.faults.BookKind.{BookKind}
+use Rattle.th_conversions.specs.declared.height_faults.HeightKind.{HeightKind}
 use Rattle.th_conversions.specs.Printed.{Step, parsed_line, printed_from, printed_line, sight_line, sound_line, then_lines, unless_faulty}
 use Rattle.th_conversions.specs.Running.{running_after, with_heights}
 use Rattle.th_conversions.specs.Sights.{height_fault, is_height_sight}
@@ -75,7 +75,7 @@ line_inside block are = joined (mark block.width) (flat_map closed block.words) 
     by Sixteen = refl
 
 -- a line that is printed as it is
-abbrev unchanged : List ℕ → Option Running → Result Step BookKind
+abbrev unchanged : List ℕ → Option Running → Result Step HeightKind
 unchanged line next = Ok (line, next)
 
 module _ (blocks : (line : List ℕ) (block : BlockParts) → (block_at line ≡ Ok (Some block)) ↔ IsBlock line block) (one : WordHasOneSpelling) where
@@ -97,7 +97,7 @@ module _ (blocks : (line : List ℕ) (block : BlockParts) → (block_at line ≡
           (longer_spelled block (with_heights block.words sight.setup) sight.written (AreSpelled-row one block.width block.words row.0 row.2)))
       by_sound block is false printed = kept (running_after running block.words) printed
 
-      by_fault : (block : BlockParts) → block_at line ≡ Ok (Some block) → (fault : Option BookKind) → unless_faulty fault (sound_line running line block) ≡ Ok step → IsTrue (list_all is_in_line step.0)
+      by_fault : (block : BlockParts) → block_at line ≡ Ok (Some block) → (fault : Option HeightKind) → unless_faulty fault (sound_line running line block) ≡ Ok step → IsTrue (list_all is_in_line step.0)
       by_fault block is (Some kind) printed = absurd (cc printed)
       by_fault block is None printed = by_sound block is (is_height_sight block.words) printed
 
@@ -112,7 +112,7 @@ module _ (blocks : (line : List ℕ) (block : BlockParts) → (block_at line ≡
   printed_whole (line ∷ lines) running place whole =
       by (printed_line running line) refl (λ next. printed_whole lines next (place + 1) whole.1)
     where
-      by : (step : Result Step BookKind) → printed_line running line ≡ step → ((next : Option Running) → AreWhole (printed_from next (place + 1) lines).0)
+      by : (step : Result Step HeightKind) → printed_line running line ≡ step → ((next : Option Running) → AreWhole (printed_from next (place + 1) lines).0)
           → AreWhole (then_lines place step (λ next. printed_from next (place + 1) lines)).0
       by (Err kind) is later = tt
       by (Ok step) is later = (step_whole line running step whole.0 is, later step.1)

@@ -4,6 +4,7 @@ pub mod Tables
 pub mod Texts
 pub mod Books
 pub mod Lists
+pub mod HeightFaults
 pub mod Sights
 pub mod Running
 pub mod Words

@@ -8,8 +8,8 @@ use Rattle.th_units.specs.declared.units.Unit.{Unit}
 use Rattle.th_units.specs.declared.units.Unit.TheVariants.{HundredthMm, TenMilliFoot}
 use Rattle.gsi_word.specs.Words.{Parts, data_len, parts}
 use Rattle.gsi_word.specs.declared.words.Width.{Width}
-use Rattle.th_book.specs.declared.faults.BookKind.{BookKind}
-use Rattle.th_book.specs.declared.faults.BookKind.TheVariants.{BadUnit, TooLarge}
+use Rattle.th_conversions.specs.declared.height_faults.HeightKind.{HeightKind}
+use Rattle.th_conversions.specs.declared.height_faults.HeightKind.TheVariants.{FarTarget, NoUnit}
 
 -- a length as a word writes it: in a unit, its sign, and its number
 pub record Written : Type 0 where
@@ -30,17 +30,17 @@ abbrev pub word_of : Width → ℕ → Written → Parts
 word_of width index written = parts index (info_of written.unit) (is_negative written.length) (last_digits (data_len width) (number_of written))
 
 -- the length in a unit, if it is at most 10 km and its number has room in this width
-abbrev pub if_room : Width → Written → Result Written BookKind
+abbrev pub if_room : Width → Written → Result Written HeightKind
 if_room width written =
-    if nat_lt max_len (unsigned_abs written.length) || nat_le (10 ^ data_len width) (number_of written) then Err TooLarge else Ok written
+    if nat_lt max_len (unsigned_abs written.length) || nat_le (10 ^ data_len width) (number_of written) then Err FarTarget else Ok written
 
 -- A length as a word of this width writes it: in 1/100 mm, or in 1/10,000 ft where it is no whole number of these. A length that is a whole number of neither
 -- has no unit.
-abbrev pub written_of : Width → ℤ → Result Written BookKind
+abbrev pub written_of : Width → ℤ → Result Written HeightKind
 written_of width length =
     if unsigned_abs length % step HundredthMm == 0 then if_room width (record { unit = HundredthMm; length = length })
     else (if unsigned_abs length % step TenMilliFoot == 0 then if_room width (record { unit = TenMilliFoot; length = length })
-    else Err BadUnit)
+    else Err NoUnit)
 
 -- a height of zero
 abbrev pub zero_height : Written

@@ -3,9 +3,9 @@ ghost use Rattle.std.specs.Prelude.{◌≡◌, ◌<◌, ◌^◌};
 ghost use Rattle.gsi_word.specs.Words.{data_len, parts_of};
 ghost use Rattle.th_units.specs.Units.{step};
 
+use crate::height_faults::HeightKind;
 use gsi_word::{Width, Word};
 use std::marker::Model;
-use th_book::BookKind;
 use th_columns::last_digits;
 use th_units::{MAX_LEN, Unit, step};
 
@@ -44,10 +44,10 @@ impl Written {
         Written::in_unit(0, Unit::HundredthMm)
     }
 
-    /// A length in 1/100 mm, or in 1/10,000 ft where it is no whole number of these. `BadUnit` if it
-    /// is no whole number of either, `TooLarge` if it is more than 10 km in size, or if its number
+    /// A length in 1/100 mm, or in 1/10,000 ft where it is no whole number of these. `NoUnit` if it
+    /// is no whole number of either, `FarTarget` if it is more than 10 km in size, or if its number
     /// has more digits than a word of this width.
-    pub(crate) fn of(width: Width, length: i64) -> Result<Written, BookKind>
+    pub(crate) fn of(width: Width, length: i64) -> Result<Written, HeightKind>
         ensures { result ≡ written_of width length }
     {
         let size = length.unsigned_abs();
@@ -56,17 +56,17 @@ impl Written {
         } else if size % units_in(Unit::TenMilliFoot) == 0 {
             Written::if_room(width, length, Unit::TenMilliFoot)
         } else {
-            Err(BookKind::BadUnit)
+            Err(HeightKind::NoUnit)
         }
     }
 
     /// A length in a unit, if it is at most 10 km and its number has room.
-    fn if_room(width: Width, length: i64, unit: Unit) -> Result<Written, BookKind>
+    fn if_room(width: Width, length: i64, unit: Unit) -> Result<Written, HeightKind>
         ensures { result ≡ if_room width (record { unit = unit; length = length }) }
     {
         let size = length.unsigned_abs();
         if size > MAX_LEN || size / units_in(unit) >= numbers_of(width) {
-            return Err(BookKind::TooLarge);
+            return Err(HeightKind::FarTarget);
         }
         Ok(Written::in_unit(length, unit))
     }

@@ -26,7 +26,8 @@ mod words;
 // A book uses the words before it.
 mod books;
 
-// Books with heights: which blocks are height sights, and what is wrong with a block.
+// Books with heights: their faults, which blocks are height sights, and what is wrong with a block.
+mod height_faults;
 mod sights;
 
 // The heights that run, and the words that a height sight gets.
@@ -44,4 +45,5 @@ pub mod laws;
 pub use books::book_of_table;
 pub use faults::{DifferenceFault, DifferenceKind};
 pub use height_books::book_of_heights;
+pub use height_faults::{HeightFault, HeightKind};
 pub use limits::MAX_DIFFERENCES;

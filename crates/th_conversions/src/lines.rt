@@ -10,6 +10,7 @@ ghost use Rattle.th_conversions.specs.Inside.Stops.{IsPrinted, IsStopOf};
 ghost use Rattle.th_conversions.specs.Printed.{ended, line_of, longer, longer_line, printed_line, sight_above, sight_from, sight_line, sighted};
 ghost use Rattle.th_conversions.specs.Words.{zero_height};
 
+use crate::height_faults::HeightKind;
 use crate::height_words::Written;
 use crate::running::Running;
 use crate::sights::{height_fault, is_height_sight, length_in};
@@ -30,7 +31,7 @@ const MAX_LONGER: usize = MAX_WORDS + 3;
 #[derive(Clone, Copy, Debug)]
 pub(crate) enum Stop {
     /// It has a fault of this kind.
-    Fault(BookKind),
+    Fault(HeightKind),
     /// Memory ran out.
     NoMemory,
 }
@@ -40,12 +41,12 @@ impl Stop {
     ghost use Rattle.th_conversions.specs.Inside.Stops.{stop_kind};
 
     /// The kind of the fault to report.
-    pub(crate) fn kind(self) -> BookKind
+    pub(crate) fn kind(self) -> HeightKind
         ensures { result ≡ stop_kind self }
     {
         match self {
             Stop::Fault(kind) => kind,
-            Stop::NoMemory => BookKind::NoMemory,
+            Stop::NoMemory => HeightKind::Book(BookKind::NoMemory),
         }
     }
 }
@@ -61,13 +62,13 @@ impl From<AllocError> for Stop {
     }
 }
 
-impl From<BookKind> for Stop {
+impl From<HeightKind> for Stop {
     ghost use Rattle.std.specs.Prelude.{◌≡◌};
     ghost use Rattle.th_conversions.specs.declared.lines.Stop.TheVariants.{Fault};
 
     ghost from_gives = { λ kind stop. stop ≡ Fault kind };
 
-    fn from(kind: BookKind) -> Stop {
+    fn from(kind: HeightKind) -> Stop {
         Stop::Fault(kind)
     }
 }
@@ -94,7 +95,7 @@ pub(crate) fn print_line(
             *running = Running::after(running, block.words());
         }
         Ok(None) => {}
-        Err(fault) => return Err(Stop::Fault(BookKind::Block(fault))),
+        Err(fault) => return Err(Stop::Fault(HeightKind::Book(BookKind::Block(fault)))),
     }
     Ok(print_as_it_is(line, text)?)
 }
@@ -140,7 +141,7 @@ fn print_in(
 {
     match running {
         Some(setup) => print_from(&setup, setup.station, block, text),
-        None => Err(Stop::Fault(BookKind::SightBeforeSetup)),
+        None => Err(Stop::Fault(HeightKind::Book(BookKind::SightBeforeSetup))),
     }
 }
 
@@ -158,7 +159,7 @@ fn print_from(
 {
     match station {
         Some(station) => print_above(setup, station, block, text),
-        None => Err(Stop::Fault(BookKind::NoInstrumentHeight)),
+        None => Err(Stop::Fault(HeightKind::NoStationHeight)),
     }
 }
 
@@ -220,7 +221,8 @@ fn print_words(
         text.old.items text.new.items) }
 {
     if words.len() > MAX_WORDS {
-        return Err(Stop::Fault(BookKind::Block(BlockFault::TooManyWords)));
+        let kind = BookKind::Block(BlockFault::TooManyWords);
+        return Err(Stop::Fault(HeightKind::Book(kind)));
     }
     write_block(&block_of(words, width), text)?;
     Ok(setup.with_heights(words))

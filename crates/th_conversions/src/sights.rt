@@ -6,10 +6,11 @@ ghost use Rattle.th_book.specs.Faults.{is_refused};
 ghost use Rattle.th_book.specs.Lines.{counts_for, holds, is_setup, is_sight, length_in};
 ghost use Rattle.th_conversions.specs.Sights.{height_fault, is_height, is_height_sight, is_measured, repeats, some_height};
 
+use crate::height_faults::HeightKind;
 use gsi_word::{
-    HEIGHT_DIFFERENCE, HORIZONTAL_ANGLE, HORIZONTAL_DISTANCE, LengthFault, SLOPE_DISTANCE,
-    STATION_EASTING, STATION_HEIGHT, STATION_NORTHING, TARGET_HEIGHT, VERTICAL_ANGLE, Word,
-    length_of, two_digit,
+    HEIGHT_DIFFERENCE, HORIZONTAL_ANGLE, HORIZONTAL_DISTANCE, INSTRUMENT_HEIGHT, LengthFault,
+    REFLECTOR_HEIGHT, SLOPE_DISTANCE, STATION_EASTING, STATION_HEIGHT, STATION_NORTHING,
+    TARGET_HEIGHT, VERTICAL_ANGLE, Word, length_of, two_digit,
 };
 use th_book::BookKind;
 use th_units::Len;
@@ -88,22 +89,23 @@ fn is_measured(words: &[Word<'_>]) -> bool
 }
 
 /// The first kind of fault that a block of a book with heights has, beside those of a book.
-pub(crate) fn height_fault(words: &[Word<'_>]) -> Option<BookKind>
+pub(crate) fn height_fault(words: &[Word<'_>]) -> Option<HeightKind>
     ensures { result ≡ height_fault (map parts_of words.now) }
 {
-    if holds(HEIGHT_DIFFERENCE, words)
-        || (is_height_sight(words) && repeats(TARGET_HEIGHT, words))
-    {
-        return Some(BookKind::RepeatedWord);
+    if holds(HEIGHT_DIFFERENCE, words) {
+        return Some(HeightKind::HasDifference);
+    }
+    if is_height_sight(words) && repeats(TARGET_HEIGHT, words) {
+        return Some(HeightKind::Book(BookKind::RepeatedWord));
     }
     if some_height(LengthFault::BadNumber, words) {
-        return Some(BookKind::BadNumber);
+        return Some(HeightKind::Book(BookKind::BadNumber));
     }
     if some_height(LengthFault::BadUnit, words) {
-        return Some(BookKind::BadUnit);
+        return Some(HeightKind::Book(BookKind::BadUnit));
     }
     if some_height(LengthFault::TooLarge, words) {
-        return Some(BookKind::TooLarge);
+        return Some(HeightKind::Book(BookKind::TooLarge));
     }
     None
 }
@@ -118,11 +120,14 @@ fn some_height(fault: LengthFault, words: &[Word<'_>]) -> bool
     (is_height(word) && is_refused(fault, word)) || some_height(fault, later)
 }
 
-/// Whether a word counts for the height of a target or of a station.
+/// Whether a word counts for a height: of a target, of a station, of a reflector or of an instrument.
 fn is_height(word: &Word<'_>) -> bool
     ensures { result ≡ is_height (parts_of word.now) }
 {
-    counts_for(TARGET_HEIGHT, word) || counts_for(STATION_HEIGHT, word)
+    counts_for(TARGET_HEIGHT, word)
+        || counts_for(STATION_HEIGHT, word)
+        || counts_for(REFLECTOR_HEIGHT, word)
+        || counts_for(INSTRUMENT_HEIGHT, word)
 }
 
 /// Whether the length of a word is refused with this fault.

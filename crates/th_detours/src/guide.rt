@@ -1,27 +1,46 @@
 //! The guide's proposals: closed walks that send back what flows through a number.
 use crate::groups::{End, Group};
-use crate::lifting::Lifting;
 use crate::links::Link;
 use crate::neighbours::{Neighbours, Pair, Wanted};
 use crate::parted::Parted;
 use crate::searches::{Bounds, Search};
 use crate::sums::Sum;
+use crate::surplus::{Aim, Surplus};
 use std::alloc::{AllocError, Global};
 use th_guide::{ResidualArc, push_if_room};
 
 /// How many walks a proposal has at most.
-const MOST_WALKS: usize = 64;
+const MOST_WALKS: usize = 1_024;
 
-/// How many walks free a number at most, and how many arcs they have at least room for.
-const MOST_FREEING: usize = 4_096;
+/// How many walks lead over neighbours at most.
+const MOST_OVER_NEIGHBOURS: usize = 2_048;
 
+/// How many arcs the walks have room for at least.
 const LEAST_ARCS: usize = 16_384;
+
+/// How many arcs the walks have room for, for each vertex.
+const ARCS_OF_EACH: usize = 64;
 
 /// Each link of a path counts as much more as this part of a good path's length. The flows of a tree
 /// that ties all points have no length, and a search would wander over all of them.
 const TOLL: u64 = 16;
 
 const FINE_TOLL: u64 = 128;
+
+/// How many vertices the searches for a proposal reach at most, together: in the best flows, and in others.
+const MOST_TOUCHED: usize = 4_000;
+
+const MOST_TOUCHED_FROM: usize = 1_000;
+
+/// Which path is looked for: one that is no longer than `far`. Of what is left beside the number's own link, a good one
+/// leaves a part, and each link counts as a part more. The search reaches no more than so many vertices.
+#[derive(Clone, Copy)]
+struct Path {
+    far: u64,
+    part: u64,
+    toll: u64,
+    most: usize,
+}
 
 /// A closed walk, and how much is to be sent round it.
 #[derive(Clone, Copy)]
@@ -32,18 +51,6 @@ pub struct Walk {
     end: usize,
 }
 
-/// Flows without net through a number, those before and behind, and how far the number changes for them.
-#[derive(Clone, Copy)]
-pub struct Freeing {
-    /// So many walks leave some of what flows through the number; with one more nothing is left, and with
-    /// two more some flows the other way.
-    pub before: usize,
-    /// The size of the change at which the flows before and without net are best, and that for those without
-    /// net and behind.
-    pub near: u64,
-    pub far: u64,
-}
-
 /// What proposes walks. Nothing is promised of the proposals.
 #[derive(Drop)]
 pub struct Guide {
@@ -51,14 +58,8 @@ pub struct Guide {
     network: Parted,
     neighbours: Neighbours,
     search: Search,
-    lifting: Lifting,
     /// The path that was found last.
     path: Vec<ResidualArc>,
-    /// The heights of the vertices at which the flows are best; and those at which the flows before and behind
-    /// a number that is freed are.
-    heights: Vec<i64>,
-    near: Vec<i64>,
-    far: Vec<i64>,
     walks: Vec<Walk>,
     arcs: Vec<ResidualArc>,
 }
@@ -71,13 +72,9 @@ impl Guide {
             network: Parted::new(alloc, vertices, links)?,
             neighbours: Neighbours::new(alloc, all)?,
             search: Search::new(alloc, all)?,
-            lifting: Lifting::new(alloc, all, links)?,
             path: Vec::with_capacity(alloc, all.saturating_mul(2))?,
-            heights: vec![in alloc; 0i64; all]?,
-            near: vec![in alloc; 0i64; all]?,
-            far: vec![in alloc; 0i64; all]?,
-            walks: Vec::with_capacity(alloc, MOST_FREEING)?,
-            arcs: Vec::with_capacity(alloc, LEAST_ARCS.max(all.saturating_mul(MOST_WALKS)))?,
+            walks: Vec::with_capacity(alloc, MOST_WALKS + MOST_OVER_NEIGHBOURS)?,
+            arcs: Vec::with_capacity(alloc, LEAST_ARCS.max(all.saturating_mul(ARCS_OF_EACH)))?,
         })
     }
 
@@ -86,14 +83,7 @@ impl Guide {
         self.network.set_link(place, link);
     }
 
-    /// Sets the height of a vertex.
-    pub fn set_height(&mut self, vertex: u32, height: i64) {
-        if let Some(row) = self.heights.get_mut(vertex as usize) {
-            *row = height;
-        }
-    }
-
-    /// Begins with the links and heights that were set.
+    /// Begins with the links that were set.
     pub fn start(&mut self) -> Option<()> {
         self.network.start()
     }
@@ -128,33 +118,28 @@ impl Guide {
         found
     }
 
-    /// Proposes walks that free a number, along shortest paths.
-    pub fn free(&mut self, group: Group, base: u32, need: i64) -> Option<Freeing> {
-        self.begin(group, base)?;
-        self.lifting.begin(&self.network, &self.heights)?;
-        let found = self.send_all(need);
-        let undone = self.undo();
-        undone.and(found)
+    /// Takes flows that are not the best ones, from which `propose_from` goes on.
+    pub fn load(&mut self, flows: &[i64]) {
+        self.network.load(flows);
     }
 
-    /// The walks of the last proposal from a place up to another, without the second.
-    pub fn walks(&self, start: usize, end: usize) -> &[Walk] {
-        self.walks.get(start..end).unwrap_or(&[])
+    /// Proposes walks that send back all that flows through a number in flows that were loaded, and more, until the
+    /// number explains no more than the aim says.
+    pub fn propose_from(&mut self, group: Group, base: u32, aim: &Aim) -> Option<()> {
+        for fine in [1, 4] {
+            self.begin(group, base)?;
+            let found = self.gather_from(aim, fine);
+            self.undo()?;
+            if found.is_some() {
+                return found;
+            }
+        }
+        None
     }
 
-    /// How many walks the last proposal has.
-    pub fn count(&self) -> usize {
-        self.walks.len()
-    }
-
-    /// The heights of the vertices at which the flows before the number is freed are best.
-    pub fn near(&self) -> &[i64] {
-        &self.near
-    }
-
-    /// Those at which the flows behind are best.
-    pub fn far(&self) -> &[i64] {
-        &self.far
+    /// The walks of the last proposal.
+    pub fn walks(&self) -> &[Walk] {
+        &self.walks
     }
 
     /// The vertex of the number for which walks were proposed last. All of them begin and end there.
@@ -179,8 +164,19 @@ impl Guide {
         if self.go_over_neighbours(need, limit, &mut sum)? {
             return Some(());
         }
+        let mut touched = 0usize;
         for _ in 0..MOST_WALKS {
-            self.find(need, limit / 2, limit, TOLL)?;
+            let most = MOST_TOUCHED.checked_sub(touched)?;
+            self.find(
+                need,
+                Path {
+                    far: limit,
+                    part: 2,
+                    toll: TOLL,
+                    most,
+                },
+            )?;
+            touched = touched.checked_add(self.search.touched())?;
             let length = self.length()?;
             let wanted = sum.wanted(limit, length)?;
             let amount = wanted.min(self.room()?);
@@ -197,7 +193,7 @@ impl Guide {
     /// missing then.
     fn go_over_neighbours(&mut self, need: i64, limit: u64, sum: &mut Sum) -> Option<bool> {
         self.neighbours.begin(&self.network)?;
-        for _ in 0..MOST_FREEING / 2 {
+        for _ in 0..MOST_OVER_NEIGHBOURS {
             let Some(pair) = self.next_pair(need, limit / 4) else {
                 return Some(false);
             };
@@ -241,9 +237,20 @@ impl Guide {
     fn gather_below(&mut self, need: i64, worth: u64, toll: u64) -> Option<()> {
         let mut left = need.unsigned_abs();
         let mut worth = worth;
+        let mut touched = 0usize;
         for _ in 0..MOST_WALKS {
             let far = worth.checked_div(left)?;
-            self.find(need, far - far / 4, far, toll)?;
+            let most = MOST_TOUCHED.checked_sub(touched)?;
+            self.find(
+                need,
+                Path {
+                    far,
+                    part: 4,
+                    toll,
+                    most,
+                },
+            )?;
+            touched = touched.checked_add(self.search.touched())?;
             let length = self.length()?;
             let amount = left.min(self.room()?);
             self.send(amount)?;
@@ -256,43 +263,23 @@ impl Guide {
         None
     }
 
-    /// Sends back all that flows through the number along shortest paths, and at last some more.
-    fn send_all(&mut self, need: i64) -> Option<Freeing> {
-        let mut left = need.unsigned_abs();
-        let mut near = 0u64;
-        for _ in 0..MOST_FREEING {
-            near = near.checked_add(self.find_shortest(need)?)?;
-            let room = self.room()?;
-            if room >= left {
-                return self.turn(need, left, room, near);
+    fn gather_from(&mut self, aim: &Aim, fine: u64) -> Option<()> {
+        let mut surplus = Surplus::of(aim);
+        let mut touched = 0usize;
+        for _ in 0..MOST_WALKS {
+            let most = MOST_TOUCHED_FROM.checked_sub(touched)?;
+            let good = surplus.good(aim, fine)?;
+            self.find_within(aim.need, good, fine, most)?;
+            touched = touched.checked_add(self.search.touched())?;
+            let amount = surplus.wanted(aim)?.min(self.room()?);
+            let cost = self.network.cost(&self.path)?;
+            self.send(amount)?;
+            surplus.take(amount, cost)?;
+            if surplus.shows(aim)? {
+                return Some(());
             }
-            self.send(room)?;
-            left -= room;
         }
         None
-    }
-
-    /// Sends the rest back along a path that has room for it, and then some more.
-    fn turn(&mut self, need: i64, left: u64, room: u64, near: u64) -> Option<Freeing> {
-        let before = self.walks.len();
-        self.lifting.tell_heights(&mut self.near);
-        self.send(left)?;
-        let mut far = near;
-        let mut more = room.checked_sub(left)?;
-        if more == 0 {
-            far = far.checked_add(self.find_shortest(need)?)?;
-            more = self.room()?;
-        }
-        self.lifting.tell_heights(&mut self.far);
-        self.send(more)?;
-        Some(Freeing { before, near, far })
-    }
-
-    /// Finds a shortest path from the base to the spare vertex, or back. Returns how much longer it is than the
-    /// one before.
-    fn find_shortest(&mut self, need: i64) -> Option<u64> {
-        let (from, to) = self.course(need);
-        self.lifting.run(&mut self.path, &self.network, from, to)
     }
 
     /// From where to where what flows through the number is sent back.
@@ -304,14 +291,36 @@ impl Guide {
         }
     }
 
-    /// Finds a path from the base to the spare vertex, or back.
-    fn find(&mut self, need: i64, good: u64, far: u64, toll: u64) -> Option<()> {
-        let (from, to) = self.course(need);
+    /// Finds a path from the base to the spare vertex, or back. All of them go over a link of the number.
+    fn find(&mut self, need: i64, path: Path) -> Option<()> {
+        let room = path.far.checked_sub(self.network.least_own())?;
+        let left = room.checked_div(path.part)?;
         let bounds = Bounds {
-            good,
-            far,
-            toll: good.checked_div(toll)?,
+            good: path.far.checked_sub(left)?,
+            far: path.far,
+            toll: room.checked_sub(left)?.checked_div(path.toll)?,
+            steps: u32::try_from(path.most).ok()?,
         };
+        self.search_for(need, bounds)
+    }
+
+    /// Finds a path that is about as long as a good one beside a link of the number, and reaches no more than so many
+    /// vertices.
+    fn find_within(&mut self, need: i64, good: u64, fine: u64, most: usize) -> Option<()> {
+        let own = self.network.least_own();
+        let far = good.checked_mul(fine)?.checked_mul(2)?;
+        let bounds = Bounds {
+            good: own.checked_add(good)?,
+            far: own.checked_add(far)?,
+            toll: good.checked_div(TOLL)?,
+            steps: u32::try_from(most).ok()?,
+        };
+        self.search_for(need, bounds)
+    }
+
+    /// Searches for a path from the base to the spare vertex, or back.
+    fn search_for(&mut self, need: i64, bounds: Bounds) -> Option<()> {
+        let (from, to) = self.course(need);
         self.search
             .run(&mut self.path, &self.network, from, to, bounds)
     }

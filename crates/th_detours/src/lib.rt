@@ -5,8 +5,8 @@
 //! along arcs that have room, by which so much is sent back, and more, that the rest shows it. Whoever
 //! takes a proposal checks it: a wrong one costs time, and nothing else.
 //!
-//! If a number is to be freed altogether, the guide proposes walks that send back just what flows through
-//! it, along shortest paths, and the heights at which the flows before and behind are best.
+//! The flows are the best ones, or others that were loaded. `Lifting` finds shortest paths, and the heights at which
+//! what goes along them is a best flow.
 //!
 //! A number has links, whose ends at one vertex, the base, are parted from it: a spare vertex has them
 //! instead. Each path along arcs that have room, from the base to the spare vertex or back, is a detour.
@@ -41,10 +41,15 @@ mod lifting;
 
 // What is sent, and what it costs.
 mod sums;
+mod surplus;
 
 // Walks, and how much is sent along them.
 mod guide;
 
 pub use groups::{End, Group};
-pub use guide::{Freeing, Guide, Walk};
+pub use guide::{Guide, Walk};
+pub use lifting::Lifting;
 pub use links::Link;
+pub use parted::Parted;
+pub use sides::Side;
+pub use surplus::Aim;

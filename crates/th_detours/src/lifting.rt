@@ -26,12 +26,9 @@ impl Lifting {
         })
     }
 
-    /// Begins at these heights of the vertices, with the spare vertex as high as the base.
-    pub fn begin(&mut self, network: &Parted, heights: &[i64]) -> Option<()> {
+    /// Begins at these heights of the vertices and of the spare one.
+    pub fn begin(&mut self, heights: &[i64]) {
         copy(&mut self.heights, heights);
-        let height = *heights.get(network.base() as usize)?;
-        *self.heights.get_mut(network.spare() as usize)? = height;
-        Some(())
     }
 
     /// Writes the heights that it has come to into a row.

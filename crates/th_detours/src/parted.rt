@@ -80,6 +80,42 @@ impl Parted {
         self.spare
     }
 
+    /// The length of the shortest link that the number has, or 0 if its links are not listed.
+    pub fn least_own(&self) -> u64 {
+        match self.own.first() {
+            Some(side) => side.length,
+            None => 0,
+        }
+    }
+
+    /// The links, with the flows on them.
+    pub fn links(&self) -> &[Link] {
+        &self.links
+    }
+
+    /// Sets what flows along the link at a place.
+    pub fn set_flow(&mut self, place: usize, flow: i64) -> Option<()> {
+        self.links.get_mut(place)?.flow = flow;
+        Some(())
+    }
+
+    /// Takes other flows of all links.
+    pub fn load(&mut self, flows: &[i64]) {
+        for (link, flow) in self.links.iter_mut().zip(flows) {
+            link.flow = *flow;
+        }
+    }
+
+    /// The vertex that an arc leaves.
+    pub fn start_of(&self, arc: ResidualArc) -> Option<u32> {
+        self.ground(0).start(arc)
+    }
+
+    /// The sides that a vertex has where nothing is parted from it, the shortest first.
+    pub fn sides_of(&self, vertex: u32) -> Option<&[Side]> {
+        self.sides.of(vertex)
+    }
+
     /// How long a path is.
     pub fn length(&self, path: &[ResidualArc]) -> Option<u64> {
         let mut length = 0u64;
@@ -87,6 +123,20 @@ impl Parted {
             length = length.checked_add(self.links.get(arc.row())?.length)?;
         }
         Some(length)
+    }
+
+    /// What a unit costs that is sent round a closed walk: by how much less flows then gain.
+    pub fn cost(&self, path: &[ResidualArc]) -> Option<i64> {
+        let mut cost = 0i64;
+        for arc in path {
+            let difference = self.links.get(arc.row())?.difference;
+            cost = if arc.is_forward() {
+                cost.checked_sub(difference)?
+            } else {
+                cost.checked_add(difference)?
+            };
+        }
+        Some(cost)
     }
 
     /// How much more can flow along a path.

@@ -15,6 +15,8 @@ pub struct Bounds {
     pub far: u64,
     /// What each link counts more than its length.
     pub toll: u64,
+    /// The balls grow so many times at most.
+    pub steps: u32,
 }
 
 /// A search for a short path, from both of its ends.
@@ -63,10 +65,15 @@ impl Search {
         trace(path, ground, &self.out.reached, &self.into.reached, course)
     }
 
+    /// How many vertices the last search reached.
+    pub fn touched(&self) -> usize {
+        self.out.count().saturating_add(self.into.count())
+    }
+
     /// The vertex where the two balls meet.
     fn meet(&mut self, ground: Ground, bounds: Bounds) -> Option<u32> {
         let mut best: Option<Meeting> = None;
-        for _ in 0..u32::MAX {
+        for _ in 0..bounds.steps {
             let most = match best {
                 Some(meeting) if meeting.distance <= bounds.good => break,
                 Some(meeting) => bounds.far.min(meeting.distance),

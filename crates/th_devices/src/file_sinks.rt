@@ -1,10 +1,10 @@
 //! Real files as sinks. The bytes go to a file beside the named one. When they are whole and on the
 //! disk, it can take the name. So the name has either the whole text or what it had before. These
 //! sinks do not report their bytes.
-ghost use Rattle.std.specs.Prelude.{◌≡◌, ◌<◌, ◌||◌, true, false, is_ok, is_some, None, IfOk, OnErr, OnOk, IsErr, option_and_then};
+ghost use Rattle.std.specs.Prelude.{◌≡◌, ◌<◌, ◌||◌, true, false, is_ok, is_some, None, IfOk, OnErr, OnOk, IsErr, option_and_then, string_bytes};
 ghost use Rattle.std.specs.Io.KnownBytes.{Keeps};
 ghost use Rattle.th_devices.specs.Devices.{IsBegun, IsFinish, IsMade, IsWrite, Takes, untold};
-ghost use Rattle.th_devices.specs.Files.{IsWhole, TakesBytes};
+ghost use Rattle.th_devices.specs.Files.{IsBeside, IsWhole, TakesBytes};
 ghost use Rattle.th_devices.specs.Inside.Opening.{Opens};
 ghost use Rattle.th_devices.specs.Limits.{call_limit};
 ghost use Rattle.th_devices.specs.Spots.{file};
@@ -16,7 +16,7 @@ use std::alloc::{AllocError, Global};
 use std::fs::{Metadata, OpenFile, OpenOptions, Permissions};
 use std::io::{ErrorKind, Write};
 use std::marker::Model;
-use std::os::unix::fs::{MetadataExt, OpenOptionsExt, PermissionsExt};
+use std::os::unix::fs::{FileTypeExt, MetadataExt, OpenOptionsExt, PermissionsExt};
 use std::rt::Files;
 use std::{fs, io};
 
@@ -32,6 +32,12 @@ const ORDINARY: u32 = 0o666;
 /// Where devices are. A name that was typed below it may be one.
 const DEVICES: &str = "/dev/";
 
+/// Links below it that lead to the standard streams of the process, and to what else it has open.
+const STREAMS: [&str; 2] = ["/dev/stdout", "/dev/stderr"];
+
+/// Where links to what the process has open are, by number.
+const OPENED: &str = "/dev/fd/";
+
 /// Where the bytes of a file go.
 #[derive(Clone, Copy, Debug, PartialEq, Eq)]
 enum Way {
@@ -42,8 +48,10 @@ enum Way {
 }
 
 /// A file that is written beside its name, and takes the name at `place`. Until then, and if a call
-/// fails, a file of that name stays as it was. A device or a pipe is written directly, if its name
-/// begins with `/dev/`. Other names that lead to a device, a pipe or a folder are refused.
+/// fails, a file of that name stays as it was. A character device is written directly, if its own name
+/// begins with `/dev/`, and so is what `/dev/stdout`, `/dev/stderr` and `/dev/fd/N` lead to. Other names
+/// that are or lead to a device, a pipe or a folder are refused. A link to a file, or to none, is
+/// replaced, and what it leads to is not touched.
 #[derive(Drop)]
 pub struct FileSink<'a, R: Files> {
     files: &'a R,
@@ -58,8 +66,8 @@ pub struct FileSink<'a, R: Files> {
 }
 
 impl<'a, R: Files> Model for FileSink<'a, R> {
-    ghost use Rattle.std.specs.Prelude.{◌≡◌, is_some, length, option_and_then, string_bytes, take};
-    ghost use Rattle.th_devices.specs.Files.{FileSinkState};
+    ghost use Rattle.std.specs.Prelude.{is_some, option_and_then, string_bytes};
+    ghost use Rattle.th_devices.specs.Files.{FileSinkState, IsBeside};
     ghost use Rattle.th_devices.specs.Spots.{file as file_spot};
 
     ghost Value = { FileSinkState };
@@ -76,18 +84,18 @@ impl<'a, R: Files> Model for FileSink<'a, R> {
     } };
 
     // The file beside it is in the same folder.
-    ghost invariant = { λ sink.
-        take (length (string_bytes sink.name)) (string_bytes sink.unfinished) ≡ string_bytes sink.name };
+    ghost invariant = { λ sink. IsBeside (string_bytes sink.name) (string_bytes sink.unfinished) };
 }
 
 impl<'a, R: Files> FileSink<'a, R> {
     /// The file of this name, not touched yet. The name of the file beside it has the number of the
-    /// run, which no other run has.
+    /// run, which no other run has, and that of the sink, which no other sink of the run has.
     pub fn new(
         alloc: Global,
         files: &'a R,
         name: &str,
         run: u64,
+        number: u32,
         reasons: &'a Reasons,
     ) -> Result<FileSink<'a, R>, AllocError>
         ensures made { IfOk result (λ sink. IsMade false true (file name.now) (untold sink.device)) }
@@ -98,13 +106,18 @@ impl<'a, R: Files> FileSink<'a, R> {
             files,
             reasons,
             name: String::from_str(alloc, name)?,
-            unfinished: format!(in alloc; "{name}.{run}.unfinished")?,
+            unfinished: beside(alloc, name, run, number)?,
             way: Way::Straight,
             file: None,
             whole: false,
             finished: false,
             counts: Counts::new(),
         })
+    }
+
+    /// The name of the file.
+    pub(crate) fn name(&self) -> &str {
+        self.name.as_str()
     }
 
     /// Closes the file, and removes what was written beside it unless that took its name.
@@ -156,26 +169,40 @@ impl<'a, R: Files> FileSink<'a, R> {
     fn open(&mut self) -> io::Result<()>
         ensures { Opens self.old self.new result }
     {
+        match fs::symlink_metadata(self.files, self.name.as_str()) {
+            Ok(known) if known.is_file() => self.open_over(&known),
+            Ok(known) if known.is_symlink() => self.open_link(),
+            Ok(known) if is_device(self.name.as_str(), &known) => self.open_straight(),
+            Ok(known) => Err(refused(&known)),
+            Err(error) if error.kind() == ErrorKind::NotFound => self.open_ordinary(),
+            Err(error) => Err(error),
+        }
+    }
+
+    /// Opens what takes the bytes where the name is a link: a file in its place, if it leads to a file or
+    /// to none. What it leads to is opened only if that is one of the process's own streams.
+    fn open_link(&mut self) -> io::Result<()>
+        ensures { Opens self.old self.new result }
+    {
         match fs::metadata(self.files, self.name.as_str()) {
-            Ok(known) if known.is_file() => self.open_over(),
-            Ok(_) if is_below_devices(self.name.as_str()) => self.open_straight(),
-            Ok(known) if known.is_dir() => Err(io::Error::from(ErrorKind::IsADirectory)),
-            Ok(_) => Err(io::Error::from(ErrorKind::InvalidInput)),
+            Ok(_) if is_stream(self.name.as_str()) => self.open_straight(),
+            Ok(known) if known.is_file() => self.open_ordinary(),
+            Ok(known) => Err(refused(&known)),
             Err(error) if error.kind() == ErrorKind::NotFound => self.open_ordinary(),
             Err(error) => Err(error),
         }
     }
 
     /// Opens a file that is to replace the one that has the name, which must be one that may be
-    /// written. Its permissions are kept if both files have one owner: nobody else is to choose them.
-    fn open_over(&mut self) -> io::Result<()>
+    /// written. Its permissions are kept if it has no other name and both files have one owner: nobody
+    /// else is to choose them.
+    fn open_over(&mut self, old: &Metadata) -> io::Result<()>
         ensures { Opens self.old self.new result }
     {
         let name = self.name.as_str();
         OpenOptions::new().write(true).open(self.files, name)?;
-        let old = fs::symlink_metadata(self.files, name)?;
         self.create(PRIVATE)?;
-        if is_by_one_owner(&self.file, &old)? {
+        if is_by_one_owner(&self.file, old)? {
             self.way = Way::Beside(old.mode() & PERMISSIONS);
             return Ok(());
         }
@@ -210,7 +237,7 @@ impl<'a, R: Files> FileSink<'a, R> {
         Ok(())
     }
 
-    /// Opens the device or pipe of this name.
+    /// Opens the device of this name, or the stream.
     fn open_straight(&mut self) -> io::Result<()>
         ensures { Opens self.old self.new result }
     {
@@ -223,15 +250,43 @@ impl<'a, R: Files> FileSink<'a, R> {
     }
 }
 
-/// Whether a name is below `/dev/`, and no `..` in it leads out again.
-fn is_below_devices(name: &str) -> bool {
-    name.starts_with(DEVICES) && !name.contains("..")
+/// The name of a file in the same folder: it has the number of the run and that of the sink.
+fn beside(alloc: Global, name: &str, run: u64, number: u32) -> Result<String, AllocError>
+    ensures { IfOk result (λ own. IsBeside name.now (string_bytes own)) }
+{
+    match name.rsplit_once("/") {
+        Some((folder, _)) => format!(in alloc; "{folder}/{run}-{number}.unfinished"),
+        None => format!(in alloc; "{run}-{number}.unfinished"),
+    }
 }
 
-/// Whether the file that is open has the owner of this one, and this one is no link.
+/// Whether what has this name is a character device below `/dev/`, and no `..` in the name leads out
+/// again.
+fn is_device(name: &str, known: &Metadata) -> bool {
+    name.starts_with(DEVICES) && !name.contains("..") && known.file_type().is_char_device()
+}
+
+/// Whether a name is that of a stream of the process.
+fn is_stream(name: &str) -> bool {
+    match name.strip_prefix(OPENED) {
+        Some(number) => !number.contains("/"),
+        None => STREAMS.contains(&name),
+    }
+}
+
+/// Why what has a name, and is no file, is refused.
+fn refused(known: &Metadata) -> io::Error {
+    io::Error::from(if known.is_dir() {
+        ErrorKind::IsADirectory
+    } else {
+        ErrorKind::InvalidInput
+    })
+}
+
+/// Whether the file that is open has the owner of this one, which has no other name.
 fn is_by_one_owner<F: OpenFile>(file: &Option<F>, old: &Metadata) -> io::Result<bool> {
     match file {
-        Some(open) => Ok(old.is_file() && open.metadata()?.uid() == old.uid()),
+        Some(open) => Ok(old.nlink() < 2 && open.metadata()?.uid() == old.uid()),
         None => Ok(false),
     }
 }

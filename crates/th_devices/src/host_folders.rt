@@ -11,19 +11,31 @@ use crate::folders::{Folder, Origin, Target};
 use crate::reasons::{Reason, Reasons};
 use crate::streams::{StandardInput, StandardOutput};
 use std::alloc::{AllocError, Global};
-use std::fs::OpenFile;
+use std::cell::Cell;
+use std::fs::{File, TryLockError};
 use std::io::ErrorKind;
 use std::os::unix::fs::MetadataExt;
 use std::rt::{Clock, Files};
-use std::time::Instant;
-use std::{fs, io};
+use std::time::{Duration, Instant};
+use std::{fs, io, mem, thread};
 use th_progress::Meter;
 
+/// How often a run tries to lock a folder that another run has locked, and how long it waits each time.
+const TRIES: u32 = 1_000;
+
+const PAUSE_IN_MILLISECONDS: u64 = 10;
+
 /// The files and standard streams of the system. It does not report their bytes.
+///
+/// From its first file that takes its place to the end of the process a run has the lock of the folder, so
+/// that the outputs of two runs do not mix. The system gives the lock back, also if the run is killed. Without the right
+/// to read the folder, and where the file system has no locks, a run goes on without.
 #[derive(Drop)]
 pub struct HostFolder<'a, R> {
     rt: &'a R,
     run: u64,
+    sinks: Cell<u32>,
+    has_lock: Cell<bool>,
     watched: Option<Instant>,
     reasons: &'a Reasons,
 }
@@ -41,13 +53,53 @@ impl<'a, R> HostFolder<'a, R> {
         HostFolder {
             rt,
             run,
+            sinks: Cell::new(0),
+            has_lock: Cell::new(false),
             watched,
             reasons,
         }
     }
+
+    /// The number of the next sink of a file, from 1.
+    fn next_sink(&self) -> u32 {
+        let number = self.sinks.get().saturating_add(1);
+        self.sinks.set(number);
+        number
+    }
 }
 
-impl<'a, R: Files + Input + Print + Eprint + Clock> Folder for HostFolder<'a, R> {
+impl<'a, R: Files<File = File> + Clock> HostFolder<'a, R> {
+    /// Locks the folder of the file of this name, unless this run has locked one. It stays open to the end of
+    /// the process, and so does the lock.
+    fn lock(&self, name: &str) -> Result<(), Failed> {
+        if self.has_lock.get() {
+            return Ok(());
+        }
+        if let Ok(folder) = fs::open(self.rt, folder_of(name))
+            && let Some(locked) = self.wait_for(folder)?
+        {
+            mem::forget(locked);
+            self.has_lock.set(true);
+        }
+        Ok(())
+    }
+
+    /// The folder, locked as soon as no other run has it locked, or nothing where the system locks none.
+    fn wait_for(&self, folder: File) -> Result<Option<File>, Failed> {
+        for _ in 0..TRIES {
+            match folder.try_lock() {
+                Ok(()) => return Ok(Some(folder)),
+                Err(TryLockError::WouldBlock) => {
+                    thread::sleep(self.rt, Duration::from_millis(PAUSE_IN_MILLISECONDS));
+                }
+                Err(TryLockError::Error(_)) => return Ok(None),
+            }
+        }
+        Err(self.reasons.held())
+    }
+}
+
+impl<'a, R: Files<File = File> + Input + Print + Eprint + Clock> Folder for HostFolder<'a, R> {
     type In = Untold<OneOf<FileSource<'a, R>, StandardInput<'a, R>>>;
 
     type Out = OneOf<FileSink<'a, R>, OneOf<StandardOutput<'a, R>, StandardError<'a, R>>>;
@@ -76,7 +128,8 @@ impl<'a, R: Files + Input + Print + Eprint + Clock> Folder for HostFolder<'a, R>
     fn sink(&mut self, alloc: Global, target: Target<'_>) -> Result<Self::Out, AllocError> {
         Ok(match target {
             Target::File(name) => {
-                OneOf::First(FileSink::new(alloc, self.rt, name, self.run, self.reasons)?)
+                let number = self.next_sink();
+                OneOf::First(FileSink::new(alloc, self.rt, name, self.run, number, self.reasons)?)
             }
             Target::Output => {
                 OneOf::Second(OneOf::First(StandardOutput::new(self.rt, self.reasons)))
@@ -96,7 +149,7 @@ impl<'a, R: Files + Input + Print + Eprint + Clock> Folder for HostFolder<'a, R>
 
     fn place(&mut self, sink: Self::Out) -> Result<(), Failed> {
         if let OneOf::First(mut file) = sink {
-            let answer = file.place();
+            let answer = self.lock(file.name()).and_then(|()| file.place());
             file.discard();
             return answer;
         }
@@ -156,5 +209,6 @@ fn leads_nowhere(error: &io::Error) -> bool {
             | ErrorKind::PermissionDenied
             | ErrorKind::InvalidFilename
             | ErrorKind::InvalidInput
+            | ErrorKind::FilesystemLoop
     )
 }

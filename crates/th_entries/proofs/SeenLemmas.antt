@@ -13,7 +13,7 @@ use Rattle.gsi_word.specs.declared.words.Word.{Word}
 use Rattle.th_book.specs.declared.entries.Entered.{Entered}
 use Rattle.th_entries.specs.Limits.{max_mentions}
 use Rattle.th_entries.specs.Listed.{IsListed}
-use Rattle.th_entries.specs.Spellings.{Mention, differing, differs, is_of, spellings_in}
+use Rattle.th_entries.specs.Spellings.{Mention, differing, differs, is_of, spellings_in, without_zeros}
 use Rattle.th_entries.specs.Seen.{AreKnownIn, AreSeenIn, spelled_at, spelled_in}
 use Rattle.th_entries.specs.Inside.Seen.{mention_by}
 use Rattle.th_entries.specs.declared.seen.SeenNames.{SeenNames}
@@ -23,13 +23,13 @@ use Rattle.th_entries.specs.declared.seen.Spelled.TheVariants.{Alike, Otherwise}
 use Rattle.th_entries.proofs.MentionLemmas.{any-push, flip, found-push, found_with, is_other, itself, none-passes, was_other}
 
 -- the mention of a block whose first word and whose station or target are these
-pub mention_by-is : (book line : ℕ) (entered : Entered) (words : List Word) (word : Word) (name : List ℕ) → slice_get words 0 ≡ Some word → option_or entered.target entered.station ≡ Some name → mention_by book line entered (map parts_of words) ≡ Some (record { here = record { book = book; line = line; name = name }; bytes = (parts_of word).body })
+pub mention_by-is : (book line : ℕ) (entered : Entered) (words : List Word) (word : Word) (name : List ℕ) → slice_get words 0 ≡ Some word → option_or entered.target entered.station ≡ Some name → mention_by book line entered (map parts_of words) ≡ Some (record { here = record { book = book; line = line; name = name }; bytes = without_zeros (parts_of word).body })
 mention_by-is book line entered [] word name first named = cc
 mention_by-is book line entered (own ∷ words) word name first named =
     ap (option_map (mention_at own)) named ∙ ap (λ found. Some (mention_at found name)) same
   where
     mention_at : Word → List ℕ → Mention
-    mention_at found name = record { here = record { book = book; line = line; name = name }; bytes = (parts_of found).body }
+    mention_at found name = record { here = record { book = book; line = line; name = name }; bytes = without_zeros (parts_of found).body }
 
     same : own ≡ word
     same = cc
@@ -38,7 +38,7 @@ mention_by-is book line entered (own ∷ words) word name first named =
 pub no_mention : (book line : ℕ) (entered : Entered) (words : List Parts) → (slice_get words 0 ≡ None) ⊎ (option_or entered.target entered.station ≡ None) → mention_by book line entered words ≡ None
 no_mention book line entered [] none = refl
 no_mention book line entered (word ∷ words) (inl none) = absurd (cc)
-no_mention book line entered (word ∷ words) (inr none) = ap (option_map (λ (name : List ℕ). record { here = record { book = book; line = line; name = name }; bytes = word.body })) none
+no_mention book line entered (word ∷ words) (inr none) = ap (option_map (λ (name : List ℕ). record { here = record { book = book; line = line; name = name }; bytes = without_zeros word.body })) none
 
 or_false : (b : Bool) → (b || false) ≡ b
 or_false true = refl

@@ -18,7 +18,7 @@ use Rattle.th_book.specs.declared.setups.Setup.{Setup}
 use Rattle.th_entries.specs.Below.{all_below}
 use Rattle.th_entries.specs.Listed.{IsListed}
 use Rattle.th_entries.specs.Reviews.{is_lookalike, is_measured, resembles_setup}
-use Rattle.th_entries.specs.Spellings.{Mention, mention_in, mentions_at}
+use Rattle.th_entries.specs.Spellings.{Mention, mention_in, mentions_at, without_zeros}
 use Rattle.th_entries.specs.Seen.{AreSeenIn}
 use Rattle.th_entries.specs.Counts.{counts_below}
 use Rattle.th_entries.specs.Inside.Counts.{with_block, with_line}
@@ -41,7 +41,7 @@ mention_same book line [] = refl
 mention_same book line (word ∷ words) = go (is_sight (word ∷ words)) (is_setup (word ∷ words)) (name_of word.body)
   where
     here : List ℕ → Mention
-    here name = record { here = record { book = book; line = line; name = name }; bytes = word.body }
+    here name = record { here = record { book = book; line = line; name = name }; bytes = without_zeros word.body }
 
     go : (sight setup : Bool) (name : Option (List ℕ)) → option_map here (option_or (cond sight name None) (cond setup name None)) ≡ cond (sight || setup) (option_map here name) None
     go true setup (Some name) = refl

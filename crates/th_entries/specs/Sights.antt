@@ -36,6 +36,10 @@ words_lead [] = []
 words_lead (only ∷ []) = codes "; it has word "
 words_lead (first ∷ next ∷ rest) = codes "; it has words "
 
+-- the text after the count of the blocks of a book
+abbrev pub blocks_end : ℕ → List ℕ
+blocks_end count = if count == 1 then codes " block (no word 33" else codes " blocks (no word 33"
+
 -- the words that a book has in place of sights, by their numbers
 abbrev pub words_seen : List ℕ → List ℕ
 words_seen numbers = words_lead numbers ++ enumerated numbers
@@ -44,4 +48,4 @@ words_seen numbers = words_lead numbers ++ enumerated numbers
 unfoldable pub no_sight_text : NoSight → List ℕ
 no_sight_text note =
     codes "book " ++ decimal note.book ++ codes " has no sight in " ++ decimal note.blocks
-    ++ codes " blocks (no word 33" ++ words_seen (numbers_in note.words measured) ++ codes ")"
+    ++ blocks_end note.blocks ++ words_seen (numbers_in note.words measured) ++ codes ")"

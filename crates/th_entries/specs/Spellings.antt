@@ -1,6 +1,8 @@
 -- Names that are spelled in more than one way.
-use Rattle.std.specs.Prelude.{ℕ, ◌+◌, ◌||◌, not, Bool, false, List, [], ◌∷◌, Option, None, if◌then◌else◌, bytes_eq, filter, find, flat_map, length, map, option_map, option_to_list, take}
+use Rattle.std.specs.Prelude.{ℕ, ◌+◌, ◌||◌, not, Bool, false, List, [], ◌∷◌, Option, None, if◌then◌else◌, bytes_eq, drop, filter, find, flat_map, length, map, option_map, option_to_list, take}
+use Rattle.std.specs.List.{prefix_len}
 use Rattle.std.specs.Option.{option_map_or}
+use Rattle.gsi_word.specs.Bytes.{is_zero}
 use Rattle.gsi_word.specs.Words.{Parts}
 use Rattle.gsi_word.specs.Names.{name_of, same_name}
 use Rattle.th_book.specs.Lines.{ParsedLine, is_setup, is_sight}
@@ -9,7 +11,11 @@ use Rattle.th_entries.specs.Below.{all_below}
 use Rattle.th_entries.specs.Limits.{max_mentions}
 use Rattle.th_entries.specs.declared.spellings.Spelling.{Spelling}
 
--- a name that a line mentions, and the data that spell it there
+-- data without their leading zeros, which pad them to the width of their block
+abbrev pub without_zeros : List ℕ → List ℕ
+without_zeros bytes = drop (prefix_len is_zero bytes) bytes
+
+-- a name that a line mentions, and the data that spell it there, without leading zeros
 pub record Mention : Type 0 where
   pub here : Spelling
   pub bytes : List ℕ
@@ -19,7 +25,7 @@ abbrev pub mention_in : ℕ → ℕ → List Parts → Option Mention
 mention_in book line [] = None
 mention_in book line (word ∷ words) =
     if is_sight (word ∷ words) || is_setup (word ∷ words)
-    then option_map (λ name. record { here = record { book = book; line = line; name = name }; bytes = word.body }) (name_of word.body)
+    then option_map (λ name. record { here = record { book = book; line = line; name = name }; bytes = without_zeros word.body }) (name_of word.body)
     else None
 
 -- the mention of the line at a place, if it has one

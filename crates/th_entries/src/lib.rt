@@ -51,5 +51,5 @@ pub use seen::SeenNames;
 pub use sights::{NoSight, SightWatch};
 pub use spellings::Spelling;
 pub use tallies::Tally;
-pub use texts::{separator, words_lead};
+pub use texts::{blocks_end, separator, words_lead};
 pub use words::{MEASURED, MEASURED_WORDS};

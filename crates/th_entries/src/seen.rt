@@ -1,8 +1,9 @@
 //! Names of stations and targets that were seen so far, and where a spelling first differs.
-ghost use Rattle.std.specs.Prelude.{◌≡◌, [], ℕ, List, OnOk, Some, map};
+ghost use Rattle.std.specs.Prelude.{◌≡◌, ◌≤◌, [], ℕ, List, OnOk, Some, length, map};
 ghost use Rattle.gsi_word.specs.Words.{parts_of};
 ghost use Rattle.th_book.specs.Lines.{ParsedLine};
 ghost use Rattle.th_entries.specs.Inside.Seen.{IsKnownNext, IsSeenNext, mention_by};
+ghost use Rattle.th_entries.specs.Spellings.{without_zeros};
 
 use crate::limits::MAX_MENTIONS;
 use crate::listed::Listed;
@@ -19,7 +20,7 @@ const MAX_DATA: usize = 16;
 /// How a name is spelled so far.
 #[derive(Drop)]
 enum Spelled {
-    /// With these data each time.
+    /// With these data each time, but for leading zeros.
     Alike(ArrayVec<u8, MAX_DATA>),
     /// In more than one way.
     Otherwise,
@@ -68,7 +69,7 @@ impl SeenNames {
     pub(crate) fn take(&mut self, here: Spelling, word: &Word<'_>) -> Result<(), AllocError>
         ensures { OnOk result (IsSeenNext (Some (record {
           here = here;
-          bytes = (parts_of word.now).body;
+          bytes = without_zeros (parts_of word.now).body;
         })) self.old self.new) }
     {
         if self.taken < MAX_MENTIONS {
@@ -83,7 +84,7 @@ impl SeenNames {
         ensures taken { self.new.taken ≡ self.old.taken }
         ensures known { OnOk result (IsKnownNext (record {
           here = here;
-          bytes = (parts_of word.now).body;
+          bytes = without_zeros (parts_of word.now).body;
         }) self.old self.new) }
     {
         match self.spelled.get(&here.name) {
@@ -93,7 +94,7 @@ impl SeenNames {
             }
             Some(Spelled::Otherwise) => {}
             Some(Spelled::Alike(data)) => {
-                if data.as_slice() != word.body() {
+                if data.as_slice() != without_zeros(word.body()) {
                     self.found.push(here)?;
                     self.spelled.insert(here.name, Spelled::Otherwise)?;
                 }
@@ -122,12 +123,24 @@ pub(crate) fn mention(
     names.take(Spelling { book, line, name }, word)
 }
 
-/// A copy of a word's data.
+/// A copy of a word's data, without leading zeros.
 fn data_of(word: &Word<'_>) -> ArrayVec<u8, MAX_DATA>
-    ensures { result ≡ record { items = (parts_of word.now).body } }
+    ensures { result ≡ record { items = without_zeros (parts_of word.now).body } }
 {
-    match ArrayVec::try_from(word.body()) {
+    match ArrayVec::try_from(without_zeros(word.body())) {
         Ok(data) => data,
         Err(_) => unreachable!(),
     }
+}
+
+/// Data without their leading zeros, which pad them to the width of their block.
+fn without_zeros(bytes: &[u8]) -> &[u8]
+    ensures value { result.now ≡ without_zeros bytes.now }
+    ensures within { length result.now ≤ length bytes.now }
+{
+    let mut left = bytes;
+    while let [b'0', rest @ ..] = left {
+        left = rest;
+    }
+    left
 }

@@ -1,20 +1,19 @@
 -- When a number does not explain what does not fit.
-use Rattle.std.proofs.Common.{◌≡◌, ℕ, Option, None, Bool, true, false, ◌<◌, ◌≤◌, ◌⊎◌, ◌&&◌, inl, inr, ℤ, pos, ◌-ℤ◌, ◌≤ℤ◌, ◌<ℤ◌, if◌then◌else◌, int_lt, nat_lt, unsigned_abs, refl, sym, subst, arith}
+use Rattle.std.proofs.Common.{◌≡◌, ℕ, Option, None, Bool, true, false, ◌<◌, ◌≤◌, ◌⊎◌, ◌&&◌, inl, inr, ℤ, pos, ◌-ℤ◌, ◌≤ℤ◌, ◌<ℤ◌, if◌then◌else◌, int_lt, nat_lt, unsigned_abs, refl, subst, arith}
 use Rattle.std.proofs.lemmas.Int.{ints}
 use Rattle.std.proofs.lemmas.Bool.{ltb-true, lt-ltb}
-use Rattle.th_network.specs.Networks.{Survey, at_points_of}
-use Rattle.th_circulation.specs.Best.{Best, IsBest}
+use Rattle.th_network.specs.Networks.{Survey}
 use Rattle.th_explain.specs.declared.freed.Freed.{Freed}
 use Rattle.th_changes.specs.declared.numbers.Number.{Number}
 use Rattle.th_changes.specs.declared.slopes.Sloped.{Sloped}
 use Rattle.th_explain.specs.Explained.{Explains, IsExact, IsExplainedOrMore, IsNone, mildest}
-use Rattle.th_changes.specs.Freed.{Costs, IsProposed, cost_of}
+use Rattle.th_changes.specs.Freed.{Costs, IsProposed}
 use Rattle.th_explain.specs.Inside.Brackets.{AreRound, is_explanation}
-use Rattle.th_changes.specs.Rerouted.{IsCostlyBeyond}
+use Rattle.th_changes.specs.Lines.{IsCostlyBeyond}
 use Rattle.th_changes.specs.Reach.{reach_of}
 use Rattle.th_changes.specs.Slopes.{IsSloped}
 use Rattle.th_explain.proofs.BracketLemmas.{flat_is_freed}
-use Rattle.th_changes.proofs.SlopeLemmas.{costs_of, freed_costs, left_of, left_of_more, proposed_of, right_of, right_of_more, slope_of_given}
+use Rattle.th_changes.proofs.SlopeLemmas.{costs_of, freed_costs, left_of, left_of_more, proposed_of, right_of, right_of_more}
 
 less_is : (x y : ℤ) → int_lt x y ≡ true → x <ℤ y
 less_is x y less = grind (arith, ints)
@@ -116,9 +115,6 @@ none_if_costly survey limit number cost reached costly freed explains =
       | inr h ↦ let bound = exact.greatest (pos 0) (least freed.high (omega (arith, ints)) (high_costs survey number freed exact)) in omega (arith, ints)
     ]
 
-pub costs_given : (survey : Survey) (number : Number) (best : Best) (cost : ℕ) → IsBest survey best → cost ≡ cost_of survey (at_points_of survey best.low) → Costs survey number (pos 0) cost
-costs_given survey number best cost own costs = subst (Costs survey number (pos 0)) (sym costs) (slope_of_given survey number best own).reached
-
 -- ---- both changes
 pub round_of : (survey : Survey) (number : Number) (left right : Sloped) → IsSloped survey number left → IsSloped survey number right → unsigned_abs left.change ≤ reach_of number survey.observations → unsigned_abs right.change ≤ reach_of number survey.observations → left.slope <ℤ pos 0 → pos 0 <ℤ right.slope → left.change <ℤ right.change → AreRound survey number left right
 round_of survey number left right left_sloped right_sloped left_near right_near falls rises order = record {
@@ -166,5 +162,5 @@ none_if survey limit number freed exact fails other explains =
     clash here none = cc
 
 -- ---- numbers that leave more
-pub or_more : (survey : Survey) (limit : ℕ) (most : Option ℕ) (number : Number) → IsNone survey limit number → IsExplainedOrMore survey limit most number None
-or_more survey limit most number none freed explains = absurd (none freed explains)
+pub or_more : (survey : Survey) (limit : ℕ) (least : Option ℕ) (number : Number) → IsNone survey limit number → IsExplainedOrMore survey limit least number None
+or_more survey limit least number none freed explains = absurd (none freed explains)

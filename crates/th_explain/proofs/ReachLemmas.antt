@@ -90,3 +90,10 @@ freed_within survey number left right freed left_sloped falls right_sloped rises
       reached = (freed.low, omega (arith, ints), costs_of survey number freed.low freed.left exact.left exact.low);
       least = λ x heights near kept. exact.left.least x heights kept;
     }
+
+-- so is what is left if the number is freed, where the least change that is proposed is within reach
+pub exact_in_reach : (survey : Survey) (number : Number) (freed : Freed) → IsExact survey number freed → unsigned_abs freed.low ≤ reach_of number survey.observations → IsLeastInReach survey number freed.left
+exact_in_reach survey number freed exact near = record {
+  reached = (freed.low, near, costs_of survey number freed.low freed.left exact.left exact.low);
+  least = λ x heights within kept. exact.left.least x heights kept;
+}

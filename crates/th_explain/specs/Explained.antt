@@ -35,15 +35,15 @@ abbrev pub IsExplainedOrNone : Survey → ℕ → Number → Option Freed → Ty
 IsExplainedOrNone survey limit number None = IsNone survey limit number
 IsExplainedOrNone survey limit number (Some freed) = Explains survey limit number freed
 
--- more is left than this, if anything is given
-abbrev pub IsMore : Option ℕ → ℕ → Type 0
-IsMore None left = ⊥
-IsMore (Some most) left = most < left
+-- at least this is left, if anything is given
+abbrev pub IsAtLeast : Option ℕ → ℕ → Type 0
+IsAtLeast None left = ⊥
+IsAtLeast (Some least) left = least ≤ left
 
--- the number explains what does not fit, and how; or it does not, or more is then left than this
+-- the number explains what does not fit, and how; or it does not, or at least this is then left
 abbrev pub IsExplainedOrMore : Survey → ℕ → Option ℕ → Number → Option Freed → Type 0
-IsExplainedOrMore survey limit most number None = (freed : Freed) → Explains survey limit number freed → IsMore most freed.left
-IsExplainedOrMore survey limit most number (Some freed) = Explains survey limit number freed
+IsExplainedOrMore survey limit least number None = (freed : Freed) → Explains survey limit number freed → IsAtLeast least freed.left
+IsExplainedOrMore survey limit least number (Some freed) = Explains survey limit number freed
 
 -- the least cost over all changes of the number within reach, and all heights that then keep the benchmarks
 pub record IsLeastInReach (survey : Survey) (number : Number) (total : ℕ) : Type 0 where

@@ -1,187 +1,196 @@
 //! Whether a number explains what does not fit.
-ghost use Rattle.std.specs.Prelude.{◌≡◌, ◌<◌, ◌<ℤ◌, [], ◌∷◌, ◌++◌, pos, IfErr, IfOk, OnOk};
-ghost use Rattle.std.specs.List.{AllZip};
-ghost use Rattle.th_circulation.specs.Best.{IsBest};
+ghost use Rattle.std.specs.Prelude.{◌≡◌, ◌<◌, ◌<ℤ◌, pos, IfOk, None, true};
 ghost use Rattle.th_explain.specs.Explained.{IsExact, IsExplainedOrMore, IsExplainedOrNone};
-ghost use Rattle.th_changes.specs.Freed.{cost_of};
 ghost use Rattle.th_explain.specs.Inside.Brackets.{AreRound, IsRoundOrNone, is_explanation};
 ghost use Rattle.th_changes.specs.Reach.{reach_of};
 ghost use Rattle.th_changes.specs.Slopes.{IsSloped};
-ghost use Rattle.th_network.specs.Networks.{at_points_of};
-ghost use Rattle.th_network.specs.declared.faults.NetFault.TheVariants.{NoMemory};
 
 use crate::freed::{Freed, freed_between, mildest};
 use crate::sieve::Sieve;
+use crate::solving::{Asked, Solved};
 use std::alloc::{AllocError, Global};
-use th_changes::{Number, Sloped, reach_of, slope_as_given, slope_at};
-use th_circulation::BestHeights;
-use th_network::{NetFault, Network};
-use th_progress::{Progress, Work};
+use th_changes::{Case, Number, Sloped, reach_of, slope_as_given, slope_at};
+use th_network::Network;
+
+/// A number of which is asked whether it explains what does not fit.
+#[derive(Clone, Copy)]
+struct Question<'a> {
+    network: &'a Network<'a>,
+    number: Number,
+    /// Changes within this limit explain nothing, in units of 10 nm.
+    limit: u64,
+    /// No change may be so large.
+    reach: u64,
+    ghost is_reach: { reach ≡ reach_of number network.now.observations },
+}
 
 /// What is left if a number is freed, where the number explains what does not fit: even the mildest
 /// change that is proposed is above the limit, and all of them are within reach of what a book can say.
-///
-/// `best` are the best heights of the network, and `cost` is what they cost, in units of 10 nm times
-/// weight. The limit is in units of 10 nm. The only fault is `NoMemory`.
+/// The limit is in units of 10 nm.
 pub fn explanation(
     alloc: Global,
-    network: &Network,
-    best: &BestHeights,
-    cost: u128,
+    case: &Case<'_>,
     number: &Number,
     limit: u64,
-) -> Result<Option<Freed>, NetFault>
-    requires best { IsBest network.now best.now }
-    requires cost { cost ≡ cost_of network.now (at_points_of network.now best.now.low) }
-    ensures found { IfOk result (IsExplainedOrNone network.now limit number.now) }
-    ensures refused { IfErr result (λ fault. fault ≡ NoMemory) }
+) -> Result<Option<Freed>, AllocError>
+    ensures { IfOk result (IsExplainedOrNone case.now.network.now limit number.now) }
 {
-    let given = slope_as_given(network, best, cost, number);
-    let reach = reach_of(number, network);
-    if limit >= reach {
+    let question = Question::of(case.network, number, limit);
+    let given = slope_as_given(case, number);
+    if limit >= question.reach {
         return Ok(None);
     }
     if given.slope == 0 {
         return Ok(None);
     }
-    if given.slope < 0 {
-        let round = above(alloc, network, number, &given, limit, reach)?;
-        explained_in(alloc, network, number, round, limit, reach)
+    let round = if given.slope < 0 {
+        question.above(alloc, &given)?
     } else {
-        let round = below(alloc, network, number, &given, limit, reach)?;
-        explained_in(alloc, network, number, round, limit, reach)
-    }
+        question.below(alloc, &given)?
+    };
+    question.answer_in(alloc, round)
 }
 
-/// What is left if each of some numbers is freed, where it explains what does not fit; in their order.
-/// `best` are the best heights of the sieve's network.
-/// The limit is in units of 10 nm. Numbers that leave more than `most`, in units of 10 nm times weight,
-/// may be missing, if it is given. The only fault is `NoMemory`.
+/// What is left if a number is freed, where it explains what does not fit. A number that leaves at least
+/// `least`, in units of 10 nm times weight, may be missing, if it is given. The limit is in units of 10 nm.
 ///
-/// Of nearly all numbers that explain nothing, or too little, short ways by which what flows through them
-/// can be sent back show it. Each other number is freed along shortest ways. If they are too many, it is solved,
-/// which takes some 10 adjustments.
-pub fn explanations<P: Progress>(
+/// Of nearly all numbers that explain nothing, or too little, circulations that were kept, or short ways by
+/// which what flows through them can be sent back, show it. Each other number is freed by a simplex. Only if what
+/// it proposes does not hold, the number is solved, which takes some 10 adjustments.
+pub fn explanation_or_more(
     alloc: Global,
-    best: &BestHeights,
-    sieve: &mut Sieve<'_>,
-    numbers: &[Number],
-    limit: u64,
-    most: Option<u128>,
-    progress: &mut P,
-) -> Result<Vec<Option<Freed>>, NetFault>
-    requires best { IsBest sieve.old.network.now best.now }
-    requires cost { sieve.old.cost ≡ cost_of sieve.old.network.now (at_points_of sieve.old.network.now best.now.low) }
-    ensures each { IfOk result (λ found.
-        AllZip (IsExplainedOrMore sieve.old.network.now limit most) numbers.now found.items) }
-    ensures refused { IfErr result (λ fault. fault ≡ NoMemory) }
-    ensures network { sieve.new.network.now ≡ sieve.old.network.now }
-    ensures cost { sieve.new.cost ≡ sieve.old.cost }
-{
-    let mut found = Vec::with_capacity(alloc, numbers.len())?;
-    for number in numbers {
-        progress.show(Work::Numbers, found.len(), numbers.len());
-        let own = sifted(alloc, best, sieve, number, limit, most)?;
-        add(&mut found, own)?;
-    }
-    Ok(found)
-}
-
-/// What is left if a number is freed, where it explains what does not fit: solved only if the sieve does
-/// not show it.
-fn sifted(
-    alloc: Global,
-    best: &BestHeights,
     sieve: &mut Sieve<'_>,
     number: &Number,
     limit: u64,
-    most: Option<u128>,
-) -> Result<Option<Freed>, NetFault>
-    requires best { IsBest sieve.old.network.now best.now }
-    requires cost { sieve.old.cost ≡ cost_of sieve.old.network.now (at_points_of sieve.old.network.now best.now.low) }
-    ensures found { IfOk result (IsExplainedOrMore sieve.old.network.now limit most number.now) }
-    ensures refused { IfErr result (λ fault. fault ≡ NoMemory) }
-    ensures network { sieve.new.network.now ≡ sieve.old.network.now }
-    ensures cost { sieve.new.cost ≡ sieve.old.cost }
+    least: Option<u128>,
+) -> Result<Option<Freed>, AllocError>
+    ensures found { IfOk result (IsExplainedOrMore sieve.old.case.now.network.now limit least number.now) }
+    ensures case { sieve.new.case.now ≡ sieve.old.case.now }
+{
+    if shown(sieve, number, limit, least) {
+        return Ok(None);
+    }
+    let asked = Asked {
+        number: *number,
+        limit,
+        least,
+    };
+    match sieve.solved(alloc, asked)? {
+        Solved::Nothing => Ok(None),
+        Solved::Exactly(freed) => Ok(Question::of(sieve.case.network, number, limit).answer(freed)),
+        Solved::Unknown => explanation(alloc, sieve.case, number, limit),
+    }
+}
+
+/// Whether the sieve shows, without solving a network, that a number does not explain what does not fit, or
+/// leaves at least `least`, if it is given. If not, it may be so all the same.
+pub fn shown(sieve: &mut Sieve<'_>, number: &Number, limit: u64, least: Option<u128>) -> bool
+    ensures shown { result ≡ true → IsExplainedOrMore sieve.old.case.now.network.now limit least number.now None }
+    ensures case { sieve.new.case.now ≡ sieve.old.case.now }
 {
     if sieve.is_costly_beyond(number, limit) {
-        return Ok(None);
+        return true;
     }
-    if let Some(most) = most
-        && sieve.leaves_more(number, most)
+    match least {
+        Some(least) => sieve.leaves_at_least(number, limit, least),
+        None => false,
+    }
+}
+
+impl<'a> Question<'a> {
+    /// Whether a number of a network explains what does not fit, with even its mildest change above a limit.
+    fn of(network: &'a Network<'a>, number: &Number, limit: u64) -> Question<'a>
+        ensures network { result.network.now ≡ network.now }
+        ensures number { result.number ≡ number.now }
+        ensures limit { result.limit ≡ limit }
     {
-        return Ok(None);
+        Question {
+            network,
+            number: *number,
+            limit,
+            reach: reach_of(number, network),
+        }
     }
-    if let Some(freed) = sieve.freed(number) {
-        let reach = reach_of(number, sieve.network);
-        return Ok(if_explains(sieve.network, number, freed, limit, reach));
+
+    /// What is left between two changes, if there are two, where the number explains what does not fit.
+    fn answer_in(
+        &self,
+        alloc: Global,
+        round: Option<(Sloped, Sloped)>,
+    ) -> Result<Option<Freed>, AllocError>
+        requires { IsRoundOrNone self.now.network.now self.now.limit self.now.number round }
+        ensures { IfOk result (IsExplainedOrNone self.now.network.now self.now.limit self.now.number) }
+    {
+        match round {
+            Some((left, right)) => self.answer_between(alloc, left, right),
+            None => Ok(None),
+        }
     }
-    explanation(alloc, sieve.network, best, sieve.cost, number, limit)
-}
 
-/// Adds what was found of one more number.
-fn add(found: &mut Vec<Option<Freed>>, own: Option<Freed>) -> Result<(), AllocError>
-    ensures { OnOk result (found.new.items ≡ found.old.items ++ own ∷ []) }
-{
-    found.push(own)?;
-    Ok(())
-}
-
-/// What is left between two changes, if there are two, where the number explains what does not fit.
-fn explained_in(
-    alloc: Global,
-    network: &Network,
-    number: &Number,
-    round: Option<(Sloped, Sloped)>,
-    limit: u64,
-    reach: u64,
-) -> Result<Option<Freed>, NetFault>
-    requires round { IsRoundOrNone network.now limit number.now round }
-    requires reach { reach ≡ reach_of number.now network.now.observations }
-    ensures found { IfOk result (IsExplainedOrNone network.now limit number.now) }
-    ensures refused { IfErr result (λ fault. fault ≡ NoMemory) }
-{
-    match round {
-        Some((left, right)) => explained_between(alloc, network, number, left, right, limit, reach),
-        None => Ok(None),
+    /// What is left between two changes, where the number explains what does not fit.
+    fn answer_between(
+        &self,
+        alloc: Global,
+        left: Sloped,
+        right: Sloped,
+    ) -> Result<Option<Freed>, AllocError>
+        requires { AreRound self.now.network.now self.now.number left right }
+        ensures { IfOk result (IsExplainedOrNone self.now.network.now self.now.limit self.now.number) }
+    {
+        let freed = freed_between(alloc, self.network, &self.number, left, right)?;
+        Ok(self.answer(freed))
     }
-}
 
-/// What is left between two changes, where the number explains what does not fit.
-fn explained_between(
-    alloc: Global,
-    network: &Network,
-    number: &Number,
-    left: Sloped,
-    right: Sloped,
-    limit: u64,
-    reach: u64,
-) -> Result<Option<Freed>, NetFault>
-    requires round { AreRound network.now number.now left right }
-    requires reach { reach ≡ reach_of number.now network.now.observations }
-    ensures found { IfOk result (IsExplainedOrNone network.now limit number.now) }
-    ensures refused { IfErr result (λ fault. fault ≡ NoMemory) }
-{
-    let freed = freed_between(alloc, network, number, left, right)?;
-    Ok(if_explains(network, number, freed, limit, reach))
-}
+    /// What is left if the number is freed, where the number explains what does not fit.
+    fn answer(&self, freed: Freed) -> Option<Freed>
+        requires { IsExact self.now.network.now self.now.number freed }
+        ensures { IsExplainedOrNone self.now.network.now self.now.limit self.now.number result }
+    {
+        if is_explanation(self.limit, self.reach, &freed) {
+            Some(freed)
+        } else {
+            None
+        }
+    }
 
-/// What is left if a number is freed, where the number explains what does not fit.
-fn if_explains(
-    network: &Network,
-    number: &Number,
-    freed: Freed,
-    limit: u64,
-    reach: u64,
-) -> Option<Freed>
-    requires exact { IsExact network.now number.now freed }
-    requires reach { reach ≡ reach_of number.now network.now.observations }
-    ensures { IsExplainedOrNone network.now limit number.now result }
-{
-    if is_explanation(limit, reach, &freed) {
-        Some(freed)
-    } else {
-        None
+    /// Changes above the limit round those that are proposed, where the cost falls as the number grows.
+    /// There are none if a change within the limit is proposed, or one out of reach.
+    fn above(&self, alloc: Global, given: &Sloped) -> Result<Option<(Sloped, Sloped)>, AllocError>
+        requires at { given.now.change ≡ pos 0 }
+        requires given { IsSloped self.now.network.now self.now.number given.now }
+        requires falls { given.now.slope <ℤ pos 0 }
+        requires limit { self.now.limit < self.now.reach }
+        ensures { IfOk result (IsRoundOrNone self.now.network.now self.now.limit self.now.number) }
+    {
+        let left = slope_at(alloc, self.network, &self.number, self.limit as i64)?;
+        if left.slope >= 0 {
+            return Ok(None);
+        }
+        let right = slope_at(alloc, self.network, &self.number, self.reach as i64)?;
+        if right.slope <= 0 {
+            return Ok(None);
+        }
+        Ok(Some((left, right)))
+    }
+
+    /// Changes below the limit round those that are proposed, where the cost rises as the number grows.
+    /// There are none if a change within the limit is proposed, or one out of reach.
+    fn below(&self, alloc: Global, given: &Sloped) -> Result<Option<(Sloped, Sloped)>, AllocError>
+        requires at { given.now.change ≡ pos 0 }
+        requires given { IsSloped self.now.network.now self.now.number given.now }
+        requires rises { pos 0 <ℤ given.now.slope }
+        requires limit { self.now.limit < self.now.reach }
+        ensures { IfOk result (IsRoundOrNone self.now.network.now self.now.limit self.now.number) }
+    {
+        let right = slope_at(alloc, self.network, &self.number, -(self.limit as i64))?;
+        if right.slope <= 0 {
+            return Ok(None);
+        }
+        let left = slope_at(alloc, self.network, &self.number, -(self.reach as i64))?;
+        if left.slope >= 0 {
+            return Ok(None);
+        }
+        Ok(Some((left, right)))
     }
 }
 
@@ -192,62 +201,4 @@ fn is_explanation(limit: u64, reach: u64, freed: &Freed) -> bool
     limit < mildest(freed.low, freed.high)
         && freed.low.unsigned_abs() < reach
         && freed.high.unsigned_abs() < reach
-}
-
-/// Changes above the limit round those that are proposed, where the cost falls as the number grows.
-/// There are none if a change within the limit is proposed, or one out of reach.
-fn above(
-    alloc: Global,
-    network: &Network,
-    number: &Number,
-    given: &Sloped,
-    limit: u64,
-    reach: u64,
-) -> Result<Option<(Sloped, Sloped)>, NetFault>
-    requires at { given.now.change ≡ pos 0 }
-    requires given { IsSloped network.now number.now given.now }
-    requires falls { given.now.slope <ℤ pos 0 }
-    requires reach { reach ≡ reach_of number.now network.now.observations }
-    requires limit { limit < reach }
-    ensures round { IfOk result (IsRoundOrNone network.now limit number.now) }
-    ensures refused { IfErr result (λ fault. fault ≡ NoMemory) }
-{
-    let left = slope_at(alloc, network, number, limit as i64)?;
-    if left.slope >= 0 {
-        return Ok(None);
-    }
-    let right = slope_at(alloc, network, number, reach as i64)?;
-    if right.slope <= 0 {
-        return Ok(None);
-    }
-    Ok(Some((left, right)))
-}
-
-/// Changes below the limit round those that are proposed, where the cost rises as the number grows.
-/// There are none if a change within the limit is proposed, or one out of reach.
-fn below(
-    alloc: Global,
-    network: &Network,
-    number: &Number,
-    given: &Sloped,
-    limit: u64,
-    reach: u64,
-) -> Result<Option<(Sloped, Sloped)>, NetFault>
-    requires at { given.now.change ≡ pos 0 }
-    requires given { IsSloped network.now number.now given.now }
-    requires rises { pos 0 <ℤ given.now.slope }
-    requires reach { reach ≡ reach_of number.now network.now.observations }
-    requires limit { limit < reach }
-    ensures round { IfOk result (IsRoundOrNone network.now limit number.now) }
-    ensures refused { IfErr result (λ fault. fault ≡ NoMemory) }
-{
-    let right = slope_at(alloc, network, number, -(limit as i64))?;
-    if right.slope <= 0 {
-        return Ok(None);
-    }
-    let left = slope_at(alloc, network, number, -(reach as i64))?;
-    if left.slope >= 0 {
-        return Ok(None);
-    }
-    Ok(Some((left, right)))
 }

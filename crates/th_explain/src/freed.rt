@@ -2,16 +2,15 @@
 //!
 //! What a survey costs as one number grows is convex. So from two changes, one where the cost falls
 //! and one where it rises, the least cost is found between them, and how far it reaches.
-ghost use Rattle.std.specs.Prelude.{◌≡◌, ◌≤◌, ◌+ℤ◌, ◌<ℤ◌, pos, IfErr, IfOk, IfSome, unsigned_abs};
+ghost use Rattle.std.specs.Prelude.{◌≡◌, ◌≤◌, ◌+ℤ◌, ◌<ℤ◌, pos, IfOk, IfSome, unsigned_abs};
 ghost use Rattle.th_observations.specs.Observed.{largest_difference};
 ghost use Rattle.th_explain.specs.Explained.{IsExact, mildest};
 ghost use Rattle.th_explain.specs.Inside.Brackets.{AreRound, IsAbove, IsBelow, IsHighest, IsLowest, IsNearest};
 ghost use Rattle.th_changes.specs.Slopes.{IsSloped};
-ghost use Rattle.th_network.specs.declared.faults.NetFault.TheVariants.{NoMemory};
 
-use std::alloc::Global;
+use std::alloc::{AllocError, Global};
 use th_changes::{Number, Sloped, slope_at};
-use th_network::{NetFault, Network};
+use th_network::Network;
 
 /// What is left if a number is freed, and the changes of it that are proposed. Lengths are in units
 /// of 10 nm.
@@ -39,17 +38,16 @@ pub(crate) fn mildest(low: i64, high: i64) -> u64
 }
 
 /// What is left if a number is freed: less than at the left change, where the cost falls, and than at
-/// the right one, where it rises. The only fault is `NoMemory`.
+/// the right one, where it rises.
 pub(crate) fn freed_between(
     alloc: Global,
     network: &Network,
     number: &Number,
     mut left: Sloped,
     mut right: Sloped,
-) -> Result<Freed, NetFault>
+) -> Result<Freed, AllocError>
     requires { AreRound network.now number.now left right }
     ensures exact { IfOk result (IsExact network.now number.now) }
-    ensures refused { IfErr result (λ fault. fault ≡ NoMemory) }
 {
     'narrow: while right.change - left.change > 1 {
         let own = slope_at(alloc, network, number, between(&left, &right))?;
@@ -120,11 +118,10 @@ fn flat_at(
     left: &Sloped,
     flat: &Sloped,
     right: &Sloped,
-) -> Result<Freed, NetFault>
+) -> Result<Freed, AllocError>
     requires below { IsBelow network.now number.now left.now flat.now }
     requires above { IsAbove network.now number.now flat.now right.now }
     ensures exact { IfOk result (IsExact network.now number.now) }
-    ensures refused { IfErr result (λ fault. fault ≡ NoMemory) }
 {
     let low = lowest(alloc, network, number, *left, flat)?;
     let high = highest(alloc, network, number, flat, *right)?;
@@ -138,10 +135,9 @@ fn lowest(
     number: &Number,
     mut left: Sloped,
     flat: &Sloped,
-) -> Result<Sloped, NetFault>
+) -> Result<Sloped, AllocError>
     requires { IsBelow network.now number.now left flat.now }
     ensures lowest { IfOk result (IsLowest network.now number.now) }
-    ensures refused { IfErr result (λ fault. fault ≡ NoMemory) }
 {
     let mut low = *flat;
     'narrow: while low.change - left.change > 1 {
@@ -167,10 +163,9 @@ fn highest(
     number: &Number,
     flat: &Sloped,
     mut right: Sloped,
-) -> Result<Sloped, NetFault>
+) -> Result<Sloped, AllocError>
     requires { IsAbove network.now number.now flat.now right }
     ensures highest { IfOk result (IsHighest network.now number.now) }
-    ensures refused { IfErr result (λ fault. fault ≡ NoMemory) }
 {
     let mut high = *flat;
     'narrow: while right.change - high.change > 1 {

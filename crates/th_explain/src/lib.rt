@@ -6,8 +6,16 @@
 //! are for.
 #![tactic(auto)]
 
-// What shows without solving a network that a number explains nothing: flows that are sent other ways.
+// What shows without solving a network that a number explains nothing: circulations that are kept, and flows
+// that are sent other ways.
+mod detours;
+mod groups;
+mod pairs;
 mod sieve;
+mod turns;
+mod unshown;
+// What a simplex shows of a number.
+mod solving;
 
 // What is left if a number is freed, and whether it explains what does not fit.
 mod explaining;
@@ -19,9 +27,9 @@ mod reaching;
 // Laws of the definitions.
 pub mod laws;
 
-pub use explaining::{explanation, explanations};
+pub use explaining::{explanation, explanation_or_more, shown};
 pub use freed::Freed;
 pub use mended::blunders_left;
 pub use reaching::{least_in_reach, least_left};
 pub use sieve::Sieve;
-pub use th_changes::Number;
+pub use th_changes::{Case, Number};

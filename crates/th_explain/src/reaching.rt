@@ -1,61 +1,36 @@
 //! What a survey costs at least while a number changes within reach.
-ghost use Rattle.std.specs.Prelude.{◌≡◌, ◌<◌, ◌<ℤ◌, pos, IfErr, IfOk};
-ghost use Rattle.th_circulation.specs.Best.{IsBest};
+ghost use Rattle.std.specs.Prelude.{◌≡◌, ◌<◌, ◌<ℤ◌, pos, IfOk};
 ghost use Rattle.th_explain.specs.Explained.{IsLeastInReach};
-ghost use Rattle.th_changes.specs.Freed.{cost_of};
 ghost use Rattle.th_changes.specs.Reach.{reach_of};
 ghost use Rattle.th_changes.specs.Slopes.{IsSloped};
-ghost use Rattle.th_network.specs.Networks.{at_points_of};
-ghost use Rattle.th_network.specs.declared.faults.NetFault.TheVariants.{NoMemory};
 
 use crate::freed::freed_between;
 use crate::sieve::Sieve;
-use std::alloc::Global;
-use th_changes::{Number, Sloped, reach_of, slope_as_given, slope_at};
-use th_circulation::BestHeights;
-use th_network::{NetFault, Network};
+use std::alloc::{AllocError, Global};
+use th_changes::{Case, Number, Sloped, reach_of, slope_as_given, slope_at};
+use th_network::Network;
 
 /// What the network of a sieve costs at least over all changes of a number that are within reach of what a
-/// book can say, in units of 10 nm times weight. `best` are its best heights. The only fault is `NoMemory`.
-pub fn least_left(
-    alloc: Global,
-    best: &BestHeights,
-    sieve: &mut Sieve<'_>,
-    number: &Number,
-) -> Result<u128, NetFault>
-    requires best { IsBest sieve.old.network.now best.now }
-    requires cost { sieve.old.cost ≡ cost_of sieve.old.network.now (at_points_of sieve.old.network.now best.now.low) }
-    ensures least { IfOk result (IsLeastInReach sieve.old.network.now number.now) }
-    ensures refused { IfErr result (λ fault. fault ≡ NoMemory) }
-    ensures network { sieve.new.network.now ≡ sieve.old.network.now }
-    ensures cost { sieve.new.cost ≡ sieve.old.cost }
+/// book can say, in units of 10 nm times weight.
+pub fn least_left(alloc: Global, sieve: &mut Sieve<'_>, number: &Number) -> Result<u128, AllocError>
+    ensures least { IfOk result (IsLeastInReach sieve.old.case.now.network.now number.now) }
+    ensures case { sieve.new.case.now ≡ sieve.old.case.now }
 {
-    if let Some(freed) = sieve.freed(number)
-        && freed.low.unsigned_abs() <= reach_of(number, sieve.network)
+    if let Some(freed) = sieve.freed_by_simplex(alloc, number)?
+        && freed.low.unsigned_abs() <= reach_of(number, sieve.case.network)
     {
         return Ok(freed.left);
     }
-    least_in_reach(alloc, sieve.network, best, sieve.cost, number)
+    least_in_reach(alloc, sieve.case, number)
 }
 
 /// What a network costs at least over all changes of a number that are within reach of what a book can
-/// say.
-///
-/// `best` are the best heights of the network, and `cost` is what they cost, in units of 10 nm times
-/// weight. The only fault is `NoMemory`.
-pub fn least_in_reach(
-    alloc: Global,
-    network: &Network,
-    best: &BestHeights,
-    cost: u128,
-    number: &Number,
-) -> Result<u128, NetFault>
-    requires best { IsBest network.now best.now }
-    requires cost { cost ≡ cost_of network.now (at_points_of network.now best.now.low) }
-    ensures least { IfOk result (IsLeastInReach network.now number.now) }
-    ensures refused { IfErr result (λ fault. fault ≡ NoMemory) }
+/// say, in units of 10 nm times weight.
+pub fn least_in_reach(alloc: Global, case: &Case<'_>, number: &Number) -> Result<u128, AllocError>
+    ensures { IfOk result (IsLeastInReach case.now.network.now number.now) }
 {
-    let given = slope_as_given(network, best, cost, number);
+    let network = case.network;
+    let given = slope_as_given(case, number);
     let reach = reach_of(number, network);
     if reach == 0 {
         return Ok(given.cost);
@@ -77,14 +52,13 @@ fn least_above(
     number: &Number,
     given: Sloped,
     reach: u64,
-) -> Result<u128, NetFault>
+) -> Result<u128, AllocError>
     requires at { given.change ≡ pos 0 }
     requires given { IsSloped network.now number.now given }
     requires falls { given.slope <ℤ pos 0 }
     requires reach { reach ≡ reach_of number.now network.now.observations }
     requires room { 0 < reach }
     ensures least { IfOk result (IsLeastInReach network.now number.now) }
-    ensures refused { IfErr result (λ fault. fault ≡ NoMemory) }
 {
     let far = slope_at(alloc, network, number, reach as i64)?;
     if far.slope <= 0 {
@@ -101,14 +75,13 @@ fn least_below(
     number: &Number,
     given: Sloped,
     reach: u64,
-) -> Result<u128, NetFault>
+) -> Result<u128, AllocError>
     requires at { given.change ≡ pos 0 }
     requires given { IsSloped network.now number.now given }
     requires rises { pos 0 <ℤ given.slope }
     requires reach { reach ≡ reach_of number.now network.now.observations }
     requires room { 0 < reach }
     ensures least { IfOk result (IsLeastInReach network.now number.now) }
-    ensures refused { IfErr result (λ fault. fault ≡ NoMemory) }
 {
     let far = slope_at(alloc, network, number, -(reach as i64))?;
     if far.slope >= 0 {

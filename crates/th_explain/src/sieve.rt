@@ -1,294 +1,315 @@
 //! Numbers that explain nothing, and what is left if one is freed, without solving a network for each.
-ghost use Rattle.std.specs.Prelude.{◌≡◌, IfOk, IfSome, true};
-ghost use Rattle.th_circulation.specs.Best.{IsBest};
-ghost use Rattle.th_explain.specs.Explained.{IsExact};
-ghost use Rattle.th_changes.specs.Freed.{cost_of};
-ghost use Rattle.th_changes.specs.Rerouted.{HoldsNumber, IsCostlyBeyond, LeavesMore};
-ghost use Rattle.th_network.specs.Networks.{at_points_of};
+ghost use Rattle.std.specs.Prelude.{◌≡◌, All, IfOk, IfSome, true};
+ghost use Rattle.th_changes.specs.Lines.{IsCostlyBeyond, IsLine, LeavesAtLeast};
 
-use crate::freed::{Freed, freed_at};
-use gsi_word::Name;
+use crate::detours::{Detours, Worth};
+use crate::groups::link_at;
+use crate::pairs::{Pair, best_pair, nearest_line};
+use crate::unshown::Unshown;
 use std::alloc::{AllocError, Global};
 use th_blunders::Fit;
-use th_changes::{Number, Rerouted, Run, run_of};
-use th_circulation::BestHeights;
-use th_detours::{End, Freeing, Group, Guide, Link};
-use th_network::Network;
+use th_changes::{Case, KeptFlows, Line, Number, run_of};
+use th_freeing::{Seed, Simplex};
 use th_reliability::Runs;
 
-/// The best flows of a network, and a guide that proposes other ways for them.
+/// So many circulations are kept at most.
+const MOST_KEPT: usize = 64;
+
+/// The best flows of a network, circulations that freed one number or another, and what proposes other ways for
+/// them.
 #[derive(Drop)]
 pub struct Sieve<'a> {
-    pub network: &'a Network<'a>,
-    /// What the network costs, in units of 10 nm times weight.
-    pub cost: u128,
-    rerouted: Rerouted<'a>,
-    runs: Runs<'a>,
-    guide: Guide,
-    ghost same: { runs.observations.now ≡ network.now.observations },
-    ghost same_network: { rerouted.network.now ≡ network.now },
-    ghost same_cost: { rerouted.cost ≡ cost },
+    pub case: &'a Case<'a>,
+    best: Detours<'a>,
+    /// One of the circulations that are kept, and its place.
+    near: Detours<'a>,
+    near_place: Option<usize>,
+    pub(crate) kept: Vec<KeptFlows<'a>>,
+    /// For each of them where the simplex goes on from it. Nothing is promised of that.
+    pub(crate) seeds: Vec<Seed>,
+    pub(crate) runs: Runs<'a>,
+    pub(crate) simplex: Simplex,
+    /// What the kept circulations say of the number that was asked for last. Nothing is promised of it.
+    lines: Vec<Line>,
+    /// What was not shown of it. Nothing is promised of that either: it only spares the same search.
+    unshown: Unshown,
+    ghost same: { runs.observations.now ≡ case.now.network.now.observations },
+    ghost same_best: { best.rerouted.case.now ≡ case.now },
+    ghost same_near: { near.rerouted.case.now ≡ case.now },
+    ghost same_kept: { All (λ own. own.case.now ≡ case.now) kept.items },
 }
 
 impl<'a> Sieve<'a> {
-    /// The sieve of a network with its best heights, and how they fit.
-    pub fn of(
-        alloc: Global,
-        network: &'a Network<'a>,
-        best: &BestHeights,
-        fit: &Fit,
-    ) -> Result<Sieve<'a>, AllocError>
-        requires best { IsBest network.now best.now }
-        requires cost { fit.now.cost ≡ cost_of network.now (at_points_of network.now best.now.low) }
-        ensures network { IfOk result (λ own. own.network.now ≡ network.now) }
-        ensures cost { IfOk result (λ own. own.cost ≡ fit.now.cost) }
+    /// The sieve of a network, given how its best heights fit.
+    pub fn of(alloc: Global, case: &'a Case<'a>, fit: &Fit) -> Result<Sieve<'a>, AllocError>
+        ensures { IfOk result (λ own. own.case.now ≡ case.now) }
     {
         Ok(Sieve {
-            network,
-            cost: fit.cost,
-            rerouted: Rerouted::of(alloc, network, best, fit.cost)?,
-            runs: Runs::of(network.observations()),
-            guide: guide_of(alloc, network, best, fit)?,
+            case,
+            best: Detours::of(alloc, case, fit)?,
+            near: Detours::of(alloc, case, fit)?,
+            near_place: None,
+            kept: Vec::with_capacity(alloc, MOST_KEPT)?,
+            seeds: Vec::with_capacity(alloc, MOST_KEPT)?,
+            runs: Runs::of(case.network.observations()),
+            simplex: simplex_of(alloc, case, fit)?,
+            lines: Vec::with_capacity(alloc, MOST_KEPT)?,
+            unshown: Unshown::new(),
         })
-    }
-
-    /// What is left if a number is freed, if the guide finds it.
-    pub(crate) fn freed(&mut self, number: &Number) -> Option<Freed>
-        ensures network { self.new.network.now ≡ self.old.network.now }
-        ensures cost { self.new.cost ≡ self.old.cost }
-        ensures exact { IfSome result (IsExact self.old.network.now number.now) }
-    {
-        let run = run_of(number, &self.runs);
-        let slope = self.rerouted.slope(number, run)?;
-        let (group, base, need) = parted(&mut self.guide, self.network, number, run, slope)?;
-        let freeing = self.guide.free(group, base, need)?;
-        self.freed_by(number, run, slope, freeing)
-    }
-
-    /// What is left if a number is freed, if the walks of the guide show it.
-    fn freed_by(&mut self, number: &Number, run: Run, slope: i64, freeing: Freeing) -> Option<Freed>
-        requires { HoldsNumber self.old.network.now.observations number.now run }
-        ensures network { self.new.network.now ≡ self.old.network.now }
-        ensures cost { self.new.cost ≡ self.old.cost }
-        ensures exact { IfSome result (IsExact self.old.network.now number.now) }
-    {
-        let near = change_of(slope, freeing.near)?;
-        let far = change_of(slope, freeing.far)?;
-        let before = freeing.before;
-        let all = self.guide.count();
-        send(&mut self.rerouted, &self.guide, 0, before);
-        let first = self.rerouted.sloped(number, run, near, self.guide.near());
-        send(
-            &mut self.rerouted,
-            &self.guide,
-            before,
-            before.saturating_add(1),
-        );
-        let flat = self.rerouted.sloped(number, run, near, self.guide.near());
-        send(
-            &mut self.rerouted,
-            &self.guide,
-            before.saturating_add(1),
-            all,
-        );
-        let last = self.rerouted.sloped(number, run, far, self.guide.far());
-        send_back(&mut self.rerouted, &self.guide);
-        if slope < 0 {
-            freed_at(self.network, number, &first?, &flat?, &last?)
-        } else {
-            freed_at(self.network, number, &last?, &flat?, &first?)
-        }
     }
 
     /// Whether it is shown that no change of a number beyond a limit makes the network cost less. If not, it
     /// may be so all the same.
     pub(crate) fn is_costly_beyond(&mut self, number: &Number, limit: u64) -> bool
-        ensures network { self.new.network.now ≡ self.old.network.now }
-        ensures cost { self.new.cost ≡ self.old.cost }
+        ensures case { self.new.case.now ≡ self.old.case.now }
         ensures costly { result ≡ true
-            → IsCostlyBeyond self.old.network.now number.now self.old.cost limit }
+            → IsCostlyBeyond self.old.case.now.network.now number.now self.old.case.now.cost limit }
     {
-        let run = run_of(number, &self.runs);
-        let Some(slope) = self.rerouted.slope(number, run) else {
+        if self.unshown.is_mild(number, limit) {
+            return false;
+        }
+        let is_shown = self.search_costly(number, limit);
+        if !is_shown {
+            self.unshown.note_mild(number, limit);
+        }
+        is_shown
+    }
+
+    /// The same, if nothing is known yet.
+    fn search_costly(&mut self, number: &Number, limit: u64) -> bool
+        ensures case { self.new.case.now ≡ self.old.case.now }
+        ensures costly { result ≡ true
+            → IsCostlyBeyond self.old.case.now.network.now number.now self.old.case.now.cost limit }
+    {
+        let Some(given) = self.line(number) else {
             return false;
         };
-        if slope == 0 {
+        if self.is_kept_costly(number, &given, limit) {
             return true;
         }
-        let proposed = propose(&mut self.guide, self.network, number, run, slope, limit);
-        if proposed.is_none() {
-            return false;
+        let run = run_of(number, &self.runs);
+        let _ = self.best.propose(number, run, given.net, limit);
+        match self.turned(number) {
+            Some(turned) => turned.are_costly_beyond(&given, limit),
+            None => false,
         }
-        send(&mut self.rerouted, &self.guide, 0, self.guide.count());
-        let is_costly = self.rerouted.is_costly_beyond(number, run, slope, limit);
-        send_back(&mut self.rerouted, &self.guide);
-        is_costly
     }
 
-    /// Whether it is shown that more than this is left, whatever a number is changed by. If not, it may be
-    /// so all the same.
-    pub(crate) fn leaves_more(&mut self, number: &Number, most: u128) -> bool
-        ensures network { self.new.network.now ≡ self.old.network.now }
-        ensures cost { self.new.cost ≡ self.old.cost }
-        ensures more { result ≡ true → LeavesMore self.old.network.now number.now most }
+    /// The same, by a line of the best flows, and by that of circulations that are kept.
+    fn is_kept_costly(&self, number: &Number, given: &Line, limit: u64) -> bool
+        requires { IsLine self.now.case.now.network.now number.now self.now.case.now.cost given.now }
+        ensures { result ≡ true
+            → IsCostlyBeyond self.now.case.now.network.now number.now self.now.case.now.cost limit }
+    {
+        for place in 0..self.kept.len() {
+            if let Some(line) = self.kept_line(place, number)
+                && line.are_costly_beyond(given, limit)
+            {
+                return true;
+            }
+        }
+        given.are_costly_beyond(given, limit)
+    }
+
+    /// Whether it is shown that at least so much is left, whatever a number is changed by. If not, it may be so
+    /// all the same. Other ways are good ones up to the limit.
+    pub(crate) fn leaves_at_least(&mut self, number: &Number, limit: u64, least: u128) -> bool
+        ensures case { self.new.case.now ≡ self.old.case.now }
+        ensures left { result ≡ true → LeavesAtLeast self.old.case.now.network.now number.now least }
+    {
+        if self.unshown.is_less(number, least) {
+            return false;
+        }
+        let is_shown = self.search_left(number, limit, least);
+        if !is_shown {
+            self.unshown.note_less(number, least);
+        }
+        is_shown
+    }
+
+    /// The same, if nothing is known yet.
+    fn search_left(&mut self, number: &Number, limit: u64, least: u128) -> bool
+        ensures case { self.new.case.now ≡ self.old.case.now }
+        ensures left { result ≡ true → LeavesAtLeast self.old.case.now.network.now number.now least }
+    {
+        let Some(given) = self.line(number) else {
+            return false;
+        };
+        if self.is_kept_left(number, &given, least) {
+            return true;
+        }
+        if self.is_best_left(number, &given, least) {
+            return true;
+        }
+        self.is_near_left(number, &given, limit, least)
+    }
+
+    /// The same, by other ways for what flows through it in the best flows.
+    fn is_best_left(&mut self, number: &Number, given: &Line, least: u128) -> bool
+        requires { IsLine self.old.case.now.network.now number.now self.old.case.now.cost given.now }
+        ensures case { self.new.case.now ≡ self.old.case.now }
+        ensures left { result ≡ true → LeavesAtLeast self.old.case.now.network.now number.now least }
     {
         let run = run_of(number, &self.runs);
-        let Some(slope) = self.rerouted.slope(number, run) else {
+        let worth = worth_above(self.case.cost, least);
+        let _ = self.best.propose_below(number, run, given.net, worth);
+        match self.turned(number) {
+            Some(turned) => turned.leave_at_least(given, self.case.cost, least),
+            None => false,
+        }
+    }
+
+    /// The same, by other ways for what flows through it in a circulation that is kept.
+    fn is_near_left(&mut self, number: &Number, given: &Line, limit: u64, least: u128) -> bool
+        requires { IsLine self.old.case.now.network.now number.now self.old.case.now.cost given.now }
+        ensures case { self.new.case.now ≡ self.old.case.now }
+        ensures left { result ≡ true → LeavesAtLeast self.old.case.now.network.now number.now least }
+    {
+        let Some(place) = nearest_line(&self.lines, given) else {
             return false;
         };
-        let worth = worth_above(self.cost, most);
-        if propose_below(&mut self.guide, self.network, number, run, slope, worth).is_none() {
-            return false;
-        }
-        send(&mut self.rerouted, &self.guide, 0, self.guide.count());
-        let leaves_more = self.rerouted.leaves_more(number, run, slope, most);
-        send_back(&mut self.rerouted, &self.guide);
-        leaves_more
-    }
-}
-
-/// The change of this size where the cost rises or falls so steeply: towards less.
-fn change_of(slope: i64, size: u64) -> Option<i64> {
-    let size = i64::try_from(size).ok()?;
-    if slope < 0 {
-        Some(size)
-    } else {
-        size.checked_neg()
-    }
-}
-
-/// How much less than a cost may be left, if more than another is to be left.
-fn worth_above(cost: u128, most: u128) -> u64 {
-    let worth = cost.saturating_sub(most).saturating_sub(1);
-    u64::try_from(worth).unwrap_or(u64::MAX)
-}
-
-/// The guide for a network with its best flows. The lengths of its links are the sizes of the residuals.
-fn guide_of(
-    alloc: Global,
-    network: &Network,
-    best: &BestHeights,
-    fit: &Fit,
-) -> Result<Guide, AllocError> {
-    let arcs = network.arcs();
-    let weights = network.weights();
-    let flows = best.flows();
-    let mut guide = Guide::new(alloc, network.vertices(), arcs.len())?;
-    for (i, arc) in arcs.iter().enumerate() {
-        if let (Some(weight), Some(flow), Some(residual)) = (
-            weights.get(i),
-            flows.get(i),
-            fit.residuals.get(i),
-        ) {
-            guide.set_link(
-                i,
-                Link {
-                    tail: arc.tail,
-                    head: arc.head,
-                    weight: *weight,
-                    flow: *flow,
-                    difference: arc.diff,
-                    length: residual.unsigned_abs(),
-                },
-            );
-        }
-    }
-    for (vertex, height) in network.point_vertices().iter().zip(best.low()) {
-        if *vertex != 0 {
-            guide.set_height(*vertex, *height);
-        }
-    }
-    let _ = guide.start();
-    Ok(guide)
-}
-
-/// Has the guide propose walks for a number, through whose observations so much flows.
-fn propose(
-    guide: &mut Guide,
-    network: &Network,
-    number: &Number,
-    run: Run,
-    slope: i64,
-    limit: u64,
-) -> Option<()> {
-    let (group, base, need) = parted(guide, network, number, run, slope)?;
-    guide.propose(group, base, need, limit)
-}
-
-/// Has the guide propose walks for a number, through whose observations so much flows, that cost no more
-/// than this.
-fn propose_below(
-    guide: &mut Guide,
-    network: &Network,
-    number: &Number,
-    run: Run,
-    slope: i64,
-    worth: u64,
-) -> Option<()> {
-    let (group, base, need) = parted(guide, network, number, run, slope)?;
-    guide.propose_below(group, base, need, worth)
-}
-
-/// The ends that a number has, the vertex from which they are parted, and what flows from there.
-fn parted(
-    guide: &mut Guide,
-    network: &Network,
-    number: &Number,
-    run: Run,
-    slope: i64,
-) -> Option<(Group, u32, i64)> {
-    let Run { start, end, .. } = run;
-    let tails = Group::Tails { start, end };
-    match number {
-        Number::Added(_) => Some((tails, network.arcs().get(start)?.tail, slope)),
-        Number::Subtracted(_) => {
-            let need = slope.checked_neg()?;
-            Some((tails, network.arcs().get(start)?.tail, need))
-        }
-        Number::Benchmark(name) => {
-            mark(guide, network, name);
-            Some((Group::Marked, 0, slope))
-        }
-    }
-}
-
-/// Marks the ends of observations that are at a benchmark.
-fn mark(guide: &mut Guide, network: &Network, name: &Name) {
-    for (i, o) in network.observations().iter().enumerate() {
-        let (station, target) = o.ends();
-        let end = if station == *name {
-            Some(End::Tail)
-        } else if target == *name {
-            Some(End::Head)
-        } else {
-            None
+        self.draw_near(place);
+        let worth = Worth {
+            net: given.net,
+            most: worth_above(self.case.cost, least),
+            limit,
         };
-        guide.mark(i, end);
+        match self.turned_near(number, worth) {
+            Some(turned) => turned.leave_at_least(given, self.case.cost, least),
+            None => false,
+        }
     }
-}
 
-/// Sends flow along the walks that the guide proposed, from one up to another, without the second.
-fn send(rerouted: &mut Rerouted<'_>, guide: &Guide, start: usize, end: usize)
-    ensures network { rerouted.new.network.now ≡ rerouted.old.network.now }
-    ensures cost { rerouted.new.cost ≡ rerouted.old.cost }
-{
-    for walk in guide.walks(start, end) {
-        rerouted.begin(guide.base(), walk.amount);
-        for arc in guide.arcs(walk) {
-            rerouted.step(*arc);
+    /// The same, by two of the circulations that are kept, or by one and a line of the best flows.
+    fn is_kept_left(&mut self, number: &Number, given: &Line, least: u128) -> bool
+        requires { IsLine self.old.case.now.network.now number.now self.old.case.now.cost given.now }
+        ensures case { self.new.case.now ≡ self.old.case.now }
+        ensures left { result ≡ true → LeavesAtLeast self.old.case.now.network.now number.now least }
+    {
+        let Some(pair) = self.pair(number, given) else {
+            return false;
+        };
+        let first = self.line_at(pair.first, number, given);
+        let second = self.kept_line(pair.second, number);
+        match (first, second) {
+            (Some(first), Some(second)) => first.leave_at_least(&second, self.case.cost, least),
+            _ => false,
+        }
+    }
+
+    /// A line of one of the circulations that are kept, or else that of the best flows.
+    fn line_at(&self, place: Option<usize>, number: &Number, given: &Line) -> Option<Line>
+        requires { IsLine self.now.case.now.network.now number.now self.now.case.now.cost given.now }
+        ensures { IfSome result (IsLine self.now.case.now.network.now number.now self.now.case.now.cost) }
+    {
+        match place {
+            Some(place) => self.kept_line(place, number),
+            None => Some(*given),
+        }
+    }
+
+    /// The two circulations that show most of a number. Nothing is promised: it is checked.
+    fn pair(&mut self, number: &Number, given: &Line) -> Option<Pair>
+        ensures { self.new.case.now ≡ self.old.case.now }
+    {
+        self.lines.clear();
+        for place in 0..self.kept.len() {
+            let line = self.kept_line(place, number)?;
+            self.lines.push(line).ok()?;
+        }
+        best_pair(&self.lines, given)
+    }
+
+    /// A line of the best flows.
+    pub(crate) fn line(&self, number: &Number) -> Option<Line>
+        ensures { IfSome result (IsLine self.now.case.now.network.now number.now self.now.case.now.cost) }
+    {
+        self.best.line(number, run_of(number, &self.runs))
+    }
+
+    /// A line of one of the circulations that are kept.
+    pub(crate) fn kept_line(&self, place: usize, number: &Number) -> Option<Line>
+        ensures { IfSome result (IsLine self.now.case.now.network.now number.now self.now.case.now.cost) }
+    {
+        if place >= self.kept.len() {
+            return None;
+        }
+        Some(self.kept[place].line(number, run_of(number, &self.runs)))
+    }
+
+    /// A line of the best flows where they go round all walks that were proposed.
+    fn turned(&mut self, number: &Number) -> Option<Line>
+        ensures case { self.new.case.now ≡ self.old.case.now }
+        ensures line { IfSome result (IsLine self.old.case.now.network.now number.now self.old.case.now.cost) }
+    {
+        let run = run_of(number, &self.runs);
+        self.best.turned(number, run)
+    }
+
+    /// A line of the near circulation where it goes round walks such that a number is worth so much at most.
+    fn turned_near(&mut self, number: &Number, worth: Worth) -> Option<Line>
+        ensures case { self.new.case.now ≡ self.old.case.now }
+        ensures line { IfSome result (IsLine self.old.case.now.network.now number.now self.old.case.now.cost) }
+    {
+        let run = run_of(number, &self.runs);
+        let _ = self.near.propose_from(number, run, worth);
+        self.near.turned(number, run)
+    }
+
+    /// Makes one of the circulations that are kept the near one.
+    fn draw_near(&mut self, place: usize)
+        ensures { self.new.case.now ≡ self.old.case.now }
+    {
+        if self.near_place == Some(place) || place >= self.kept.len() {
+            return;
+        }
+        self.near.take(&self.kept[place]);
+        self.near_place = Some(place);
+    }
+
+    /// Keeps flows, in place of those that were kept longest if there is no room, and where the simplex goes on from
+    /// them.
+    pub(crate) fn keep(&mut self, own: KeptFlows<'a>, seed: Seed) -> Result<(), AllocError>
+        requires { own.case.now ≡ self.old.case.now }
+        ensures { self.new.case.now ≡ self.old.case.now }
+    {
+        if self.kept.len() >= MOST_KEPT {
+            self.drop_first();
+        }
+        self.seeds.push(seed)?;
+        Ok(self.kept.push(own)?)
+    }
+
+    /// Drops the flows that were kept longest.
+    fn drop_first(&mut self)
+        ensures { self.new.case.now ≡ self.old.case.now }
+    {
+        self.near_place = match self.near_place {
+            Some(place) if place > 0 => Some(place - 1),
+            _ => None,
+        };
+        if !self.kept.is_empty() && !self.seeds.is_empty() {
+            self.kept.remove(0);
+            self.seeds.remove(0);
         }
     }
 }
 
-/// Sends it back, from the last walk to the first and from the last arc of each to its first.
-fn send_back(rerouted: &mut Rerouted<'_>, guide: &Guide)
-    ensures network { rerouted.new.network.now ≡ rerouted.old.network.now }
-    ensures cost { rerouted.new.cost ≡ rerouted.old.cost }
-{
-    for walk in guide.walks(0, guide.count()).iter().rev() {
-        rerouted.begin(guide.base(), walk.amount);
-        for arc in guide.arcs(walk).iter().rev() {
-            rerouted.step(arc.reversed());
+/// How much less than a cost may be left, if at least another one is to be left.
+fn worth_above(cost: u128, least: u128) -> u64 {
+    u64::try_from(cost.saturating_sub(least)).unwrap_or(u64::MAX)
+}
+
+/// The simplex for a network with its best flows.
+fn simplex_of(alloc: Global, case: &Case<'_>, fit: &Fit) -> Result<Simplex, AllocError> {
+    let network = case.network;
+    let links = network.arcs().len();
+    let mut simplex = Simplex::new(alloc, network.vertices(), links)?;
+    for place in 0..links {
+        if let Some(link) = link_at(case, fit, place) {
+            simplex.set_link(place, link);
         }
     }
+    let _ = simplex.start();
+    Ok(simplex)
 }

@@ -1,5 +1,5 @@
 -- Rows that are ranked: which they are, and in which order.
-use Rattle.std.proofs.Common.{◌≡◌, ◌<◌, ◌≤◌, ◌+◌, ◌⊎◌, inl, inr, ℕ, zero, suc, Bool, true, false, cond, not, List, [], ◌∷◌, All, Contains, Option, None, Some, fold, get_or, length, take, refl, subst, sym, ap, ◌∙◌, arith}
+use Rattle.std.proofs.Common.{◌≡◌, ◌<◌, ◌≤◌, ◌+◌, ◌⊎◌, inl, inr, ℕ, zero, suc, Bool, true, false, cond, not, List, [], ◌∷◌, ◌++◌, All, Contains, Option, None, Some, fold, get_or, length, nat_le, take, refl, subst, sym, ap, ◌∙◌, arith}
 use Rattle.std.specs.List.{insert, position_or_len}
 use Rattle.std.proofs.lemmas.Bool.Decides.{nat_tests}
 use Rattle.std.proofs.lemmas.List.Elements.{All-contains, All-contains_itself, All-cons, All-get_or, All-head, All-nil, All-tail, All-weaker}
@@ -123,6 +123,67 @@ taken (suc n) (row ∷ rows) own up (suc k, within, is) =
       | inr h ↦ inr (ap suc h.0, All-cons (λ (row : Row). row.left ≤ own.left) row (take n rows) (All-contains (λ (later : Row). row.left ≤ later.left) rows own up.0 has) h.1)
     ]
 
+-- ---- how many rows leave no more than this
+abbrev one_if : Bool → ℕ
+one_if true = 1
+one_if false = 0
+
+abbrev pub small : ℕ → List Row → ℕ
+small most [] = 0
+small most (row ∷ rows) = one_if (nat_le row.left most) + small most rows
+
+small_with : (most : ℕ) (row : Row) (ys : List Row) → small most (with_row ys row) ≡ one_if (nat_le row.left most) + small most ys
+small_with most row [] = ap (small most) (alone row)
+small_with most row (y ∷ ys) = by (leaves_more row y) refl (small_with most row ys)
+  where
+    by : (b : Bool) → leaves_more row y ≡ b → small most (with_row ys row) ≡ one_if (nat_le row.left most) + small most ys → small most (with_row (y ∷ ys) row) ≡ one_if (nat_le row.left most) + small most (y ∷ ys)
+    by true e rest = ap (small most) (first row y ys e)
+    by false e rest = let same = ap (small most) (later row y ys e) in omega (arith, same, rest)
+
+small_sorted : (most : ℕ) (done rest : List Row) → small most (fold with_row done rest) ≡ small most done + small most rest
+small_sorted most done [] = omega arith
+small_sorted most done (row ∷ rows) =
+    let rest = small_sorted most (with_row done row) rows in
+    let more = small_with most row done in
+    omega (arith, rest, more)
+
+pub small_append : (most : ℕ) (rows others : List Row) → small most rows ≤ small most (rows ++ others)
+small_append most [] others = omega arith
+small_append most (row ∷ rows) others = let rest = small_append most rows others in omega (arith, rest)
+
+pub small_all : (most : ℕ) (rows : List Row) → All (λ (row : Row). row.left ≤ most) rows → small most rows ≡ length rows
+small_all most [] all = refl
+small_all most (row ∷ rows) all = by (nat_le row.left most) refl (All-head (λ (row : Row). row.left ≤ most) row rows all) (small_all most rows (All-tail (λ (row : Row). row.left ≤ most) row rows all))
+  where
+    by : (b : Bool) → nat_le row.left most ≡ b → row.left ≤ most → small most rows ≡ length rows → one_if b + small most rows ≡ suc (length rows)
+    by true e less rest = omega (arith, rest)
+    by false e less rest = absurd (grind (arith, nat_tests))
+
+none_small : (most left : ℕ) (rows : List Row) → most < left → All (λ (later : Row). left ≤ later.left) rows → small most rows ≡ 0
+none_small most left [] more all = refl
+none_small most left (row ∷ rows) more all = by (nat_le row.left most) refl (All-head (λ (later : Row). left ≤ later.left) row rows all) (none_small most left rows more (All-tail (λ (later : Row). left ≤ later.left) row rows all))
+  where
+    by : (b : Bool) → nat_le row.left most ≡ b → left ≤ row.left → small most rows ≡ 0 → one_if b + small most rows ≡ 0
+    by true e less rest = absurd (grind (arith, nat_tests))
+    by false e less rest = omega (arith, rest)
+
+-- if so many rows leave no more than this, then the first ones do
+taken_small : (n most : ℕ) (rows : List Row) → Ascend rows → n ≤ small most rows → (length (take n rows) ≡ n) × All (λ (row : Row). row.left ≤ most) (take n rows)
+taken_small zero most rows up many = (refl, All-nil (λ (row : Row). row.left ≤ most))
+taken_small (suc n) most [] up many = absurd (omega (arith, many))
+taken_small (suc n) most (row ∷ rows) up many = by (nat_le row.left most) refl many (taken_small n most rows up.1)
+  where
+    by : (b : Bool) → nat_le row.left most ≡ b → suc n ≤ one_if b + small most rows → (n ≤ small most rows → (length (take n rows) ≡ n) × All (λ (row : Row). row.left ≤ most) (take n rows))
+        → (length (take (suc n) (row ∷ rows)) ≡ suc n) × All (λ (row : Row). row.left ≤ most) (take (suc n) (row ∷ rows))
+    by true e many rest =
+        let less : row.left ≤ most = grind (arith, nat_tests) in
+        let (long, all) = rest (omega (arith, many)) in
+        (ap suc long, All-cons (λ (row : Row). row.left ≤ most) row (take n rows) less all)
+    by false e many rest =
+        let more : most < row.left = grind (arith, nat_tests) in
+        let none = none_small most row.left rows more up.0 in
+        absurd (omega (arith, many, none))
+
 -- ---- rows with their numbers
 all_numbered : (P Q : Row → Type 0) → ((row : Row) (number : ℕ) → P row → Q (with_number row number)) → (number : ℕ) (left : Option ℕ) (rows : List Row) → All P rows → All Q (numbered_from number left rows)
 unfolding numbered_from
@@ -172,3 +233,10 @@ complete_ranked rows own has =
       | inl h ↦ inl (has_numbered 0 None (leading rows) own h)
       | inr h ↦ inr (long_numbered 0 None (leading rows) ∙ h.0, all_numbered (λ (row : Row). row.left ≤ own.left) (λ (row : Row). row.left ≤ own.left) (λ row n at. at) 0 None (leading rows) h.1)
     ]
+
+-- if as many rows as may be ranked leave no more than this, then those that are ranked are as many, and do
+pub enough_ranked : (most : ℕ) (rows : List Row) → most_rows ≤ small most rows → (length (ranked rows) ≡ most_rows) × All (λ (row : Row). row.left ≤ most) (ranked rows)
+enough_ranked most rows many =
+    let sorted = small_sorted most [] rows in
+    let (long, all) = taken_small most_rows most (by_left rows) (ascend_leading rows) (omega (arith, many, sorted)) in
+    (long_numbered 0 None (leading rows) ∙ long, all_numbered (λ (row : Row). row.left ≤ most) (λ (row : Row). row.left ≤ most) (λ row n at. at) 0 None (leading rows) all)

@@ -1,10 +1,10 @@
 -- Rows that are printed: each is that of a number or of a book, and none that passes is missing.
-use Rattle.std.proofs.Common.{◌≡◌, ◌≤◌, ◌⊎◌, inl, inr, ℕ, zero, suc, ℤ, List, [], ◌∷◌, All, Contains, Option, None, Some, length, refl, subst, sym, ap, ◌∙◌, arith}
+use Rattle.std.proofs.Common.{◌≡◌, ◌≤◌, ◌+◌, ◌⊎◌, inl, inr, ℕ, zero, suc, ℤ, List, [], ◌∷◌, All, Contains, Option, None, Some, length, refl, subst, sym, ap, ◌∙◌, arith}
 use Rattle.std.specs.Prelude.{option_to_list}
-use Rattle.std.specs.List.{AllZip, flat_map}
-use Rattle.std.proofs.lemmas.List.Elements.{All-weaker, Contains-append_cases, Contains-append_left, Contains-append_right}
+use Rattle.std.specs.List.{AllZip, enumerate_from, flat_map}
+use Rattle.std.proofs.lemmas.Bool.{cases_lt}
+use Rattle.std.proofs.lemmas.List.Elements.{All-cons, All-nil, All-weaker, Contains-append_cases, Contains-append_left, Contains-append_right}
 use Rattle.th_entries.specs.declared.reviews.BookReview.{BookReview}
-use Rattle.th_explain.specs.Explained.{IsMore}
 use Rattle.th_changes.specs.Freed.{IsFreed, cost_of}
 use Rattle.th_explain.specs.declared.freed.Freed.{Freed}
 use Rattle.th_changes.specs.declared.numbers.Number.{Number}
@@ -18,10 +18,11 @@ use Rattle.th_explain_rows.specs.Explanations.{AreExplained, IsEnough, all_rows}
 use Rattle.th_numbers.specs.Lists.{books_of, in_order, listed_of}
 use Rattle.th_explain_laws.specs.Printed.{IsAmongRows, IsOfBook, IsOfNumber}
 use Rattle.th_readings.specs.Readings.{IsBookRowOrNone}
-use Rattle.th_explain_rows.specs.Rows.{IsRowOrMore, Passes}
+use Rattle.th_explain_rows.specs.Rows.{IsBehind, IsRowOrBehind, Passes}
 use Rattle.th_numbers.specs.declared.candidates.Candidate.{Candidate}
 use Rattle.th_explain_rows.specs.declared.findings.Explanations.{Explanations}
-use Rattle.th_explain_laws.proofs.OrderLemmas.{complete_ranked, each_ranked}
+use Rattle.th_explain_rows.specs.declared.rows.Cutoff.{Cutoff}
+use Rattle.th_explain_laws.proofs.OrderLemmas.{complete_ranked, each_ranked, enough_ranked, small, small_all, small_append}
 
 -- ---- rows that there are, of items that have one or none
 module _ {X : Type 0} (R : X → Option Row → Type 0) where
@@ -59,6 +60,40 @@ module _ {X : Type 0} (R : X → Option Row → Type 0) where
       let (found, one, there) = to_row xs os x all.1 (k, omega arith, is) in
       (found, one, more_there o os found there)
 
+-- ---- numbers and their places
+listed_at : {X : Type 0} (n : ℕ) (xs : List X) (numbered : ℕ × X) → Contains (enumerate_from n xs) numbered → Contains xs numbered.1
+listed_at n [] numbered has = absurd (omega (arith, has.1))
+listed_at n (x ∷ xs) numbered (zero, within, is) = (0, omega arith, ap (λ own. own.1) is)
+listed_at n (x ∷ xs) numbered (suc k, within, is) =
+    let (j, inside, same) = listed_at (n + 1) xs numbered (k, omega arith, is) in
+    (suc j, omega arith, same)
+
+place_of : {X : Type 0} (n : ℕ) (xs : List X) (x : X) → Contains xs x → (place : ℕ) × Contains (enumerate_from n xs) (place, x)
+place_of n [] x has = absurd (omega (arith, has.1))
+place_of {X = X} n (y ∷ xs) x (zero, within, is) = (n, (0, omega arith, ap {B = ℕ × X} (λ own. (n, own)) is))
+place_of n (y ∷ xs) x (suc k, within, is) =
+    let (place, (j, inside, same)) = place_of (n + 1) xs x (k, omega arith, is) in
+    (place, (suc j, omega arith, same))
+
+-- ---- rows that are ahead of a cutoff
+no_more : (cutoff : Cutoff) (place left : ℕ) → ¬ IsBehind (Some cutoff) place left → left ≤ cutoff.left
+no_more cutoff place left ahead = elim (cases_lt cutoff.left left) [
+  | inl more ↦ absurd (ahead (inl more))
+  | inr less ↦ less
+]
+
+no_less : (cutoff : Cutoff) (place left : ℕ) → IsBehind (Some cutoff) place left → cutoff.left ≤ left
+no_less cutoff place left (inl more) = omega (arith, more)
+no_less cutoff place left (inr (same, later)) = omega (arith, same)
+
+module _ (survey : Survey) (cost : ℕ) (limit : ℤ) (cutoff : Cutoff) where
+  all_ahead : (xs : List (ℕ × Candidate)) (os : List (Option Row)) → AllZip (IsRowOrBehind survey cost limit (Some cutoff)) xs os → All (λ (row : Row). row.left ≤ cutoff.left) (flat_map option_to_list os)
+  all_ahead [] [] all = All-nil (λ (row : Row). row.left ≤ cutoff.left)
+  all_ahead [] (o ∷ os) all = absurd all
+  all_ahead (x ∷ xs) [] all = absurd all
+  all_ahead (x ∷ xs) (None ∷ os) all = all_ahead xs os all.1
+  all_ahead (x ∷ xs) (Some row ∷ os) all = All-cons (λ (row : Row). row.left ≤ cutoff.left) row (flat_map option_to_list os) (no_more cutoff x.0 row.left all.0.1) (all_ahead xs os all.1)
+
 -- ---- what is printed
 module _ (survey : Survey) (reviews : List BookReview) (limit : ℤ) (explained : Explanations) (are : AreExplained survey reviews limit explained) where
   abbrev cost : ℕ
@@ -66,6 +101,9 @@ module _ (survey : Survey) (reviews : List BookReview) (limit : ℤ) (explained 
 
   abbrev candidates : List Candidate
   candidates = in_order (listed_of survey (entries_of reviews) are.tied)
+
+  abbrev IsOwnRow : ℕ × Candidate → Option Row → Type 0
+  IsOwnRow = IsRowOrBehind survey cost limit are.printed.cutoff
 
   pub each_printed : All (λ (row : Row). IsOfNumber survey cost limit candidates row ⊎ IsOfBook survey (entries_of reviews) cost limit reviews row) explained.rows.items
   each_printed =
@@ -77,8 +115,8 @@ module _ (survey : Survey) (reviews : List BookReview) (limit : ℤ) (explained 
       by row (own, has, same) =
           elim (Contains-append_cases (flat_map option_to_list are.printed.own) (flat_map option_to_list are.printed.read) own has) [
             | inl h ↦
-                let (candidate, listed, passes) = from_row (IsRowOrMore survey cost limit are.printed.most) candidates are.printed.own own are.printed.found.numbers h in
-                inl (record { candidate = candidate; listed = listed; own = own; passes = passes; same = same })
+                let (numbered, listed, passes) = from_row IsOwnRow (enumerate_from 0 candidates) are.printed.own own are.printed.found.numbers h in
+                inl (record { candidate = numbered.1; listed = listed_at 0 candidates numbered listed; own = own; passes = passes.0; same = same })
             | inr h ↦
                 let (book, listed, fits) = from_row (IsBookRowOrNone survey (entries_of reviews) cost limit) (books_of reviews) are.printed.read own are.printed.found.books h in
                 inr (record { book = book; listed = listed; own = own; fits = fits; same = same })
@@ -88,18 +126,28 @@ module _ (survey : Survey) (reviews : List BookReview) (limit : ℤ) (explained 
       → (candidate : Candidate) (freed : Freed) → Contains candidates candidate → Passes survey limit candidate freed
       → IsAmongRows survey cost limit candidate explained.rows.items ⊎ ((length explained.rows.items ≡ most_rows) × All (λ (row : Row). row.left ≤ freed.left) explained.rows.items)
   complete_printed one candidate freed has passes =
-      let (found, is, there) = to_row (IsRowOrMore survey cost limit are.printed.most) candidates are.printed.own candidate are.printed.found.numbers has in
-      by found is there
+      let (place, listed) = place_of 0 candidates candidate has in
+      let (found, is, there) = to_row IsOwnRow (enumerate_from 0 candidates) are.printed.own (place, candidate) are.printed.found.numbers listed in
+      by place found is there
     where
-      nothing_less : (most : Option ℕ) → IsEnough most explained.rows.items → IsMore most freed.left → (length explained.rows.items ≡ most_rows) × All (λ (row : Row). row.left ≤ freed.left) explained.rows.items
-      nothing_less None enough more = absurd more
-      nothing_less (Some most) enough more =
-          (enough.0, All-weaker (λ (row : Row). row.left ≤ most) (λ (row : Row). row.left ≤ freed.left) (λ row less. omega (arith, less, more)) explained.rows.items enough.1)
+      nothing_less : (place : ℕ) (cutoff : Option Cutoff) → AllZip (IsRowOrBehind survey cost limit cutoff) (enumerate_from 0 candidates) are.printed.own → IsEnough cutoff are.printed.own → IsBehind cutoff place freed.left
+          → (length explained.rows.items ≡ most_rows) × All (λ (row : Row). row.left ≤ freed.left) explained.rows.items
+      nothing_less place None all enough behind = absurd behind
+      nothing_less place (Some cutoff) all enough behind =
+          let own : List Row = flat_map option_to_list are.printed.own in
+          let many = small_all cutoff.left own (all_ahead survey cost limit cutoff (enumerate_from 0 candidates) are.printed.own all) in
+          let more = small_append cutoff.left own (flat_map option_to_list are.printed.read) in
+          let (long, less) = enough_ranked cutoff.left (all_rows are.printed.own are.printed.read) (omega (arith, enough, many, more)) in
+          let least = no_less cutoff place freed.left behind in (
+            ap length are.printed.leading ∙ long,
+            subst (All (λ (row : Row). row.left ≤ freed.left)) (sym are.printed.leading)
+                (All-weaker (λ (row : Row). row.left ≤ cutoff.left) (λ (row : Row). row.left ≤ freed.left) (λ row at. omega (arith, at, least)) (ranked (all_rows are.printed.own are.printed.read)) less),
+          )
 
-      by : (found : Option Row) → IsRowOrMore survey cost limit are.printed.most candidate found → IsThere (IsRowOrMore survey cost limit are.printed.most) are.printed.own found
+      by : (place : ℕ) (found : Option Row) → IsOwnRow (place, candidate) found → IsThere IsOwnRow are.printed.own found
           → IsAmongRows survey cost limit candidate explained.rows.items ⊎ ((length explained.rows.items ≡ most_rows) × All (λ (row : Row). row.left ≤ freed.left) explained.rows.items)
-      by None none there = inr (nothing_less are.printed.most are.printed.enough (none freed passes))
-      by (Some own) is there =
+      by place None none there = inr (nothing_less place are.printed.cutoff are.printed.found.numbers are.printed.enough (none freed passes))
+      by place (Some own) (is, ahead) there =
           let left : own.left ≡ freed.left = ap (λ (row : Row). row.left) is.printed ∙ one survey (number_of candidate) is.freed.left freed.left is.passes.explains.exact.left passes.explains.exact.left in
           elim (complete_ranked (all_rows are.printed.own are.printed.read) own (Contains-append_left (flat_map option_to_list are.printed.own) (flat_map option_to_list are.printed.read) own there)) [
             | inl h ↦ inl (record { own = own; passes = is; number = h.0; printed = subst (λ (rows : List Row). Contains rows (with_number own h.0)) (sym are.printed.leading) h.1 })

@@ -1,2 +1,4 @@
+mod PassLemmas
 mod RowLemmas
 mod FindLemmas
+mod GrowLemmas

@@ -1,45 +1,31 @@
--- The rows of numbers.
-use Rattle.std.proofs.Common.{◌≡◌, ℕ, zero, suc, ◌<◌, ℤ, List, [], ◌∷◌, get_or, length, map, subst, sym, arith}
-use Rattle.std.specs.List.{AllZip}
-use Rattle.th_explain.specs.Explained.{IsExplainedOrMore}
+-- The rows of numbers that pass.
+use Rattle.std.proofs.Common.{◌≡◌, ◌∙◌, ℕ, ℤ, Option, None, Some, ap, subst, sym}
+use Rattle.std.specs.Prelude.{IfSome}
 use Rattle.th_explain.specs.declared.freed.Freed.{Freed}
-use Rattle.th_network.specs.Networks.{Survey}
-use Rattle.std.specs.Prelude.{Option, None, Some}
-use Rattle.th_numbers.specs.Candidates.{number_of}
+use Rattle.th_changes.specs.Freed.{IsFreed}
+use Rattle.th_changes.specs.declared.numbers.Number.{Number}
 use Rattle.th_explain_texts.specs.declared.rows.Row.{Row}
-use Rattle.th_explain_rows.specs.Inside.Leading.{IsFreedOrMore, IsTighter}
-use Rattle.th_explain_rows.specs.Rows.{IsRowOrMore, IsRowOrNone, limit_size}
+use Rattle.th_network.specs.Networks.{Survey}
+use Rattle.th_numbers.specs.Candidates.{number_of}
 use Rattle.th_numbers.specs.declared.candidates.Candidate.{Candidate}
+use Rattle.th_explain_rows.specs.Inside.Passing.{IsAheadOrNone, IsPassedOrBehind, IsRowOfFound}
+use Rattle.th_explain_rows.specs.Rows.{IsBehind, IsRowOrBehind, Passes}
+use Rattle.th_explain_rows.specs.declared.rows.Cutoff.{Cutoff}
 
--- what is known of two lists, place by place
-pub zip_at : {A C : Type 0} (R : A → C → Type 0) (xs : List A) (ys : List C) (i : ℕ) (x : A) (d : C) → AllZip R xs ys → i < length xs → x ≡ get_or xs i x → R x (get_or ys i d)
-zip_at R [] ys i x d all within here = absurd (omega (arith, within))
-zip_at R (z ∷ xs) [] i x d all within here = absurd all
-zip_at R (z ∷ xs) (v ∷ ys) zero x d all within here = subst (λ own. R own v) (sym here) all.0
-zip_at R (z ∷ xs) (v ∷ ys) (suc i) x d all within here = zip_at R xs ys i x d all.1 (omega arith) here
+module _ (survey : Survey) (cost : ℕ) (limit : ℤ) (cutoff : Option Cutoff) (place : ℕ) (candidate : Candidate) where
+  pub ahead_passes : (found own : Option Freed) → IsPassedOrBehind survey limit cutoff (place, candidate) found → IsAheadOrNone cutoff place found own → IfSome own (Passes survey limit candidate)
+  ahead_passes None own none ahead = subst (λ (one : Option Freed). IfSome one (Passes survey limit candidate)) (sym ahead) tt
+  ahead_passes (Some freed) None is ahead = tt
+  ahead_passes (Some freed) (Some own) is ahead = subst (Passes survey limit candidate) (sym ahead.0) is
 
--- ---- numbers that leave more
-pub more_row : (survey : Survey) (cost : ℕ) (limit : ℤ) (most : Option ℕ) (candidate : Candidate) (row : Option Row) → IsRowOrNone survey cost limit candidate row → IsRowOrMore survey cost limit most candidate row
-more_row survey cost limit most candidate None none = λ freed passes. absurd (none freed passes)
-more_row survey cost limit most candidate (Some row) is = is
+  no_row : (row : Option Row) → row ≡ None → ((freed : Freed) → Passes survey limit candidate freed → IsBehind cutoff place freed.left) → IsRowOrBehind survey cost limit cutoff (place, candidate) row
+  no_row row same none = subst (IsRowOrBehind survey cost limit cutoff (place, candidate)) (sym same) none
 
-pub more_none : (survey : Survey) (cost : ℕ) (limit : ℤ) (most : Option ℕ) (candidate : Candidate) → IsExplainedOrMore survey (limit_size limit) most (number_of candidate) None → IsRowOrMore survey cost limit most candidate None
-more_none survey cost limit most candidate none freed passes = none freed passes.explains
-
--- a lesser bound
-tighter_one : (survey : Survey) (limit : ℤ) (most other : Option ℕ) (candidate : Candidate) (found : Option Freed) → IsTighter most other → IsFreedOrMore survey limit most candidate found → IsFreedOrMore survey limit other candidate found
-tighter_one survey limit most other candidate None tighter none = λ freed explains. tighter freed.left (none freed explains)
-tighter_one survey limit most other candidate (Some freed) tighter is = is
-
-pub tighter_all : (survey : Survey) (limit : ℤ) (most other : Option ℕ) (candidates : List Candidate) (found : List (Option Freed)) → IsTighter most other → AllZip (IsFreedOrMore survey limit most) candidates found → AllZip (IsFreedOrMore survey limit other) candidates found
-tighter_all survey limit most other [] [] tighter all = all
-tighter_all survey limit most other [] (own ∷ found) tighter all = absurd all
-tighter_all survey limit most other (candidate ∷ candidates) [] tighter all = absurd all
-tighter_all survey limit most other (candidate ∷ candidates) (own ∷ found) tighter all = (tighter_one survey limit most other candidate own tighter all.0, tighter_all survey limit most other candidates found tighter all.1)
-
--- from what the numbers of candidates are to the candidates
-pub of_numbers : (survey : Survey) (limit : ℤ) (most : Option ℕ) (candidates : List Candidate) (found : List (Option Freed)) → AllZip (IsExplainedOrMore survey (limit_size limit) most) (map number_of candidates) found → AllZip (IsFreedOrMore survey limit most) candidates found
-of_numbers survey limit most [] [] all = all
-of_numbers survey limit most [] (own ∷ found) all = absurd all
-of_numbers survey limit most (candidate ∷ candidates) [] all = absurd all
-of_numbers survey limit most (candidate ∷ candidates) (own ∷ found) all = (all.0, of_numbers survey limit most candidates found all.1)
+  pub row_or_behind : ((own : Survey) (number : Number) (first second : ℕ) → IsFreed own number first → IsFreed own number second → first ≡ second)
+      → (found own : Option Freed) (row : Option Row) → IsPassedOrBehind survey limit cutoff (place, candidate) found → IsAheadOrNone cutoff place found own → IsRowOfFound survey cost limit candidate own row
+      → IsRowOrBehind survey cost limit cutoff (place, candidate) row
+  row_or_behind one None own row none ahead is = no_row row (subst (λ (found : Option Freed). IsRowOfFound survey cost limit candidate found row) ahead is) none
+  row_or_behind one (Some freed) None row passes behind is =
+      no_row row is (λ other also. subst (IsBehind cutoff place) (one survey (number_of candidate) freed.left other.left passes.explains.exact.left also.explains.exact.left) behind)
+  row_or_behind one (Some freed) (Some own) None passes ahead is = absurd is
+  row_or_behind one (Some freed) (Some own) (Some row) passes (same, ahead) (is, left) = (is, λ behind. ahead (subst (IsBehind cutoff place) (left ∙ ap (λ (freed : Freed). freed.left) same) behind))

@@ -1,6 +1,6 @@
 -- What explains what does not fit.
-use Rattle.std.specs.Prelude.{◌≡◌, ◌≤◌, ℕ, ℤ, ◌++◌, All, List, Option, None, Some, length, option_to_list}
-use Rattle.std.specs.List.{AllZip, flat_map}
+use Rattle.std.specs.Prelude.{◌≡◌, ◌≤◌, ℕ, ℤ, ◌++◌, List, Option, None, Some, length, option_to_list}
+use Rattle.std.specs.List.{AllZip, enumerate_from, flat_map}
 use Rattle.th_entries.specs.declared.entries.Entry.{Entry}
 use Rattle.th_entries.specs.declared.reviews.BookReview.{BookReview}
 use Rattle.th_changes.specs.Freed.{cost_of}
@@ -14,10 +14,11 @@ use Rattle.th_network.specs.Networks.{Survey}
 use Rattle.th_review_rows.specs.Entries.{entries_of}
 use Rattle.th_numbers.specs.Lists.{Listed, books_of, in_order, listed_of}
 use Rattle.th_readings.specs.Readings.{IsBookRowOrNone}
-use Rattle.th_explain_rows.specs.Rows.{IsRowOrMore}
+use Rattle.th_explain_rows.specs.Rows.{IsRowOrBehind}
 use Rattle.th_numbers.specs.Ties.{AreTiedRows}
 use Rattle.th_numbers.specs.declared.ties.TiedRow.{TiedRow}
 use Rattle.th_explain_rows.specs.declared.findings.Explanations.{Explanations}
+use Rattle.th_explain_rows.specs.declared.rows.Cutoff.{Cutoff}
 
 -- what was looked at, given the least cost, how many are marked, the numbers by kind, and how many books there are
 abbrev pub summary_with : ℕ → ℕ → Listed → ℕ → ℤ → Summary
@@ -40,24 +41,24 @@ summary_of survey heights listed books limit = summary_with (cost_of survey heig
 abbrev pub all_rows : List (Option Row) → List (Option Row) → List Row
 all_rows own read = flat_map option_to_list own ++ flat_map option_to_list read
 
--- For each number of a survey its row, if it passes and does not leave more than this; and for each book its row, if it is much cheaper to read it from mark to mark.
-pub record AreFound (survey : Survey) (entries : List Entry) (reviews : List BookReview) (cost : ℕ) (limit : ℤ) (listed : Listed) (most : Option ℕ) (own read : List (Option Row)) : Type 0 where
-  pub numbers : AllZip (IsRowOrMore survey cost limit most) (in_order listed) own
+-- For each number of a survey its row, if it passes and is not behind the cutoff; and for each book its row, if it is much cheaper to read it from mark to mark.
+pub record AreFound (survey : Survey) (entries : List Entry) (reviews : List BookReview) (cost : ℕ) (limit : ℤ) (listed : Listed) (cutoff : Option Cutoff) (own read : List (Option Row)) : Type 0 where
+  pub numbers : AllZip (IsRowOrBehind survey cost limit cutoff) (enumerate_from 0 (in_order listed)) own
   pub books : AllZip (IsBookRowOrNone survey entries cost limit) (books_of reviews) read
 
--- as many rows as there may be, none of which leaves more than this, if anything is given
-abbrev pub IsEnough : Option ℕ → List Row → Type 0
-IsEnough None rows = Unit {0}
-IsEnough (Some most) rows = (length rows ≡ most_rows) × All (λ row. row.left ≤ most) rows
+-- if there is a cutoff, at least as many numbers have rows as may be printed
+abbrev pub IsEnough : Option Cutoff → List (Option Row) → Type 0
+IsEnough None own = Unit {0}
+IsEnough (Some cutoff) own = most_rows ≤ length (flat_map option_to_list own)
 
--- The rows that are printed: of all numbers and books those that leave least. Numbers that pass may be missing only if each of these, which are then as
--- many as there may be, leaves less.
+-- The rows that are printed: of all numbers and books those that leave least. Numbers that pass may be missing only behind a cutoff, and only if as many
+-- numbers as may be printed are ahead of it.
 pub record ArePrinted (survey : Survey) (entries : List Entry) (reviews : List BookReview) (cost : ℕ) (limit : ℤ) (listed : Listed) (rows : List Row) : Type 0 where
-  pub most : Option ℕ
+  pub cutoff : Option Cutoff
   pub own : List (Option Row)
   pub read : List (Option Row)
-  pub found : AreFound survey entries reviews cost limit listed most own read
-  pub enough : IsEnough most rows
+  pub found : AreFound survey entries reviews cost limit listed cutoff own read
+  pub enough : IsEnough cutoff own
   pub leading : rows ≡ ranked (all_rows own read)
 
 -- What was looked at in a survey whose books have these reviews, and the rows of the numbers that explain most. All numbers were looked at; of

@@ -1,2 +1,3 @@
 -- what private functions promise each other
-pub mod Leading
+pub mod Growing
+pub mod Passing

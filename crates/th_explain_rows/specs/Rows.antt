@@ -1,6 +1,6 @@
 -- The row of a number, where it explains what does not fit.
-use Rattle.std.specs.Prelude.{◌≡◌, ℕ, ◌-◌, ◌≤◌, ℤ, pos, ◌+ℤ◌, List, Option, Some, None, if◌then◌else◌, int_lt, unsigned_abs}
-use Rattle.th_explain.specs.Explained.{Explains, IsMore}
+use Rattle.std.specs.Prelude.{◌≡◌, ◌⊎◌, ℕ, ◌-◌, ◌<◌, ◌≤◌, ℤ, pos, ◌+ℤ◌, List, Option, Some, None, if◌then◌else◌, int_lt, unsigned_abs}
+use Rattle.th_explain.specs.Explained.{Explains}
 use Rattle.th_changes.specs.Freed.{Keeps, cost_of}
 use Rattle.th_explain.specs.Mended.{LeavesBlunders}
 use Rattle.th_changes.specs.Numbers.{changed}
@@ -13,6 +13,7 @@ use Rattle.th_network.specs.Networks.{Survey}
 use Rattle.th_numbers.specs.Candidates.{given_of, label_of, number_of, sight_count, whole_of}
 use Rattle.th_numbers.specs.declared.candidates.Candidate.{Candidate}
 use Rattle.th_numbers.specs.declared.candidates.Label.{Label}
+use Rattle.th_explain_rows.specs.declared.rows.Cutoff.{Cutoff}
 
 -- a limit of blunders as a size: 0 where it is below
 abbrev pub limit_size : ℤ → ℕ
@@ -66,12 +67,12 @@ pub record IsRow (survey : Survey) (cost : ℕ) (limit : ℤ) (candidate : Candi
   pub blunders : LeavesBlunders survey (number_of candidate) (mildest_change freed) limit row.blunders
   pub printed : row ≡ row_of survey cost candidate freed row.blunders
 
--- the row of a number, or none if it does not pass
-abbrev pub IsRowOrNone : Survey → ℕ → ℤ → Candidate → Option Row → Type 0
-IsRowOrNone survey cost limit candidate None = (freed : Freed) → ¬ Passes survey limit candidate freed
-IsRowOrNone survey cost limit candidate (Some row) = IsRow survey cost limit candidate row
+-- A number at this place, in the order of numbers, that leaves so much is behind the cutoff: it leaves more, or as much and is not before its place.
+abbrev pub IsBehind : Option Cutoff → ℕ → ℕ → Type 0
+IsBehind None place left = ⊥
+IsBehind (Some cutoff) place left = (cutoff.left < left) ⊎ ((cutoff.left ≡ left) × (cutoff.place ≤ place))
 
--- the row of a number; or none if it does not pass, or leaves more than this
-abbrev pub IsRowOrMore : Survey → ℕ → ℤ → Option ℕ → Candidate → Option Row → Type 0
-IsRowOrMore survey cost limit most candidate None = (freed : Freed) → Passes survey limit candidate freed → IsMore most freed.left
-IsRowOrMore survey cost limit most candidate (Some row) = IsRow survey cost limit candidate row
+-- the row of a number at its place, ahead of the cutoff; or none if it does not pass, or is behind the cutoff
+abbrev pub IsRowOrBehind : Survey → ℕ → ℤ → Option Cutoff → ℕ × Candidate → Option Row → Type 0
+IsRowOrBehind survey cost limit cutoff (place, candidate) None = (freed : Freed) → Passes survey limit candidate freed → IsBehind cutoff place freed.left
+IsRowOrBehind survey cost limit cutoff (place, candidate) (Some row) = IsRow survey cost limit candidate row × ¬ IsBehind cutoff place row.left

@@ -4,10 +4,16 @@
 //! definitions.
 #![tactic(auto)]
 
+// Which numbers pass: those that gain most first, then all, up to a cutoff that falls as they are found.
+mod finder;
+mod growing;
+mod guesses;
+mod passing;
+
 // The row of a number, or none.
 mod rows;
 
 // All rows.
 mod findings;
 
-pub use findings::{Explanations, explanations_of};
+pub use findings::{Explanations, explained_by, explanations_of};

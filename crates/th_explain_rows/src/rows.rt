@@ -1,213 +1,102 @@
-//! The row of a number, where it explains what does not fit.
-ghost use Rattle.std.specs.Prelude.{◌≡◌, ◌≤◌, ◌↔◌, IfErr, IfOk, map, true, unsigned_abs};
-ghost use Rattle.std.specs.List.{AllZip};
+//! The row of a number that passes.
+ghost use Rattle.std.specs.Prelude.{◌≡◌, ◌≤◌, ◌↔◌, IfOk, IfSome, true, unsigned_abs};
+ghost use Rattle.std.specs.List.{AllZip, enumerate_from};
 ghost use Rattle.th_observations.specs.Observed.{largest_difference};
-ghost use Rattle.th_circulation.specs.Best.{IsBest};
-ghost use Rattle.th_explain.specs.Explained.{Explains, IsMore};
-ghost use Rattle.th_changes.specs.Freed.{cost_of};
-ghost use Rattle.th_network.specs.Networks.{at_points_of};
-ghost use Rattle.th_network.specs.declared.faults.NetFault.TheVariants.{NoMemory};
-ghost use Rattle.th_numbers.specs.Candidates.{number_of};
-ghost use Rattle.th_explain_rows.specs.Inside.Leading.{IsFreedOrMore};
-ghost use Rattle.th_explain_rows.specs.Rows.{IsRowOrMore, IsRowOrNone, LeavesNoMore, limit_size, mildest_change, row_of, row_with, values_of};
+ghost use Rattle.th_explain_rows.specs.Inside.Passing.{IsAheadOrNone, IsPassedOrBehind, IsRowOfFound};
+ghost use Rattle.th_explain_rows.specs.Rows.{IsBehind, IsRow, IsRowOrBehind, Passes, mildest_change, row_of, row_with, values_of};
 
+use crate::finder::Misfit;
 use std::alloc::{AllocError, Global};
-use th_circulation::BestHeights;
 use th_explain::laws::{freed_is_one, mistake_explains};
-use th_explain::{Freed, Number, Sieve, blunders_left, explanations, least_left};
+use th_explain::{Freed, blunders_left};
 use th_explain_texts::{Row, Values};
-use th_network::{NetFault, Network};
+use th_network::Network;
 use th_numbers::{Candidate, Label, sight_count};
-use th_progress::Progress;
 use th_readings::add_found;
 
-/// What is left if each of some numbers is freed, where it explains what does not fit. Those that leave more
-/// than `most` may be missing, if it is given. The limit of blunders is in units of 10 nm. The only fault is
-/// `NoMemory`.
-pub(crate) fn freed_or_more<P: Progress>(
-    alloc: Global,
-    best: &BestHeights,
-    sieve: &mut Sieve<'_>,
-    candidates: &[Candidate],
-    limit: i64,
-    most: Option<u128>,
-    progress: &mut P,
-) -> Result<Vec<Option<Freed>>, NetFault>
-    requires best { IsBest sieve.old.network.now best.now }
-    requires cost { sieve.old.cost ≡ cost_of sieve.old.network.now (at_points_of sieve.old.network.now best.now.low) }
-    ensures found { IfOk result (λ found.
-        AllZip (IsFreedOrMore sieve.old.network.now limit most) candidates.now found.items) }
-    ensures refused { IfErr result (λ fault. fault ≡ NoMemory) }
-    ensures sieve { sieve.new.network.now ≡ sieve.old.network.now }
-    ensures same_cost { sieve.new.cost ≡ sieve.old.cost }
-{
-    let numbers = numbers_of(alloc, candidates)?;
-    let found = explanations(
-        alloc,
-        best,
-        sieve,
-        numbers.as_slice(),
-        limit_size(limit),
-        most,
-        progress,
-    )?;
-    Ok(found)
+/// Where rows end that may be printed: numbers that leave more than this, in units of 10 nm times weight, are behind
+/// it, and so are those from a place on that leave as much. Places in the order of numbers count from 0.
+#[derive(Clone, Copy)]
+pub struct Cutoff {
+    pub left: u128,
+    pub place: usize,
 }
 
-/// For each number its row, where it explains what does not fit, given what is left if it is freed. Those
-/// that leave more than `most` may be missing, if it is given.
-///
-/// `best` are the best heights of the network, and `cost` is what they cost. The limit of blunders is in
-/// units of 10 nm. The only fault is `NoMemory`.
-pub(crate) fn rows_or_more(
+/// For each number its row, where it passes and is ahead of the cutoff, given what is left if it is freed.
+pub(crate) fn rows_ahead(
     alloc: Global,
-    network: &Network,
-    best: &BestHeights,
-    cost: u128,
-    sieve: &mut Sieve<'_>,
+    misfit: &Misfit<'_>,
     candidates: &[Candidate],
     found: &[Option<Freed>],
-    limit: i64,
-    most: Option<u128>,
-) -> Result<Vec<Option<Row>>, NetFault>
-    requires best { IsBest network.now best.now }
-    requires cost { cost ≡ cost_of network.now (at_points_of network.now best.now.low) }
-    requires sieve { sieve.old.network.now ≡ network.now }
-    requires same_cost { sieve.old.cost ≡ cost }
-    requires found { AllZip (IsFreedOrMore network.now limit most) candidates.now found.now }
-    ensures rows { IfOk result (λ rows.
-        AllZip (IsRowOrMore network.now cost limit most) candidates.now rows.items) }
-    ensures refused { IfErr result (λ fault. fault ≡ NoMemory) }
-    ensures sieve { sieve.new.network.now ≡ network.now }
-    ensures same_cost { sieve.new.cost ≡ cost }
+    cutoff: Option<Cutoff>,
+) -> Result<Vec<Option<Row>>, AllocError>
+    requires { AllZip (IsPassedOrBehind misfit.now.case.now.network.now misfit.now.limit cutoff) (enumerate_from 0 candidates.now) found.now }
+    ensures { IfOk result (λ rows.
+        AllZip (IsRowOrBehind misfit.now.case.now.network.now misfit.now.case.now.cost misfit.now.limit cutoff) (enumerate_from 0 candidates.now) rows.items) }
 {
+    freed_is_one();
     let mut rows = Vec::with_capacity(alloc, candidates.len())?;
     for k in 0..candidates.len() {
-        let row = row_or_more(
-            alloc,
-            network,
-            best,
-            cost,
-            sieve,
-            &candidates[k],
-            &found[k],
-            limit,
-            most,
-        )?;
+        let own = ahead(cutoff, k, &found[k]);
+        let row = row_of_found(alloc, misfit, &candidates[k], &own)?;
         add_found(&mut rows, row)?;
     }
     Ok(rows)
 }
 
-/// What each of some numbers changes.
-fn numbers_of(alloc: Global, candidates: &[Candidate]) -> Result<Vec<Number>, AllocError>
-    ensures { IfOk result (λ numbers. numbers.items ≡ map number_of candidates.now) }
+/// What was found of a number at a place, if it is ahead of the cutoff.
+fn ahead(cutoff: Option<Cutoff>, place: usize, found: &Option<Freed>) -> Option<Freed>
+    ensures { IsAheadOrNone cutoff place found.now result }
 {
-    let mut numbers = Vec::with_capacity(alloc, candidates.len())?;
-    for candidate in candidates {
-        numbers.push(candidate.number())?;
-    }
-    Ok(numbers)
-}
-
-/// The row of a number, given what is left if it is freed, where it explains what does not fit and leaves
-/// no more than `most`.
-fn row_or_more(
-    alloc: Global,
-    network: &Network,
-    best: &BestHeights,
-    cost: u128,
-    sieve: &mut Sieve<'_>,
-    candidate: &Candidate,
-    found: &Option<Freed>,
-    limit: i64,
-    most: Option<u128>,
-) -> Result<Option<Row>, NetFault>
-    requires best { IsBest network.now best.now }
-    requires cost { cost ≡ cost_of network.now (at_points_of network.now best.now.low) }
-    requires sieve { sieve.old.network.now ≡ network.now }
-    requires same_cost { sieve.old.cost ≡ cost }
-    requires found { IsFreedOrMore network.now limit most candidate.now found.now }
-    ensures row { IfOk result (IsRowOrMore network.now cost limit most candidate.now) }
-    ensures refused { IfErr result (λ fault. fault ≡ NoMemory) }
-    ensures sieve { sieve.new.network.now ≡ network.now }
-    ensures same_cost { sieve.new.cost ≡ cost }
-{
-    freed_is_one();
     match found {
-        Some(freed) => {
-            if is_more(most, freed.left) {
-                return Ok(None);
-            }
-            let row = row_if_leading(alloc, network, best, cost, sieve, candidate, freed, limit)?;
-            Ok(row)
-        }
-        None => Ok(None),
+        Some(freed) if !is_behind(cutoff, place, freed.left) => Some(*freed),
+        _ => None,
     }
 }
 
-/// Whether more is left than this, if it is given.
-fn is_more(most: Option<u128>, left: u128) -> bool
-    ensures { result ≡ true → IsMore most left }
+/// Whether a number at a place that leaves so much is behind a cutoff.
+fn is_behind(cutoff: Option<Cutoff>, place: usize, left: u128) -> bool
+    ensures { (result ≡ true) ↔ IsBehind cutoff place left }
 {
-    match most {
-        Some(most) => left > most,
+    match cutoff {
+        Some(cutoff) => cutoff.left < left || (cutoff.left == left && cutoff.place <= place),
         None => false,
     }
 }
 
-/// The row of a number that explains what does not fit, where it leaves no more than its whole entry.
-fn row_if_leading(
+/// The row of what was found of a number.
+fn row_of_found(
     alloc: Global,
-    network: &Network,
-    best: &BestHeights,
-    cost: u128,
-    sieve: &mut Sieve<'_>,
+    misfit: &Misfit<'_>,
     candidate: &Candidate,
-    freed: &Freed,
-    limit: i64,
-) -> Result<Option<Row>, NetFault>
-    requires best { IsBest network.now best.now }
-    requires cost { cost ≡ cost_of network.now (at_points_of network.now best.now.low) }
-    requires sieve { sieve.old.network.now ≡ network.now }
-    requires same_cost { sieve.old.cost ≡ cost }
-    requires explains { Explains network.now (limit_size limit) (number_of candidate.now) freed.now }
-    ensures row { IfOk result (IsRowOrNone network.now cost limit candidate.now) }
-    ensures refused { IfErr result (λ fault. fault ≡ NoMemory) }
-    ensures sieve { sieve.new.network.now ≡ network.now }
-    ensures same_cost { sieve.new.cost ≡ cost }
+    found: &Option<Freed>,
+) -> Result<Option<Row>, AllocError>
+    requires { IfSome found.now (Passes misfit.now.case.now.network.now misfit.now.limit candidate.now) }
+    ensures { IfOk result (IsRowOfFound misfit.now.case.now.network.now misfit.now.case.now.cost misfit.now.limit candidate.now found.now) }
 {
-    freed_is_one();
-    mistake_explains();
-    let leads = leaves_no_more(alloc, best, sieve, &candidate.whole(), freed.left)?;
-    if !leads {
-        return Ok(None);
+    match found {
+        Some(freed) => Ok(Some(row_if_passed(alloc, misfit, candidate, freed)?)),
+        None => Ok(None),
     }
-    let number = candidate.number();
-    let blunders = blunders_left(alloc, network, &number, mildest_change(freed), limit)?;
-    Ok(Some(row_of(network, cost, candidate, freed, blunders)))
 }
 
-/// Whether a number leaves no more than any change within reach of its whole entry, if it is a part of
-/// one.
-fn leaves_no_more(
+/// The row of a number that passes.
+fn row_if_passed(
     alloc: Global,
-    best: &BestHeights,
-    sieve: &mut Sieve<'_>,
-    whole: &Option<Number>,
-    left: u128,
-) -> Result<bool, NetFault>
-    requires best { IsBest sieve.old.network.now best.now }
-    requires cost { sieve.old.cost ≡ cost_of sieve.old.network.now (at_points_of sieve.old.network.now best.now.low) }
-    ensures least { IfOk result (λ least. (least ≡ true) ↔ LeavesNoMore sieve.old.network.now whole.now left) }
-    ensures refused { IfErr result (λ fault. fault ≡ NoMemory) }
-    ensures sieve { sieve.new.network.now ≡ sieve.old.network.now }
-    ensures same_cost { sieve.new.cost ≡ sieve.old.cost }
+    misfit: &Misfit<'_>,
+    candidate: &Candidate,
+    freed: &Freed,
+) -> Result<Row, AllocError>
+    requires { Passes misfit.now.case.now.network.now misfit.now.limit candidate.now freed.now }
+    ensures row { IfOk result (IsRow misfit.now.case.now.network.now misfit.now.case.now.cost misfit.now.limit candidate.now) }
+    ensures left { IfOk result (λ row. row.left ≡ freed.now.left) }
 {
-    match whole {
-        Some(whole) => Ok(left <= least_left(alloc, best, sieve, whole)?),
-        None => Ok(true),
-    }
+    mistake_explains();
+    let case = misfit.case;
+    let number = candidate.number();
+    let change = mildest_change(freed);
+    let blunders = blunders_left(alloc, case.network, &number, change, misfit.limit)?;
+    Ok(row_of(case.network, case.cost, candidate, freed, blunders))
 }
 
 /// The row of a number that explains what does not fit, and leaves so many blunders.
@@ -281,11 +170,4 @@ fn mildest_change(freed: &Freed) -> i64
     } else {
         0
     }
-}
-
-/// A limit as a size: 0 where it is below.
-fn limit_size(limit: i64) -> u64
-    ensures { result ≡ limit_size limit }
-{
-    if limit < 0 { 0 } else { limit.unsigned_abs() }
 }

@@ -8,11 +8,12 @@ use Rattle.th_devices.specs.Spots.{Spot, file}
 use Rattle.th_files.specs.Opened.{AreOpened, EachIsOpened, IsOpenedIfAny}
 use Rattle.th_commands.specs.Asked.{Files}
 use Rattle.th_commands.specs.PlanLimits.{max_books}
-use Rattle.th_files.specs.Owed.{Told, claim_owed, given_by, given_by_books, given_from, survey_owed}
-use Rattle.th_run_parts.specs.Inputs.{claim_owed_by_sources, Given, given, given_at, given_if_any, givens, owed_by_sources, owed_for_claim, owed_for_survey, told_by}
+use Rattle.th_files.specs.Owed.{Told, claim_owed, given_by, given_by_books, given_from, survey_owed, tolds_in}
+use Rattle.th_run_parts.specs.Inputs.{claim_owed_by_sources, Given, given, given_at, given_if_any, givens, owed_by_sources, owed_for_claim, owed_for_survey, told_by, told_if_any}
+use Rattle.th_run_parts.specs.Summed.{tolds_of}
 use Rattle.th_run_parts.specs.Reads.{AreRead, AreReady, EachBook, IfPresent, IsNamed, IsReadFor, Run, failed_reads_of}
-use Rattle.th_run_parts.specs.declared.refusals.Input.{Input}
-use Rattle.th_run_parts.specs.declared.refusals.Input.TheVariants as input
+use Rattle.th_inputs.specs.declared.inputs.Input.{Input}
+use Rattle.th_inputs.specs.declared.inputs.Input.TheVariants as input
 use Rattle.th_run_parts.specs.declared.refusals.Refusal.{Refusal}
 
 -- one more of two lists whose items are related
@@ -83,6 +84,21 @@ tells-opened state_of reading told [] (one ∷ sources) are = absurd are
 tells-opened state_of reading told (first ∷ names) [] are = absurd are
 tells-opened state_of reading told (first ∷ names) (one ∷ sources) are =
     ap₂ (λ own more. own ∷ more) are.0.tells (tells-opened state_of reading told names sources are.1)
+
+-- and those of all inputs
+tells-opened-if-any : {S : Type 0} (state_of : S → SourceState) (reading : Spot → Bool) (told : Told)
+    (name : Option (List ℕ)) (source : Option S) → IsOpenedIfAny state_of reading told name source
+    → told_if_any state_of source ≡ option_map (λ name. told (file name)) name
+tells-opened-if-any state_of reading told None None is = refl
+tells-opened-if-any state_of reading told None (Some source) is = absurd is
+tells-opened-if-any state_of reading told (Some name) None is = absurd is
+tells-opened-if-any state_of reading told (Some name) (Some source) is = ap Some is.tells
+
+pub tolds-opened : {S : Type 0} (state_of : S → SourceState) (reading : Spot → Bool) (told : Told) (from : Files) (books : List S) (benchmarks : S) (weights : Option S)
+    → AreOpened state_of reading told from books benchmarks weights → tolds_of state_of state_of state_of books benchmarks weights ≡ tolds_in told from
+tolds-opened state_of reading told from books benchmarks weights opened =
+    ap (λ own. record { books = own; benchmarks = (state_of benchmarks).left; weights = told_if_any state_of weights }) (tells-opened state_of reading told from.books books opened.of_books)
+    ∙ ap₂ (λ own other. record { books = (tolds_in told from).books; benchmarks = own; weights = other }) opened.of_benchmarks.tells (tells-opened-if-any state_of reading told from.weights weights opened.of_weights)
 
 -- what a source gave that may be absent
 pub given-opened-if-any : {S : Type 0} (state_of : S → SourceState) (reading : Spot → Bool) (told : Told)

@@ -196,6 +196,7 @@ after_run Owes IsGiven HasWritten (Err (refusal.Benchmarks fault)) old new P out
 after_run Owes IsGiven HasWritten (Err (refusal.Weights fault)) old new P outcome written same = same outcome.untouched
 after_run Owes IsGiven HasWritten (Err (refusal.Certificate fault)) old new P outcome written same = same outcome.untouched
 after_run Owes IsGiven HasWritten (Err (refusal.Differences fault)) old new P outcome written same = same outcome.untouched
+after_run Owes IsGiven HasWritten (Err (refusal.Heights fault)) old new P outcome written same = same outcome.untouched
 after_run Owes IsGiven HasWritten (Err (refusal.Network fault)) old new P outcome written same = same outcome.untouched
 after_run Owes IsGiven HasWritten (Err (refusal.Read which)) old new P outcome written same = same outcome.untouched
 after_run Owes IsGiven HasWritten (Err refusal.NoMemory) old new P outcome written same = same outcome.untouched

@@ -1,5 +1,5 @@
 -- What a run over a folder must return, given what is in the folder.
-use Rattle.std.specs.Prelude.{◌≡◌, ◌+◌, ℕ, List, [], ◌∷◌, Option, Some, option_map, slice_get}
+use Rattle.std.specs.Prelude.{◌≡◌, ◌+◌, ◌++◌, ℕ, List, [], ◌∷◌, Option, Some, map, option_map, option_to_list, slice_get}
 use Rattle.th_observations.specs.Observed.{Observed}
 use Rattle.th_run_book.specs.Booked.{converted, input_of}
 use Rattle.th_run_book.specs.declared.conversions.Conversion.{Conversion}
@@ -8,13 +8,26 @@ use Rattle.th_network.specs.Networks.{Survey}
 use Rattle.th_commands.specs.Asked.{Files}
 use Rattle.th_run_parts.specs.Inputs.{Claim, Given, Owed, given_at, owed_for_book, owed_for_claim, owed_for_survey}
 use Rattle.th_run_parts.specs.Reads.{failed_reads_of}
-use Rattle.th_run_parts.specs.declared.refusals.Input.{Input}
-use Rattle.th_run_parts.specs.declared.refusals.Input.TheVariants as input
+use Rattle.th_run_parts.specs.Summed.{Tolds}
+use Rattle.th_inputs.specs.declared.inputs.Input.{Input}
+use Rattle.th_inputs.specs.declared.inputs.Input.TheVariants as input
 use Rattle.th_run_parts.specs.declared.refusals.Refusal.{Refusal}
 
 -- what a folder reports: the bytes at each spot, or none
 abbrev pub Told : Type 0
 Told = Spot → Option (List ℕ)
+
+-- the names of all files, in the order in which they are read
+abbrev pub all_names : Files → List (List ℕ)
+all_names from = from.books ++ from.benchmarks ∷ option_to_list from.weights
+
+-- what the named files told before a run
+abbrev pub tolds_in : Told → Files → Tolds
+tolds_in told from = record {
+  books = map (λ name. told (file name)) from.books;
+  benchmarks = told (file from.benchmarks);
+  weights = option_map (λ name. told (file name)) from.weights;
+}
 
 -- what a spot gave to a run that ended with this refusal, or with none: what was there, with the failed reads that the refusal reports
 abbrev pub given_from : Told → Option Refusal → Input → Spot → Given

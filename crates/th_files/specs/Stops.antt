@@ -6,7 +6,7 @@ use Rattle.th_commands.specs.Asked.{Files}
 use Rattle.th_files.specs.Owed.{HasName}
 use Rattle.th_files.specs.declared.overwrites.Stop.{Stop}
 use Rattle.th_files.specs.declared.overwrites.Stop.TheVariants as stop
-use Rattle.th_run_parts.specs.declared.refusals.Input.{Input}
+use Rattle.th_inputs.specs.declared.inputs.Input.{Input}
 
 -- the file of this name is none of these books, if the folder reports its bytes
 abbrev pub IsNoBook : Bool → List (List ℕ) → List ℕ → Type 0

@@ -3,6 +3,7 @@ ghost use Rattle.std.specs.Prelude.{◌≤◌, ◌≡◌, IfOk, length, map, opt
 ghost use Rattle.th_commands.specs.PlanLimits.{max_books};
 ghost use Rattle.th_commands.specs.Plans.{files};
 ghost use Rattle.th_files.specs.Opened.{AreOpened, EachIsOpened, IsOpenedIfAny};
+ghost use Rattle.th_files.specs.Owed.{all_names};
 
 use std::alloc::{AllocError, Global};
 use th_commands::Inputs;
@@ -38,6 +39,18 @@ pub fn sources_of<F: Folder>(
         benchmarks: folder.source(alloc, Origin::File(inputs.benchmarks))?,
         weights: source_if_any(alloc, folder, inputs.weights)?,
     })
+}
+
+/// The names of all files that the inputs name, in the order in which they are read.
+pub fn names_of<'a>(alloc: Global, inputs: &Inputs<'a>) -> Result<Vec<&'a str>, AllocError>
+    ensures { IfOk result (λ names. map (λ name. name.now) names.items ≡ all_names (files inputs.now)) }
+{
+    let mut names = Vec::from_slice(alloc, inputs.books.names())?;
+    names.push(inputs.benchmarks)?;
+    if let Some(weights) = inputs.weights {
+        names.push(weights)?;
+    }
+    Ok(names)
 }
 
 /// The sources of the files of these names.

@@ -1,10 +1,10 @@
 -- Escaped texts make no markup.
-use Rattle.std.proofs.Common.{◌≡◌, ℕ, ◌==◌, ◌&&◌, ◌||◌, Bool, true, false, List, [], ◌∷◌, codes, nat_lt, not, refl, ap, ◌∙◌}
+use Rattle.std.proofs.Common.{◌≡◌, ℕ, ◌-◌, ◌++◌, ◌==◌, ◌&&◌, ◌||◌, Bool, true, false, List, [], ◌∷◌, codes, nat_lt, not, refl, ap, ◌∙◌}
 use Rattle.std.specs.Prelude.{if◌then◌else◌}
 use Rattle.std.specs.List.{list_all}
 use Rattle.std.proofs.lemmas.List.Folds.{list_all-append}
 use Rattle.th_html.specs.Laws.{EscapedMakesNoMarkup, is_plain}
-use Rattle.th_html.specs.Texts.{escaped, escaped_byte}
+use Rattle.th_html.specs.Texts.{escaped_behind, escaped_byte, hidden_len, next_escaped}
 
 -- what is written for a byte, given which tests it passes
 abbrev chosen : ℕ → Bool → Bool → Bool → Bool → Bool → Bool → Bool → List ℕ
@@ -37,6 +37,26 @@ plain_byte byte = by_tests byte (byte == 38) (byte == 60) (byte == 62) (byte == 
 both : (a b : Bool) → a ≡ true → b ≡ true → (a && b) ≡ true
 both a b first second = ap (λ a. a && b) first ∙ second
 
+plain_next : (byte hidden : ℕ) → list_all is_plain (next_escaped byte hidden) ≡ true
+plain_next byte hidden = by (hidden == 0)
+  where
+    by : (shown : Bool) → list_all is_plain (if shown then escaped_byte byte else codes "?") ≡ true
+    by true = plain_byte byte
+    by false = refl
+
+plain_behind : (skipped : ℕ) (text : List ℕ) → list_all is_plain (escaped_behind skipped text) ≡ true
+plain_behind skipped [] = refl
+plain_behind skipped (byte ∷ rest) = by (λ behind. plain_behind behind rest) (skipped == 0)
+  where
+    hidden : ℕ
+    hidden = hidden_len (byte ∷ rest)
+
+    by : ((behind : ℕ) → list_all is_plain (escaped_behind behind rest) ≡ true) → (now : Bool)
+        → list_all is_plain (if now then next_escaped byte hidden ++ escaped_behind (hidden - 1) rest else escaped_behind (skipped - 1) rest) ≡ true
+    by later true =
+        list_all-append is_plain (next_escaped byte hidden) (escaped_behind (hidden - 1) rest)
+        ∙ both _ _ (plain_next byte hidden) (later (hidden - 1))
+    by later false = later (skipped - 1)
+
 pub plain_text : EscapedMakesNoMarkup
-plain_text [] = refl
-plain_text (byte ∷ text) = list_all-append is_plain (escaped_byte byte) (escaped text) ∙ both _ _ (plain_byte byte) (plain_text text)
+plain_text text = plain_behind 0 text

@@ -1,3 +1,2 @@
 pub mod ErrorLemmas
 pub mod LineLemmas
-pub mod ShownLemmas

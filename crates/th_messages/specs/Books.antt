@@ -5,6 +5,8 @@ use Rattle.gsi_word.specs.declared.faults.WordFault.TheVariants.{Short, BadIndex
 use Rattle.gsi_block.specs.declared.faults.BlockFault.{BlockFault}
 use Rattle.gsi_block.specs.declared.faults.BlockFault.TheVariants.{BadWord, TooManyWords, LineTooLong, BadSeparator}
 use Rattle.th_book.specs.declared.faults.BookKind.{BookKind}
+use Rattle.th_conversions.specs.declared.height_faults.HeightKind.{HeightKind}
+use Rattle.th_conversions.specs.declared.height_faults.HeightKind.TheVariants.{Book, FarTarget, HasDifference, NoStationHeight, NoUnit}
 use Rattle.th_book.specs.declared.faults.BookKind.TheVariants.{Block, RepeatedWord, NoPointNumber, BadName, BadNumber, BadUnit, TooLarge, SightBeforeSetup, NoInstrumentHeight, NoReflectorHeight, SightToItself, BookTooLong, NoMemory}
 
 -- a bad word, by its number in the line
@@ -38,12 +40,19 @@ book_help SightToItself = codes "the sight has the name of its own station"
 book_help BookTooLong = codes "a book has at most 64 MiB"
 book_help NoMemory = codes "this is no fault of the book"
 
--- a fault of a book with heights, which is converted: words 83 and 86 count, and word 33 does not come from the instrument
-abbrev pub heights_help : BookKind → List ℕ
-heights_help (Block TooManyWords) = codes "a line has at most 64 words, and a sight gets up to three more"
-heights_help RepeatedWord = codes "a book with words 33 needs no conversion; a line has one word each of 83, 84, 85, 86, 87 and 88"
-heights_help BadNumber = codes "words 83, 86, 87 and 88 have nothing but digits behind the sign"
-heights_help BadUnit = codes "position 6 of words 83, 86, 87 and 88 is 0, 1, 6, 7 or 8: all metric, or all in feet"
-heights_help TooLarge = codes "words 83, 86, 87 and 88 are at most 10 km, and in GSI-8 the word 33 has room for 1 km"
-heights_help NoInstrumentHeight = codes "the station line needs word 86, the height of the station"
-heights_help other = book_help other
+-- a fault of a book that is converted, if other books may have it too: words 83 and 86 count
+abbrev pub converted_help : BookKind → List ℕ
+converted_help (Block TooManyWords) = codes "a line has at most 64 words, and a sight gets up to three more"
+converted_help RepeatedWord = codes "a line has one word each of 83, 84, 85, 86, 87 and 88"
+converted_help BadNumber = codes "words 83, 86, 87 and 88 have nothing but digits behind the sign"
+converted_help BadUnit = codes "position 6 of words 83, 86, 87 and 88 is 0, 1, 6, 7 or 8"
+converted_help TooLarge = codes "words 83, 86, 87 and 88 are at most 10 km"
+converted_help other = book_help other
+
+-- a fault of a book with heights
+abbrev pub heights_help : HeightKind → List ℕ
+heights_help (Book kind) = converted_help kind
+heights_help HasDifference = codes "a book with words 33 needs no conversion"
+heights_help NoUnit = codes "words 83, 86, 87 and 88 are all metric, or all in feet"
+heights_help FarTarget = codes "a word 33 is at most 10 km, and in GSI-8 it has room for 1 km"
+heights_help NoStationHeight = codes "the station line needs word 86, the height of the station"

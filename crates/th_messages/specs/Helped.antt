@@ -1,7 +1,6 @@
 -- The lines of a refusal: its own, and the second, which names the file and what helps.
 use Rattle.std.specs.Prelude.{◌++◌, ◌-◌, ◌∷◌, [], ℕ, List, Option, Some, None, option_map, slice_get}
 use Rattle.th_devices.specs.declared.reasons.Reason.{Reason}
-use Rattle.th_book.specs.declared.faults.BookKind.{BookKind}
 use Rattle.th_messages.specs.Books.{book_help, heights_help}
 use Rattle.th_messages.specs.Certificates.{certificate_help}
 use Rattle.th_messages.specs.Differences.{differences_help}
@@ -16,8 +15,8 @@ use Rattle.th_commands.specs.declared.plans.Plan.{Plan}
 use Rattle.th_commands.specs.declared.plans.Plan.TheVariants as plan
 use Rattle.th_run_parts.specs.Outputs.{ending_of}
 use Rattle.th_run_parts.specs.Refusals.{refusal_text}
-use Rattle.th_run_parts.specs.declared.refusals.Input.{Input}
-use Rattle.th_run_parts.specs.declared.refusals.Input.TheVariants as source
+use Rattle.th_inputs.specs.declared.inputs.Input.{Input}
+use Rattle.th_inputs.specs.declared.inputs.Input.TheVariants as source
 use Rattle.th_run_parts.specs.declared.outputs.Output.{Output}
 use Rattle.th_run_parts.specs.declared.refusals.Refusal.{Refusal}
 use Rattle.th_run_parts.specs.declared.refusals.Refusal.TheVariants as refusal
@@ -50,11 +49,6 @@ name_of_output (plan.Review inputs limit prefix) which = option_map (λ ending. 
 name_of_output (plan.Page inputs limit prefix) which = option_map (λ ending. prefix.now ++ ending) (ending_of which)
 name_of_output other which = None
 
--- what helps against a fault of a book; one with heights needs other words
-abbrev pub help_of_book : Plan → BookKind → List ℕ
-help_of_book (plan.BookOfHeights book) kind = heights_help kind
-help_of_book other kind = book_help kind
-
 -- the second line for a fault of the network: a point without a benchmark may be spelled otherwise in the table of benchmarks
 abbrev pub network_line : Plan → NetFault → List ℕ
 network_line asked (network.NoBenchmark name) = help_line (name_of_input asked source.Benchmarks) (network_help (network.NoBenchmark name))
@@ -62,11 +56,12 @@ network_line asked other = help_line None (network_help other)
 
 -- the second line of a refusal, if the system told this reason or none; there is none where memory ran out
 abbrev pub second_line : Plan → Refusal → Option Reason → List ℕ
-second_line asked (refusal.Book number fault) reason = help_line (name_of_input asked (source.Book number)) (help_of_book asked fault.kind)
+second_line asked (refusal.Book number fault) reason = help_line (name_of_input asked (source.Book number)) (book_help fault.kind)
 second_line asked (refusal.Benchmarks fault) reason = help_line (name_of_input asked source.Benchmarks) (benchmarks_help fault.kind)
 second_line asked (refusal.Weights fault) reason = help_line (name_of_input asked source.Weights) (weights_help fault.kind)
 second_line asked (refusal.Certificate fault) reason = help_line (name_of_input asked source.Certificate) (certificate_help fault.kind)
 second_line asked (refusal.Differences fault) reason = help_line (name_of_input asked source.Differences) (differences_help fault.kind)
+second_line asked (refusal.Heights fault) reason = help_line (name_of_input asked (source.Book 1)) (heights_help fault.kind)
 second_line asked (refusal.Network fault) reason = network_line asked fault
 second_line asked (refusal.Read which) reason = reason_line (name_of_input asked which) (option_map read_reason reason)
 second_line asked (refusal.Write which) reason = reason_line (name_of_output asked which) (option_map write_reason reason)

@@ -1,9 +1,9 @@
 -- The second line of a refusal.
 use Rattle.std.specs.Prelude.{ℕ, List, [], ◌∷◌, ◌++◌, Option, Some, None, codes}
 use Rattle.th_devices.specs.declared.reasons.Reason.{Reason}
-use Rattle.th_devices.specs.declared.reasons.Reason.TheVariants.{NotFound, IsFolder, NoFile, NotPermitted, NoSpace, ReadOnly, NameTooLong, ClosedPipe}
+use Rattle.th_devices.specs.declared.reasons.Reason.TheVariants.{NotFound, IsFolder, NoFile, NotPermitted, NoSpace, ReadOnly, NameTooLong, ClosedPipe, LeadsNowhere, DeviceFault, OtherSystem, InUse, TooManyOpen, OtherRun}
 use Rattle.th_messages.specs.declared.helps.FileName.{FileName}
-use Rattle.th_messages.specs.Shown.{shown}
+use Rattle.th_inputs.specs.Shown.{shown}
 
 -- the name of a file, whose end the program may have added
 abbrev pub whole_name : FileName → List ℕ
@@ -31,6 +31,12 @@ read_reason NoSpace = codes "no space left"
 read_reason ReadOnly = codes "a read-only file system"
 read_reason NameTooLong = codes "file name too long"
 read_reason ClosedPipe = codes "nobody is at the other end of the pipe"
+read_reason LeadsNowhere = codes "a link that leads nowhere"
+read_reason DeviceFault = codes "the device failed"
+read_reason OtherSystem = codes "on another file system"
+read_reason InUse = codes "in use by the system"
+read_reason TooManyOpen = codes "too many open files"
+read_reason OtherRun = codes "another run writes here"
 
 -- why an output was not written
 abbrev pub write_reason : Reason → List ℕ

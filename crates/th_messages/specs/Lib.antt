@@ -8,6 +8,5 @@ pub mod Differences
 pub mod Networks
 pub mod Notes
 pub mod Helps
-pub mod Shown
 pub mod Lines
 pub mod Errors

@@ -3,11 +3,11 @@ use Rattle.std.specs.Prelude.{◌++◌, ◌∷◌, [], ℕ, Bool, List, None, co
 use Rattle.th_devices.specs.Spots.{errors}
 use Rattle.th_files.specs.Outputs.{Holds}
 use Rattle.th_files.specs.Owed.{Told}
-use Rattle.th_messages.specs.Shown.{shown}
+use Rattle.th_inputs.specs.Shown.{shown}
 use Rattle.th_messages.specs.Helped.{refused_lines}
 use Rattle.th_commands.specs.declared.plans.Plan.{Plan}
-use Rattle.th_run_parts.specs.Refusals.{input_text}
-use Rattle.th_run_parts.specs.declared.refusals.Input.{Input}
+use Rattle.th_inputs.specs.Inputs.{input_text}
+use Rattle.th_inputs.specs.declared.inputs.Input.{Input}
 use Rattle.th_run_parts.specs.declared.refusals.Refusal.{Refusal}
 
 -- standard error has this line and nothing else

@@ -1,10 +1,11 @@
 //! Help against the faults of books.
 ghost use Rattle.std.specs.Prelude.{◌≡◌};
-ghost use Rattle.th_messages.specs.Books.{block_help, book_help, heights_help, word_help};
+ghost use Rattle.th_messages.specs.Books.{block_help, book_help, converted_help, heights_help, word_help};
 
 use gsi_block::BlockFault;
 use gsi_word::WordFault;
 use th_book::BookKind;
+use th_conversions::HeightKind;
 
 /// What helps against a fault of a book.
 pub fn book_help(kind: BookKind) -> &'static str
@@ -30,20 +31,29 @@ pub fn book_help(kind: BookKind) -> &'static str
 }
 
 /// What helps against a fault of a book with heights, which `book --heights` converts.
-pub fn heights_help(kind: BookKind) -> &'static str
+pub fn heights_help(kind: HeightKind) -> &'static str
     ensures { result.now ≡ heights_help kind }
+{
+    match kind {
+        HeightKind::Book(kind) => converted_help(kind),
+        HeightKind::HasDifference => "a book with words 33 needs no conversion",
+        HeightKind::NoUnit => "words 83, 86, 87 and 88 are all metric, or all in feet",
+        HeightKind::FarTarget => "a word 33 is at most 10 km, and in GSI-8 it has room for 1 km",
+        HeightKind::NoStationHeight => "the station line needs word 86, the height of the station",
+    }
+}
+
+/// What helps against a fault of a book that is converted, if other books may have it too.
+fn converted_help(kind: BookKind) -> &'static str
+    ensures { result.now ≡ converted_help kind }
 {
     match kind {
         BookKind::Block(BlockFault::TooManyWords) =>
             "a line has at most 64 words, and a sight gets up to three more",
-        BookKind::RepeatedWord =>
-            "a book with words 33 needs no conversion; a line has one word each of 83, 84, 85, 86, 87 and 88",
+        BookKind::RepeatedWord => "a line has one word each of 83, 84, 85, 86, 87 and 88",
         BookKind::BadNumber => "words 83, 86, 87 and 88 have nothing but digits behind the sign",
-        BookKind::BadUnit =>
-            "position 6 of words 83, 86, 87 and 88 is 0, 1, 6, 7 or 8: all metric, or all in feet",
-        BookKind::TooLarge =>
-            "words 83, 86, 87 and 88 are at most 10 km, and in GSI-8 the word 33 has room for 1 km",
-        BookKind::NoInstrumentHeight => "the station line needs word 86, the height of the station",
+        BookKind::BadUnit => "position 6 of words 83, 86, 87 and 88 is 0, 1, 6, 7 or 8",
+        BookKind::TooLarge => "words 83, 86, 87 and 88 are at most 10 km",
         other => book_help(other),
     }
 }

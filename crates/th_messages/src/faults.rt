@@ -2,6 +2,7 @@
 ghost use Rattle.gsi_block.specs.Faults.{fault_text as block_text};
 ghost use Rattle.th_book.specs.Texts.{fault_text as book_text, kind_text as book_kind_text};
 ghost use Rattle.th_certificate.specs.Faults.{fault_text as certificate_text};
+ghost use Rattle.th_conversions.specs.HeightFaults.{fault_text as height_text, kind_text as height_kind_text};
 ghost use Rattle.th_conversions.specs.Texts.{fault_text as difference_text};
 ghost use Rattle.th_messages.specs.Lines.{HasRoom, IsPut};
 ghost use Rattle.th_network.specs.Texts.{fault_text as network_text};
@@ -11,7 +12,7 @@ use crate::lines::Line;
 use gsi_block::BlockFault;
 use th_book::{BookFault, BookKind};
 use th_certificate::CertFault;
-use th_conversions::DifferenceFault;
+use th_conversions::{DifferenceFault, HeightFault, HeightKind};
 use th_devices::{Failed, Sink};
 use th_network::NetFault;
 use th_tables::TableFault;
@@ -40,6 +41,29 @@ fn put_book_kind<K: Sink>(line: &mut Line<K>, kind: BookKind) -> Result<(), Fail
             put_block_fault(line, fault)
         }
         _ => line.put(kind.beginning()),
+    }
+}
+
+/// Puts the text of a fault of a book with heights.
+#[tactic(auto, using(crate::proofs::LineLemmas::appended))]
+pub fn put_height_fault<K: Sink>(line: &mut Line<K>, fault: &HeightFault) -> Result<(), Failed>
+    requires { HasRoom 8 line.old }
+    ensures { IsPut 8 (height_text fault.now) line.old line.new result }
+{
+    line.put("line ")?;
+    line.put_number(fault.line)?;
+    line.put(": ")?;
+    put_height_kind(line, fault.kind)
+}
+
+/// Puts the text of a kind of fault of a book with heights.
+fn put_height_kind<K: Sink>(line: &mut Line<K>, kind: HeightKind) -> Result<(), Failed>
+    requires { HasRoom 5 line.old }
+    ensures { IsPut 5 (height_kind_text kind) line.old line.new result }
+{
+    match kind {
+        HeightKind::Book(kind) => put_book_kind(line, kind),
+        other => line.put(other.beginning()),
     }
 }
 

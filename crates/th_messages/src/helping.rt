@@ -3,7 +3,7 @@ ghost use Rattle.std.specs.Prelude.{◌≡◌, option_map};
 ghost use Rattle.th_messages.specs.Helps.{read_reason, whole_name, write_reason};
 ghost use Rattle.th_messages.specs.Lines.{HasRoom, IsPut};
 ghost use Rattle.th_commands.specs.Plans.{files};
-ghost use Rattle.th_messages.specs.Helped.{help_of_book, name_in, name_of_input, name_of_output, network_line, second_line};
+ghost use Rattle.th_messages.specs.Helped.{name_in, name_of_input, name_of_output, network_line, second_line};
 
 use crate::books::{book_help, heights_help};
 use crate::certificates::certificate_help;
@@ -12,7 +12,6 @@ use crate::helps::{FileName, put_help_line, put_reason_line, read_reason, write_
 use crate::lines::Line;
 use crate::networks::network_help;
 use crate::tables::{benchmarks_help, weights_help};
-use th_book::BookKind;
 use th_commands::{Inputs, Plan};
 use th_devices::{Failed, Reason, Sink};
 use th_network::NetFault;
@@ -31,7 +30,7 @@ pub(crate) fn put_second_line<K: Sink>(
     match refusal {
         Refusal::Book(number, fault) => {
             let name = name_of_input(plan, Input::Book(*number));
-            put_help_line(line, name, help_of_book(plan, fault.kind))
+            put_help_line(line, name, book_help(fault.kind))
         }
         Refusal::Benchmarks(fault) => {
             let name = name_of_input(plan, Input::Benchmarks);
@@ -49,6 +48,10 @@ pub(crate) fn put_second_line<K: Sink>(
             let name = name_of_input(plan, Input::Differences);
             put_help_line(line, name, differences_help(fault.kind))
         }
+        Refusal::Heights(fault) => {
+            let name = name_of_input(plan, Input::Book(1));
+            put_help_line(line, name, heights_help(fault.kind))
+        }
         Refusal::Network(fault) => put_network_line(line, plan, *fault),
         Refusal::Read(input) => {
             put_reason_line(line, name_of_input(plan, *input), why_unread(reason))
@@ -57,16 +60,6 @@ pub(crate) fn put_second_line<K: Sink>(
             put_reason_line(line, name_of_output(plan, *output), why_unwritten(reason))
         }
         Refusal::NoMemory => Ok(()),
-    }
-}
-
-/// What helps against a fault of a book, in a plan.
-fn help_of_book(plan: &Plan<'_>, kind: BookKind) -> &'static str
-    ensures { result.now ≡ help_of_book plan.now kind }
-{
-    match plan {
-        Plan::BookOfHeights { .. } => heights_help(kind),
-        _ => book_help(kind),
     }
 }
 

@@ -2,7 +2,7 @@
 ghost use Rattle.std.specs.Prelude.{◌≡◌, option_map};
 ghost use Rattle.th_messages.specs.Helps.{help_line, read_reason, reason_line, whole_name, write_reason};
 ghost use Rattle.th_messages.specs.Lines.{HasRoom, IsPut};
-ghost use Rattle.th_messages.specs.Shown.{shown};
+ghost use Rattle.th_inputs.specs.Shown.{shown};
 
 use crate::lines::Line;
 use th_devices::{Failed, Reason, Sink};
@@ -83,6 +83,12 @@ pub fn read_reason(reason: Reason) -> &'static str
         Reason::ReadOnly => "a read-only file system",
         Reason::NameTooLong => "file name too long",
         Reason::ClosedPipe => "nobody is at the other end of the pipe",
+        Reason::LeadsNowhere => "a link that leads nowhere",
+        Reason::DeviceFault => "the device failed",
+        Reason::OtherSystem => "on another file system",
+        Reason::InUse => "in use by the system",
+        Reason::TooManyOpen => "too many open files",
+        Reason::OtherRun => "another run writes here",
     }
 }
 

@@ -6,9 +6,6 @@
 //! bytes, so that none of them can send anything to a terminal. The texts of help are tables in `specs/`.
 #![tactic(auto)]
 
-// Bytes as they are shown.
-mod shown;
-
 // A line that grows, and its way to standard error.
 mod errors;
 mod lines;
@@ -36,4 +33,3 @@ pub use errors::{begin_line, end_line};
 pub use lines::Line;
 pub use noting::tell_notes;
 pub use refusals::{put_refusal, refuse_memory, refuse_overwrite, report};
-pub use shown::{ShownByte, shown_byte, shown_text};

@@ -3,15 +3,15 @@ ghost use Rattle.std.specs.Prelude.{◌≡◌, ◌+◌, ◌*◌, ◌^◌, ◌≤
 ghost use Rattle.th_devices.specs.Devices.{IsReady};
 ghost use Rattle.th_devices.specs.Limits.{calls_before};
 ghost use Rattle.th_messages.specs.Lines.{HasRoom, IsEnded, IsNew, IsPut, IsPutIn};
-ghost use Rattle.th_messages.specs.Shown.{shown, shown_lines};
+ghost use Rattle.th_inputs.specs.Shown.{shown, shown_lines};
 ghost use Rattle.th_messages.specs.declared.lines.TheConstants.{CAPACITY};
 ghost use Rattle.th_units.specs.Metres.{metres};
 
-use crate::shown::shown_byte;
 use gsi_word::Name;
 use itoa::Buffer;
 use std::marker::Model;
 use th_devices::{Failed, Sink};
+use th_inputs::shown_byte;
 use th_units::metre_text;
 
 /// How many bytes wait until they are passed on together.

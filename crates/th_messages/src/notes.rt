@@ -1,12 +1,12 @@
 //! Notes of a run that was not refused, put on a line part by part.
 ghost use Rattle.std.specs.Prelude.{◌≡◌, ◌≤◌, ◌*◌, length};
 ghost use Rattle.th_entries.specs.Sights.{enumerated, no_sight_text, words_seen};
-ghost use Rattle.th_messages.specs.Notes.{loose_points, many_heights_note, no_sight_note};
+ghost use Rattle.th_messages.specs.Notes.{loose_end, loose_points, many_heights_note, no_sight_note};
 ghost use Rattle.th_messages.specs.Lines.{HasRoom, IsPut};
 
 use crate::lines::Line;
 use th_devices::{Failed, Sink};
-use th_entries::{NoSight, separator, words_lead};
+use th_entries::{NoSight, blocks_end, separator, words_lead};
 use th_remarks::ManyHeights;
 
 /// Puts the note of a book without a sight.
@@ -30,7 +30,7 @@ fn put_text<K: Sink>(line: &mut Line<K>, note: &NoSight) -> Result<(), Failed>
     line.put_number(note.book)?;
     line.put(" has no sight in ")?;
     line.put_number(note.blocks)?;
-    line.put(" blocks (no word 33")?;
+    line.put(blocks_end(note.blocks))?;
     put_words(line, note.numbers().as_slice())?;
     line.put(")")
 }
@@ -81,5 +81,16 @@ fn put_points<K: Sink>(line: &mut Line<K>, points: u32) -> Result<(), Failed>
 {
     line.put("note: ")?;
     line.put_number(points)?;
-    line.put(" points have more than one best height, up to ")
+    line.put(loose_end(points))
+}
+
+/// The text after the count of points with more than one best height.
+fn loose_end(points: u32) -> &'static str
+    ensures { result.now ≡ loose_end points }
+{
+    if points == 1 {
+        " point has more than one best height, up to "
+    } else {
+        " points have more than one best height, up to "
+    }
 }

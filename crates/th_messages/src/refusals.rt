@@ -3,22 +3,24 @@
 ghost use Rattle.std.specs.Prelude.{◌≡◌, ◌≢◌, ◌++◌, ◌∷◌, [], codes, decimal, false, string_bytes};
 ghost use Rattle.th_devices.specs.Spots.{errors};
 ghost use Rattle.th_messages.specs.Lines.{HasRoom, IsPut};
-ghost use Rattle.th_messages.specs.Shown.{shown};
+ghost use Rattle.th_inputs.specs.Shown.{shown};
 ghost use Rattle.th_messages.specs.Helped.{refused_lines};
 ghost use Rattle.th_messages.specs.Said.{IsSaid, overwrite_text};
 ghost use Rattle.th_tables.specs.Texts.{fault_text};
-ghost use Rattle.th_run_parts.specs.Refusals.{input_text, refusal_text};
+ghost use Rattle.th_inputs.specs.Inputs.{input_text};
+ghost use Rattle.th_run_parts.specs.Refusals.{refusal_text};
 
 use crate::errors::{begin_line, end_line};
 use crate::faults::{
-    put_book_fault, put_certificate_fault, put_difference_fault, put_network_fault, put_table_fault,
+    put_book_fault, put_certificate_fault, put_difference_fault, put_height_fault,
+    put_network_fault, put_table_fault,
 };
 use crate::helping::put_second_line;
 use crate::lines::Line;
 use th_book::BookFault;
 use th_certificate::CertFault;
 use th_commands::Plan;
-use th_conversions::DifferenceFault;
+use th_conversions::{DifferenceFault, HeightFault};
 use th_devices::{Failed, Folder, Reason, Sink};
 use th_files::Overwrite;
 use th_network::NetFault;
@@ -99,6 +101,7 @@ fn put_refusal_text<K: Sink>(line: &mut Line<K>, refusal: &Refusal) -> Result<()
         Refusal::Weights(fault) => put_table(line, "weights ", fault),
         Refusal::Certificate(fault) => put_certificate(line, fault),
         Refusal::Differences(fault) => put_differences(line, fault),
+        Refusal::Heights(fault) => put_heights(line, fault),
         Refusal::Network(fault) => put_network(line, fault),
         Refusal::Read(input) => put_failed_read(line, *input),
         Refusal::Write(output) => put_failed_write(line, *output),
@@ -145,6 +148,15 @@ fn put_differences<K: Sink>(line: &mut Line<K>, fault: &DifferenceFault) -> Resu
 {
     line.put("differences ")?;
     put_difference_fault(line, fault)
+}
+
+/// Puts the text of a refused book with heights.
+fn put_heights<K: Sink>(line: &mut Line<K>, fault: &HeightFault) -> Result<(), Failed>
+    requires { HasRoom 12 line.old }
+    ensures { IsPut 12 (refusal_text (Refusal.Heights fault.now)) line.old line.new result }
+{
+    line.put("book 1 ")?;
+    put_height_fault(line, fault)
 }
 
 /// Puts the text of a refused network.

@@ -10,7 +10,7 @@ use gsi_word::Name;
 use itoa::Buffer;
 use std::alloc::{AllocError, Global};
 use th_columns::{Page, write_count};
-use th_entries::{NoSight, separator, words_lead};
+use th_entries::{NoSight, blocks_end, separator, words_lead};
 use th_units::metre_text;
 
 /// Writes how many notes there are, and a line for each.
@@ -171,7 +171,7 @@ fn write_no_sight(page: &mut Page, note: &NoSight) -> Result<(), AllocError>
     write_number(page, note.book)?;
     page.add(b" has no sight in ")?;
     write_number(page, note.blocks)?;
-    page.add(b" blocks (no word 33")?;
+    page.add(blocks_end(note.blocks).as_bytes())?;
     write_words(page, note.numbers().as_slice())?;
     page.add(b")")
 }

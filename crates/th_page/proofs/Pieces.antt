@@ -21,11 +21,12 @@ use Rattle.th_picture.specs.Points.{benchmark_shape, circle_text, dot_shape, pla
 use Rattle.th_picture.specs.Pictures.{drawing, frame_of, open_text, picture_text, scale_lines, turned_picture}
 use Rattle.th_picture.specs.Strips as strip
 use Rattle.th_page.specs.Figures.{picture_figure, strip_figure, undrawn_text}
-use Rattle.th_page.specs.Fronts.{benchmark_lamp, book_item, count_items, entry_lamp, fact_item, facts_text, is_fixed, length_items, marked_lamp, weak_lamp, is_weak_benchmark, is_weak_entry, is_weak_sight, lamps_text}
+use Rattle.th_inputs.specs.Inputs.{NamedInput, input_text}
+use Rattle.th_page.specs.Fronts.{benchmark_lamp, count_items, entry_lamp, fact_item, facts_text, input_item, is_fixed, length_items, marked_lamp, weak_lamp, is_weak_benchmark, is_weak_entry, is_weak_sight, lamps_text, sum_text}
 use Rattle.th_page.specs.Fixed.{benchmark_start, body_text, entry_start, explanation_start, foot_text, head_text, height_start, legend_text, marked_start, note_start, picture_start, places_text, strip_start, style_text, weak_start}
 use Rattle.th_page.specs.Sections.{benchmark_section, entry_section, explanation_section, height_section, marked_section, note_item, note_section, number_sections, rows_of, section_end, sight_sections, weak_section}
 use Rattle.th_page.specs.Pages.{ShownRows, front_part, head_part, page_text, table_part}
-use Rattle.th_page.specs.Laws.{Names, Piece, PagesAreOfPieces, benchmark_named, entry_named, explanation_named, filled, fixed, observed_named, outside, point_named, row_named, shown_named, sight_named}
+use Rattle.th_page.specs.Laws.{Names, Piece, PagesAreOfPieces, benchmark_named, entry_named, explanation_named, filled, fixed, input_named, observed_named, outside, point_named, row_named, shown_named, sight_named}
 use Rattle.th_html.specs.declared.rows.BenchmarkRow.{BenchmarkRow}
 use Rattle.th_html.specs.declared.rows.EntryRow.{EntryRow}
 use Rattle.th_observations.specs.Observed.{Observed}
@@ -425,13 +426,13 @@ unfolding strip_figure
 strip_figure_is sights limit = still strip_start ⊕ strip_is sights limit ⊕ still (codes "</div>\n</figure>\n")
 
 -- ---- the page
-of_book : (book : List ℕ) → IsFilled (λ given. book_item (given book))
-unfolding book_item
-of_book book = still (codes "<li><bdi>") ⊕ name book ⊕ still (codes "</bdi>\n")
+of_input : (input : NamedInput) → IsFilled (λ given. input_item (input_named given input))
+unfolding input_item
+of_input (own, sum) = still (codes "<li>") ⊕ still (input_text sum.which) ⊕ still (codes ": <bdi>") ⊕ name own ⊕ still (codes "</bdi> ") ⊕ still (sum_text sum)
 
-headed : (books : List (List ℕ)) → IsFilled (λ given. head_part (map given books))
+headed : (inputs : List NamedInput) → IsFilled (λ given. head_part (map (input_named given) inputs))
 unfolding head_part
-headed books = still (head_text ++ style_text ++ body_text) ⊕ changed book_item (λ given. given) books of_book ⊕ still places_text
+headed inputs = still (head_text ++ style_text ++ body_text) ⊕ changed input_item input_named inputs of_input ⊕ still places_text
 
 fronted : (shown : ShownRows) → IsFilled (λ given. front_part (shown_named given shown))
 unfolding front_part
@@ -446,7 +447,7 @@ tabled shown =
 
 whole : (shown : ShownRows) → IsFilled (λ given. page_text (shown_named given shown))
 unfolding page_text
-whole shown = headed shown.books ⊕ fronted shown ⊕ tabled shown ⊕ still foot_text
+whole shown = headed shown.inputs ⊕ fronted shown ⊕ tabled shown ⊕ still foot_text
 
 pub pieces : PagesAreOfPieces
 pieces shown = let filling = whole shown in (filling.pieces, filling.is)

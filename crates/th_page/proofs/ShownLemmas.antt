@@ -6,6 +6,10 @@ use Rattle.std.proofs.lemmas.List.Sums.{count_by-le-length}
 use Rattle.std.specs.List.{All, AllZip, enumerate_from, zip}
 use Rattle.th_observations.specs.Observed.{Observed}
 use Rattle.th_limits.specs.Limits.{max_observations}
+use Rattle.th_columns.specs.FileNames.{last_part}
+use Rattle.th_inputs.specs.Inputs.{NamedInput}
+use Rattle.th_inputs.specs.declared.sums.Sum.{Sum}
+use Rattle.th_page.specs.Shown.{without_folder}
 use Rattle.th_network.specs.Networks.{Survey}
 use Rattle.th_points.specs.Ends.{ends_in}
 use Rattle.th_reliability.specs.BenchmarkEffects.{IsBenchmarkEffect}
@@ -16,6 +20,12 @@ use Rattle.th_review_rows.specs.Rows.{benchmark_row, observation_row}
 use Rattle.th_review_rows.specs.declared.rows.BenchmarkRow.{BenchmarkRow}
 use Rattle.th_review_rows.specs.declared.rows.ObservationRow.{ObservationRow}
 use Rattle.th_tables.specs.Rows.{BenchmarkRows, WeightRows}
+
+-- the names of inputs lose their folders with them, or beside their sums
+pub without_folders : (names : List (List ℕ)) (sums : List Sum) → zip (map last_part names) sums ≡ map without_folder (zip names sums)
+without_folders [] sums = refl
+without_folders (name ∷ names) [] = refl
+without_folders (name ∷ names) (sum ∷ sums) = ap (λ (rest : List NamedInput). (last_part name, sum) ∷ rest) (without_folders names sums)
 
 -- the observations in the rows of observations
 pub same_observations : (weights : WeightRows) (number : ℕ) (os : List Observed) (residuals : List ℤ) (controls : List (Option ℕ)) (blames : List (Option Blame))

@@ -21,9 +21,8 @@ style_text =
     ++ codes "h2{margin:1.6em 0 .3em;font-size:1.15em}\n"
     ++ codes "p{margin:.3em 0}\n"
     ++ codes "figure{margin:1.4em 0 0}\n"
-    ++ codes ".books,.facts,.lamps,.legend{margin:.4em 0;padding:0}\n"
-    ++ codes ".books{list-style-position:inside}\n"
-    ++ codes ".books ::marker{content:\"Book \" counter(list-item) \": \"}\n"
+    ++ codes ".inputs,.facts,.lamps,.legend{margin:.4em 0;padding:0}\n"
+    ++ codes ".inputs{list-style:none}\n"
     ++ codes ".facts{display:flex;flex-wrap:wrap;gap:.2em 1.6em;list-style:none;color:#555}\n"
     ++ codes ".facts b{color:#111}\n"
     ++ codes "li,bdi,th{overflow-wrap:anywhere}\n"
@@ -73,19 +72,19 @@ style_text =
     ++ codes "@media screen and (max-width:40em){.n{font-size:150px}.w svg{min-width:36em}}\n"
     ++ codes "@media print{@page{size:A4;margin:15mm}body{padding:0;max-width:none;font-size:9pt}th{white-space:pre-wrap}tr,figure,footer,li,p{break-inside:avoid}h2,h2+p{break-after:avoid}}\n"
 
--- what is between the style and the books
+-- what is between the style and the inputs
 unfoldable pub body_text : List ℕ
 body_text =
     codes "</style>\n"
     ++ codes "</head>\n"
     ++ codes "<body>\n"
     ++ codes "<h1>Height network</h1>\n"
-    ++ codes "<ol class=\"books\">\n"
+    ++ codes "<ul class=\"inputs\">\n"
 
--- what is between the books and the facts
+-- what is between the inputs and the facts
 unfoldable pub places_text : List ℕ
 places_text =
-    codes "</ol>\n"
+    codes "</ul>\n"
     ++ codes "<p>A place such as 2:14 is line 14 of book 2.</p>\n"
 
 -- what is before the picture

@@ -1,8 +1,10 @@
--- The front of a page: its books, its facts and its lamps.
+-- The front of a page: the inputs, the facts and the lamps.
 use Rattle.std.specs.Prelude.{ℕ, ℤ, ◌-◌, ◌==◌, Bool, true, false, List, Option, None, Some, ◌++◌, codes, count_by, decimal, if◌then◌else◌, is_none, length, unsigned_abs}
 use Rattle.th_html.specs.Lengths.{sized_text}
 use Rattle.th_html.specs.Texts.{escaped}
 use Rattle.th_html.specs.declared.rows.BenchmarkRow.{BenchmarkRow}
+use Rattle.th_inputs.specs.Inputs.{NamedInput, digest_text, input_text}
+use Rattle.th_inputs.specs.declared.sums.Sum.{Sum}
 use Rattle.th_picture.specs.Gaps.{marked}
 use Rattle.th_picture.specs.Groups.{group_count}
 use Rattle.th_picture.specs.declared.sights.Sight.{Sight}
@@ -33,9 +35,13 @@ is_weak_entry row = is_weak row.mistake
 abbrev pub is_weak_benchmark : BenchmarkRow → Bool
 is_weak_benchmark row = may_be_weak row.mistake
 
--- the name of a book
-unfoldable pub book_item : List ℕ → List ℕ
-book_item name = codes "<li><bdi>" ++ escaped name ++ codes "</bdi>\n"
+-- the length and the digest of an input
+unfoldable pub sum_text : Sum → List ℕ
+sum_text sum = codes "<small>" ++ decimal sum.length ++ codes " B, SHA-256 " ++ digest_text sum ++ codes "</small>\n"
+
+-- an input: which it is, its name, its length and its digest
+unfoldable pub input_item : NamedInput → List ℕ
+input_item (name, sum) = codes "<li>" ++ input_text sum.which ++ codes ": <bdi>" ++ escaped name ++ codes "</bdi> " ++ sum_text sum
 
 -- a fact: what it is about, and its value
 unfoldable pub fact_item : List ℕ → List ℕ → List ℕ

@@ -1,8 +1,9 @@
--- Laws of the page. Its texts from outside are the names of books and points, and notes.
+-- Laws of the page. Its texts from outside are the names of inputs and points, and notes.
 use Rattle.std.specs.Prelude.{◌≡◌, ℕ, List, map, length, option_map}
 use Rattle.std.specs.List.{flat_map}
 use Rattle.th_html.specs.Texts.{escaped}
 use Rattle.th_observations.specs.Observed.{Observed}
+use Rattle.th_inputs.specs.Inputs.{NamedInput}
 use Rattle.th_html.specs.declared.rows.PointRow.{PointRow}
 use Rattle.th_html.specs.declared.rows.SightRow.{SightRow}
 use Rattle.th_html.specs.declared.rows.EntryRow.{EntryRow}
@@ -47,10 +48,13 @@ benchmark_named given row = record row { name = given row.name }
 abbrev pub explanation_named : Names → Row → Row
 explanation_named given row = record row { from = option_map given row.from; to = option_map given row.to }
 
+abbrev pub input_named : Names → NamedInput → NamedInput
+input_named given input = (given input.0, input.1)
+
 -- what a page shows, with the given texts in place of all texts from outside
 abbrev pub shown_named : Names → ShownRows → ShownRows
 shown_named given shown = record {
-  books = map given shown.books;
+  inputs = map (input_named given) shown.inputs;
   points = map (point_named given) shown.points;
   sights = map (sight_named given) shown.sights;
   entries = map (entry_named given) shown.entries;

@@ -1,21 +1,22 @@
 -- The page.
-use Rattle.std.specs.Prelude.{ℕ, ℤ, List, ◌++◌, length, map}
+use Rattle.std.specs.Prelude.{ℕ, ℤ, List, ◌++◌, length, map, zip}
 use Rattle.std.specs.List.{flat_map}
 use Rattle.th_explain_texts.specs.declared.rows.Row.{Row}
 use Rattle.th_html.specs.declared.rows.BenchmarkRow.{BenchmarkRow}
+use Rattle.th_inputs.specs.Inputs.{NamedInput}
 use Rattle.th_picture.specs.declared.sights.Sight.{Sight}
 use Rattle.th_html.specs.declared.rows.EntryRow.{EntryRow}
 use Rattle.th_html.specs.declared.rows.PointRow.{PointRow}
 use Rattle.th_page.specs.Figures.{picture_figure, strip_figure}
-use Rattle.th_page.specs.Fronts.{book_item, facts_text, lamps_text}
+use Rattle.th_page.specs.Fronts.{facts_text, input_item, lamps_text}
 use Rattle.th_page.specs.Sections.{explanation_section, note_section, number_sections, sight_sections}
 use Rattle.th_page.specs.declared.contents.Shown.{Shown}
 use Rattle.th_page.specs.Fixed.{body_text, foot_text, head_text, places_text, style_text}
 
--- what a page shows, as lists: the names of the books, a row for each point, sight, entry, benchmark and explanation, notes,
+-- what a page shows, as lists: the inputs, whose names have no folders, a row for each point, sight, entry, benchmark and explanation, notes,
 -- the least cost, and the limit of blunders
 pub record ShownRows : Type 0 where
-  pub books : List (List ℕ)
+  pub inputs : List NamedInput
   pub points : List PointRow
   pub sights : List Sight
   pub entries : List EntryRow
@@ -27,7 +28,7 @@ pub record ShownRows : Type 0 where
 
 abbrev pub shown_by : Shown → ShownRows
 shown_by shown = record {
-  books = map (λ book. book.now) shown.books.now;
+  inputs = zip (map (λ name. name.now) shown.names.now) shown.sums.now;
   points = shown.points.now;
   sights = shown.sights.now;
   entries = shown.entries.now;
@@ -38,9 +39,9 @@ shown_by shown = record {
   limit = shown.limit;
 }
 
--- the head, and the books
-unfoldable pub head_part : List (List ℕ) → List ℕ
-head_part books = head_text ++ style_text ++ body_text ++ flat_map book_item books ++ places_text
+-- the head, and the inputs
+unfoldable pub head_part : List NamedInput → List ℕ
+head_part inputs = head_text ++ style_text ++ body_text ++ flat_map input_item inputs ++ places_text
 
 -- the facts, the lamps and the figures
 unfoldable pub front_part : ShownRows → List ℕ
@@ -60,4 +61,4 @@ table_part shown =
 
 -- the text of the page
 unfoldable pub page_text : ShownRows → List ℕ
-page_text shown = head_part shown.books ++ front_part shown ++ table_part shown ++ foot_text
+page_text shown = head_part shown.inputs ++ front_part shown ++ table_part shown ++ foot_text

@@ -1,5 +1,6 @@
 -- What a page shows of a survey: the rows of its review, the ends of its sights, its notes, and what would explain its marks.
 use Rattle.std.specs.Prelude.{ℕ, ℤ, List, Option, map, option_map}
+use Rattle.th_columns.specs.FileNames.{last_part}
 use Rattle.th_entries.specs.declared.listed.Listed.{Listed}
 use Rattle.th_entries.specs.declared.reviews.BookReview.{BookReview}
 use Rattle.th_entries.specs.declared.spellings.Spelling.{Spelling}
@@ -9,6 +10,7 @@ use Rattle.th_html.specs.declared.rows.Mistake.{Mistake}
 use Rattle.th_html.specs.declared.rows.Mistake.TheVariants as shown
 use Rattle.th_html.specs.declared.rows.PointRow.{PointRow}
 use Rattle.th_html.specs.declared.rows.SightRow.{SightRow}
+use Rattle.th_inputs.specs.Inputs.{NamedInput}
 use Rattle.th_network.specs.Networks.{Survey, points_of}
 use Rattle.th_notes.specs.Findings.{notes_of}
 use Rattle.th_notes.specs.Notes.{note_text}
@@ -89,11 +91,15 @@ benchmark_shown row = record {
   mistake = effect_shown row.found.effect;
 }
 
--- What a page shows of a survey, given its lowest and highest best heights, what was found about it, its books with their names and with the names
+-- an input whose name has no folder
+abbrev pub without_folder : NamedInput → NamedInput
+without_folder input = (last_part input.0, input.1)
+
+-- What a page shows of a survey, given its lowest and highest best heights, what was found about it, the inputs, the reviews of its books, the names
 -- that are spelled in more than one way, its least cost, what would explain its marks, and the limit of blunders.
-abbrev pub shown_of : Survey → (List ℕ → ℤ) → (List ℕ → ℤ) → Found → List (List ℕ) → List BookReview → Listed Spelling → ℕ → List Row → ℤ → ShownRows
-shown_of survey low high found names books spellings cost explanations limit = record {
-  books = names;
+abbrev pub shown_of : Survey → (List ℕ → ℤ) → (List ℕ → ℤ) → Found → List NamedInput → List BookReview → Listed Spelling → ℕ → List Row → ℤ → ShownRows
+shown_of survey low high found inputs books spellings cost explanations limit = record {
+  inputs = map without_folder inputs;
   points = map point_shown (point_rows survey low high found.strengths found.unit_strengths);
   sights = map (sight_shown (points_of survey) low) (observation_rows survey low found.controls found.blames);
   entries = map entry_shown (entry_rows survey (entries_of books) found.effects);

@@ -1,13 +1,16 @@
 //! All that a page shows, as rows and texts that it borrows.
 use th_explain_texts::Row;
 use th_html::{BenchmarkRow, EntryRow, PointRow};
+use th_inputs::Sum;
 use th_picture::Sight;
 
 /// What a page shows.
 #[derive(Clone, Copy)]
 pub struct Shown<'a> {
-    /// The names of the books, as on the command line.
-    pub books: &'a [&'a [u8]],
+    /// The names of the inputs, without their folders.
+    pub names: &'a [&'a [u8]],
+    /// The sums of the inputs.
+    pub sums: &'a [Sum],
     /// The points, in point order.
     pub points: &'a [PointRow],
     /// The observations, in their order.

@@ -1,32 +1,10 @@
 //! The facts in numbers.
-ghost use Rattle.std.specs.Prelude.{◌≡◌, ◌≤◌, ◌++◌, OnOk, decimal, length, map};
-ghost use Rattle.std.specs.List.{flat_map};
-ghost use Rattle.th_page.specs.Fronts.{book_item, count_items, fact_item, facts_text, fixed_count, length_item, length_items, loop_count};
+ghost use Rattle.std.specs.Prelude.{◌≡◌, ◌≤◌, ◌++◌, OnOk, decimal, length};
+ghost use Rattle.th_page.specs.Fronts.{count_items, fact_item, facts_text, fixed_count, length_item, length_items, loop_count};
 
 use std::alloc::AllocError;
 use th_columns::Page;
-use th_html::{PointRow, write_escaped, write_number, write_sized};
-
-/// Writes the names of the books.
-pub(crate) fn write_books(page: &mut Page, books: &[&[u8]]) -> Result<(), AllocError>
-    ensures { OnOk result (page.new
-        ≡ page.old ++ flat_map book_item (map (λ book. book.now) books.now)) }
-{
-    for book in books {
-        write_book(page, book)?;
-    }
-    Ok(())
-}
-
-/// Writes the name of a book.
-#[tactic(auto, unfolding(crate::specs::Fronts::book_item))]
-fn write_book(page: &mut Page, book: &[u8]) -> Result<(), AllocError>
-    ensures { OnOk result (page.new ≡ page.old ++ book_item book.now) }
-{
-    page.add(b"<li><bdi>")?;
-    write_escaped(page, book)?;
-    page.add(b"</bdi>\n")
-}
+use th_html::{PointRow, write_number, write_sized};
 
 /// Writes the facts, given how many sights and entries there are.
 #[tactic(auto, unfolding(crate::specs::Fronts::facts_text))]

@@ -24,9 +24,8 @@ h1{margin:0;font-size:1.6em}\n\
 h2{margin:1.6em 0 .3em;font-size:1.15em}\n\
 p{margin:.3em 0}\n\
 figure{margin:1.4em 0 0}\n\
-.books,.facts,.lamps,.legend{margin:.4em 0;padding:0}\n\
-.books{list-style-position:inside}\n\
-.books ::marker{content:\"Book \" counter(list-item) \": \"}\n\
+.inputs,.facts,.lamps,.legend{margin:.4em 0;padding:0}\n\
+.inputs{list-style:none}\n\
 .facts{display:flex;flex-wrap:wrap;gap:.2em 1.6em;list-style:none;color:#555}\n\
 .facts b{color:#111}\n\
 li,bdi,th{overflow-wrap:anywhere}\n\
@@ -77,18 +76,18 @@ footer{margin-top:2em;border-top:1px solid #111;color:#444;font-size:.85em}\n\
 @media print{@page{size:A4;margin:15mm}body{padding:0;max-width:none;font-size:9pt}th{white-space:pre-wrap}tr,figure,footer,li,p{break-inside:avoid}h2,h2+p{break-after:avoid}}\n\
 ";
 
-/// What is between the style and the books.
+/// What is between the style and the inputs.
 const BODY: &[u8] = b"\
 </style>\n\
 </head>\n\
 <body>\n\
 <h1>Height network</h1>\n\
-<ol class=\"books\">\n\
+<ul class=\"inputs\">\n\
 ";
 
-/// What is between the books and the facts.
+/// What is between the inputs and the facts.
 const PLACES: &[u8] = b"\
-</ol>\n\
+</ul>\n\
 <p>A place such as 2:14 is line 14 of book 2.</p>\n\
 ";
 
@@ -196,7 +195,7 @@ pub(crate) fn write_style_text(page: &mut Page) -> Result<(), AllocError>
     page.add(STYLE)
 }
 
-/// Writes what is between the style and the books.
+/// Writes what is between the style and the inputs.
 #[tactic(auto, unfolding(crate::specs::Fixed::body_text))]
 pub(crate) fn write_body_text(page: &mut Page) -> Result<(), AllocError>
     ensures { OnOk result (page.new ≡ page.old ++ body_text) }
@@ -204,7 +203,7 @@ pub(crate) fn write_body_text(page: &mut Page) -> Result<(), AllocError>
     page.add(BODY)
 }
 
-/// Writes what is between the books and the facts.
+/// Writes what is between the inputs and the facts.
 #[tactic(auto, unfolding(crate::specs::Fixed::places_text))]
 pub(crate) fn write_places_text(page: &mut Page) -> Result<(), AllocError>
     ensures { OnOk result (page.new ≡ page.old ++ places_text) }

@@ -12,6 +12,7 @@ mod fixed;
 // The parts of a page, from the first to the last.
 mod facts;
 mod figures;
+mod inputs;
 mod lamps;
 mod sections;
 mod weak;

@@ -1,6 +1,7 @@
 //! The page of a network.
 ghost use Rattle.std.specs.Prelude.{◌≡◌, ◌≤◌, All, IfOk, length, map};
 ghost use Rattle.th_limits.specs.Limits.{max_observations};
+ghost use Rattle.th_inputs.specs.Inputs.{inputs_of};
 ghost use Rattle.th_network.specs.Heights.{heights_at};
 ghost use Rattle.th_network.specs.Networks.{AreAtPoints, points_of};
 ghost use Rattle.th_notes.specs.Limits.{max_reviewed};
@@ -16,18 +17,19 @@ use crate::contents::Shown;
 use crate::pages::page_text;
 use crate::rows::{benchmarks_shown, entries_shown, points_shown};
 use crate::sights::sights_shown;
-use crate::texts::{lent_texts, name_bytes, note_texts};
+use crate::texts::{lent_texts, names_shown, note_texts};
 use std::alloc::{AllocError, Global};
 use th_entries::{BookReview, Listed, Spelling};
 use th_explain_texts::Row;
 use th_html::{BenchmarkRow, EntryRow, PointRow};
+use th_inputs::NamedInputs;
 use th_network::Network;
 use th_notes::notes_of;
 use th_picture::Sight;
 use th_review_rows::{benchmark_rows, entry_rows, observation_rows, point_rows};
 use th_review_texts::Findings;
 
-/// The page of a network and of its books, which have these names. `low` and `high` are its lowest and
+/// The page of a network and of the inputs that gave it. `low` and `high` are its lowest and
 /// highest best heights, in point order and in units of 10 nm. The reviews are those of its books, in
 /// order. The spellings are the names that are spelled in more than one way. The explanations are the rows
 /// of what would explain the marks, and the cost is the least cost.
@@ -39,7 +41,7 @@ pub fn page_of(
     low: &[i64],
     high: &[i64],
     findings: &Findings,
-    names: &[&str],
+    inputs: NamedInputs<'_>,
     reviews: &[BookReview],
     spellings: &Listed<Spelling>,
     cost: u128,
@@ -58,20 +60,21 @@ pub fn page_of(
     requires books { length reviews.now ≤ max_reviewed }
     ensures { IfOk result (λ text. text.items ≡ page_text (shown_of network.now
         (heights_at (points_of network.now) low.now) (heights_at (points_of network.now) high.now)
-        (found_in findings.now) (map (λ name. name.now) names.now) reviews.now spellings.now
+        (found_in findings.now) (inputs_of inputs.entry) reviews.now spellings.now
         cost explanations.now limit)) }
 {
     let points = points_found(alloc, network, low, high, findings)?;
     let sights = sights_found(alloc, network, low, findings)?;
     let entries = entries_found(alloc, network, reviews, findings)?;
     let benchmarks = benchmarks_found(alloc, network, findings)?;
-    let books = name_bytes(alloc, names)?;
+    let names = names_shown(alloc, inputs)?;
     let texts = notes_found(alloc, network, low, reviews, spellings)?;
     let notes = lent_texts(alloc, &texts)?;
     page_text(
         alloc,
         &Shown {
-            books: &books,
+            names: &names,
+            sums: inputs.sums,
             points: &points,
             sights: &sights,
             entries: &entries,

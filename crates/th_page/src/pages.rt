@@ -1,19 +1,21 @@
 //! The page.
-ghost use Rattle.std.specs.Prelude.{◌≡◌, ◌++◌, IfOk, OnOk, map};
+ghost use Rattle.std.specs.Prelude.{◌≡◌, ◌++◌, IfOk, OnOk, map, zip};
 ghost use Rattle.th_page.specs.Pages.{front_part, head_part, page_text, shown_by, table_part};
 
 use crate::contents::Shown;
-use crate::facts::{write_books, write_facts};
+use crate::facts::write_facts;
 use crate::figures::{write_picture_figure, write_strip_figure};
 use crate::fixed::{
     write_body_text, write_foot_text, write_head_text, write_places_text, write_style_text,
 };
+use crate::inputs::write_inputs;
 use crate::lamps::write_lamps;
 use crate::sections::{
     write_explanation_section, write_note_section, write_number_sections, write_sight_sections,
 };
 use std::alloc::{AllocError, Global};
 use th_columns::Page;
+use th_inputs::Sum;
 
 /// The page that shows what was found.
 #[tactic(auto, unfolding(crate::specs::Pages::page_text))]
@@ -21,22 +23,28 @@ pub fn page_text(alloc: Global, shown: &Shown<'_>) -> Result<Vec<u8>, AllocError
     ensures { IfOk result (λ text. text.items ≡ page_text (shown_by shown.now)) }
 {
     let mut page = Page::new(alloc);
-    write_head(&mut page, shown.books)?;
+    write_head(alloc, &mut page, shown.names, shown.sums)?;
     write_front(&mut page, shown)?;
     write_tables(alloc, &mut page, shown)?;
     write_foot_text(&mut page)?;
     Ok(page.into_bytes())
 }
 
-/// Writes the head, and the books.
+/// Writes the head, and the inputs.
 #[tactic(auto, unfolding(crate::specs::Pages::head_part))]
-fn write_head(page: &mut Page, books: &[&[u8]]) -> Result<(), AllocError>
-    ensures { OnOk result (page.new ≡ page.old ++ head_part (map (λ book. book.now) books.now)) }
+fn write_head(
+    alloc: Global,
+    page: &mut Page,
+    names: &[&[u8]],
+    sums: &[Sum],
+) -> Result<(), AllocError>
+    ensures { OnOk result (page.new
+        ≡ page.old ++ head_part (zip (map (λ name. name.now) names.now) sums.now)) }
 {
     write_head_text(page)?;
     write_style_text(page)?;
     write_body_text(page)?;
-    write_books(page, books)?;
+    write_inputs(alloc, page, names, sums)?;
     write_places_text(page)
 }
 

@@ -1,8 +1,13 @@
-//! The texts of notes, and the names of books.
-ghost use Rattle.std.specs.Prelude.{◌≡◌, IfOk, map};
+//! The texts of notes, and the names of inputs without their folders.
+ghost use Rattle.std.specs.Prelude.{◌≡◌, IfOk, map, zip};
+ghost use Rattle.th_columns.specs.FileNames.{last_part};
+ghost use Rattle.th_inputs.specs.Inputs.{inputs_of};
 ghost use Rattle.th_notes.specs.Notes.{note_text};
+ghost use Rattle.th_page.specs.Shown.{without_folder};
 
 use std::alloc::{AllocError, Global};
+use th_columns::last_part;
+use th_inputs::NamedInputs;
 use th_notes::{Note, note_text};
 
 /// The text of each note.
@@ -31,14 +36,26 @@ pub(crate) fn lent_texts<'a>(
     Ok(lent)
 }
 
-/// Names, as bytes.
-pub(crate) fn name_bytes<'a>(alloc: Global, names: &[&'a str]) -> Result<Vec<&'a [u8]>, AllocError>
-    ensures { IfOk result (λ lent. map (λ name. name.now) lent.items
-        ≡ map (λ name. name.now) names.now) }
+/// The names of inputs, without their folders.
+#[tactic(auto, using(crate::proofs::ShownLemmas::without_folders))]
+pub(crate) fn names_shown<'a>(
+    alloc: Global,
+    inputs: NamedInputs<'a>,
+) -> Result<Vec<&'a [u8]>, AllocError>
+    ensures { IfOk result (λ names. zip (map (λ name. name.now) names.items) inputs.entry.sums.now
+        ≡ map without_folder (inputs_of inputs.entry)) }
+{
+    last_parts(alloc, inputs.names)
+}
+
+/// The last part of each name of a file.
+fn last_parts<'a>(alloc: Global, names: &[&'a str]) -> Result<Vec<&'a [u8]>, AllocError>
+    ensures { IfOk result (λ lent. map (λ part. part.now) lent.items
+        ≡ map last_part (map (λ name. name.now) names.now)) }
 {
     let mut lent = Vec::with_capacity(alloc, names.len())?;
     for name in names {
-        lent.push(name.as_bytes())?;
+        lent.push(last_part(name.as_bytes()))?;
     }
     Ok(lent)
 }

@@ -36,8 +36,8 @@ use Rattle.th_run_parts.specs.Outputs.{ending_of}
 use Rattle.th_run_parts.specs.Reads.{IsNamed, Run, failed_reads_of}
 use Rattle.th_run_parts.specs.Refusals.{status_of}
 use Rattle.th_run_parts.specs.Writes.{UnlessWrite}
-use Rattle.th_run_parts.specs.declared.refusals.Input.{Input}
-use Rattle.th_run_parts.specs.declared.refusals.Input.TheVariants as input
+use Rattle.th_inputs.specs.declared.inputs.Input.{Input}
+use Rattle.th_inputs.specs.declared.inputs.Input.TheVariants as input
 use Rattle.th_run_parts.specs.declared.outputs.Output.{Output}
 use Rattle.th_run_parts.specs.declared.refusals.Refusal.{Refusal}
 use Rattle.th_run_parts.specs.declared.refusals.Refusal.TheVariants as refusal
@@ -189,6 +189,7 @@ only_memory Named Owes failing origins prefix outputs (refusal.Benchmarks fault)
 only_memory Named Owes failing origins prefix outputs (refusal.Weights fault) status of_write named cause none owes nothing is = absurd (nothing (λ which. refl) (λ e. cc) owes)
 only_memory Named Owes failing origins prefix outputs (refusal.Certificate fault) status of_write named cause none owes nothing is = absurd (nothing (λ which. refl) (λ e. cc) owes)
 only_memory Named Owes failing origins prefix outputs (refusal.Differences fault) status of_write named cause none owes nothing is = absurd (nothing (λ which. refl) (λ e. cc) owes)
+only_memory Named Owes failing origins prefix outputs (refusal.Heights fault) status of_write named cause none owes nothing is = absurd (nothing (λ which. refl) (λ e. cc) owes)
 only_memory Named Owes failing origins prefix outputs (refusal.Network fault) status of_write named cause none owes nothing is = absurd (nothing (λ which. refl) (λ e. cc) owes)
 
 abbrev RefusesForMemory : Type 0

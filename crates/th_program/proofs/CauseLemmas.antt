@@ -18,8 +18,8 @@ use Rattle.th_runs.specs.Listed.{IsOfList}
 use Rattle.th_run_parts.specs.Outputs.{ending_of}
 use Rattle.th_run_parts.specs.Reads.{AreRead, EachBook, IfPresent, IsNamed, IsReadFor, Run, reads_behind, refused}
 use Rattle.th_run_parts.specs.Writes.{AreWritten, EachOut, IsAt, IsWritten, Texts, UpTo}
-use Rattle.th_run_parts.specs.declared.refusals.Input.{Input}
-use Rattle.th_run_parts.specs.declared.refusals.Input.TheVariants as input
+use Rattle.th_inputs.specs.declared.inputs.Input.{Input}
+use Rattle.th_inputs.specs.declared.inputs.Input.TheVariants as input
 use Rattle.th_run_parts.specs.declared.outputs.Output.{Output}
 use Rattle.th_run_parts.specs.declared.refusals.Refusal.{Refusal}
 use Rattle.th_run_parts.specs.declared.refusals.Refusal.TheVariants as refusal
@@ -200,6 +200,7 @@ run_caused failing origins prefix (Err (refusal.Benchmarks fault)) read written 
 run_caused failing origins prefix (Err (refusal.Weights fault)) read written = tt
 run_caused failing origins prefix (Err (refusal.Certificate fault)) read written = tt
 run_caused failing origins prefix (Err (refusal.Differences fault)) read written = tt
+run_caused failing origins prefix (Err (refusal.Heights fault)) read written = tt
 run_caused failing origins prefix (Err (refusal.Network fault)) read written = tt
 run_caused failing origins prefix (Err refusal.NoMemory) read written = tt
 

@@ -30,8 +30,8 @@ use Rattle.th_run_parts.specs.Inputs.{Claim, Given, IsOwed, MakesNetwork, Meets,
 use Rattle.th_run_parts.specs.Outputs.{ending_of}
 use Rattle.th_run_parts.specs.Reads.{failed_reads_of}
 use Rattle.th_run_parts.specs.Refusals.{status_of, status_of_verdict}
-use Rattle.th_run_parts.specs.declared.refusals.Input.{Input}
-use Rattle.th_run_parts.specs.declared.refusals.Input.TheVariants as input
+use Rattle.th_inputs.specs.declared.inputs.Input.{Input}
+use Rattle.th_inputs.specs.declared.inputs.Input.TheVariants as input
 use Rattle.th_run_parts.specs.declared.outputs.Output.{Output}
 use Rattle.th_run_parts.specs.declared.refusals.Refusal.{Refusal}
 use Rattle.th_run_parts.specs.declared.refusals.Refusal.TheVariants as refusal
@@ -148,6 +148,8 @@ unlucky law tells failing old new from limit prefix survey (refusal.Certificate 
     by_status (AdjustMayFail failing from prefix) (refusal.Certificate fault) status is (law (survey_owed old (Some (refusal.Certificate fault)) from) survey (refusal.Certificate fault) (survey_same old (refusal.Certificate fault) (λ which. refl) from ∙ accepted.given) accepted.network refused.owes)
 unlucky law tells failing old new from limit prefix survey (refusal.Differences fault) status accepted is refused =
     by_status (AdjustMayFail failing from prefix) (refusal.Differences fault) status is (law (survey_owed old (Some (refusal.Differences fault)) from) survey (refusal.Differences fault) (survey_same old (refusal.Differences fault) (λ which. refl) from ∙ accepted.given) accepted.network refused.owes)
+unlucky law tells failing old new from limit prefix survey (refusal.Heights fault) status accepted is refused =
+    by_status (AdjustMayFail failing from prefix) (refusal.Heights fault) status is (law (survey_owed old (Some (refusal.Heights fault)) from) survey (refusal.Heights fault) (survey_same old (refusal.Heights fault) (λ which. refl) from ∙ accepted.given) accepted.network refused.owes)
 unlucky law tells failing old new from limit prefix survey (refusal.Network fault) status accepted is refused =
     by_status (AdjustMayFail failing from prefix) (refusal.Network fault) status is (law (survey_owed old (Some (refusal.Network fault)) from) survey (refusal.Network fault) (survey_same old (refusal.Network fault) (λ which. refl) from ∙ accepted.given) accepted.network refused.owes)
 
@@ -243,6 +245,7 @@ believed tells held failing old new from certificate ended = by ended
     never (refusal.Weights fault) e = omega (arith, e)
     never (refusal.Certificate fault) e = omega (arith, e)
     never (refusal.Differences fault) e = omega (arith, e)
+    never (refusal.Heights fault) e = omega (arith, e)
     never (refusal.Network fault) e = omega (arith, e)
     never (refusal.Read which) e = omega (arith, e)
     never (refusal.Write which) e = omega (arith, e)
@@ -323,6 +326,7 @@ confirmed tells held failing law owed answered old new status from certificate s
     refused (refusal.Weights fault) is owes = confirmed_refused (CheckMayFail (failing old) from certificate) law owed (held old) from certificate survey limit texts (refusal.Weights fault) status accepted outputs there is (λ which. refl) owes.owes
     refused (refusal.Certificate fault) is owes = confirmed_refused (CheckMayFail (failing old) from certificate) law owed (held old) from certificate survey limit texts (refusal.Certificate fault) status accepted outputs there is (λ which. refl) owes.owes
     refused (refusal.Differences fault) is owes = confirmed_refused (CheckMayFail (failing old) from certificate) law owed (held old) from certificate survey limit texts (refusal.Differences fault) status accepted outputs there is (λ which. refl) owes.owes
+    refused (refusal.Heights fault) is owes = confirmed_refused (CheckMayFail (failing old) from certificate) law owed (held old) from certificate survey limit texts (refusal.Heights fault) status accepted outputs there is (λ which. refl) owes.owes
     refused (refusal.Network fault) is owes = confirmed_refused (CheckMayFail (failing old) from certificate) law owed (held old) from certificate survey limit texts (refusal.Network fault) status accepted outputs there is (λ which. refl) owes.owes
 
     by : IsEndedCheck tells (failing old) (held old) (held new) from certificate status → (status ≡ 0) ⊎ IsUnlucky (CheckMayFail (failing old) from certificate) status

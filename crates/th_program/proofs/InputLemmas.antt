@@ -6,7 +6,7 @@ use Rattle.th_commands.specs.declared.plans.Plan.{Plan}
 use Rattle.th_files.proofs.OutputLemmas.{file-apart}
 use Rattle.th_program.specs.Done.{IsInputOf, IsRun}
 use Rattle.th_files.specs.Owed.{Told}
-use Rattle.th_run_parts.specs.declared.refusals.Input.{Input}
+use Rattle.th_inputs.specs.declared.inputs.Input.{Input}
 
 kept_told : {F : Type 0} (tells : Bool) (held : F → Told) (has_failed : F → Spot → Bool) (failing : F → Failing) (old new : F) (asked : Plan) (status : ℕ) → tells ≡ true
     → IsRun tells held has_failed failing old new asked status → (which : Input) (name : List ℕ) → IsInputOf asked which name → held new (file name) ≡ held old (file name)

@@ -10,7 +10,7 @@ use Rattle.th_commands.specs.Asked.{Files}
 use Rattle.th_commands.specs.declared.plans.Plan.{Plan}
 use Rattle.th_program.specs.Done.{IsInputOf, IsOutputOf}
 use Rattle.th_program.specs.Inside.Stops.{IsStopOf}
-use Rattle.th_run_parts.specs.declared.refusals.Input.{Input}
+use Rattle.th_inputs.specs.declared.inputs.Input.{Input}
 
 -- what stops a run with these outputs and inputs stops their plan
 pub stop_of : (tells : Bool) (asked : Plan) (from : Files) (spots : List Spot) → ((name : List ℕ) → Contains spots (file name) → IsOutputOf asked (file name))

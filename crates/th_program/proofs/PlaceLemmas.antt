@@ -221,6 +221,7 @@ unless_of (refusal.Benchmarks fault) A known = known
 unless_of (refusal.Weights fault) A known = known
 unless_of (refusal.Certificate fault) A known = known
 unless_of (refusal.Differences fault) A known = known
+unless_of (refusal.Heights fault) A known = known
 unless_of (refusal.Network fault) A known = known
 unless_of (refusal.Read which) A known = known
 unless_of refusal.NoMemory A known = known

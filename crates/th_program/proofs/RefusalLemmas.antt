@@ -31,6 +31,7 @@ unless-map (refusal.Benchmarks fault) A B f known = f known
 unless-map (refusal.Weights fault) A B f known = f known
 unless-map (refusal.Certificate fault) A B f known = f known
 unless-map (refusal.Differences fault) A B f known = f known
+unless-map (refusal.Heights fault) A B f known = f known
 unless-map (refusal.Network fault) A B f known = f known
 unless-map (refusal.Read which) A B f known = f known
 unless-map refusal.NoMemory A B f known = f known

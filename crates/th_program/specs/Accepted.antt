@@ -7,7 +7,7 @@ use Rattle.th_files.specs.Owed.{HasName}
 use Rattle.th_commands.specs.Asked.{Files}
 use Rattle.th_program.specs.Failing.{Origins}
 use Rattle.th_run_parts.specs.declared.outputs.Output.{Output}
-use Rattle.th_run_parts.specs.declared.refusals.Input.{Input}
+use Rattle.th_inputs.specs.declared.inputs.Input.{Input}
 
 -- all that a run reads is at this spot
 abbrev pub IsReadAt : Spot → Origins

@@ -31,8 +31,8 @@ use Rattle.th_run_parts.specs.Refusals.{status_of, status_of_verdict}
 use Rattle.th_run_review.specs.Reviewed.{AreOfReview, reviewing}
 use Rattle.th_run_parts.specs.Writes.{Texts, UnlessWrite}
 use Rattle.th_runs.specs.declared.notes.Notes.{Notes}
-use Rattle.th_run_parts.specs.declared.refusals.Input.{Input}
-use Rattle.th_run_parts.specs.declared.refusals.Input.TheVariants as source
+use Rattle.th_inputs.specs.declared.inputs.Input.{Input}
+use Rattle.th_inputs.specs.declared.inputs.Input.TheVariants as source
 use Rattle.th_run_explain.specs.declared.explaining.Form.{Form}
 use Rattle.th_run_explain.specs.declared.explaining.Form.TheVariants as form
 use Rattle.th_run_parts.specs.declared.outputs.Output.{Output}
@@ -43,7 +43,7 @@ use Rattle.th_program.specs.Failing.{HasCause, IsInClaim, IsInFiles}
 use Rattle.th_program.specs.Noted.{AreNotesOf}
 use Rattle.th_messages.specs.Noted.{notes_lines}
 use Rattle.th_files.specs.Outputs.{AreLeft, Holds, spots_of}
-use Rattle.th_files.specs.Owed.{HasName, Told, book_owed, claim_owed, converted_owed, survey_owed}
+use Rattle.th_files.specs.Owed.{HasName, Told, all_names, book_owed, claim_owed, converted_owed, survey_owed, tolds_in}
 
 -- standard output has the list of the book at this spot
 pub record IsListed (tells : Bool) (old new : Told) (book : Spot) : Type 0 where
@@ -72,15 +72,15 @@ pub record IsPrinted (tells : Bool) (old new : Told) (from : Files) (prefix : Li
 abbrev pub IsAdjusted : Bool → Told → Told → Files → ℤ → List ℕ → Option Refusal → Type 0
 IsAdjusted tells old new from limit prefix = IsPrinted tells old new from prefix adjusting.outputs (AreOfAdjustment limit)
 
--- the files of a review have its texts: of the survey in the named files, and of what else their books contain
+-- the files of a review have its texts: of the survey in the named files, of what else their books contain, and of the names and sums of all these files
 abbrev pub IsReviewed : Bool → Told → Told → Files → ℤ → List ℕ → Option Refusal → Type 0
 IsReviewed tells old new from limit prefix =
-    IsPrinted tells old new from prefix reviewing.outputs (AreOfReview (map (λ name. old (file name)) from.books) limit)
+    IsPrinted tells old new from prefix reviewing.outputs (AreOfReview (all_names from) (tolds_in old from) limit)
 
--- the file of a page has its text: of the survey in the named files, of what else their books contain, and of the names of these as they were given
+-- the file of a page has its text: of the survey in the named files, of what else their books contain, and of the names and sums of all these files
 abbrev pub IsPagedFile : Bool → Told → Told → Files → ℤ → List ℕ → Option Refusal → Type 0
 IsPagedFile tells old new from limit prefix =
-    IsPrinted tells old new from prefix paging.outputs (AreOfPage from.books (map (λ name. old (file name)) from.books) limit)
+    IsPrinted tells old new from prefix paging.outputs (AreOfPage (all_names from) (tolds_in old from) limit)
 
 -- the form in which a plan requests explanations
 abbrev pub form_of : Bool → Form

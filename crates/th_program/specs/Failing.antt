@@ -6,8 +6,8 @@ use Rattle.th_commands.specs.Asked.{Files}
 use Rattle.th_files.specs.Outputs.{spot_at}
 use Rattle.th_files.specs.Owed.{HasName}
 use Rattle.th_run_parts.specs.Outputs.{ending_of}
-use Rattle.th_run_parts.specs.declared.refusals.Input.{Input}
-use Rattle.th_run_parts.specs.declared.refusals.Input.TheVariants as input
+use Rattle.th_inputs.specs.declared.inputs.Input.{Input}
+use Rattle.th_inputs.specs.declared.inputs.Input.TheVariants as input
 use Rattle.th_run_parts.specs.declared.refusals.Refusal.{Refusal}
 use Rattle.th_run_parts.specs.declared.refusals.Refusal.TheVariants as refusal
 

@@ -12,7 +12,7 @@ use Rattle.th_program.specs.Done.{IsAdjustOutput, IsAdjusted, IsChecked, IsRefus
 use Rattle.th_program.specs.Failing.{Origins}
 use Rattle.th_files.specs.Owed.{HasName, Told, survey_owed}
 use Rattle.th_run_parts.specs.Refusals.{status_of, status_of_verdict}
-use Rattle.th_run_parts.specs.declared.refusals.Input.{Input}
+use Rattle.th_inputs.specs.declared.inputs.Input.{Input}
 use Rattle.th_run_parts.specs.declared.refusals.Refusal.{Refusal}
 
 -- the arguments, the program's name first, request this

@@ -13,7 +13,8 @@ use std::io;
 use std::io::ErrorKind;
 use th_commands::{PlanFault, plan};
 use th_devices::{Folder, Target, write_all};
-use th_messages::{refuse_memory, report, shown_text};
+use th_inputs::shown_text;
+use th_messages::{refuse_memory, report};
 use th_runs::{NO_MEMORY, USAGE};
 
 /// Runs the program with its arguments, if they were read, and returns its exit status. The first

@@ -13,7 +13,7 @@ ghost use Rattle.th_files.specs.Owed.{claim_owed, book_owed, converted_owed};
 ghost use Rattle.th_runs.specs.Adjusted.{AreOutputs, OutTexts, adjusting};
 ghost use Rattle.th_runs.specs.Checked.{IsRight, checking};
 ghost use Rattle.th_run_parts.specs.Inputs.{Claim, Meets};
-ghost use Rattle.th_run_parts.specs.declared.refusals.Input.{Input};
+ghost use Rattle.th_inputs.specs.declared.inputs.Input.{Input};
 ghost use Rattle.th_run_book.specs.Booked.{booking};
 ghost use Rattle.th_run_book.specs.declared.conversions.Conversion.TheVariants.{Differences, Heights};
 ghost use Rattle.th_run_explain.specs.Explained.{explaining};

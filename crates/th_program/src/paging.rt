@@ -7,7 +7,7 @@ ghost use Rattle.th_run_parts.specs.Writes.{UnlessWrite};
 use std::alloc::Global;
 use th_commands::{Inputs, Limit};
 use th_devices::Folder;
-use th_files::{place_sinks, sinks_of, sources_of};
+use th_files::{names_of, place_sinks, sinks_of, sources_of};
 use th_progress::Progress;
 use th_run_page::{PAGED, run_page};
 use th_runs::Refusal;
@@ -31,15 +31,16 @@ pub(crate) fn page<F: Folder>(
     ensures others { (spot : _) → (IsPageOutput prefix.now spot → ⊥)
         → F.held folder.new spot ≡ F.held folder.old spot }
 {
+    let names = names_of(alloc, inputs)?;
     let mut sources = sources_of(alloc, folder, inputs)?;
     let mut outs = sinks_of(alloc, folder, prefix, &PAGED)?;
     let mut progress = folder.progress("page");
     let answer = run_page(
         alloc,
         sources.books.as_mut_slice(),
-        inputs.books.names(),
         &mut sources.benchmarks,
         &mut sources.weights,
+        names.as_slice(),
         limit.get(),
         outs.as_mut_slice(),
         &mut progress,

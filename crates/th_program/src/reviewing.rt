@@ -7,7 +7,7 @@ ghost use Rattle.th_run_parts.specs.Writes.{UnlessWrite};
 use std::alloc::Global;
 use th_commands::{Inputs, Limit};
 use th_devices::Folder;
-use th_files::{place_sinks, sinks_of, sources_of};
+use th_files::{names_of, place_sinks, sinks_of, sources_of};
 use th_progress::Progress;
 use th_run_review::{REVIEWED, run_review};
 use th_runs::Refusal;
@@ -33,6 +33,7 @@ pub(crate) fn review<F: Folder>(
     ensures others { (spot : _) → (IsReviewOutput prefix.now spot → ⊥)
         → F.held folder.new spot ≡ F.held folder.old spot }
 {
+    let names = names_of(alloc, inputs)?;
     let mut sources = sources_of(alloc, folder, inputs)?;
     let mut outs = sinks_of(alloc, folder, prefix, &REVIEWED)?;
     let mut progress = folder.progress("review");
@@ -41,6 +42,7 @@ pub(crate) fn review<F: Folder>(
         sources.books.as_mut_slice(),
         &mut sources.benchmarks,
         &mut sources.weights,
+        names.as_slice(),
         limit.get(),
         outs.as_mut_slice(),
         &mut progress,

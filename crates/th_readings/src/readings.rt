@@ -1,10 +1,8 @@
 //! The row of a book, where it fits much better if it is read from mark to mark.
-ghost use Rattle.std.specs.Prelude.{◌≡◌, ◌≤◌, ◌<◌, ◌+◌, ◌*◌, ◌++◌, ◌∷◌, [], All, IfErr, IfOk, OnOk, map, option_map, true, unsigned_abs};
+ghost use Rattle.std.specs.Prelude.{◌≡◌, ◌≤◌, ◌<◌, ◌+◌, ◌*◌, ◌++◌, ◌∷◌, [], All, IfOk, OnOk, map, option_map, true, unsigned_abs};
 ghost use Rattle.std.specs.List.{AllZip};
 ghost use Rattle.th_observations.specs.Observed.{largest_difference};
 ghost use Rattle.th_entries.specs.declared.entries.HeightKind.TheVariants as height;
-ghost use Rattle.th_network.specs.Faults.{IsNetwork};
-ghost use Rattle.th_network.specs.declared.faults.NetFault.TheVariants.{NoMemory};
 ghost use Rattle.th_readings.specs.Readings.{IsBookRowOrNone, IsReadOrNone, height_in, is_cheaper, read_difference, read_observation, row_of_book, with_difference, word_33};
 
 use std::alloc::{AllocError, Global};
@@ -13,16 +11,14 @@ use th_circulation::best_heights;
 use th_entries::{Entry, HeightKind};
 use th_explain_texts::{Kind, Row};
 use th_limits::LARGEST_DIFFERENCE;
-use th_network::laws::faults_exclude_each_other;
-use th_network::{NetFault, Network};
+use th_network::Network;
 use th_numbers::{Kinds, SightedBook, is_kind};
 use th_observations::Observation;
 use th_review_rows::sights_of;
 
 /// For each book its row, where it fits much better if it is read from mark to mark.
 ///
-/// `cost` is the least cost of the network. The limit of blunders is in units of 10 nm. The only fault is
-/// `NoMemory`.
+/// `cost` is the least cost of the network. The limit of blunders is in units of 10 nm.
 pub fn book_rows(
     alloc: Global,
     network: &Network,
@@ -30,10 +26,9 @@ pub fn book_rows(
     cost: u128,
     books: &[SightedBook],
     limit: i64,
-) -> Result<Vec<Option<Row>>, NetFault>
+) -> Result<Vec<Option<Row>>, AllocError>
     ensures rows { IfOk result (λ rows.
         AllZip (IsBookRowOrNone network.now kinds.now.entries.now cost limit) books.now rows.items) }
-    ensures refused { IfErr result (λ fault. fault ≡ NoMemory) }
 {
     let mut rows = Vec::with_capacity(alloc, books.len())?;
     for book in books {
@@ -58,9 +53,8 @@ fn book_row(
     cost: u128,
     book: &SightedBook,
     limit: i64,
-) -> Result<Option<Row>, NetFault>
+) -> Result<Option<Row>, AllocError>
     ensures row { IfOk result (IsBookRowOrNone network.now kinds.now.entries.now cost limit book.now) }
-    ensures refused { IfErr result (λ fault. fault ≡ NoMemory) }
 {
     let read = reread(alloc, network.observations(), kinds, book.number)?;
     match read {
@@ -79,15 +73,12 @@ fn row_if_cheaper(
     cost: u128,
     book: &SightedBook,
     limit: i64,
-) -> Result<Option<Row>, NetFault>
-    requires network { IsNetwork network.now.observations network.now.benchmarks }
+) -> Result<Option<Row>, AllocError>
     requires read { read.items
         ≡ map (read_observation kinds.now.entries.now book.now.number) network.now.observations }
     ensures row { IfOk result (IsBookRowOrNone network.now kinds.now.entries.now cost limit book.now) }
-    ensures refused { IfErr result (λ fault. fault ≡ NoMemory) }
 {
-    faults_exclude_each_other();
-    let own = Network::build(alloc, read, network.benchmarks(), network.weight_table())?;
+    let own = network.with_differences(alloc, read)?;
     let best = best_heights(alloc, &own)?;
     let fit = Fit::of(alloc, &own, best.low())?;
     if !is_cheaper(cost, fit.cost) {

@@ -8,6 +8,7 @@ use Rattle.th_blunders.specs.Blunders.{is_blunder}
 use Rattle.th_columns.specs.Columns.{gap, left_in, line_end, right_in}
 use Rattle.th_report.specs.Reports.{blunder_mark, end_columns, ends_of, place_columns, place_of}
 use Rattle.th_columns.specs.Labels.{label_line, limit_line}
+use Rattle.th_inputs.specs.Inputs.{NamedInput, input_lines}
 use Rattle.th_review_texts.specs.Heads.{head_lines}
 use Rattle.th_review_texts.specs.Largest.{largest}
 use Rattle.th_notes.specs.Notes.{note_lines}
@@ -138,11 +139,12 @@ benchmark_lines benchmarks =
     ++ moved_columns (codes "MOVES") (codes "BLAMES") []
     ++ flat_map benchmark_line benchmarks
 
--- the part before the table of points: the head, the books and the largest residuals, with an empty line after each
-unfoldable pub front_part : Survey → List PointRow → List ObservationRow → List EntryRow → List BenchmarkRow → List BookCount → ℤ → List ℕ
-front_part survey points observations entries benchmarks books limit =
+-- the part before the table of points: the head, the books, the inputs and the largest residuals, with an empty line after each
+unfoldable pub front_part : Survey → List PointRow → List ObservationRow → List EntryRow → List BenchmarkRow → List BookCount → List NamedInput → ℤ → List ℕ
+front_part survey points observations entries benchmarks books inputs limit =
     head_lines survey points observations entries benchmarks ++ line_end
     ++ book_lines books ++ line_end
+    ++ input_lines inputs ++ line_end
     ++ largest_lines limit observations ++ line_end
 
 -- the tables of all points, observations, entries and benchmarks, with an empty line after each
@@ -154,6 +156,6 @@ table_part survey points observations entries benchmarks =
     ++ benchmark_lines benchmarks ++ line_end
 
 -- the text of the review
-unfoldable pub review_text : Survey → List PointRow → List ObservationRow → List EntryRow → List BenchmarkRow → List BookCount → List Note → ℤ → List ℕ
-review_text survey points observations entries benchmarks books notes limit =
-    front_part survey points observations entries benchmarks books limit ++ table_part survey points observations entries benchmarks ++ note_lines notes
+unfoldable pub review_text : Survey → List PointRow → List ObservationRow → List EntryRow → List BenchmarkRow → List BookCount → List NamedInput → List Note → ℤ → List ℕ
+review_text survey points observations entries benchmarks books inputs notes limit =
+    front_part survey points observations entries benchmarks books inputs limit ++ table_part survey points observations entries benchmarks ++ note_lines notes

@@ -2,6 +2,7 @@
 use Rattle.std.specs.Prelude.{◌≡◌, ℕ, ℤ, List, Option}
 use Rattle.th_network.specs.Networks.{Survey}
 use Rattle.th_entries.specs.declared.listed.Listed.{Listed}
+use Rattle.th_inputs.specs.Inputs.{NamedInput}
 use Rattle.th_entries.specs.declared.reviews.BookReview.{BookReview}
 use Rattle.th_entries.specs.declared.spellings.Spelling.{Spelling}
 use Rattle.th_reliability.specs.declared.benchmarks.BenchmarkEffect.{BenchmarkEffect}
@@ -55,8 +56,8 @@ bytes_of texts = record {
 }
 
 -- the texts of a review, given a survey with its lowest and highest best heights and what was found about it,
--- the books, the names that are spelled in more than one way, and the limit of blunders
-pub record AreReviewTexts (survey : Survey) (low high : List ℕ → ℤ) (found : Found) (books : List BookReview) (spellings : Listed Spelling) (limit : ℤ) (texts : ReviewOutTexts) : Type 0 where
+-- the books, the names that are spelled in more than one way, the inputs, and the limit of blunders
+pub record AreReviewTexts (survey : Survey) (low high : List ℕ → ℤ) (found : Found) (books : List BookReview) (spellings : Listed Spelling) (inputs : List NamedInput) (limit : ℤ) (texts : ReviewOutTexts) : Type 0 where
   pub points : texts.points ≡ points_text (point_rows survey low high found.strengths found.unit_strengths)
   pub observations : texts.observations ≡ observations_text (observation_rows survey low found.controls found.blames)
   pub entries : texts.entries ≡ entries_text (entry_rows survey (entries_of books) found.effects)
@@ -66,4 +67,4 @@ pub record AreReviewTexts (survey : Survey) (low high : List ℕ → ℤ) (found
       (observation_rows survey low found.controls found.blames)
       (entry_rows survey (entries_of books) found.effects)
       (benchmark_rows survey found.benchmarks)
-      (counts_of_books books) (notes_of survey low books spellings) limit
+      (counts_of_books books) inputs (notes_of survey low books spellings) limit

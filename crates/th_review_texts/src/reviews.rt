@@ -1,5 +1,6 @@
 //! The review for people.
 ghost use Rattle.std.specs.Prelude.{◌≡◌, ◌++◌, IfOk, OnOk};
+ghost use Rattle.th_inputs.specs.Inputs.{inputs_of};
 ghost use Rattle.th_notes.specs.Books.{counts_of_books};
 ghost use Rattle.th_review_texts.specs.Reviews.{front_part, review_text, table_part};
 
@@ -12,11 +13,12 @@ use crate::point_tables::{largest_weight, write_points};
 use std::alloc::{AllocError, Global};
 use th_columns::Page;
 use th_entries::BookReview;
+use th_inputs::{NamedInputs, write_inputs};
 use th_network::Network;
 use th_notes::{Note, write_notes};
 use th_review_rows::{BenchmarkRow, EntryRow, ObservationRow, PointRow};
 
-/// The review of a network for people: what was reviewed in numbers, the books, the largest
+/// The review of a network for people: what was reviewed in numbers, the books, the inputs, the largest
 /// residuals, the points, the observations, the entries and the benchmarks, and the notes.
 ///
 /// The limit of blunders is in units of 10 nm.
@@ -29,11 +31,12 @@ pub(crate) fn review_text(
     entries: &[EntryRow],
     benchmarks: &[BenchmarkRow],
     reviews: &[BookReview],
+    inputs: NamedInputs<'_>,
     notes: &[Note],
     limit: i64,
 ) -> Result<Vec<u8>, AllocError>
     ensures { IfOk result (λ text. text.items ≡ review_text network.now points.now
-        observations.now entries.now benchmarks.now (counts_of_books reviews.now) notes.now limit) }
+        observations.now entries.now benchmarks.now (counts_of_books reviews.now) (inputs_of inputs.entry) notes.now limit) }
 {
     let mut page = Page::new(alloc);
     write_front(
@@ -45,6 +48,7 @@ pub(crate) fn review_text(
         entries,
         benchmarks,
         reviews,
+        inputs,
         limit,
     )?;
     write_tables(
@@ -59,7 +63,7 @@ pub(crate) fn review_text(
     Ok(page.into_bytes())
 }
 
-/// Writes the head, the books and the largest residuals.
+/// Writes the head, the books, the inputs and the largest residuals.
 #[tactic(auto, unfolding(crate::specs::Reviews::front_part))]
 fn write_front(
     alloc: Global,
@@ -70,14 +74,17 @@ fn write_front(
     entries: &[EntryRow],
     benchmarks: &[BenchmarkRow],
     reviews: &[BookReview],
+    inputs: NamedInputs<'_>,
     limit: i64,
 ) -> Result<(), AllocError>
     ensures { OnOk result (page.new ≡ page.old ++ front_part network.now points.now
-        observations.now entries.now benchmarks.now (counts_of_books reviews.now) limit) }
+        observations.now entries.now benchmarks.now (counts_of_books reviews.now) (inputs_of inputs.entry) limit) }
 {
     write_head(page, network, points, observations, entries, benchmarks)?;
     page.end_line()?;
     write_books(page, reviews)?;
+    page.end_line()?;
+    write_inputs(alloc, page, inputs)?;
     page.end_line()?;
     write_largest(alloc, page, observations, limit)?;
     page.end_line()

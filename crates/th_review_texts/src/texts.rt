@@ -1,5 +1,6 @@
 //! All texts of a review.
 ghost use Rattle.std.specs.Prelude.{◌≡◌, ◌≤◌, IfOk, length};
+ghost use Rattle.th_inputs.specs.Inputs.{inputs_of};
 ghost use Rattle.th_network.specs.Heights.{heights_at};
 ghost use Rattle.th_network.specs.Networks.{AreAtPoints, points_of};
 ghost use Rattle.th_notes.specs.Limits.{max_reviewed};
@@ -10,6 +11,7 @@ use crate::reviews::review_text;
 use crate::tables::{benchmarks_csv, entries_csv, observations_csv, points_csv};
 use std::alloc::{AllocError, Global};
 use th_entries::{BookReview, Listed, Spelling};
+use th_inputs::NamedInputs;
 use th_network::Network;
 use th_notes::notes_of;
 use th_reliability::{BenchmarkEffect, Blame, Effect};
@@ -49,7 +51,7 @@ pub struct ReviewTexts {
 
 /// The texts of a review of a network. `low` and `high` are its lowest and highest best heights, in
 /// point order and in units of 10 nm. The reviews are those of its books, in order. The spellings
-/// are the names that are spelled in more than one way.
+/// are the names that are spelled in more than one way. The inputs are what the run read.
 ///
 /// The limit of blunders is in units of 10 nm.
 pub fn review_texts(
@@ -60,6 +62,7 @@ pub fn review_texts(
     findings: &Findings,
     reviews: &[BookReview],
     spellings: &Listed<Spelling>,
+    inputs: NamedInputs<'_>,
     limit: i64,
 ) -> Result<ReviewTexts, AllocError>
     requires low { AreAtPoints network.now low.now }
@@ -73,7 +76,8 @@ pub fn review_texts(
     requires books { length reviews.now ≤ max_reviewed }
     ensures { IfOk result (λ texts. AreReviewTexts network.now
         (heights_at (points_of network.now) low.now) (heights_at (points_of network.now) high.now)
-        (found_in findings.now) reviews.now spellings.now limit (bytes_of texts)) }
+        (found_in findings.now) reviews.now spellings.now (inputs_of inputs.entry) limit
+        (bytes_of texts)) }
 {
     let points = point_rows(
         alloc,
@@ -95,6 +99,7 @@ pub fn review_texts(
         &entries,
         &benchmarks,
         reviews,
+        inputs,
         &notes,
         limit,
     )?;

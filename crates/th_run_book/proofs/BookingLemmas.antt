@@ -5,7 +5,12 @@ use Rattle.std.specs.Prelude.{Result}
 use Rattle.th_book.specs.Books.{too_long as book_too_long}
 use Rattle.th_book.specs.Limits.{max_book}
 use Rattle.th_conversions.specs.Books.{book_of_table}
+use Rattle.th_book.specs.declared.faults.BookKind.TheVariants as book_kind
+use Rattle.th_conversions.specs.HeightFaults.{of_book}
 use Rattle.th_conversions.specs.Limits.{max_differences}
+use Rattle.th_conversions.specs.declared.height_faults.HeightFault.{HeightFault}
+use Rattle.th_conversions.specs.declared.height_faults.HeightKind.{HeightKind}
+use Rattle.th_conversions.specs.declared.height_faults.HeightKind.TheVariants as height_kind
 use Rattle.th_conversions.specs.Tables.{no_memory, too_long}
 use Rattle.th_conversions.specs.declared.faults.DifferenceFault.{DifferenceFault}
 use Rattle.th_conversions.specs.declared.faults.DifferenceKind.{DifferenceKind}
@@ -28,12 +33,12 @@ table_long text longer = rw (lt-ltb _ _ longer)
 pub book_of_table-take : (text : List ℕ) → book_of_table (take (max_differences + 1) text) ≡ book_of_table text
 book_of_table-take text = front_answer max_differences (Err too_long) book_of_table table_long text
 
-heights_long : (text : List ℕ) → max_book < length text → book_of_heights text ≡ Err book_too_long
+heights_long : (text : List ℕ) → max_book < length text → book_of_heights text ≡ Err (of_book book_too_long)
 heights_long text longer = rw (lt-ltb _ _ longer)
 
 -- and so for a book with heights
 pub book_of_heights-take : (text : List ℕ) → book_of_heights (take (max_book + 1) text) ≡ book_of_heights text
-book_of_heights-take text = front_answer max_book (Err book_too_long) book_of_heights heights_long text
+book_of_heights-take text = front_answer max_book (Err (of_book book_too_long)) book_of_heights heights_long text
 
 -- a fault of a table of differences is out of memory, or the one that it has
 pub difference_fault : {X : Type 0} (refuse : DifferenceFault → Refusal) (answer : Result X DifferenceFault) (fault : DifferenceFault) (own : Refusal)
@@ -45,6 +50,17 @@ difference_fault refuse answer fault own memory other (inr faulty) =
   where
     is_memory : (kind : DifferenceKind) → (kind ≡ difference_kind.NoMemory) ⊎ (kind ≢ difference_kind.NoMemory)
     is_memory difference_kind.NoMemory = inl refl
+    is_memory kind = inr (λ e. cc)
+
+-- a fault of a book with heights is out of memory, or the one that it has
+pub height_fault : {X : Type 0} (refuse : HeightFault → Refusal) (answer : Result X HeightFault) (fault : HeightFault) (own : Refusal)
+    → (fault.kind ≡ height_kind.Book book_kind.NoMemory → own ≡ refusal.NoMemory) → (fault.kind ≢ height_kind.Book book_kind.NoMemory → own ≡ refuse fault)
+    → (fault.kind ≢ height_kind.Book book_kind.NoMemory → answer ≡ Err fault) → (own ≡ refusal.NoMemory) ⊎ ((answer ≡ Err fault) × (own ≡ refuse fault))
+height_fault refuse answer fault own memory other faulty =
+    elim (is_memory fault.kind) [ inl wanting ↦ inl (memory wanting) | inr real ↦ inr (faulty real, other real) ]
+  where
+    is_memory : (kind : HeightKind) → (kind ≡ height_kind.Book book_kind.NoMemory) ⊎ (kind ≢ height_kind.Book book_kind.NoMemory)
+    is_memory (height_kind.Book book_kind.NoMemory) = inl refl
     is_memory kind = inr (λ e. cc)
 
 -- a refusal for an input is none of an output

@@ -1,14 +1,14 @@
 //! The book that a source gives.
 ghost use Rattle.std.specs.Prelude.{IfErr, IfOk, Ok};
-ghost use Rattle.th_run_book.specs.Booked.{IsOfConversion, IsOfDifferences, converted, input_of, owed_for_differences, owed_for_heights};
+ghost use Rattle.th_run_book.specs.Booked.{IsOfConversion, IsOfDifferences, IsOfHeights, converted, input_of, owed_for_differences, owed_for_heights};
 ghost use Rattle.th_devices.specs.Devices.{IsReady};
 ghost use Rattle.th_run_parts.specs.Inputs.{Meets, MeetsRefusal, given};
-ghost use Rattle.th_run_parts.specs.Reads.{IsOfBook, IsReadFor, refused};
+ghost use Rattle.th_run_parts.specs.Reads.{IsReadFor, refused};
 
 use crate::conversions::Conversion;
 use std::alloc::Global;
 use th_book::BookKind;
-use th_conversions::{DifferenceKind, book_of_heights, book_of_table};
+use th_conversions::{DifferenceKind, HeightKind, book_of_heights, book_of_table};
 use th_devices::Source;
 use th_run_parts::{Input, Refusal, read_text};
 
@@ -60,15 +60,15 @@ fn book_with_differences<S: Source>(alloc: Global, heights: &mut S) -> Result<Ve
         Meets (owed_for_heights (given S.state heights.old heights.new)) (Ok book.items)) }
     ensures refused { IfErr result (MeetsRefusal
         (owed_for_heights (given S.state heights.old heights.new))) }
-    ensures named { IfErr result (IsOfBook 1) }
+    ensures named { IfErr result IsOfHeights }
     ensures heights { IsReadFor S.state (Input.Book 1) (refused result) heights.old heights.new }
 {
     let text = read_text(alloc, Input::Book(1), heights)?;
     match book_of_heights(alloc, text.as_slice()) {
         Ok(book) => Ok(book),
         Err(fault) => match fault.kind {
-            BookKind::NoMemory => Err(Refusal::NoMemory),
-            _ => Err(Refusal::Book(1, fault)),
+            HeightKind::Book(BookKind::NoMemory) => Err(Refusal::NoMemory),
+            _ => Err(Refusal::Heights(fault)),
         },
     }
 }

@@ -14,7 +14,7 @@ use th_devices::{Sink, Source};
 use th_entries::BookReview;
 use th_explain_rows::{Explanations, explanations_of};
 use th_explain_texts::{explanations_csv, explanations_text};
-use th_network::{NetFault, Network};
+use th_network::Network;
 use th_progress::Progress;
 use th_run_parts::{Output, OutputText, Refusal, Survey, network_of, read_survey, write_outs};
 use th_run_review::ReviewReader;
@@ -98,11 +98,8 @@ fn texts_of_network<P: Progress>(
     let found = explanations_of(alloc, network, reviews, limit, progress);
     // The texts may go to the terminal that shows the progress.
     progress.clear();
-    match found {
-        Ok(own) => Ok(printed(alloc, &own, form)?),
-        Err(NetFault::NoMemory) => Err(Refusal::NoMemory),
-        Err(fault) => Err(Refusal::Network(fault)),
-    }
+    let own = found?;
+    Ok(printed(alloc, &own, form)?)
 }
 
 /// The one output of an explanation.

@@ -23,6 +23,7 @@ use Rattle.th_html.specs.declared.rows.Mistake.{Mistake}
 use Rattle.th_blunders.specs.Residuals.{residuals}
 use Rattle.th_circulation.specs.Best.{Best, IsBest}
 use Rattle.th_circulation.specs.Extremes.{High, Low}
+use Rattle.th_inputs.specs.Inputs.{NamedInput}
 use Rattle.th_network.specs.Heights.{heights_at}
 use Rattle.th_network.specs.Networks.{AreAtPoints, Survey, at_points_of, points_of}
 use Rattle.th_points.specs.Points.{points}
@@ -176,20 +177,20 @@ benchmarks_shown laws survey (row ∷ rows) (a ∷ as') (b ∷ bs) one other =
     (benchmarks_shown laws survey rows as' bs one.1 other.1)
 
 -- ---- a page
-one_page : Laws → (survey : Survey) (names : List (List ℕ)) (books : List BookReview) (spellings : Listed Spelling) (limit : ℤ) (cost : ℕ) (rows : List Row) (best answer : Best) (first second : Found)
+one_page : Laws → (survey : Survey) (inputs : List NamedInput) (books : List BookReview) (spellings : Listed Spelling) (limit : ℤ) (cost : ℕ) (rows : List Row) (best answer : Best) (first second : Found)
     → IsBest survey best → IsBest survey answer → AreFound survey books first → AreFound survey books second
-    → shown_of survey (at_points_of survey best.low) (at_points_of survey best.high) first names books spellings cost rows limit ≡ shown_of survey (at_points_of survey answer.low) (at_points_of survey answer.high) second names books spellings cost rows limit
-one_page laws survey names books spellings limit cost rows best answer first second is other_is finds other_finds =
-    ap₂ (λ low high. shown_of survey (at_points_of survey low) (at_points_of survey high) first names books spellings cost rows limit) (one_low laws survey best answer is other_is) (one_high laws survey best answer is other_is)
-    ∙ ap₂ (λ strengths units. shown_of survey low high (record first { strengths = strengths; unit_strengths = units }) names books spellings cost rows limit)
+    → shown_of survey (at_points_of survey best.low) (at_points_of survey best.high) first inputs books spellings cost rows limit ≡ shown_of survey (at_points_of survey answer.low) (at_points_of survey answer.high) second inputs books spellings cost rows limit
+one_page laws survey inputs books spellings limit cost rows best answer first second is other_is finds other_finds =
+    ap₂ (λ low high. shown_of survey (at_points_of survey low) (at_points_of survey high) first inputs books spellings cost rows limit) (one_low laws survey best answer is other_is) (one_high laws survey best answer is other_is)
+    ∙ ap₂ (λ strengths units. shown_of survey low high (record first { strengths = strengths; unit_strengths = units }) inputs books spellings cost rows limit)
     (one_strengths survey first.strengths second.strengths finds.strengths other_finds.strengths) (one_strengths (record survey { weights = [] }) first.unit_strengths second.unit_strengths finds.unit_strengths other_finds.unit_strengths)
-    ∙ ap (λ controls. shown_of survey low high (record second { controls = controls; blames = first.blames; effects = first.effects; benchmarks = first.benchmarks }) names books spellings cost rows limit)
+    ∙ ap (λ controls. shown_of survey low high (record second { controls = controls; blames = first.blames; effects = first.effects; benchmarks = first.benchmarks }) inputs books spellings cost rows limit)
     (one_controls survey first.controls second.controls finds.controls other_finds.controls)
-    ∙ ap (λ sights. record (shown_of survey low high (record second { blames = first.blames; effects = first.effects; benchmarks = first.benchmarks }) names books spellings cost rows limit) { sights = sights })
+    ∙ ap (λ sights. record (shown_of survey low high (record second { blames = first.blames; effects = first.effects; benchmarks = first.benchmarks }) inputs books spellings cost rows limit) { sights = sights })
     (sights_shown (points_of survey) low survey.weights 1 survey.observations (residuals survey.observations low) second.controls first.blames second.blames (finds.blames.each ∙ sym other_finds.blames.each))
-    ∙ ap (λ entries. record (shown_of survey low high (record second { effects = first.effects; benchmarks = first.benchmarks }) names books spellings cost rows limit) { entries = entries })
+    ∙ ap (λ entries. record (shown_of survey low high (record second { effects = first.effects; benchmarks = first.benchmarks }) inputs books spellings cost rows limit) { entries = entries })
     (entries_shown laws survey (entries_of books) first.effects second.effects finds.effects other_finds.effects)
-    ∙ ap (λ benchmarks. record (shown_of survey low high (record second { benchmarks = first.benchmarks }) names books spellings cost rows limit) { benchmarks = benchmarks })
+    ∙ ap (λ benchmarks. record (shown_of survey low high (record second { benchmarks = first.benchmarks }) inputs books spellings cost rows limit) { benchmarks = benchmarks })
     (benchmarks_shown laws survey survey.benchmarks first.benchmarks second.benchmarks finds.benchmarks other_finds.benchmarks)
   where
     low : List ℕ → ℤ
@@ -198,8 +199,8 @@ one_page laws survey names books spellings limit cost rows best answer first sec
     high : List ℕ → ℤ
     high = at_points_of survey answer.high
 
-pub shown_is_one : Laws → (survey : Survey) (names : List (List ℕ)) (books : List BookReview) (spellings : Listed Spelling) (limit : ℤ) (text : List ℕ) (page : IsPaged survey names books spellings limit text)
+pub shown_is_one : Laws → (survey : Survey) (inputs : List NamedInput) (books : List BookReview) (spellings : Listed Spelling) (limit : ℤ) (text : List ℕ) (page : IsPaged survey inputs books spellings limit text)
     (answer : Best) (found : Found) → IsBest survey answer → AreFound survey books found
-    → text ≡ page_text (shown_of survey (at_points_of survey answer.low) (at_points_of survey answer.high) found names books spellings page.explained.summary.cost page.explained.rows.items limit)
-shown_is_one laws survey names books spellings limit text page answer found is finds =
-    page.printed ∙ ap page_text (one_page laws survey names books spellings limit page.explained.summary.cost page.explained.rows.items page.answer answer page.found found page.answers is page.finds finds)
+    → text ≡ page_text (shown_of survey (at_points_of survey answer.low) (at_points_of survey answer.high) found inputs books spellings page.explained.summary.cost page.explained.rows.items limit)
+shown_is_one laws survey inputs books spellings limit text page answer found is finds =
+    page.printed ∙ ap page_text (one_page laws survey inputs books spellings limit page.explained.summary.cost page.explained.rows.items page.answer answer page.found found page.answers is page.finds finds)

@@ -5,6 +5,7 @@ ghost use Rattle.th_circulation.specs.Best.{Best, IsBest};
 ghost use Rattle.th_entries.specs.declared.listed.Listed.{Listed};
 ghost use Rattle.th_entries.specs.declared.reviews.BookReview.{BookReview};
 ghost use Rattle.th_entries.specs.declared.spellings.Spelling.{Spelling};
+ghost use Rattle.th_inputs.specs.Inputs.{NamedInput};
 ghost use Rattle.th_network.specs.Networks.{Survey, at_points_of};
 ghost use Rattle.th_page.specs.Pages.{page_text};
 ghost use Rattle.th_page.specs.Shown.{shown_of};
@@ -22,13 +23,13 @@ use th_points::laws::points_are_ends_and_benchmarks;
 /// prints, the page is the page of these: best heights, strengths, controls and words are one. Only of
 /// several sets that a mistake may move a review counts one, and no page shows which.
 pub fn page_shows_what_others_print()
-    ensures { (survey : Survey) (names : List (List ℕ)) (books : List BookReview)
+    ensures { (survey : Survey) (inputs : List NamedInput) (books : List BookReview)
         (spellings : Listed Spelling) (limit : ℤ) (text : List ℕ)
-        (page : IsPaged survey names books spellings limit text) (answer : Best) (found : Found)
+        (page : IsPaged survey inputs books spellings limit text) (answer : Best) (found : Found)
         → IsBest survey answer
         → AreFound survey books found
         → text ≡ page_text (shown_of survey (at_points_of survey answer.low)
-        (at_points_of survey answer.high) found names books spellings
+        (at_points_of survey answer.high) found inputs books spellings
         page.explained.summary.cost page.explained.rows.items limit) }
 {
     points_are_ends_and_benchmarks();

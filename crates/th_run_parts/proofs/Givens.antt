@@ -14,7 +14,7 @@ use Rattle.th_tables.specs.declared.faults.TableFault.{TableFault}
 use Rattle.th_tables.specs.declared.faults.TableKind.{TableKind}
 use Rattle.th_tables.specs.declared.faults.TableKind.TheVariants as table_kind
 use Rattle.th_run_parts.specs.Inputs.{Failed, Meets, MeetsRefusal, given_at, of_told, or_refused, owed_for}
-use Rattle.th_run_parts.specs.declared.refusals.Input.{Input}
+use Rattle.th_inputs.specs.declared.inputs.Input.{Input}
 use Rattle.th_run_parts.specs.declared.refusals.Refusal.{Refusal}
 use Rattle.th_run_parts.specs.declared.refusals.Refusal.TheVariants as refusal
 

@@ -9,7 +9,7 @@ use Rattle.th_run_parts.specs.Outcomes.{Accepted, Outcome, SurveyOutcome}
 use Rattle.th_run_parts.specs.Reads.{IsBehind, IsFromInput, IsNamed, IsOfBook, IsOfInputs, Run, refused}
 use Rattle.th_run_parts.specs.Writes.{IsFailedWrite, IsWritten, UnlessWrite}
 use Rattle.th_run_parts.specs.declared.outputs.Output.{Output}
-use Rattle.th_run_parts.specs.declared.refusals.Input.{Input}
+use Rattle.th_inputs.specs.declared.inputs.Input.{Input}
 use Rattle.th_run_parts.specs.declared.refusals.Refusal.{Refusal}
 use Rattle.th_run_parts.specs.declared.refusals.Refusal.TheVariants as refusal
 
@@ -35,6 +35,7 @@ owed_for_input survey_of owed (refusal.Benchmarks fault) from meets = meets (λ 
 owed_for_input survey_of owed (refusal.Weights fault) from meets = meets (λ e. cc)
 owed_for_input survey_of owed (refusal.Certificate fault) from meets = meets (λ e. cc)
 owed_for_input survey_of owed (refusal.Differences fault) from meets = meets (λ e. cc)
+owed_for_input survey_of owed (refusal.Heights fault) from meets = meets (λ e. cc)
 owed_for_input survey_of owed (refusal.Read which) from meets = meets (λ e. cc)
 owed_for_input survey_of owed (refusal.Write which) from meets = tt
 
@@ -82,6 +83,7 @@ unless_of (refusal.Benchmarks fault) Own holds = holds
 unless_of (refusal.Weights fault) Own holds = holds
 unless_of (refusal.Certificate fault) Own holds = holds
 unless_of (refusal.Differences fault) Own holds = holds
+unless_of (refusal.Heights fault) Own holds = holds
 unless_of (refusal.Network fault) Own holds = holds
 unless_of (refusal.Read which) Own holds = holds
 unless_of refusal.NoMemory Own holds = holds

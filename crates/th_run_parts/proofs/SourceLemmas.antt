@@ -7,8 +7,8 @@ use Rattle.std.specs.Prelude.{Option, Result, Bool}
 use Rattle.th_devices.specs.Transfer.{Advances}
 use Rattle.th_devices.specs.Devices.{MayHaveFailed, SourceState}
 use Rattle.th_run_parts.specs.Reads.{AreRead, EachBook, IfPresent, IsBehind, IsFrom, IsOfBook, IsOfBooks, IsOfInputs, IsPast, IsReadBefore, IsReadFor, decided_by, reads_behind, same_input}
-use Rattle.th_run_parts.specs.declared.refusals.Input.{Input}
-use Rattle.th_run_parts.specs.declared.refusals.Input.TheVariants as input
+use Rattle.th_inputs.specs.declared.inputs.Input.{Input}
+use Rattle.th_inputs.specs.declared.inputs.Input.TheVariants as input
 use Rattle.th_run_parts.specs.declared.refusals.Refusal.{Refusal}
 use Rattle.th_run_parts.specs.declared.refusals.Refusal.TheVariants as refusal
 use Rattle.th_run_parts.specs.Reads.{refused}
@@ -222,6 +222,7 @@ behind_from which at (refusal.Benchmarks fault) is before = subst (λ (known : O
 behind_from which at (refusal.Weights fault) is before = subst (λ (known : Option Input). IfSome known (λ own. IsReadBefore which own)) (sym is) before
 behind_from which at (refusal.Certificate fault) is before = subst (λ (known : Option Input). IfSome known (λ own. IsReadBefore which own)) (sym is) before
 behind_from which at (refusal.Differences fault) is before = subst (λ (known : Option Input). IfSome known (λ own. IsReadBefore which own)) (sym is) before
+behind_from which at (refusal.Heights fault) is before = subst (λ (known : Option Input). IfSome known (λ own. IsReadBefore which own)) (sym is) before
 behind_from which at (refusal.Read other) is before = subst (λ (known : Option Input). IfSome known (λ own. IsReadBefore which own)) (sym is) before
 behind_from which at (refusal.Network fault) is before = absurd (cc is)
 behind_from which at (refusal.Write other) is before = absurd (cc is)

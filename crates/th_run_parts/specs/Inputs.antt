@@ -1,5 +1,5 @@
 -- What a run is owed by its inputs: the first fault in the order of its sources, or what they say.
-use Rattle.std.specs.Prelude.{◌≡◌, ◌≢◌, ◌+◌, ℕ, List, [], ◌∷◌, ◌++◌, Option, Some, None, IfSome, Result, Ok, Err, if◌then◌else◌, map, nat_lt}
+use Rattle.std.specs.Prelude.{◌≡◌, ◌≢◌, ◌+◌, ℕ, List, [], ◌∷◌, ◌++◌, Option, Some, None, IfSome, Result, Ok, Err, if◌then◌else◌, map, nat_lt, option_map}
 use Rattle.std.specs.List.{AllZip}
 use Rattle.th_book.specs.Books.{book_answer}
 use Rattle.th_book.specs.Limits.{max_book}
@@ -15,8 +15,8 @@ use Rattle.th_conversions.specs.Limits.{max_differences}
 use Rattle.th_network.specs.Faults.{HasFault, IsNetwork}
 use Rattle.th_network.specs.Networks.{Survey, surveyed}
 use Rattle.th_network.specs.declared.faults.NetFault.{NetFault}
-use Rattle.th_run_parts.specs.declared.refusals.Input.{Input}
-use Rattle.th_run_parts.specs.declared.refusals.Input.TheVariants as input
+use Rattle.th_inputs.specs.declared.inputs.Input.{Input}
+use Rattle.th_inputs.specs.declared.inputs.Input.TheVariants as input
 use Rattle.th_run_parts.specs.declared.refusals.Refusal.{Refusal}
 use Rattle.th_run_parts.specs.declared.refusals.Refusal.TheVariants as refusal
 
@@ -55,6 +55,10 @@ givens state_of olds news = []
 -- what sources told before a run
 abbrev pub told_by : {S : Type 0} → (S → SourceState) → List S → List (Option (List ℕ))
 told_by state_of sources = map (λ source. (state_of source).left) sources
+
+-- what a source told before a run that may be absent
+abbrev pub told_if_any : {S : Type 0} → (S → SourceState) → Option S → Option (Option (List ℕ))
+told_if_any state_of source = option_map (λ own. (state_of own).left) source
 
 -- for each source the text that it gave: the one that it reported, if it reported one
 abbrev pub AreTold : List (Option (List ℕ)) → List (List ℕ) → Type 0

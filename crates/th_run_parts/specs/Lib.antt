@@ -5,4 +5,5 @@ pub mod Reads
 pub mod Writes
 pub mod Outcomes
 pub mod Readers
+pub mod Summed
 pub mod Refused

@@ -9,8 +9,8 @@ use Rattle.th_limits.specs.Limits.{max_books}
 use Rattle.th_network.specs.declared.faults.NetFault.TheVariants as net_fault
 use Rattle.th_tables.specs.declared.faults.TableKind.TheVariants as table_kind
 use Rattle.th_run_parts.specs.Inputs.{limit_of}
-use Rattle.th_run_parts.specs.declared.refusals.Input.{Input}
-use Rattle.th_run_parts.specs.declared.refusals.Input.TheVariants as input
+use Rattle.th_inputs.specs.declared.inputs.Input.{Input}
+use Rattle.th_inputs.specs.declared.inputs.Input.TheVariants as input
 use Rattle.th_run_parts.specs.declared.outputs.Output.{Output}
 use Rattle.th_run_parts.specs.declared.refusals.Refusal.{Refusal}
 use Rattle.th_run_parts.specs.declared.refusals.Refusal.TheVariants as refusal
@@ -42,6 +42,7 @@ decided_by (refusal.Benchmarks fault) = Some input.Benchmarks
 decided_by (refusal.Weights fault) = Some input.Weights
 decided_by (refusal.Certificate fault) = Some input.Certificate
 decided_by (refusal.Differences fault) = Some input.Differences
+decided_by (refusal.Heights fault) = Some (input.Book 1)
 decided_by (refusal.Read which) = Some which
 decided_by other = None
 

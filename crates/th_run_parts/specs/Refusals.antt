@@ -4,22 +4,14 @@ use Rattle.th_book.specs.Texts.{fault_text as book_fault_text}
 use Rattle.th_certificate.specs.Faults.{fault_text as cert_fault_text}
 use Rattle.th_checker.specs.declared.verdicts.Verdict.{Verdict}
 use Rattle.th_checker.specs.declared.verdicts.Verdict.TheVariants.{Yes, No}
+use Rattle.th_conversions.specs.HeightFaults.{fault_text as height_fault_text}
 use Rattle.th_conversions.specs.Texts.{fault_text as difference_fault_text}
 use Rattle.th_network.specs.Texts.{fault_text as net_fault_text}
 use Rattle.th_tables.specs.Texts.{fault_text as table_fault_text}
 use Rattle.th_run_parts.specs.Outputs.{output_text}
-use Rattle.th_run_parts.specs.declared.refusals.Input.{Input}
-use Rattle.th_run_parts.specs.declared.refusals.Input.TheVariants as input
+use Rattle.th_inputs.specs.Inputs.{input_text}
 use Rattle.th_run_parts.specs.declared.refusals.Refusal.{Refusal}
-use Rattle.th_run_parts.specs.declared.refusals.Refusal.TheVariants.{Book, Benchmarks, Weights, Certificate, Differences, Network, Read, Write, NoMemory}
-
--- the text that names an input
-abbrev pub input_text : Input → List ℕ
-input_text (input.Book number) = codes "book " ++ decimal number
-input_text input.Benchmarks = codes "benchmarks"
-input_text input.Weights = codes "weights"
-input_text input.Certificate = codes "certificate"
-input_text input.Differences = codes "differences"
+use Rattle.th_run_parts.specs.declared.refusals.Refusal.TheVariants.{Book, Benchmarks, Weights, Certificate, Differences, Heights, Network, Read, Write, NoMemory}
 
 -- the text of a refusal: one line, without its line feed
 abbrev pub refusal_text : Refusal → List ℕ
@@ -28,6 +20,7 @@ refusal_text (Benchmarks fault) = codes "benchmarks " ++ table_fault_text fault
 refusal_text (Weights fault) = codes "weights " ++ table_fault_text fault
 refusal_text (Certificate fault) = codes "certificate " ++ cert_fault_text fault
 refusal_text (Differences fault) = codes "differences " ++ difference_fault_text fault
+refusal_text (Heights fault) = codes "book 1 " ++ height_fault_text fault
 refusal_text (Network fault) = codes "network: " ++ net_fault_text fault
 refusal_text (Read which) = codes "read failed: " ++ input_text which
 refusal_text (Write which) = codes "write failed: " ++ output_text which
@@ -40,6 +33,7 @@ status_of (Benchmarks fault) = 2
 status_of (Weights fault) = 2
 status_of (Certificate fault) = 2
 status_of (Differences fault) = 2
+status_of (Heights fault) = 2
 status_of (Network fault) = 2
 status_of (Read input) = 5
 status_of (Write output) = 5

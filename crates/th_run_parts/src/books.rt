@@ -8,9 +8,10 @@ ghost use Rattle.th_run_parts.specs.Reads.{EachBook, IsOfBook, IsOfBooks, IsRead
 ghost use Rattle.th_devices.specs.Devices.{IsReady};
 
 use crate::readers::BookReader;
-use crate::refusals::{Input, Refusal};
+use crate::refusals::Refusal;
 use std::alloc::{AllocError, Global};
 use th_devices::Source;
+use th_inputs::Input;
 use th_observations::Observation;
 
 /// Reads books one after the other, up to the first that is refused, and puts their observations

@@ -7,10 +7,11 @@ ghost use Rattle.th_run_parts.specs.Reads.{IsOfBook, IsReadFor, refused};
 ghost use Rattle.th_devices.specs.Devices.{IsReady};
 
 use crate::inputs::limit_of;
-use crate::refusals::{Input, Refusal};
+use crate::refusals::Refusal;
 use std::alloc::AllocError;
 use th_book::{BookFeed, Witness};
 use th_devices::{Failed, Source};
+use th_inputs::{Input, Summing};
 
 /// How many bytes of a book are read at once, at most.
 const PIECE: usize = 16_384;
@@ -61,6 +62,28 @@ impl<W: Witness> Feed for SeenFeed<W> {
 
     fn take(&mut self, piece: &[u8]) -> Result<(), AllocError> {
         self.observations.feed_to(piece, &mut self.witness)
+    }
+}
+
+/// A book whose bytes are summed while another feed takes them.
+#[derive(Drop)]
+pub struct SummedFeed<F: Feed> {
+    pub feed: F,
+    pub summing: Summing,
+}
+
+impl<F: Feed> Feed for SummedFeed<F> {
+    ghost use Rattle.std.specs.Prelude.{◌≡◌, ◌++◌, ℕ, List};
+    ghost use Rattle.th_inputs.specs.Sums.{HasTaken};
+
+    ghost Start = { F.Start × List ℕ };
+
+    ghost has_taken = { λ start rest own. F.has_taken start.0 rest own.feed
+        × (front : List ℕ) × (front ++ rest ≡ start.1) × HasTaken own.summing front };
+
+    fn take(&mut self, piece: &[u8]) -> Result<(), AllocError> {
+        self.summing.take(piece);
+        self.feed.take(piece)
     }
 }
 

@@ -23,13 +23,14 @@ mod surveys;
 // Writing.
 mod writing;
 
-pub use feeds::{Feed, SeenFeed, feed_from};
+pub use feeds::{Feed, SeenFeed, SummedFeed, feed_from};
 pub use inputs::read_text;
 pub use outputs::Output;
 pub use readers::{BookReader, ObservationReader, refusal_of};
 pub use refusals::{
-    DEVICE_FAILED, DONE, INPUT_REFUSED, Input, NO_MEMORY, REFUSED_VERDICT, Refusal, USAGE,
-    status_of, status_of_verdict,
+    DEVICE_FAILED, DONE, INPUT_REFUSED, NO_MEMORY, REFUSED_VERDICT, Refusal, USAGE, status_of,
+    status_of_verdict,
 };
-pub use surveys::{Survey, Tables, network_of, read_survey};
+pub use surveys::{Survey, Tables, network_of, read_summed_survey, read_survey};
+pub use th_inputs::Input;
 pub use writing::{OutputText, write_outs};

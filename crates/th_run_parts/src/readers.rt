@@ -6,10 +6,11 @@ ghost use Rattle.th_run_parts.specs.Reads.{IsOfBook, IsReadFor, refused};
 ghost use Rattle.th_devices.specs.Devices.{IsReady};
 
 use crate::feeds::feed_from;
-use crate::refusals::{Input, Refusal};
+use crate::refusals::Refusal;
 use std::alloc::Global;
 use th_book::{BookFault, BookFeed, BookKind};
 use th_devices::Source;
+use th_inputs::Input;
 use th_observations::Observation;
 
 /// What reads the books of a run, one after the other: their observations, and what else the run needs.

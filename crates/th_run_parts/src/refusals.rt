@@ -8,7 +8,8 @@ use std::fmt;
 use th_book::BookFault;
 use th_certificate::CertFault;
 use th_checker::Verdict;
-use th_conversions::DifferenceFault;
+use th_conversions::{DifferenceFault, HeightFault};
+use th_inputs::Input;
 use th_network::NetFault;
 use th_tables::TableFault;
 use thiserror::Error;
@@ -31,38 +32,6 @@ pub const NO_MEMORY: u8 = 4;
 /// A device failed.
 pub const DEVICE_FAILED: u8 = 5;
 
-/// What a run reads.
-#[derive(Clone, Copy, Debug, PartialEq, Eq)]
-pub enum Input {
-    /// The book with this number, from 1.
-    Book(u32),
-    /// The table of the benchmarks.
-    Benchmarks,
-    /// The table of the weights.
-    Weights,
-    /// The certificate that is checked.
-    Certificate,
-    /// The table of differences that becomes a book. It is read alone.
-    Differences,
-}
-
-impl fmt::Display for Input {
-    ghost use Rattle.std.specs.Prelude.{Some};
-    ghost use Rattle.th_run_parts.specs.Refusals.{input_text};
-
-    ghost output = { λ input. Some (input_text input) };
-
-    fn fmt<W: fmt::Write>(&self, f: &mut fmt::Formatter<W>) -> fmt::Result {
-        match self {
-            Input::Book(number) => write!(f, "book {number}"),
-            Input::Benchmarks => f.write_str("benchmarks"),
-            Input::Weights => f.write_str("weights"),
-            Input::Certificate => f.write_str("certificate"),
-            Input::Differences => f.write_str("differences"),
-        }
-    }
-}
-
 /// Why a run was refused. It displays as the line for standard error. A run that is out of memory
 /// returns `Refusal::NoMemory`, and never a fault of that kind.
 #[derive(Clone, Copy, Debug, PartialEq, Eq, Error)]
@@ -77,6 +46,8 @@ pub enum Refusal {
     Certificate(CertFault),
     /// The table of differences has a fault.
     Differences(DifferenceFault),
+    /// The book with heights, which is book 1, has a fault.
+    Heights(HeightFault),
     /// Observations and benchmarks make no network.
     Network(NetFault),
     /// This input was not read to its end.
@@ -100,6 +71,7 @@ impl fmt::Display for Refusal {
             Refusal::Weights(fault) => write!(f, "weights {fault}"),
             Refusal::Certificate(fault) => write!(f, "certificate {fault}"),
             Refusal::Differences(fault) => write!(f, "differences {fault}"),
+            Refusal::Heights(fault) => write!(f, "book 1 {fault}"),
             Refusal::Network(fault) => write!(f, "network: {fault}"),
             Refusal::Read(input) => write!(f, "read failed: {input}"),
             Refusal::Write(output) => write!(f, "write failed: {output}"),
@@ -128,6 +100,7 @@ pub fn status_of(refusal: &Refusal) -> u8
         | Refusal::Weights(_)
         | Refusal::Certificate(_)
         | Refusal::Differences(_)
+        | Refusal::Heights(_)
         | Refusal::Network(_) => INPUT_REFUSED,
         Refusal::Read(_) | Refusal::Write(_) => DEVICE_FAILED,
         Refusal::NoMemory => NO_MEMORY,

@@ -1,20 +1,22 @@
 //! A run that reviews the height network of books: what a mistake in it would do.
-ghost use Rattle.std.specs.Prelude.{◌≡◌, ◌≤◌, All, IfErr, IfOk, [], length, map};
+ghost use Rattle.std.specs.Prelude.{◌≡◌, ◌≤◌, ◌++◌, All, IfErr, IfOk, [], length, map, zip};
 ghost use Rattle.std.specs.List.{AllZip};
 ghost use Rattle.th_entries.specs.Stations.{HasOneStation};
 ghost use Rattle.th_entries.specs.declared.reviews.BookReview.{BookReview};
 ghost use Rattle.th_entries.specs.declared.spellings.Spelling.{Spelling};
+ghost use Rattle.th_inputs.specs.Inputs.{inputs_of};
 ghost use Rattle.th_limits.specs.Limits.{max_books};
 ghost use Rattle.th_reliability.specs.Numbers.{AreControls, AreStrengths};
 ghost use Rattle.th_reliability.specs.Effects.{IsEffect};
 ghost use Rattle.th_reliability.specs.Sights.{in_sights};
 ghost use Rattle.th_review_rows.specs.Entries.{entries_of, sights_of};
 ghost use Rattle.th_review_texts.specs.Texts.{bytes_of, found_in};
-ghost use Rattle.th_run_parts.specs.Inputs.{MakesNetwork, told_by};
+ghost use Rattle.th_run_parts.specs.Inputs.{MakesNetwork};
 ghost use Rattle.th_run_parts.specs.Refused.{IsOfNetwork};
 ghost use Rattle.th_run_parts.specs.Reads.{AreReady};
 ghost use Rattle.th_run_review.specs.Reviewed.{AreFound, AreOfReview, ArePrintedOf, in_order, reviewing};
 ghost use Rattle.th_run_parts.specs.Outcomes.{PrintedRun};
+ghost use Rattle.th_run_parts.specs.Summed.{tolds_of};
 ghost use Rattle.th_run_parts.specs.Writes.{AreWritable};
 ghost use Rattle.th_tables.specs.Rows.{AreWeights};
 
@@ -24,6 +26,7 @@ use th_circulation::best_heights;
 use th_devices::{Sink, Source};
 use th_entries::laws::entry_of_several_books_has_one_station;
 use th_entries::{BookReview, Entry, Listed, Spelling};
+use th_inputs::{NamedInputs, Sum};
 use th_network::Network;
 use th_network::laws::faults_exclude_each_other;
 use th_progress::Progress;
@@ -32,7 +35,9 @@ use th_reliability::{
 };
 use th_review_rows::{entries_of, sights_of};
 use th_review_texts::{Findings, ReviewTexts, review_texts};
-use th_run_parts::{Output, OutputText, Refusal, Survey, network_of, read_survey, write_outs};
+use th_run_parts::{
+    Output, OutputText, Refusal, Survey, network_of, read_summed_survey, write_outs,
+};
 use th_tables::Weights;
 
 /// What a review writes, in this order.
@@ -47,7 +52,8 @@ pub const REVIEWED: [Output; 5] = [
 /// Reviews the height network of up to `MAX_BOOKS` books, benchmarks and optional weights. It writes the
 /// tables of its points, of its observations, of its entries and of its benchmarks, and a review for
 /// people to `outs`, in this order. These say what a mistake in each would do. Heights and residuals are those of
-/// `run_adjust`.
+/// `run_adjust`. The review has the length and the SHA-256 of each input, whose names are those of the books, of the
+/// benchmarks and of the weights, if there are any.
 ///
 /// An observation is marked as a blunder if its residual is above `limit` in size, in units of
 /// 10 nm. Inputs are read as `run_adjust` reads them, and refused as it refuses them. All outputs
@@ -57,6 +63,7 @@ pub fn run_review<B: Source, T: Source, W: Source, K: Sink, P: Progress>(
     books: &mut [B],
     benchmarks: &mut T,
     weights: &mut Option<W>,
+    names: &[&str],
     limit: i64,
     outs: &mut [K],
     progress: &mut P,
@@ -64,18 +71,30 @@ pub fn run_review<B: Source, T: Source, W: Source, K: Sink, P: Progress>(
     requires ready { AreReady B.state T.state W.state books.old benchmarks.old weights.old }
     requires outs { AreWritable K.state reviewing.outputs outs.old }
     ensures { PrintedRun B.state T.state W.state K.state reviewing
-        (AreOfReview (told_by B.state books.old) limit) result
+        (AreOfReview (map (λ name. name.now) names.now) (tolds_of B.state T.state W.state
+        books.old benchmarks.old weights.old) limit) result
         books.old books.new benchmarks.old benchmarks.new weights.old weights.new outs.old outs.new }
 {
     entry_of_several_books_has_one_station();
     let mut reader = ReviewReader::new(alloc);
-    let survey = read_survey(alloc, &mut reader, books, benchmarks, weights)?;
+    let mut of_tables = Vec::new(alloc);
+    let survey = read_summed_survey(
+        alloc,
+        &mut reader,
+        books,
+        benchmarks,
+        weights,
+        &mut of_tables,
+    )?;
     let reviews = reader.reviews.as_slice();
     let texts = texts_of(
         alloc,
         survey,
         reviews,
         reader.names.found(),
+        names,
+        reader.sums.as_slice(),
+        of_tables.as_slice(),
         limit,
         progress,
     )?;
@@ -88,20 +107,26 @@ fn texts_of<P: Progress>(
     survey: Survey,
     reviews: &[BookReview],
     spellings: &Listed<Spelling>,
+    names: &[&str],
+    of_books: &[Sum],
+    of_tables: &[Sum],
     limit: i64,
     progress: &mut P,
 ) -> Result<Vec<OutputText>, Refusal>
     requires few { length reviews.now ≤ max_books }
     requires stations { All (HasOneStation survey.observations) (entries_of reviews.now) }
-    ensures { IsOfNetwork survey (λ texts.
-        ArePrintedOf reviews.now spellings.now limit survey texts.items) result }
+    ensures { IsOfNetwork survey (λ texts. ArePrintedOf reviews.now spellings.now
+        (zip (map (λ name. name.now) names.now) (of_books.now ++ of_tables.now))
+        limit survey texts.items) result }
 {
+    let sums = all_sums(alloc, of_books, of_tables)?;
+    let inputs = NamedInputs { names, sums: &sums };
     let Survey {
         observations,
         tables,
     } = survey;
     let network = network_of(alloc, observations, &tables.benchmarks, &tables.weights)?;
-    texts_of_network(alloc, &network, reviews, spellings, limit, progress)
+    texts_of_network(alloc, &network, reviews, spellings, inputs, limit, progress)
 }
 
 /// The texts of a network.
@@ -110,6 +135,7 @@ fn texts_of_network<P: Progress>(
     network: &Network,
     reviews: &[BookReview],
     spellings: &Listed<Spelling>,
+    inputs: NamedInputs<'_>,
     limit: i64,
     progress: &mut P,
 ) -> Result<Vec<OutputText>, Refusal>
@@ -117,8 +143,8 @@ fn texts_of_network<P: Progress>(
     requires weights { AreWeights network.now.weights }
     requires few { length reviews.now ≤ max_books }
     requires stations { All (HasOneStation network.now.observations) (entries_of reviews.now) }
-    ensures texts { IfOk result (λ texts.
-        ArePrintedOf reviews.now spellings.now limit network.now texts.items) }
+    ensures texts { IfOk result (λ texts. ArePrintedOf reviews.now spellings.now
+        (inputs_of inputs.entry) limit network.now texts.items) }
     ensures refused { IfErr result (λ own. own ≡ Refusal.NoMemory) }
 {
     let best = best_heights(alloc, network)?;
@@ -126,9 +152,18 @@ fn texts_of_network<P: Progress>(
     let low = best.low();
     let high = best.high();
     let texts = review_texts(
-        alloc, network, low, high, &findings, reviews, spellings, limit,
+        alloc, network, low, high, &findings, reviews, spellings, inputs, limit,
     )?;
     Ok(in_order(alloc, texts)?)
+}
+
+/// The sums of the inputs of a run: those of its books, and then those of its tables.
+pub fn all_sums(alloc: Global, of_books: &[Sum], of_tables: &[Sum]) -> Result<Vec<Sum>, AllocError>
+    ensures { IfOk result (λ sums. sums.items ≡ of_books.now ++ of_tables.now) }
+{
+    let mut sums = Vec::from_slice(alloc, of_books)?;
+    sums.extend_from_slice(of_tables)?;
+    Ok(sums)
 }
 
 /// The texts of a review in the order in which they are written.

@@ -1,5 +1,5 @@
-//! What is read of books beside their observations, for a review.
-ghost use Rattle.std.specs.Prelude.{◌≡◌, [], OnOk};
+//! What is read of books beside their observations, for a review, and their sums.
+ghost use Rattle.std.specs.Prelude.{◌≡◌, ◌∷◌, ◌++◌, [], OnOk};
 ghost use Rattle.th_entries.specs.Seen.{AreSeenInBooks};
 ghost use Rattle.th_run_review.specs.Inside.Readers.{IsAdded};
 
@@ -8,16 +8,19 @@ use std::mem;
 use th_book::BookFeed;
 use th_devices::Source;
 use th_entries::{BookReview, SeenNames, Tally};
+use th_inputs::{Input, Sum, Summing};
 use th_observations::Observation;
-use th_run_parts::{BookReader, Refusal, SeenFeed, feed_from, refusal_of};
+use th_run_parts::{BookReader, Refusal, SeenFeed, SummedFeed, feed_from, refusal_of};
 
-/// Reads the review of each book beside its observations.
+/// Reads the review of each book beside its observations, and its sum.
 #[derive(Drop)]
 pub struct ReviewReader {
     /// The reviews of the books that were read, in their order.
     pub reviews: Vec<BookReview>,
     /// The names that these books mention.
     pub names: SeenNames,
+    /// The sums of these books.
+    pub sums: Vec<Sum>,
 }
 
 impl ReviewReader {
@@ -25,19 +28,23 @@ impl ReviewReader {
     pub fn new(alloc: Global) -> ReviewReader
         ensures reviews { result.reviews.items ≡ [] }
         ensures names { AreSeenInBooks [] result.names }
+        ensures sums { result.sums.items ≡ [] }
     {
         ReviewReader {
             reviews: Vec::new(alloc),
             names: SeenNames::new(alloc),
+            sums: Vec::new(alloc),
         }
     }
 
-    /// Puts the review of the next book, which has no fault, behind the others.
-    fn add(&mut self, tally: Tally) -> Result<(), AllocError>
-        ensures { OnOk result (IsAdded tally self.old.reviews.items self.new.reviews.items self.new.names) }
+    /// Puts the review and the sum of the next book, which has no fault, behind the others.
+    fn add(&mut self, tally: Tally, sum: Sum) -> Result<(), AllocError>
+        ensures added { OnOk result (IsAdded tally self.old.reviews.items self.new.reviews.items self.new.names) }
+        ensures summed { OnOk result (self.new.sums.items ≡ self.old.sums.items ++ sum ∷ []) }
     {
         let (review, names) = tally.review()?;
         self.reviews.push(review)?;
+        self.sums.push(sum)?;
         self.names = names;
         Ok(())
     }
@@ -47,7 +54,8 @@ impl BookReader for ReviewReader {
     ghost use Rattle.th_run_review.specs.Inside.Readers.{IsReviewedNext};
 
     ghost has_read = { λ number told observations old new.
-        IsReviewedNext number told observations old.reviews.items new.reviews.items old.names new.names };
+        IsReviewedNext number told observations old.reviews.items new.reviews.items old.names new.names
+        old.sums.items new.sums.items };
 
     fn read<S: Source>(
         &mut self,
@@ -56,18 +64,22 @@ impl BookReader for ReviewReader {
         book: &mut S,
     ) -> Result<Vec<Observation>, Refusal> {
         let names = mem::replace(&mut self.names, SeenNames::new(alloc));
-        let mut feed = SeenFeed {
-            observations: BookFeed::new(alloc, number),
-            witness: Tally::new(alloc, number, names),
+        let mut feed = SummedFeed {
+            feed: SeenFeed {
+                observations: BookFeed::new(alloc, number),
+                witness: Tally::new(alloc, number, names),
+            },
+            summing: Summing::new(),
         };
         feed_from(number, book, &mut feed)?;
+        let SummedFeed { feed, summing } = feed;
         let SeenFeed {
             observations,
             mut witness,
         } = feed;
         match observations.finish_to(&mut witness) {
             Ok(observations) => {
-                self.add(witness)?;
+                self.add(witness, summing.finish(Input::Book(number)))?;
                 Ok(observations)
             }
             Err(fault) => Err(refusal_of(number, fault)),

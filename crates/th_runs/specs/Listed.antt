@@ -8,7 +8,7 @@ use Rattle.th_run_parts.specs.Inputs.{Meets, MeetsRefusal, given, owed_for_book}
 use Rattle.th_run_parts.specs.Outcomes.{Outcome}
 use Rattle.th_run_parts.specs.Reads.{IsOfBook, IsReadFor, refused}
 use Rattle.th_run_parts.specs.Writes.{AreWritten, Texts}
-use Rattle.th_run_parts.specs.declared.refusals.Input.TheVariants as input
+use Rattle.th_inputs.specs.declared.inputs.Input.TheVariants as input
 use Rattle.th_run_parts.specs.declared.outputs.Output.{Output}
 use Rattle.th_run_parts.specs.declared.outputs.Output.TheVariants as output
 use Rattle.th_run_parts.specs.declared.refusals.Refusal.{Refusal}

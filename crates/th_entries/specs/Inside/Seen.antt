@@ -3,7 +3,7 @@ use Rattle.std.specs.Prelude.{ℕ, ◌++◌, List, [], ◌∷◌, Option, None, 
 use Rattle.std.specs.Option.{option_or}
 use Rattle.gsi_word.specs.Words.{Parts}
 use Rattle.th_book.specs.declared.entries.Entered.{Entered}
-use Rattle.th_entries.specs.Spellings.{Mention}
+use Rattle.th_entries.specs.Spellings.{Mention, without_zeros}
 use Rattle.th_entries.specs.Seen.{AreKnownIn, AreSeenIn}
 use Rattle.th_entries.specs.declared.seen.SeenNames.{SeenNames}
 
@@ -19,4 +19,4 @@ IsKnownNext mention old new = (before : List Mention) → AreKnownIn before old 
 abbrev pub mention_by : ℕ → ℕ → Entered → List Parts → Option Mention
 mention_by book line entered [] = None
 mention_by book line entered (word ∷ words) =
-    option_map (λ name. record { here = record { book = book; line = line; name = name }; bytes = word.body }) (option_or entered.target entered.station)
+    option_map (λ name. record { here = record { book = book; line = line; name = name }; bytes = without_zeros word.body }) (option_or entered.target entered.station)

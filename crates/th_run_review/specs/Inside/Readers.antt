@@ -5,6 +5,9 @@ use Rattle.th_observations.specs.Observed.{Observed}
 use Rattle.th_book.specs.Lines.{ParsedLine}
 use Rattle.th_entries.specs.Reviews.{Reviews, parsed_of}
 use Rattle.th_entries.specs.Seen.{AddsBook}
+use Rattle.th_inputs.specs.Sums.{sum_of}
+use Rattle.th_inputs.specs.declared.inputs.Input.TheVariants.{Book}
+use Rattle.th_inputs.specs.declared.sums.Sum.{Sum}
 use Rattle.th_entries.specs.declared.seen.SeenNames.{SeenNames}
 use Rattle.th_entries.specs.Tallied.{HasSeen}
 use Rattle.th_entries.specs.declared.tallies.Tally.{Tally}
@@ -17,9 +20,9 @@ pub record IsAdded (tally : Tally) (old new : List BookReview) (more : SeenNames
   pub reviewed : (names : SeenNames) (number : ℕ) (parsed : List ParsedLine) → HasSeen names number parsed (length parsed) tally → Reviews number parsed review
   pub named : (names : SeenNames) (number : ℕ) (parsed : List ParsedLine) → HasSeen names number parsed (length parsed) tally → AddsBook number parsed names more
 
--- The review of the book with this number was put after others, and the names that it mentions were added to those of
+-- The review and the sum of the book with this number were put after others, and the names that it mentions were added to those of
 -- the books before. Its text is the reported one, if one is reported, and gives the observations.
-pub record IsReviewedNext (number : ℕ) (told : Option (List ℕ)) (observations : List Observed) (old new : List BookReview) (names more : SeenNames) : Type 0 where
+pub record IsReviewedNext (number : ℕ) (told : Option (List ℕ)) (observations : List Observed) (old new : List BookReview) (names more : SeenNames) (sums more_sums : List Sum) : Type 0 where
   pub text : List ℕ
   pub review : BookReview
   pub is_told : IfSome told (λ own. own ≡ text)
@@ -27,3 +30,4 @@ pub record IsReviewedNext (number : ℕ) (told : Option (List ℕ)) (observation
   pub reviewed : Reviews number (parsed_of text) review
   pub joined : new ≡ old ++ review ∷ []
   pub named : AddsBook number (parsed_of text) names more
+  pub summed : more_sums ≡ sums ++ sum_of (Book number) text ∷ []

@@ -77,9 +77,12 @@ narrow-preserved c =
     round_right c.args.network.now c.args.number.now c.narrow.left c.in_ok-own.own c.narrow.right c.narrow.invariant c.in_ok-own.ensures.sloped
     (omega (arith, ints)) (omega (arith, ints)) (λ same. c.if-own-eq0.false (ap (of_z w64) same)) (λ below. omega (arith, ints))
 
-pub returns-clause-exact : goal.returns-clause-exact
-returns-clause-exact c =
+pub returns : goal.returns
+returns c =
     let small = reach_small c.args.number.now c.args.network.now.observations in
     let left = c.narrow.invariant.at_left.near in
     let right = c.narrow.invariant.at_right.near in
-    nearest_is_exact c.args.network.now c.args.number.now c.narrow.left c.narrow.right c.nearest.result c.narrow.invariant (λ more. omega (arith, ints)) c.nearest.ensures
+    record {
+      exact =
+          nearest_is_exact c.args.network.now c.args.number.now c.narrow.left c.narrow.right c.nearest.result c.narrow.invariant (λ more. omega (arith, ints)) c.nearest.ensures;
+    }

@@ -59,15 +59,21 @@ narrow-preserved c =
     step_up_right c.args.network.now c.args.number.now c.args.flat.now.cost c.narrow.high c.narrow.right c.in_ok-own.own freed c.narrow.invariant c.in_ok-own.ensures.sloped
     (omega (arith, ints)) (omega (arith, ints)) c.if-own-flat.false
 
-pub returns-then-right-flat-clause-highest : goal.returns-then-right-flat-clause-highest
-returns-then-right-flat-clause-highest c =
+pub returns-then-right-flat : goal.returns-then-right-flat
+returns-then-right-flat c =
     let freed = flat_is_freed c.args.network.now c.args.number.now c.args.flat.now c.requires.at_flat.sloped c.requires.least in
-    highest_right c.args.network.now c.args.number.now c.args.flat.now.cost c.narrow.high c.narrow.right freed c.narrow.invariant c.if-right-flat.true
+    record {
+      highest =
+          highest_right c.args.network.now c.args.number.now c.args.flat.now.cost c.narrow.high c.narrow.right freed c.narrow.invariant c.if-right-flat.true;
+    }
 
-pub returns-else-right-flat-clause-highest : goal.returns-else-right-flat-clause-highest
-returns-else-right-flat-clause-highest c =
+pub returns-else-right-flat : goal.returns-else-right-flat
+returns-else-right-flat c =
     let small = reach_small c.args.number.now c.args.network.now.observations in
     let high = c.narrow.invariant.at_high.near in
     let right = c.narrow.invariant.at_right.near in
     let freed = flat_is_freed c.args.network.now c.args.number.now c.args.flat.now c.requires.at_flat.sloped c.requires.least in
-    highest_high c.args.network.now c.args.number.now c.args.flat.now.cost c.narrow.high c.narrow.right freed c.narrow.invariant (λ more. omega (arith, ints)) c.if-right-flat.false
+    record {
+      highest =
+          highest_high c.args.network.now c.args.number.now c.args.flat.now.cost c.narrow.high c.narrow.right freed c.narrow.invariant (λ more. omega (arith, ints)) c.if-right-flat.false;
+    }

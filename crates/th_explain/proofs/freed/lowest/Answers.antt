@@ -59,15 +59,21 @@ narrow-preserved c =
     step_down_left c.args.network.now c.args.number.now c.args.flat.now.cost c.narrow.left c.narrow.low c.in_ok-own.own freed c.narrow.invariant c.in_ok-own.ensures.sloped
     (omega (arith, ints)) (omega (arith, ints)) c.if-own-flat.false
 
-pub returns-then-left-flat-clause-lowest : goal.returns-then-left-flat-clause-lowest
-returns-then-left-flat-clause-lowest c =
+pub returns-then-left-flat : goal.returns-then-left-flat
+returns-then-left-flat c =
     let freed = flat_is_freed c.args.network.now c.args.number.now c.args.flat.now c.requires.at_flat.sloped c.requires.least in
-    lowest_left c.args.network.now c.args.number.now c.args.flat.now.cost c.narrow.left c.narrow.low freed c.narrow.invariant c.if-left-flat.true
+    record {
+      lowest =
+          lowest_left c.args.network.now c.args.number.now c.args.flat.now.cost c.narrow.left c.narrow.low freed c.narrow.invariant c.if-left-flat.true;
+    }
 
-pub returns-else-left-flat-clause-lowest : goal.returns-else-left-flat-clause-lowest
-returns-else-left-flat-clause-lowest c =
+pub returns-else-left-flat : goal.returns-else-left-flat
+returns-else-left-flat c =
     let small = reach_small c.args.number.now c.args.network.now.observations in
     let left = c.narrow.invariant.at_left.near in
     let low = c.narrow.invariant.at_low.near in
     let freed = flat_is_freed c.args.network.now c.args.number.now c.args.flat.now c.requires.at_flat.sloped c.requires.least in
-    lowest_low c.args.network.now c.args.number.now c.args.flat.now.cost c.narrow.left c.narrow.low freed c.narrow.invariant (λ more. omega (arith, ints)) c.if-left-flat.false
+    record {
+      lowest =
+          lowest_low c.args.network.now c.args.number.now c.args.flat.now.cost c.narrow.left c.narrow.low freed c.narrow.invariant (λ more. omega (arith, ints)) c.if-left-flat.false;
+    }

@@ -17,19 +17,22 @@ blunder_count-requires-clause-each c =
     let own : Survey = c.in_ok-own.own in
     ap length (c.deref.ensures.value ∙ c.in_ok-fit.ensures.residuals) ∙ length-map own.observations (λ o. residual o (at_points_of own c.low.result.now)) ∙ sym (ap length c.observations.ensures.observations)
 
-pub returns-clause-left : goal.returns-clause-left
-returns-clause-left c =
+pub returns : goal.returns
+returns c =
     let survey = c.args.network.now in
     let number = c.args.number.now in
     let x : ℤ = to_z w64 (of_z w64 c.args.change) in
     let limit : ℤ = to_z w64 (of_z w64 c.args.limit) in
     let own : Survey = c.in_ok-own.own in
     let low : List ℤ = c.in_ok-best.best.low in
-    let best = subst (λ (own : Survey). IsBest own c.in_ok-best.best) c.in_ok-own.ensures.network c.in_ok-best.ensures in
+    let best = subst (λ (own : Survey). IsBest own c.in_ok-best.best) c.in_ok-own.ensures c.in_ok-best.ensures in
     let left : List ℤ = c.in_ok-fit.fit.residuals.items in
     let are : left ≡ residuals (tilted number x survey).observations (at_points_of (tilted number x survey) low) =
-    c.in_ok-fit.ensures.residuals ∙ ap (λ (low : List ℤ). residuals own.observations (at_points_of own low)) c.low.ensures ∙ ap (λ (own : Survey). residuals own.observations (at_points_of own low)) c.in_ok-own.ensures.network in
+    c.in_ok-fit.ensures.residuals ∙ ap (λ (low : List ℤ). residuals own.observations (at_points_of own low)) c.low.ensures ∙ ap (λ (own : Survey). residuals own.observations (at_points_of own low)) c.in_ok-own.ensures in
     let counted : c.blunder_count.result ≡ count_by (is_blunder limit) left = c.blunder_count.ensures ∙ ap (count_by (is_blunder limit)) c.deref.ensures.value in
-    subst (λ (change : ℤ). LeavesBlunders survey number change c.args.limit c.blunder_count.result) (to_z-of_z w64 c.args.change c.ranges.change)
-    (subst (λ (limit : ℤ). LeavesBlunders survey number x limit c.blunder_count.result) (to_z-of_z w64 c.args.limit c.ranges.limit)
-    (blunders_moved survey number x limit (at_points_of (tilted number x survey) low) left c.blunder_count.result best.low are counted))
+    record {
+      left =
+          subst (λ (change : ℤ). LeavesBlunders survey number change c.args.limit c.blunder_count.result) (to_z-of_z w64 c.args.change c.ranges.change)
+          (subst (λ (limit : ℤ). LeavesBlunders survey number x limit c.blunder_count.result) (to_z-of_z w64 c.args.limit c.ranges.limit)
+          (blunders_moved survey number x limit (at_points_of (tilted number x survey) low) left c.blunder_count.result best.low are counted));
+    }

@@ -14,12 +14,15 @@ overflow_sub-reach c = let small = reach_small c.args.number.now c.args.network.
 pub slope_at-requires : goal.slope_at-requires
 slope_at-requires c = let small = reach_small c.args.number.now c.args.network.now.observations in omega (arith, ints)
 
-pub returns-then-far-ge0-clause-least : goal.returns-then-far-ge0-clause-least
-returns-then-far-ge0-clause-least c =
+pub returns-then-far-ge0 : goal.returns-then-far-ge0
+returns-then-far-ge0 c =
     let small = reach_small c.args.number.now c.args.network.now.observations in
     let at_far : c.in_ok-far.far.change ≡ to_z w64 (of_z w64 (pos 0 -ℤ to_z w64 c.args.reach)) = c.in_ok-far.ensures.at in
     let far_fits : FitsSigned w64 c.in_ok-far.far.slope = search rules in
-    far_below c.args.network.now c.args.number.now c.in_ok-far.far c.in_ok-far.ensures.sloped (omega (arith, ints)) (omega (arith, ints))
+    record {
+      least =
+          far_below c.args.network.now c.args.number.now c.in_ok-far.far c.in_ok-far.ensures.sloped (omega (arith, ints)) (omega (arith, ints));
+    }
 
 pub freed_between-requires : goal.freed_between-requires
 freed_between-requires c =
@@ -29,10 +32,13 @@ freed_between-requires c =
     round_of c.args.network.now c.args.number.now c.in_ok-far.far c.args.given c.in_ok-far.ensures.sloped c.requires.given
     (omega (arith, ints)) (omega (arith, ints)) (omega (arith, ints)) c.requires.rises (omega (arith, ints))
 
-pub returns-clause-least : goal.returns-clause-least
-returns-clause-least c =
+pub returns : goal.returns
+returns c =
     let small = reach_small c.args.number.now c.args.network.now.observations in
     let at_far : c.in_ok-far.far.change ≡ to_z w64 (of_z w64 (pos 0 -ℤ to_z w64 c.args.reach)) = c.in_ok-far.ensures.at in
     let far_fits : FitsSigned w64 c.in_ok-far.far.slope = search rules in
-    freed_within c.args.network.now c.args.number.now c.in_ok-far.far c.args.given c.in_ok-freed.freed c.in_ok-far.ensures.sloped (omega (arith, ints)) c.requires.given c.requires.rises
-    (omega (arith, ints)) (omega (arith, ints)) c.in_ok-freed.ensures.exact
+    record {
+      least =
+          freed_within c.args.network.now c.args.number.now c.in_ok-far.far c.args.given c.in_ok-freed.freed c.in_ok-far.ensures.sloped (omega (arith, ints)) c.requires.given c.requires.rises
+          (omega (arith, ints)) (omega (arith, ints)) c.in_ok-freed.ensures.exact;
+    }

@@ -5,15 +5,19 @@ use Rattle.std.specs.List.{AllZip, count_by}
 use Rattle.th_blunders.specs.Blunders.{is_blunder}
 use Rattle.th_entries.specs.declared.entries.Entry.{Entry}
 use Rattle.th_changes.specs.Freed.{cost_of}
+use Rattle.th_changes.specs.declared.cases.Case.{Case}
+use Rattle.th_explain_texts.specs.Ranks.{ranked}
+use Rattle.th_network.specs.Networks.{Survey}
+use Rattle.th_numbers.specs.declared.candidates.Candidate.{Candidate}
+use Rattle.th_explain_rows.specs.declared.finder.Misfit.{Misfit}
 use Rattle.th_blunders.specs.Blunders.{blunders_at}
 use Rattle.th_explain_texts.specs.declared.rows.Row.{Row}
 use Rattle.th_network.specs.Heights.{residual}
 use Rattle.th_network.specs.Networks.{at_points_of}
-use Rattle.th_explain_rows.specs.Explanations.{IsEnough, summary_with}
-use Rattle.th_explain_rows.specs.Inside.Leading.{AreLeading}
+use Rattle.th_explain_rows.specs.Explanations.{summary_with}
+use Rattle.th_explain_rows.specs.Inside.Passing.{AreOwnRows}
 use Rattle.th_numbers.specs.Lists.{listed_in, listed_of}
 use Rattle.th_readings.specs.Readings.{IsBookRowOrNone}
-use Rattle.th_explain_rows.specs.Rows.{IsRowOrMore}
 use Rattle.th_explain_rows.proofs.FindLemmas.{explained_of}
 use Rattle.th_explain_rows.proofs.findings.explained_by.Goals as goal
 
@@ -22,14 +26,11 @@ blunder_count-marked-requires-clause-each g c =
     let survey = c.args.network.now in
     ap length (c.deref.ensures.value ∙ c.requires.fit.residuals) ∙ length-map survey.observations (λ o. residual o (at_points_of survey c.args.best.now.low)) ∙ sym (ap length c.observations.ensures.observations)
 
-pub returns-clause-explained : goal.returns-clause-explained
-returns-clause-explained g c =
+pub returns : goal.returns
+returns g c =
     let survey = c.args.network.now in
     let heights = at_points_of survey c.args.best.now.low in
     let (tied, are, listed) = c.in_ok-listing.ensures in
-    let printed : (most : Option ℕ) × IsEnough most c.in_ok-rows.rows.items × AreLeading survey c.args.fit.now.cost (to_z w64 (of_z w64 c.args.limit)) c.as_slice-candidates.result.now c.as_slice.result.now most c.in_ok-rows.rows.items = c.in_ok-rows.ensures.rows in
-    let most : Option ℕ = printed.0 in
-    let own : List (Option Row) = printed.2.0 in
     let limit = to_z-of_z w64 c.args.limit c.ranges.limit in
     let entries = c.as_slice-entries.result.now in
     let books = c.as_slice-books.result.now in
@@ -39,14 +40,28 @@ returns-clause-explained g c =
     let marked : c.blunder_count-marked.result ≡ blunders_at c.args.limit survey heights =
     c.blunder_count-marked.ensures ∙ ap (λ (own : ℤ). count_by (is_blunder own) c.deref.result.now) limit
     ∙ ap (count_by (is_blunder c.args.limit)) (c.deref.ensures.value ∙ c.requires.fit.residuals) in
-    explained_of survey c.args.reviews.now c.args.limit (record { summary = c.summary_with-summary.result; rows = c.in_ok-rows.rows }) heights tied entries all c.args.fit.now.cost
-    c.as_slice-candidates.result.now books most own read c.requires.best.low are
-    (c.as_slice-entries.ensures.value ∙ c.in_ok-all_entries.ensures) (listed ∙ ap (λ (own : List Entry). listed_of survey own tied) c.in_ok-kinds.ensures) cost (c.as_slice-candidates.ensures.value ∙ c.in_ok-all.ensures) (c.as_slice-books.ensures.value ∙ c.in_ok-all_books.ensures)
-    (subst (λ (z : ℤ). AllZip (IsRowOrMore survey c.args.fit.now.cost z most) c.as_slice-candidates.result.now own) limit printed.2.1)
-    (subst (λ (z : ℤ). AllZip (IsBookRowOrNone survey entries c.args.fit.now.cost z) books read) limit
-    (subst (λ (own : List Entry). AllZip (IsBookRowOrNone survey own c.args.fit.now.cost (to_z w64 (of_z w64 c.args.limit))) books read) c.in_ok-kinds.ensures
-    (subst (λ (found : List (Option Row)). AllZip (IsBookRowOrNone survey c.in_ok-kinds.kinds.entries.now c.args.fit.now.cost (to_z w64 (of_z w64 c.args.limit))) books found) (sym c.as_slice.ensures.value) c.in_ok-read.ensures.rows)))
-    (c.summary_with-summary.ensures ∙ ap (λ (own : ℤ). summary_with c.args.fit.now.cost c.blunder_count-marked.result all (length books) own) limit
-    ∙ ap (λ (own : ℕ). summary_with own c.blunder_count-marked.result all (length books) c.args.limit) cost
-    ∙ ap (λ (own : ℕ). summary_with (cost_of survey heights) own all (length books) c.args.limit) marked)
-    printed.1 printed.2.2
+    let candidates : List Candidate = c.as_slice-candidates.result.now in
+    let misfit : Misfit = c.in_ok-finder.finder.misfit in
+    let case : Case = misfit.case.now in
+    let network : case.network.now ≡ survey = ap (λ (case : Case). case.network.now) c.in_ok-finder.ensures.case ∙ c.of-case.ensures.network in
+    let total : case.cost ≡ c.args.fit.now.cost = ap (λ (case : Case). case.cost) c.in_ok-finder.ensures.case ∙ c.of-case.ensures.cost in
+    let size : misfit.limit ≡ c.args.limit = c.in_ok-finder.ensures.limit ∙ limit in
+    let found : List Row = c.in_ok-found.found.items in
+    let rows : AreOwnRows survey c.args.fit.now.cost c.args.limit candidates found =
+    subst (λ (limit : ℤ). AreOwnRows survey c.args.fit.now.cost limit candidates found) size
+    (subst (λ (cost : ℕ). AreOwnRows survey cost misfit.limit candidates found) total
+    (subst (λ (survey : Survey). AreOwnRows survey case.cost misfit.limit candidates found) network c.in_ok-found.ensures.rows)) in
+    record {
+      explained =
+          explained_of survey c.args.reviews.now c.args.limit (record { summary = c.summary_with-summary.result; rows = c.in_ok-rows.rows }) heights tied entries all c.args.fit.now.cost
+          candidates books found read c.requires.best.low are
+          (c.as_slice-entries.ensures.value ∙ c.in_ok-all_entries.ensures) (listed ∙ ap (λ (own : List Entry). listed_of survey own tied) c.in_ok-kinds.ensures) cost (c.as_slice-candidates.ensures.value ∙ c.in_ok-all.ensures) (c.as_slice-books.ensures.value ∙ c.in_ok-all_books.ensures)
+          rows
+          (subst (λ (z : ℤ). AllZip (IsBookRowOrNone survey entries c.args.fit.now.cost z) books read) limit
+          (subst (λ (own : List Entry). AllZip (IsBookRowOrNone survey own c.args.fit.now.cost (to_z w64 (of_z w64 c.args.limit))) books read) c.in_ok-kinds.ensures
+          (subst (λ (found : List (Option Row)). AllZip (IsBookRowOrNone survey c.in_ok-kinds.kinds.entries.now c.args.fit.now.cost (to_z w64 (of_z w64 c.args.limit))) books found) (sym c.as_slice.ensures.value) c.in_ok-read.ensures.rows)))
+          (c.summary_with-summary.ensures ∙ ap (λ (own : ℤ). summary_with c.args.fit.now.cost c.blunder_count-marked.result all (length books) own) limit
+          ∙ ap (λ (own : ℕ). summary_with own c.blunder_count-marked.result all (length books) c.args.limit) cost
+          ∙ ap (λ (own : ℕ). summary_with (cost_of survey heights) own all (length books) c.args.limit) marked)
+          (c.in_ok-rows.ensures ∙ ap ranked (c.as_slice-2.ensures.value ∙ c.in_ok-add_rows.ensures));
+    }

@@ -11,6 +11,5 @@ explained_by-requires-clause-fit g c =
     let survey = c.args.network.now in
     subst (λ (low : List ℤ). IsFit survey (at_points_of survey low) c.in_ok-fit.fit) c.low.ensures c.in_ok-fit.ensures
 
-pub returns-clause-explained : goal.returns-clause-explained
-returns-clause-explained g c =
-    subst (λ (limit : ℤ). IfOk c.explained_by.result (AreExplained c.args.network.now c.args.reviews.now limit)) (to_z-of_z w64 c.args.limit c.ranges.limit) c.explained_by.ensures.explained
+pub returns : goal.returns
+returns g c = record { explained = subst (λ (limit : ℤ). IfOk c.explained_by.result (AreExplained c.args.network.now c.args.reviews.now limit)) (to_z-of_z w64 c.args.limit c.ranges.limit) c.explained_by.ensures.explained }

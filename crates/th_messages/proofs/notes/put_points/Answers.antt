@@ -5,5 +5,5 @@ use Rattle.th_messages.proofs.notes.put_points.Goals as goal
 
 pub returns : goal.returns
 returns g c =
-    let from_put_number = put_then _ _ _ _ (2 * part_calls) _ _ _ _ _ (rw c.in_ok-put_number.was at c.put_number.ensures) c.put-2.ensures (omega arith) in
+    let from_put_number = put_then _ _ _ _ (2 * part_calls) _ _ _ _ _ (rw c.in_ok-put_number.was at c.put_number.ensures) (rw c.loose_end.ensures at c.put-2.ensures) (omega arith) in
     put_then _ _ _ _ _ _ _ _ _ _ (rw c.in_ok-put.was at c.put.ensures) from_put_number (omega arith)

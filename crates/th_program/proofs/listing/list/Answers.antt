@@ -11,7 +11,7 @@ use Rattle.th_files.specs.Outputs.{spots_of}
 use Rattle.th_run_parts.specs.Inputs.{owed_for_book}
 use Rattle.th_runs.specs.Listed.{listed as listed_texts, listing}
 use Rattle.th_run_parts.specs.Reads.{refused}
-use Rattle.th_run_parts.specs.declared.refusals.Input.TheVariants as input
+use Rattle.th_inputs.specs.declared.inputs.Input.TheVariants as input
 use Rattle.th_program.proofs.listing.list.Goals as goal
 
 pub run_list_with_notes-answer-requires-clause-outs : goal.run_list_with_notes-answer-requires-clause-outs

@@ -1,19 +1,19 @@
-use Rattle.std.proofs.Common.{to_z, of_z, w64, arith, ◌≡◌, ◌∙◌, ◌++◌, true, ℕ, List, ap, drop, length, map, refl, rules, subst, sym, take}
+use Rattle.std.proofs.Common.{to_z, of_z, w64, arith, ◌≡◌, ◌∙◌, ◌++◌, true, ap, drop, length, map, refl, rules, subst, sym, take}
 use Rattle.std.proofs.lemmas.List.{length-map}
 use Rattle.std.specs.List.{AllByRecursion}
 use Rattle.std.specs.Prelude.{IfErr}
-use Rattle.th_devices.specs.Spots.{file, is_file}
+use Rattle.th_devices.specs.Spots.{is_file}
 use Rattle.th_network.specs.Networks.{Survey}
 use Rattle.th_commands.specs.Plans.{files}
 use Rattle.th_program.proofs.CauseLemmas.{files_caused, given_caused, output_caused, run_caused}
-use Rattle.th_files.proofs.OpenedLemmas.{named-opened, opened-are-ready, survey-opened, tells-opened}
+use Rattle.th_files.proofs.OpenedLemmas.{named-opened, opened-are-ready, survey-opened, tolds-opened}
 use Rattle.th_files.proofs.OutputLemmas.{all_apart, all_files, lent, made_ready, none_among, not_among, of_map, spots_after}
 use Rattle.th_program.proofs.PlaceLemmas.{apart_map, finished_given, others_given, printed_given, refused_given, untouched_given}
 use Rattle.th_program.specs.Done.{IsReviewed}
 use Rattle.th_program.specs.Failing.{HasCause, IsInFiles}
 use Rattle.th_files.specs.Opened.{AreMade, AreOpened}
 use Rattle.th_files.specs.Outputs.{spots_of}
-use Rattle.th_files.specs.Owed.{survey_owed}
+use Rattle.th_files.specs.Owed.{all_names, survey_owed, tolds_in}
 use Rattle.th_run_review.specs.Reviewed.{AreOfReview, reviewing}
 use Rattle.th_run_parts.specs.Inputs.{IsOwed, Owed}
 use Rattle.th_run_parts.specs.Outputs.{ending_of}
@@ -72,7 +72,8 @@ returns-clause-reviewed g c =
     let opened : AreOpened g.F.In.Source.state (g.F.Folder.failing c.args.folder.now).reading told from c.as_mut_slice.result.now c.in_ok-sources.sources.benchmarks c.in_ok-sources.sources.weights =
     rw c.as_mut_slice.ensures.value c.in_ok-sources.ensures.opened in
     let owed = survey-opened g.F.In.Source.state (g.F.Folder.failing c.args.folder.now).reading told from (refused run.result) _ _ _ _ _ _ opened run.ensures.sources in
-    let books = tells-opened g.F.In.Source.state (g.F.Folder.failing c.args.folder.now).reading told _ _ opened.of_books in
+    let tolds = tolds-opened g.F.In.Source.state (g.F.Folder.failing c.args.folder.now).reading told from _ _ _ opened in
+    let names : map (λ name. name.now) c.as_slice.result.now ≡ all_names from = ap (λ own. map (λ name. name.now) own) c.as_slice.ensures.value ∙ c.in_ok-names.ensures in
     let unopened : c.sources_of.new.folder ≡ c.args.folder.now = c.sources_of.ensures.same in
     let made : AreMade g.F.Out.Sink.state g.F.Folder.tells (g.F.Folder.failing c.args.folder.now).writing (spots_of prefix reviewing.outputs) c.as_mut_slice-2.result.now =
     rw c.as_mut_slice-2.ensures.value (subst (λ folder. AreMade g.F.Out.Sink.state g.F.Folder.tells (g.F.Folder.failing folder).writing (spots_of prefix reviewing.outputs) c.in_ok-outs.outs.items) unopened c.in_ok-outs.ensures.made) in
@@ -80,9 +81,9 @@ returns-clause-reviewed g c =
     let limit : to_z w64 (of_z w64 c.get.result) ≡ c.args.limit = search rules in
     let back : take c.in_ok-outs.outs.len (run.new.outs ++ drop (length run.new.outs) c.in_ok-outs.outs.items) ≡ run.new.outs =
     lent c.in_ok-outs.outs.items run.new.outs c.in_ok-outs.outs.len (omega (arith, c.as_mut_slice-2.ensures.len, run.auto.outs)) in
-    let printed = printed_given g.F.Folder.tells g.F.Folder.held g.F.Folder.has_failed g.F.Folder.failing from prefix reviewing.outputs (AreOfReview (map (λ (name : List ℕ). told (file name)) from.books) c.args.limit)
+    let printed = printed_given g.F.Folder.tells g.F.Folder.held g.F.Folder.has_failed g.F.Folder.failing from prefix reviewing.outputs (AreOfReview (all_names from) (tolds_in told from) c.args.limit)
     g.F.Out.Sink.state _ _ _ run.result c.place_sinks.result c.args.folder.now c.place_sinks.new.folder owed (all_apart prefix (map ending_of reviewing.outputs) refl) made
-    (λ survey texts are. ap (λ (all : Texts). map (λ own. own.0) all) are.3.2) (rw (limit, books) at run.ensures.outcome.written) (rw (same, back) at c.place_sinks.ensures) in
+    (λ survey texts are. ap (λ (all : Texts). map (λ own. own.0) all) are.4.2) (rw (limit, names, tolds) at run.ensures.outcome.written) (rw (same, back) at c.place_sinks.ensures) in
     printed.0
 
 pub returns-clause-refused : goal.returns-clause-refused
@@ -94,7 +95,8 @@ returns-clause-refused g c =
     let opened : AreOpened g.F.In.Source.state (g.F.Folder.failing c.args.folder.now).reading told from c.as_mut_slice.result.now c.in_ok-sources.sources.benchmarks c.in_ok-sources.sources.weights =
     rw c.as_mut_slice.ensures.value c.in_ok-sources.ensures.opened in
     let owed = survey-opened g.F.In.Source.state (g.F.Folder.failing c.args.folder.now).reading told from (refused run.result) _ _ _ _ _ _ opened run.ensures.sources in
-    let books = tells-opened g.F.In.Source.state (g.F.Folder.failing c.args.folder.now).reading told _ _ opened.of_books in
+    let tolds = tolds-opened g.F.In.Source.state (g.F.Folder.failing c.args.folder.now).reading told from _ _ _ opened in
+    let names : map (λ name. name.now) c.as_slice.result.now ≡ all_names from = ap (λ own. map (λ name. name.now) own) c.as_slice.ensures.value ∙ c.in_ok-names.ensures in
     let unopened : c.sources_of.new.folder ≡ c.args.folder.now = c.sources_of.ensures.same in
     let made : AreMade g.F.Out.Sink.state g.F.Folder.tells (g.F.Folder.failing c.args.folder.now).writing (spots_of prefix reviewing.outputs) c.as_mut_slice-2.result.now =
     rw c.as_mut_slice-2.ensures.value (subst (λ folder. AreMade g.F.Out.Sink.state g.F.Folder.tells (g.F.Folder.failing folder).writing (spots_of prefix reviewing.outputs) c.in_ok-outs.outs.items) unopened c.in_ok-outs.ensures.made) in
@@ -102,16 +104,16 @@ returns-clause-refused g c =
     let limit : to_z w64 (of_z w64 c.get.result) ≡ c.args.limit = search rules in
     let back : take c.in_ok-outs.outs.len (run.new.outs ++ drop (length run.new.outs) c.in_ok-outs.outs.items) ≡ run.new.outs =
     lent c.in_ok-outs.outs.items run.new.outs c.in_ok-outs.outs.len (omega (arith, c.as_mut_slice-2.ensures.len, run.auto.outs)) in
-    let printed = printed_given g.F.Folder.tells g.F.Folder.held g.F.Folder.has_failed g.F.Folder.failing from prefix reviewing.outputs (AreOfReview (map (λ (name : List ℕ). told (file name)) from.books) c.args.limit)
+    let printed = printed_given g.F.Folder.tells g.F.Folder.held g.F.Folder.has_failed g.F.Folder.failing from prefix reviewing.outputs (AreOfReview (all_names from) (tolds_in told from) c.args.limit)
     g.F.Out.Sink.state _ _ _ run.result c.place_sinks.result c.args.folder.now c.place_sinks.new.folder owed (all_apart prefix (map ending_of reviewing.outputs) refl) made
-    (λ survey texts are. ap (λ (all : Texts). map (λ own. own.0) all) are.3.2) (rw (limit, books) at run.ensures.outcome.written) (rw (same, back) at c.place_sinks.ensures) in
+    (λ survey texts are. ap (λ (all : Texts). map (λ own. own.0) all) are.4.2) (rw (limit, names, tolds) at run.ensures.outcome.written) (rw (same, back) at c.place_sinks.ensures) in
     let failing = g.F.Folder.failing c.args.folder.now in
     let there = spots_after g.F.Out.Sink.state g.F.Folder.tells (g.F.Folder.failing c.args.folder.now).writing (spots_of prefix reviewing.outputs) _ _ _ run.result _ _ run.ensures.outcome made (λ survey has. (has.0, has.2)) in
     let blamed = run_caused failing (IsInFiles from) prefix run.result
     (files_caused g.F.In.Source.state (g.F.Folder.failing c.args.folder.now).reading told from reviewing (IsInFiles from) run.result _ _ _ _ _ _ (λ own spot is. is) opened
     run.ensures.sources run.ensures.named (λ is has. absurd (cc has)))
     (output_caused g.F.Out.Sink.state g.F.Folder.tells (g.F.Folder.failing c.args.folder.now).writing prefix reviewing.outputs run.result _ _ made
-    (λ begun. let (survey, accepted, has) = run.ensures.outcome.written begun in (has.0, ap (λ (all : Texts). map (λ own. own.0) all) has.1.3.2, has.2))) in
+    (λ begun. let (survey, accepted, has) = run.ensures.outcome.written begun in (has.0, ap (λ (all : Texts). map (λ own. own.0) all) has.1.4.2, has.2))) in
     let caused = given_caused g.F.Out.Sink.state g.F.Folder.tells g.F.Folder.held g.F.Folder.has_failed g.F.Folder.failing (IsInFiles from) prefix reviewing.outputs
     run.new.outs run.result c.place_sinks.result c.args.folder.now c.place_sinks.new.folder there (rw (same, back) at c.place_sinks.ensures) blamed in
     refused_given g.F.Folder.tells g.F.Folder.held g.F.Folder.has_failed g.F.Folder.failing reviewing from (λ (survey : Survey). survey)

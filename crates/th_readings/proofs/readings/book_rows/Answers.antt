@@ -16,7 +16,8 @@ loop-book-preserved c =
     zip_next (IsBookRowOrNone c.args.network.now c.args.kinds.now.entries.now c.args.cost (to_z w64 (of_z w64 c.args.limit))) c.args.books.now c.loop-book.rows.items c.add_found.new.rows.items c.loop-book.book-index (get_or c.args.books.now c.loop-book.book-index none) c.in_ok-found.found
     c.loop-book-test.true (get_or_default c.args.books.now c.loop-book.book-index none (get_or c.args.books.now c.loop-book.book-index none) c.loop-book-test.true) c.in_ok-add_found.ensures c.loop-book.invariant c.in_ok-found.ensures.row
 
-pub returns-clause-rows : goal.returns-clause-rows
-returns-clause-rows c =
-    subst (λ (limit : ℤ). AllZip (IsBookRowOrNone c.args.network.now c.args.kinds.now.entries.now c.args.cost limit) c.args.books.now c.loop-book.rows.items) (to_z-of_z w64 c.args.limit c.ranges.limit)
-    (subst (λ (own : List SightedBook). AllZip (IsBookRowOrNone c.args.network.now c.args.kinds.now.entries.now c.args.cost (to_z w64 (of_z w64 c.args.limit))) own c.loop-book.rows.items) (take_all c.loop-book.book-index c.args.books.now c.loop-book-test.false) c.loop-book.invariant)
+pub returns : goal.returns
+returns c = record {
+  rows = subst (λ (limit : ℤ). AllZip (IsBookRowOrNone c.args.network.now c.args.kinds.now.entries.now c.args.cost limit) c.args.books.now c.loop-book.rows.items) (to_z-of_z w64 c.args.limit c.ranges.limit)
+      (subst (λ (own : List SightedBook). AllZip (IsBookRowOrNone c.args.network.now c.args.kinds.now.entries.now c.args.cost (to_z w64 (of_z w64 c.args.limit))) own c.loop-book.rows.items) (take_all c.loop-book.book-index c.args.books.now c.loop-book-test.false) c.loop-book.invariant);
+}

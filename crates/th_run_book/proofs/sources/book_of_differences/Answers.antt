@@ -2,7 +2,7 @@ use Rattle.std.proofs.Common.{◌+◌, Ok, refl, arith}
 use Rattle.th_conversions.specs.Books.{book_of_table}
 use Rattle.th_conversions.specs.Limits.{max_differences}
 use Rattle.th_run_parts.proofs.Givens.{meets_fault, meets_front}
-use Rattle.th_run_parts.specs.declared.refusals.Input.TheVariants as input
+use Rattle.th_inputs.specs.declared.inputs.Input.TheVariants as input
 use Rattle.th_run_parts.specs.declared.refusals.Refusal.TheVariants as refusal
 use Rattle.th_run_book.proofs.BookingLemmas.{book_of_table-take, difference_fault}
 use Rattle.th_run_book.proofs.sources.book_of_differences.Goals as goal

@@ -9,7 +9,7 @@ use Rattle.th_run_explain.specs.Explained.{ArePrintedOf, explaining}
 use Rattle.th_run_review.specs.Reviewed.{AreReviewsOfBooks}
 use Rattle.th_run_parts.specs.Writes.{AreWritable, AreWritten, IsFailedWrite, Texts}
 use Rattle.th_run_review.specs.declared.reviews.ReviewReader.{ReviewReader}
-use Rattle.th_run_parts.specs.declared.refusals.Input.TheVariants as input
+use Rattle.th_inputs.specs.declared.inputs.Input.TheVariants as input
 use Rattle.th_run_review.proofs.ReviewLemmas.{AreAllRead, all_read, as_many, reviews_of_books}
 use Rattle.th_run_parts.proofs.OutputLemmas.{outputs_of}
 use Rattle.th_run_parts.proofs.RunLemmas.{begun_of, named_of, network_behind, network_refused, of_inputs, survey_begun, survey_refused, written_behind}
@@ -43,9 +43,9 @@ returns g c =
         c.in_ok-texts.texts.items,
         (
           c.as_slice-reviews.result.now,
-          subst (AreReviewsOfBooks (told_by g.B.Source.state c.args.books.now)) (sym c.as_slice-reviews.ensures.value) (reviews_of_books (told_by g.B.Source.state c.args.books.now) c.in_ok-survey.survey.observations c.read_survey.new.reader.reviews.items c.new-reader.result.names c.read_survey.new.reader.names
-              (subst (λ (old : List BookReview). AreAllRead 1 (told_by g.B.Source.state c.args.books.now) [] c.in_ok-survey.survey.observations old c.read_survey.new.reader.reviews.items c.new-reader.result.names c.read_survey.new.reader.names)
-              c.new-reader.ensures.reviews (all_read (λ (own : ReviewReader). own.reviews.items) (λ (own : ReviewReader). own.names) 1 _ _ _ c.new-reader.result c.read_survey.new.reader c.in_ok-survey.ensures.read))),
+          subst (AreReviewsOfBooks (told_by g.B.Source.state c.args.books.now)) (sym c.as_slice-reviews.ensures.value) (reviews_of_books (told_by g.B.Source.state c.args.books.now) c.in_ok-survey.survey.observations c.read_survey.new.reader.reviews.items c.new-reader.result.names c.read_survey.new.reader.names c.new-reader.result.sums.items c.read_survey.new.reader.sums.items
+              (subst (λ (old : List BookReview). AreAllRead 1 (told_by g.B.Source.state c.args.books.now) [] c.in_ok-survey.survey.observations old c.read_survey.new.reader.reviews.items c.new-reader.result.names c.read_survey.new.reader.names c.new-reader.result.sums.items c.read_survey.new.reader.sums.items)
+              c.new-reader.ensures.reviews (all_read (λ (own : ReviewReader). own.reviews.items) (λ (own : ReviewReader). own.names) (λ (own : ReviewReader). own.sums.items) 1 _ _ _ c.new-reader.result c.read_survey.new.reader c.in_ok-survey.ensures.read))),
           subst (λ (limit : ℤ). ArePrintedOf c.as_slice-reviews.result.now limit c.args.form c.in_ok-survey.survey c.in_ok-texts.texts.items) (to_z-of_z w64 c.args.limit c.ranges.limit)
               c.in_ok-texts.ensures.1,
         ),
@@ -62,8 +62,8 @@ write_outs-requires g c =
 
 pub texts_of-requires : goal.texts_of-requires
 texts_of-requires g c =
-    let same = as_many 1 (told_by g.B.Source.state c.args.books.now) c.in_ok-survey.survey.observations c.read_survey.new.reader.reviews.items c.new-reader.result.names c.read_survey.new.reader.names
-    (subst (λ (old : List BookReview). AreAllRead 1 (told_by g.B.Source.state c.args.books.now) [] c.in_ok-survey.survey.observations old c.read_survey.new.reader.reviews.items c.new-reader.result.names c.read_survey.new.reader.names)
-    c.new-reader.ensures.reviews (all_read (λ (own : ReviewReader). own.reviews.items) (λ (own : ReviewReader). own.names) 1 _ _ _ c.new-reader.result c.read_survey.new.reader c.in_ok-survey.ensures.read)) in
+    let same = as_many 1 (told_by g.B.Source.state c.args.books.now) c.in_ok-survey.survey.observations c.read_survey.new.reader.reviews.items c.new-reader.result.names c.read_survey.new.reader.names c.new-reader.result.sums.items c.read_survey.new.reader.sums.items
+    (subst (λ (old : List BookReview). AreAllRead 1 (told_by g.B.Source.state c.args.books.now) [] c.in_ok-survey.survey.observations old c.read_survey.new.reader.reviews.items c.new-reader.result.names c.read_survey.new.reader.names c.new-reader.result.sums.items c.read_survey.new.reader.sums.items)
+    c.new-reader.ensures.reviews (all_read (λ (own : ReviewReader). own.reviews.items) (λ (own : ReviewReader). own.names) (λ (own : ReviewReader). own.sums.items) 1 _ _ _ c.new-reader.result c.read_survey.new.reader c.in_ok-survey.ensures.read)) in
     let number = ap length c.as_slice-reviews.ensures.value ∙ same ∙ length-map c.args.books.now (λ book. (g.B.Source.state book).left) in
     omega (arith, number, c.requires.ready.few_books)

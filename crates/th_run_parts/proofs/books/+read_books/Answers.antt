@@ -3,7 +3,7 @@ use Rattle.std.proofs.lemmas.Result.{IfErr-weaker}
 use Rattle.th_devices.specs.Limits.{calls_before}
 use Rattle.th_run_parts.proofs.ReaderLemmas.{on_ok, read_next}
 use Rattle.th_run_parts.proofs.SourceLemmas.{all_later, behind_of_books, each_first, each_next, elsewhere_book, if_refused, not_read, read_before}
-use Rattle.th_run_parts.specs.declared.refusals.Input.TheVariants as input
+use Rattle.th_inputs.specs.declared.inputs.Input.TheVariants as input
 use Rattle.th_run_parts.proofs.books.+read_books.Goals as goal
 
 pub returns-in_err-read_book-clause-books : goal.returns-in_err-read_book-clause-books

@@ -1,9 +1,10 @@
-use Rattle.std.proofs.Common.{◌≡◌, ◌∙◌, ℤ, [], Err, IfErr, List, w64, ap, length, rules, subst, sym, arith}
+use Rattle.std.proofs.Common.{◌≡◌, ◌∙◌, ◌++◌, ℤ, [], Err, IfErr, List, w64, ap, length, map, refl, rules, subst, sym, arith}
 use Rattle.std.proofs.lemmas.Int.{to_z-of_z}
 use Rattle.std.proofs.lemmas.List.{length-map}
-use Rattle.std.specs.List.{All}
+use Rattle.std.specs.List.{All, zip}
 use Rattle.th_entries.specs.Stations.{HasOneStation}
 use Rattle.th_entries.specs.declared.reviews.BookReview.{BookReview}
+use Rattle.th_inputs.specs.declared.sums.Sum.{Sum}
 use Rattle.th_network.specs.Networks.{Survey}
 use Rattle.th_review_rows.specs.Entries.{entries_of}
 use Rattle.th_run_parts.specs.Inputs.{told_by}
@@ -11,7 +12,7 @@ use Rattle.th_run_parts.specs.Reads.{refused}
 use Rattle.th_run_review.specs.Reviewed.{ArePrintedOf, AreReviewsOf, reviewing}
 use Rattle.th_run_parts.specs.Writes.{AreWritable, AreWritten, IsFailedWrite, Texts}
 use Rattle.th_run_review.specs.declared.reviews.ReviewReader.{ReviewReader}
-use Rattle.th_run_parts.specs.declared.refusals.Input.TheVariants as input
+use Rattle.th_inputs.specs.declared.inputs.Input.TheVariants as input
 use Rattle.th_run_review.proofs.ReviewLemmas.{AreAllRead, all_read, all_stationed, as_many, reviews_of_all}
 use Rattle.th_run_parts.proofs.OutputLemmas.{outputs_of}
 use Rattle.th_run_parts.proofs.RunLemmas.{begun_of, named_of, network_behind, network_refused, of_inputs, survey_begun, survey_refused, written_behind}
@@ -38,23 +39,35 @@ returns-in_err-texts g c =
 
 pub returns : goal.returns
 returns g c =
-    let texts = c.as_slice.ensures.value ∙ c.in_ok-texts.ensures.1.2 in
+    let texts = c.as_slice-3.ensures.value ∙ c.in_ok-texts.ensures.1.2 in
     let begun = begun_of _ c.write_outs.result c.write_outs.ensures.named in
+    let reader : ReviewReader = c.read_summed_survey.new.reader in
+    let reviewed : AreReviewsOf 1 (told_by g.B.Source.state c.args.books.now) reader.reviews.items c.found.result.now reader.sums.items =
+    reviews_of_all 1 (told_by g.B.Source.state c.args.books.now) c.in_ok-survey.survey.observations reader.reviews.items c.new-reader.result.names reader.names reader.sums.items c.found.result.now
+    (subst (λ (old : List BookReview). AreAllRead 1 (told_by g.B.Source.state c.args.books.now) [] c.in_ok-survey.survey.observations old reader.reviews.items c.new-reader.result.names reader.names [] reader.sums.items)
+    c.new-reader.ensures.reviews
+    (subst (λ (old : List Sum). AreAllRead 1 (told_by g.B.Source.state c.args.books.now) [] c.in_ok-survey.survey.observations c.new-reader.result.reviews.items reader.reviews.items c.new-reader.result.names reader.names old reader.sums.items)
+    c.new-reader.ensures.sums
+    (all_read (λ (own : ReviewReader). own.reviews.items) (λ (own : ReviewReader). own.names) (λ (own : ReviewReader). own.sums.items) 1 _ _ _ c.new-reader.result reader c.in_ok-survey.ensures.read)))
+    c.new-reader.ensures.names c.found.ensures in
     record {
       outcome = survey_begun (λ (survey : Survey). survey) _ _ c.in_ok-survey.survey c.write_outs.result _ _ begun c.in_ok-survey.ensures.answer c.in_ok-texts.ensures.0 (
         c.in_ok-texts.texts.items,
         (
           c.as_slice-reviews.result.now,
           c.found.result.now,
-          subst (λ (own : List BookReview). AreReviewsOf 1 (told_by g.B.Source.state c.args.books.now) own c.found.result.now) (sym c.as_slice-reviews.ensures.value)
-              (reviews_of_all 1 (told_by g.B.Source.state c.args.books.now) c.in_ok-survey.survey.observations c.read_survey.new.reader.reviews.items c.new-reader.result.names c.read_survey.new.reader.names c.found.result.now
-              (subst (λ (old : List BookReview). AreAllRead 1 (told_by g.B.Source.state c.args.books.now) [] c.in_ok-survey.survey.observations old c.read_survey.new.reader.reviews.items c.new-reader.result.names c.read_survey.new.reader.names)
-              c.new-reader.ensures.reviews (all_read (λ (own : ReviewReader). own.reviews.items) (λ (own : ReviewReader). own.names) 1 _ _ _ c.new-reader.result c.read_survey.new.reader c.in_ok-survey.ensures.read))
-              c.new-reader.ensures.names c.found.ensures),
-          subst (λ (limit : ℤ). ArePrintedOf c.as_slice-reviews.result.now c.found.result.now limit c.in_ok-survey.survey c.in_ok-texts.texts.items) (to_z-of_z w64 c.args.limit c.ranges.limit)
+          c.as_slice.result.now ++ c.as_slice-2.result.now,
+          record {
+            of_books = c.as_slice.result.now;
+            of_tables = c.as_slice-2.result.now;
+            books = rw (c.as_slice-reviews.ensures.value, c.as_slice.ensures.value) reviewed;
+            tables = rw (c.as_slice-2.ensures.value, sym c.new-of_tables.ensures.items) c.in_ok-survey.ensures.summed;
+            all = refl;
+          },
+          subst (λ (limit : ℤ). ArePrintedOf c.as_slice-reviews.result.now c.found.result.now (zip (map (λ name. name.now) c.args.names.now) (c.as_slice.result.now ++ c.as_slice-2.result.now)) limit c.in_ok-survey.survey c.in_ok-texts.texts.items) (to_z-of_z w64 c.args.limit c.ranges.limit)
               c.in_ok-texts.ensures.1,
         ),
-        subst (λ (own : Texts). AreWritten g.K.Sink.state (refused c.write_outs.result) own c.args.outs.now c.write_outs.new.outs) c.as_slice.ensures.value c.write_outs.ensures.written,
+        subst (λ (own : Texts). AreWritten g.K.Sink.state (refused c.write_outs.result) own c.args.outs.now c.write_outs.new.outs) c.as_slice-3.ensures.value c.write_outs.ensures.written,
       );
       named = named_of _ _ reviewing c.write_outs.result (subst (λ (own : Texts). IfErr c.write_outs.result (IsFailedWrite (outputs_of own))) texts c.write_outs.ensures.named);
       sources = all_before _ _ _ (refused c.write_outs.result) _ _ _ _ _ _ (written_behind input.Weights c.write_outs.result begun) c.in_ok-survey.ensures.sources;
@@ -62,21 +75,21 @@ returns g c =
 
 pub write_outs-requires : goal.write_outs-requires
 write_outs-requires g c =
-    let texts = c.as_slice.ensures.value ∙ c.in_ok-texts.ensures.1.2 in
+    let texts = c.as_slice-3.ensures.value ∙ c.in_ok-texts.ensures.1.2 in
     subst (λ (own : Texts). AreWritable g.K.Sink.state (outputs_of own) c.args.outs.now) (sym texts) c.requires.outs
 
 pub texts_of-requires-clause-few : goal.texts_of-requires-clause-few
 texts_of-requires-clause-few g c =
-    let same = as_many 1 (told_by g.B.Source.state c.args.books.now) c.in_ok-survey.survey.observations c.read_survey.new.reader.reviews.items c.new-reader.result.names c.read_survey.new.reader.names
-    (subst (λ (old : List BookReview). AreAllRead 1 (told_by g.B.Source.state c.args.books.now) [] c.in_ok-survey.survey.observations old c.read_survey.new.reader.reviews.items c.new-reader.result.names c.read_survey.new.reader.names)
-    c.new-reader.ensures.reviews (all_read (λ (own : ReviewReader). own.reviews.items) (λ (own : ReviewReader). own.names) 1 _ _ _ c.new-reader.result c.read_survey.new.reader c.in_ok-survey.ensures.read)) in
+    let same = as_many 1 (told_by g.B.Source.state c.args.books.now) c.in_ok-survey.survey.observations c.read_summed_survey.new.reader.reviews.items c.new-reader.result.names c.read_summed_survey.new.reader.names c.new-reader.result.sums.items c.read_summed_survey.new.reader.sums.items
+    (subst (λ (old : List BookReview). AreAllRead 1 (told_by g.B.Source.state c.args.books.now) [] c.in_ok-survey.survey.observations old c.read_summed_survey.new.reader.reviews.items c.new-reader.result.names c.read_summed_survey.new.reader.names c.new-reader.result.sums.items c.read_summed_survey.new.reader.sums.items)
+    c.new-reader.ensures.reviews (all_read (λ (own : ReviewReader). own.reviews.items) (λ (own : ReviewReader). own.names) (λ (own : ReviewReader). own.sums.items) 1 _ _ _ c.new-reader.result c.read_summed_survey.new.reader c.in_ok-survey.ensures.read)) in
     let number = ap length c.as_slice-reviews.ensures.value ∙ same ∙ length-map c.args.books.now (λ book. (g.B.Source.state book).left) in
     omega (arith, number, c.requires.ready.few_books)
 
 pub texts_of-requires-clause-stations : goal.texts_of-requires-clause-stations
 texts_of-requires-clause-stations g c =
     subst (λ (own : List BookReview). All (HasOneStation c.in_ok-survey.survey.observations) (entries_of own)) (sym c.as_slice-reviews.ensures.value)
-    (all_stationed 1 (told_by g.B.Source.state c.args.books.now) c.in_ok-survey.survey.observations c.read_survey.new.reader.reviews.items c.new-reader.result.names c.read_survey.new.reader.names
-    (subst (λ (old : List BookReview). AreAllRead 1 (told_by g.B.Source.state c.args.books.now) [] c.in_ok-survey.survey.observations old c.read_survey.new.reader.reviews.items c.new-reader.result.names c.read_survey.new.reader.names)
-    c.new-reader.ensures.reviews (all_read (λ (own : ReviewReader). own.reviews.items) (λ (own : ReviewReader). own.names) 1 _ _ _ c.new-reader.result c.read_survey.new.reader c.in_ok-survey.ensures.read))
+    (all_stationed 1 (told_by g.B.Source.state c.args.books.now) c.in_ok-survey.survey.observations c.read_summed_survey.new.reader.reviews.items c.new-reader.result.names c.read_summed_survey.new.reader.names c.new-reader.result.sums.items c.read_summed_survey.new.reader.sums.items
+    (subst (λ (old : List BookReview). AreAllRead 1 (told_by g.B.Source.state c.args.books.now) [] c.in_ok-survey.survey.observations old c.read_summed_survey.new.reader.reviews.items c.new-reader.result.names c.read_summed_survey.new.reader.names c.new-reader.result.sums.items c.read_summed_survey.new.reader.sums.items)
+    c.new-reader.ensures.reviews (all_read (λ (own : ReviewReader). own.reviews.items) (λ (own : ReviewReader). own.names) (λ (own : ReviewReader). own.sums.items) 1 _ _ _ c.new-reader.result c.read_summed_survey.new.reader c.in_ok-survey.ensures.read))
     c.entry_of_several_books_has_one_station.ensures)

@@ -14,6 +14,6 @@ texts_of_network-requires-clause-stations g c =
 
 pub returns-in_err-network : goal.returns-in_err-network
 returns-in_err-network g c =
-    let is : c.from_residual.result ≡ Err c.in_err-network.field-0.0 = search rules in
+    let is : c.from_residual-in_err-network.result ≡ Err c.in_err-network.field-0.0 = search rules in
     let same = ap (λ (rows : TableRows). surveyed c.survey.inside.observations.items rows.benchmarks rows.weights) c.tables.view_is in
     rw is (subst (λ (survey : Survey). IsNetRefusal survey c.in_err-network.field-0.0) (same ∙ c.survey.view_is) c.in_err-network.ensures)

@@ -3,7 +3,7 @@ use Rattle.th_certificate.specs.Reading.{certificate_of}
 use Rattle.th_certificate.specs.Limits.{max_certificate}
 use Rattle.th_run_parts.proofs.Fronts.{certificate_of-take}
 use Rattle.th_run_parts.proofs.Givens.{certificate_fault, meets_fault, meets_front}
-use Rattle.th_run_parts.specs.declared.refusals.Input.TheVariants as input
+use Rattle.th_inputs.specs.declared.inputs.Input.TheVariants as input
 use Rattle.th_run_parts.specs.declared.refusals.Refusal.TheVariants as refusal
 use Rattle.th_runs.proofs.checking.certificate_from.Goals as goal
 

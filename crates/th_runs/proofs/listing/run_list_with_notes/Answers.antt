@@ -1,6 +1,6 @@
 use Rattle.std.proofs.Common.{◌≡◌, ◌∙◌, ◌∷◌, [], ℕ, Err, List, ap, rules, subst}
 use Rattle.th_report.specs.Lists.{list_text}
-use Rattle.th_run_parts.specs.declared.refusals.Input.TheVariants as input
+use Rattle.th_inputs.specs.declared.inputs.Input.TheVariants as input
 use Rattle.th_run_parts.specs.declared.outputs.Output.{Output}
 use Rattle.th_run_parts.specs.declared.outputs.Output.TheVariants as output
 use Rattle.th_run_parts.specs.Reads.{refused}

@@ -7,7 +7,7 @@ use Rattle.th_changes.proofs.rerouting.Rerouted.against.Goals as goal
 
 pub returns : goal.returns
 returns c =
-    let survey : Survey = c.args.self.now.network.now in
+    let survey : Survey = c.args.self.now.case.now.network.now in
     let flows : List ℤ = c.args.self.now.flows.items in
     let own = c.in_ok-flow.ensures in
     let each = c.args.self.now.rerouted.each_flow.each in

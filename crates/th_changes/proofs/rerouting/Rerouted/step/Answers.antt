@@ -13,7 +13,7 @@ invariant_of-self c =
     let plain_flow = to_z-of_z w64 c.in-Some.field-0.flow (fits_signed_from_abs w64 c.in-Some.field-0.flow (omega (arith, c.in-Some.ensures.light))) in
     let plain_lost = to_z-of_z w64 c.in-Some.field-0.lost lost_fits in
     record {
-      rerouted = subst (λ (flow : ℤ). IsRerouted c.args.self.now.network.now c.args.self.now.cost (set c.args.self.now.flows.items c.row-place.result flow) (to_z w64 (of_z w64 c.in-Some.field-0.lost)) c.args.self.now.start c.in-Some.field-0.at c.args.self.now.amount) (sym plain_flow)
-          (subst (λ (lost : ℤ). IsRerouted c.args.self.now.network.now c.args.self.now.cost (set c.args.self.now.flows.items c.row-place.result c.in-Some.field-0.flow) lost c.args.self.now.start c.in-Some.field-0.at c.args.self.now.amount) (sym plain_lost)
-          (stepped c.args.self.now.network.now c.args.self.now.cost c.args.self.now.flows.items c.args.self.now.lost c.args.self.now.start c.args.self.now.at c.args.self.now.amount c.row-place.result c.in-Some.field-0.flow c.in-Some.field-0.lost c.in-Some.field-0.at c.args.self.now.rerouted c.in-Some.ensures));
+      rerouted = subst (λ (flow : ℤ). IsRerouted c.args.self.now.case.now.network.now c.args.self.now.case.now.cost (set c.args.self.now.flows.items c.row-place.result flow) (to_z w64 (of_z w64 c.in-Some.field-0.lost)) c.args.self.now.start c.in-Some.field-0.at c.args.self.now.amount) (sym plain_flow)
+          (subst (λ (lost : ℤ). IsRerouted c.args.self.now.case.now.network.now c.args.self.now.case.now.cost (set c.args.self.now.flows.items c.row-place.result c.in-Some.field-0.flow) lost c.args.self.now.start c.in-Some.field-0.at c.args.self.now.amount) (sym plain_lost)
+          (stepped c.args.self.now.case.now.network.now c.args.self.now.case.now.cost c.args.self.now.flows.items c.args.self.now.lost c.args.self.now.start c.args.self.now.at c.args.self.now.amount c.row-place.result c.in-Some.field-0.flow c.in-Some.field-0.lost c.in-Some.field-0.at c.args.self.now.rerouted c.in-Some.ensures));
     }

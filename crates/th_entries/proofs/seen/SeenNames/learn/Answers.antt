@@ -3,6 +3,7 @@ use Rattle.std.specs.Option.{option_copied}
 use Rattle.std.specs.Prelude.{bytes_eq}
 use Rattle.std.proofs.lemmas.Map.Text.{is_eq-slice_cmp}
 use Rattle.th_entries.specs.declared.seen.Spelled.TheVariants.{Alike}
+use Rattle.th_entries.specs.Spellings.{without_zeros}
 use Rattle.th_entries.proofs.SeenLemmas.{first-seen, seen-alike, seen-differing, seen-otherwise}
 use Rattle.th_entries.proofs.seen.SeenNames.learn.Goals as goal
 
@@ -25,11 +26,11 @@ pub returns-in_ok-insert-in-Some-Alike-clause-known : goal.returns-in_ok-insert-
 returns-in_ok-insert-in-Some-Alike-clause-known c = λ before own.
     let updates = c.in_ok-insert-in-Some-Alike.ensures.updates in
     let known = sym c.get.ensures.value ∙ ap option_copied c.in-Some-Alike.is ∙ ap Some c.in-Some-Alike.field-0-is in
-    let differ = ap (λ own. bytes_eq own c.args.word.now.body.now) (sym c.as_slice.ensures.value) ∙ ap (bytes_eq c.as_slice.result.now) (sym c.body.ensures) ∙ turned _ false (sym c.ne.ensures ∙ c.if-ne.true) in
+    let differ = ap (λ own. bytes_eq own (without_zeros c.args.word.now.body.now)) (sym c.as_slice.ensures.value) ∙ ap (bytes_eq c.as_slice.result.now) (sym (c.without_zeros.ensures.value ∙ ap without_zeros c.body.ensures)) ∙ turned _ false (sym c.ne.ensures ∙ c.if-ne.true) in
     seen-differing before _ c.args.self.now _ c.in-Some-Alike.data.items own known differ c.in_ok-push-in-Some-Alike.ensures (λ name other. updates.2 name (is_eq-slice_cmp _ name ∙ other)) updates.1
 
 pub returns-else-ne-clause-known : goal.returns-else-ne-clause-known
 returns-else-ne-clause-known c = λ before own.
     let known = sym c.get.ensures.value ∙ ap option_copied c.in-Some-Alike.is ∙ ap Some c.in-Some-Alike.field-0-is in
-    let same = ap (λ own. bytes_eq own c.args.word.now.body.now) (sym c.as_slice.ensures.value) ∙ ap (bytes_eq c.as_slice.result.now) (sym c.body.ensures) ∙ turned _ true (sym c.ne.ensures ∙ c.if-ne.false) in
+    let same = ap (λ own. bytes_eq own (without_zeros c.args.word.now.body.now)) (sym c.as_slice.ensures.value) ∙ ap (bytes_eq c.as_slice.result.now) (sym (c.without_zeros.ensures.value ∙ ap without_zeros c.body.ensures)) ∙ turned _ true (sym c.ne.ensures ∙ c.if-ne.false) in
     seen-alike before _ c.args.self.now c.in-Some-Alike.data.items own known same

@@ -1,7 +1,7 @@
 use Rattle.std.proofs.Common.{◌≡◌, ◌+◌, ◌*◌, ◌≤◌, take}
 use Rattle.std.specs.Io.KnownBytes.{Appends}
 use Rattle.std.specs.List.{flat_map}
-use Rattle.th_messages.specs.Shown.{shown_byte}
+use Rattle.th_inputs.specs.Shown.{shown_byte}
 use Rattle.th_messages.proofs.lines.Line.put_shown.Given as goal
 
 abbrev pub invariant-loop-byte : goal.invariant-loop-byte

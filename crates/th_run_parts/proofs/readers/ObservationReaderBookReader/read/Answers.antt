@@ -3,7 +3,7 @@ use Rattle.th_book.specs.Books.{book_answer}
 use Rattle.th_book.specs.Limits.{max_book}
 use Rattle.th_run_parts.proofs.Fronts.{book_answer-take}
 use Rattle.th_run_parts.proofs.Givens.{book_fault, meets_fault, meets_front}
-use Rattle.th_run_parts.specs.declared.refusals.Input.TheVariants as input
+use Rattle.th_inputs.specs.declared.inputs.Input.TheVariants as input
 use Rattle.th_run_parts.specs.declared.refusals.Refusal.TheVariants as refusal
 use Rattle.th_run_parts.proofs.readers.ObservationReaderBookReader.read.Goals as goal
 

@@ -1,6 +1,0 @@
-use Rattle.std.proofs.Common.{◌≡◌, sum_by, take}
-use Rattle.th_changes.specs.Rerouted.{priced}
-use Rattle.th_changes.proofs.rerouting.Rerouted.cost_at.Given as goal
-
-abbrev pub invariant-loop-i : goal.invariant-loop-i
-invariant-loop-i l = l.total ≡ sum_by (priced l.self.network.now l.number l.change l.heights) (take l.i l.self.network.now.observations)

@@ -1,6 +1,0 @@
-use Rattle.std.proofs.Common.{◌≡◌, ◌≤◌, drop, take}
-use Rattle.th_commands.specs.Prefixes.{last_part}
-use Rattle.th_commands.proofs.prefixes.last_part.Given as goal
-
-abbrev pub invariant-loop-index : goal.invariant-loop-index
-invariant-loop-index l = (l.start ≤ l.index) × (drop l.start (take l.index l.fn.name) ≡ last_part (take l.index l.fn.name))

@@ -1,0 +1,7 @@
+use Rattle.std.proofs.Common.{take}
+use Rattle.std.specs.List.{AllZip, enumerate_from}
+use Rattle.th_explain_rows.specs.Rows.{IsRowOrBehind}
+use Rattle.th_explain_rows.proofs.rows.rows_ahead.Given as goal
+
+abbrev pub invariant-loop-k : goal.invariant-loop-k
+invariant-loop-k l = AllZip (IsRowOrBehind l.misfit.case.now.network.now l.misfit.case.now.cost l.misfit.limit l.cutoff) (take l.k (enumerate_from 0 l.candidates)) l.rows.items
