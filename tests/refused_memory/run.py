@@ -107,9 +107,10 @@ LIMIT = 2_000_000
 
 def page_of(book: str) -> bytes:
     """The page of a book, as the second office writes it."""
-    inputs = office.Inputs([INPUTS[book]], INPUTS["marks.csv"], INPUTS["weights.csv"])
+    names = [book.encode(), b"marks.csv", b"weights.csv"]
+    inputs = office.Inputs([INPUTS[book]], INPUTS["marks.csv"], INPUTS["weights.csv"], names)
     explained = office.explain(inputs, LIMIT, csv_text)[0]
-    return office.page(office.review(inputs, LIMIT), explained, [book.encode()]).files[".html"]
+    return office.page(office.review(inputs, LIMIT), explained, names[:1]).files[".html"]
 
 
 class Answer(NamedTuple):
