@@ -21,7 +21,7 @@ _height_office() {
         book) options='--heights --help' ;;
         adjust | review | page) options='--benchmarks --weights --blunder --out --help' ;;
         explain) options='--benchmarks --weights --blunder --csv --help' ;;
-        check) options='--benchmarks --weights --certificate --help' ;;
+        check) options='--benchmarks --weights --certificate --inputs --help' ;;
         help) options='list adjust review explain page check book' ;;
     esac
     if [[ $word == -* || ${COMP_WORDS[1]} == help ]]; then

@@ -21,3 +21,4 @@ complete -c height_office -l out -r -F -n $in_network -d 'The beginning of the n
 complete -c height_office -l heights -n '__fish_seen_subcommand_from book' -d 'Read a book with heights'
 complete -c height_office -l csv -n '__fish_seen_subcommand_from explain' -d 'Print a table'
 complete -c height_office -l certificate -r -F -n '__fish_seen_subcommand_from check' -d 'The certificate'
+complete -c height_office -l inputs -n '__fish_seen_subcommand_from check' -d 'List what was read behind yes'

@@ -8,7 +8,7 @@ same, and so have the five files of the review, the page, the heights file, the 
 certificate but the flows, byte by byte. For the page the books have names that would do harm if they were markup. Which of several
 best flows is written is open: the program's have to keep their weights, balance and be slack with the heights, and have the cost. Both
 forms of what `explain` prints have to be the second office's, byte by byte. Then the program checks its own certificate, and changed
-ones, with the second office's verdict, line and status. Prints the seed, how many came out which way, and every difference, with the
+ones, with the second office's verdict, line and status; every second project lists the inputs behind `yes`. Prints the seed, how many came out which way, and every difference, with the
 project saved in a folder that it names. Status 0 only without a difference; 2 where the comparison could not be made.
 """
 
@@ -92,10 +92,11 @@ def compare_page(program: Path, project: Project, files: Files, second: office.A
     return outcome_of("page", second), differences
 
 
-def compare_check(program: Path, project: Project, files: Files, title: str, certificate: bytes) -> Tuple[str, List[str]]:
-    (files.folder / f"{title}.csv").write_bytes(certificate)
-    own = run(program, files.folder, ["check", "--certificate", f"{title}.csv"] + files.words)
-    second = office.check(project.inputs, certificate)
+def compare_check(program: Path, project: Project, files: Files, title: str, certificate: bytes, is_listed: bool) -> Tuple[str, List[str]]:
+    name = f"{title}.csv"
+    (files.folder / name).write_bytes(certificate)
+    own = run(program, files.folder, ["check", "--certificate", name, *(["--inputs"] if is_listed else [])] + files.words)
+    second = office.check(project.inputs, certificate, name.encode() if is_listed else None)
     differences = differ(f"check of {title}", own, (second.status, second.standard_output, second.standard_error))
     return outcome_of("check", second), differences
 
@@ -120,7 +121,7 @@ def compare_project(program: Path, folder: Path, seed: int, number: int) -> Comp
     certificate = written(folder).get(".certificate.csv", b"kind,key,value\nV,2,0\nZ,cost,0\n")
     changed = [changed_certificate(rng, certificate) for _ in range(CHANGED_CERTIFICATES)]
     for title, text in [("certificate", certificate)] + [(f"changed_{k}", text) for k, text in enumerate(changed, start=1)]:
-        outcome, found = compare_check(program, project, files, title, text)
+        outcome, found = compare_check(program, project, files, title, text, number % 2 == 1)
         outcomes.append(outcome)
         differences += found
     return Comparison(outcomes, differences, folder)

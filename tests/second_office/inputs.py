@@ -1,4 +1,4 @@
-"""The inputs of a review and of a page: section 7 of docs/FORMATS.md."""
+"""The inputs of a review, of a page and of a check: section 7 of docs/FORMATS.md."""
 
 from hashlib import sha256
 from typing import List, NamedTuple, Optional

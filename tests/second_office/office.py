@@ -3,7 +3,7 @@
 
     office.py adjust --benchmarks F [--weights F] [--blunder MICROMETRES] --out PREFIX BOOK...
     office.py review --benchmarks F [--weights F] [--blunder MICROMETRES] --out PREFIX BOOK...
-    office.py check --benchmarks F [--weights F] --certificate F BOOK...
+    office.py check --benchmarks F [--weights F] --certificate F [--inputs] BOOK...
     office.py explain --benchmarks F [--weights F] [--blunder MICROMETRES] [--csv] BOOK...
     office.py page --benchmarks F [--weights F] [--blunder MICROMETRES] --out PREFIX BOOK...
 
@@ -20,7 +20,7 @@ from typing import Dict, List, NamedTuple, Optional
 
 from certificates import CertificateFault, certificate_text, read_certificate, verdict_line
 from explain import Explanation, csv_text, explanation_of, people_text
-from inputs import Input, inputs_of
+from inputs import Input, input_line, inputs_of
 from network import Heights, Network, NetworkFault, Sight, best_flows, cost_of, highest_heights, lowest_heights, make_network
 from page import page_text
 from pages import page_of
@@ -166,13 +166,17 @@ def review(inputs: Inputs, limit: int) -> Answer:
     return Answer(0, b"", b"", reviews.files_of(found), found)
 
 
-def check(inputs: Inputs, certificate: bytes) -> Answer:
+def check(inputs: Inputs, certificate: bytes, listed_as: Optional[bytes] = None) -> Answer:
+    """The verdict, and behind `yes` the lines of the inputs if the name of the certificate is given."""
     try:
         network, stated = read_inputs(inputs, certificate)
     except Refused as fault:
         return refused(fault)
     line = verdict_line(network, stated)
-    return Answer(0 if line == b"yes\n" else 1, line, b"", {})
+    if line != b"yes\n":
+        return Answer(1, line, b"", {})
+    listed = [] if listed_as is None else inputs.named() + [Input("certificate", listed_as, certificate)]
+    return Answer(0, line + b"".join(input_line(own).encode() + b"\n" for own in listed), b"", {})
 
 
 def explain(inputs: Inputs, limit: int, *texts) -> List[Answer]:
@@ -210,6 +214,7 @@ def arguments(words: Optional[List[str]] = None) -> argparse.Namespace:
         commands.choices[name].add_argument("--out", required=True)
     commands.choices["explain"].add_argument("--csv", action="store_const", const=csv_text, default=people_text)
     commands.choices["check"].add_argument("--certificate", type=Path, required=True)
+    commands.choices["check"].add_argument("--inputs", action="store_true")
     return parser.parse_args(words)
 
 
@@ -219,7 +224,7 @@ def run(chosen: argparse.Namespace) -> Answer:
     names = [os.fsencode(path) for path in chosen.books + [chosen.benchmarks] + ([chosen.weights] if chosen.weights else [])]
     inputs = Inputs(books, chosen.benchmarks.read_bytes(), weights, names)
     if chosen.command == "check":
-        return check(inputs, chosen.certificate.read_bytes())
+        return check(inputs, chosen.certificate.read_bytes(), os.fsencode(chosen.certificate) if chosen.inputs else None)
     limit = UNITS_IN_MICROMETRE * chosen.blunder
     if chosen.command == "explain":
         return explain(inputs, limit, chosen.csv)[0]

@@ -185,6 +185,24 @@ class NamedInputs(Case):
         self.assertIn('<ul class="inputs">\n' + "".join(items) + "</ul>\n", (self.folder / "own.html").read_text())
 
 
+class ListedInputs(Case):
+    """`check --inputs` prints behind `yes` the lines that a review has of its inputs, and that of the certificate. Behind `no` it prints none."""
+
+    def runTest(self) -> None:
+        (self.folder / "client").mkdir()
+        self.write({"client/no\x07n.gsi": (self.folder / "cellar.gsi").read_text(), "empty.gsi": ""})
+        names = {"book 1": "empty.gsi", "book 2": "client/no\x07n.gsi", "benchmarks": "marks.csv", "certificate": "cellar.certificate.csv"}
+        words = f"{MARKS} --certificate {names['certificate']} {names['book 1']} {names['book 2']}"
+        texts = {label: (self.folder / name).read_bytes() for label, name in names.items()}
+        lines = [f"{label:<10}{len(text):>10}  {sha256(text).hexdigest()}  {names[label].rsplit('/', 1)[-1]}".replace("\x07", "\\x07")
+                 for label, text in texts.items()]
+        self.check(f"check --inputs {words}", 0, printed="\n".join(["yes", *lines]))
+        self.check(f"check {words}", 0, printed="yes")
+        self.check(f"check --inputs {words.replace('cellar.cert', 'wrong.cert')}", 1, printed="no: wrong cost")
+        self.check(f"review {MARKS} --out own {names['book 1']} {names['book 2']}", 0)
+        self.assertIn("\n".join(lines[:3]) + "\n", (self.folder / "own.review.txt").read_text())
+
+
 def rows() -> Iterator[Row]:
     yield from DONE
     yield from (Row(5, f"read failed: {what}", words) for what, words in READ_FAILED)
@@ -197,4 +215,4 @@ def rows() -> Iterator[Row]:
 
 
 def cases() -> Iterator[Case]:
-    return itertools.chain(map(RowCase, rows()), [NotesOfReview(), NotesOfNames(), NamedInputs()])
+    return itertools.chain(map(RowCase, rows()), [NotesOfReview(), NotesOfNames(), NamedInputs(), ListedInputs()])

@@ -4,7 +4,7 @@ use std::test::Fail;
 use th_commands::{Inputs, Limit, Plan, plan};
 
 /// Command lines, and the plans that they name.
-const PLANS: [(&str, &str); 44] = [
+const PLANS: [(&str, &str); 46] = [
     ("height_office", "standard"),
     ("height_office list k.gsi", "list k.gsi"),
     ("height_office list -", "list -"),
@@ -132,6 +132,14 @@ const PLANS: [(&str, &str); 44] = [
         "check a -b by m w certificate c",
     ),
     (
+        "height_office check --inputs --benchmarks m --certificate c a b",
+        "check a b by m certificate c with inputs",
+    ),
+    (
+        "height_office check a --certificate c b --benchmarks=m --inputs",
+        "check a b by m certificate c with inputs",
+    ),
+    (
         "height_office adjust 1 2 3 4 5 6 7 8 9 10 11 12 13 14 15 16 --benchmarks m --out p",
         "adjust 1 2 3 4 5 6 7 8 9 10 11 12 13 14 15 16 by m limit 2000000 out p",
     ),
@@ -196,7 +204,13 @@ const EXPLAINED: [&str; 5] = [
     "a b",
 ];
 
-const CHECKED: [&str; 4] = ["--benchmarks m", "--weights w", "--certificate c", "a b"];
+const CHECKED: [&str; 5] = [
+    "--benchmarks m",
+    "--weights w",
+    "--certificate c",
+    "--inputs",
+    "a b",
+];
 
 #[test]
 fn options_stand_in_every_order(rt: HostRuntime) {
@@ -213,10 +227,12 @@ fn options_stand_in_every_order(rt: HostRuntime) {
             words.as_str(),
             "explain a b by m w limit 50000 as table",
         );
-    }
-    for order in 0..24_usize {
         let words = in_order(&rt, "height_office check", &CHECKED, order);
-        is_planned(&rt, words.as_str(), "check a b by m w certificate c");
+        is_planned(
+            &rt,
+            words.as_str(),
+            "check a b by m w certificate c with inputs",
+        );
     }
 }
 
@@ -275,9 +291,13 @@ fn text_of(rt: &(impl AllocGlobal + Abort), plan: &Plan<'_>) -> String {
         Plan::Check {
             inputs,
             certificate,
+            with_inputs,
         } => {
             let files = files_text(rt, inputs);
-            format!(in rt.alloc(); "check {files} certificate {certificate}").expect(rt, "memory")
+            let listed = if *with_inputs { " with inputs" } else { "" };
+            format!(in rt.alloc(); "check {files} certificate {certificate}{listed}").expect(
+                rt, "memory",
+            )
         }
         Plan::Book { table } => format!(in rt.alloc(); "book {table}").expect(rt, "memory"),
         Plan::BookOfHeights { book } => {

@@ -31,6 +31,7 @@ fn is_accepted<R: AllocGlobal + Abort>(rt: &R, certificate: &[u8]) -> bool {
         &mut benchmarks,
         &mut weights,
         &mut stated,
+        None,
         &mut outs,
     );
     verdict == Ok(Verdict::Yes)

@@ -13,6 +13,10 @@ use th_runs::{Refusal, run_check};
 const CERTIFICATE: &[u8] =
     b"kind,key,value\nV,1,4\nH,A,100.00000000\nH,B,101.00000000\nH,C,102.00000000\nF,1,0\nF,2,0\nF,3,1\nF,4,1\nZ,cost,50000000\n";
 
+/// What a check of the loop in two books prints that lists its inputs; the digests are those of `sha256sum`.
+const LISTED: &[u8] =
+    b"yes\nbook 1           196  7b6c13d3ec62d01adce5ebf09c59ed10ee7553753db07dc0ec9292003fa2d1f4  monday.gsi\nbook 2           196  7d99eb5103ca8ccf48dedd784ea758760dc185a5d04984846077800877cc7c23  tuesday.gsi\nbenchmarks        19  c15a70569a2e2d0025454e42e8ef947dc907df9de97213f74d4ed8795fbdba58  marks.csv\ncertificate       112  3a407677cf0b7120def41e7c7d1743a7a35a99e5a850644924b691792060b513  loop.csv\n";
+
 /// Certificates that are accepted beside it: with the flows the other way round, with zeros in front,
 /// with its rows of heights in another order, and of the other version.
 const ACCEPTED: [&[u8]; 5] = [
@@ -134,8 +138,46 @@ fn two_books_are_one_survey(rt: HostRuntime) {
         &mut benchmarks,
         &mut weights,
         &mut certificate,
+        None,
         &mut outs,
     );
     assert_eq!(rt; verdict, Ok(Verdict::Yes));
     assert!(rt; outs[0].bytes() == b"yes\n".as_slice());
+}
+
+#[test]
+fn inputs_are_listed_behind_yes(rt: HostRuntime) {
+    let names = ["client/monday.gsi", "tuesday.gsi", "marks.csv", "loop.csv"];
+    let (answer, printed) = check_with_inputs(&rt, CERTIFICATE, &names);
+    assert_eq!(rt; answer, Ok(Verdict::Yes));
+    assert_eq!(rt; printed.as_slice(), LISTED);
+    let (wrong, line, reason) = REFUSED[1];
+    let (answer, printed) = check_with_inputs(&rt, wrong, &names);
+    assert_eq!(rt; answer, Ok(Verdict::No(reason)));
+    assert_eq!(rt; printed.as_slice(), line);
+}
+
+/// Checks a certificate of the loop in two books, and lists the inputs of these names behind a `yes`: the answer, and
+/// what is printed.
+fn check_with_inputs<R: AllocGlobal + Abort>(
+    rt: &R,
+    certificate: &[u8],
+    names: &[&str],
+) -> (Result<Verdict, Refusal>, Vec<u8>) {
+    let mut books = [source(LOOP_BEGINNING), source(LOOP_END)];
+    let mut benchmarks = source(A_AT_100);
+    let mut weights: Option<TextSource> = None;
+    let mut certificate = source(certificate);
+    let mut outs = [sink(rt, None)];
+    let answer = run_check(
+        rt.alloc(),
+        &mut books,
+        &mut benchmarks,
+        &mut weights,
+        &mut certificate,
+        Some(names),
+        &mut outs,
+    );
+    let printed = Vec::from_slice(rt.alloc(), outs[0].bytes()).expect(rt, "memory");
+    (answer, printed)
 }

@@ -137,6 +137,7 @@ fn check_failing<R: AllocGlobal + Abort>(
         &mut benchmarks,
         &mut weights,
         &mut certificate,
+        None,
         outs,
     )
 }

@@ -211,6 +211,7 @@ fn refuse<R: AllocGlobal + Abort>(rt: &R, failing: &Failing) {
         &mut benchmarks,
         &mut weights,
         &mut certificate,
+        None,
         &mut outs,
     );
     let refusal = failing.refusal;

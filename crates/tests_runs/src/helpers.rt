@@ -155,6 +155,7 @@ pub fn check<R: AllocGlobal + Abort>(
         &mut table,
         &mut factors,
         &mut stated,
+        None,
         &mut outs,
     );
     assert!(rt; outs[0].bytes() == line);

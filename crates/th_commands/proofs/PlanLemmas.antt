@@ -80,7 +80,8 @@ is_plan words own found more taken met e = go own (said_is_asked (said_by own) (
     go (plan.Review inputs limit prefix) h = (more, taken, ap asked_by (sym met) ∙ h.0)
     go (plan.Explain inputs limit table) h = (more, taken, ap asked_by (sym met) ∙ h.0)
     go (plan.Page inputs limit prefix) h = (more, taken, ap asked_by (sym met) ∙ h.0)
-    go (plan.Check inputs certificate) h = (more, taken, ap asked_by (sym met) ∙ h.0)
+    go (plan.Check inputs certificate true) h = (more, taken, ap asked_by (sym met) ∙ h.0)
+    go (plan.Check inputs certificate false) h = (more, taken, ap asked_by (sym met) ∙ h.0)
     go (plan.Book table) h = (more, taken, ap asked_by (sym met) ∙ h.0)
     go (plan.BookOfHeights book) h = (more, taken, ap asked_by (sym met) ∙ h.0)
 

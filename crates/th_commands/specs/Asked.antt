@@ -14,8 +14,8 @@ pub record Files : Type 0 where
   pub weights : Option Text
 
 -- what a command line requests: to list a book; to adjust, to review or to make a page, with a limit of blunders
--- in units of 10 nm and the prefix of the outputs; to explain, with a limit and whether a table is printed; to check a certificate;
--- or to make a book of a table of differences, or of a book with heights
+-- in units of 10 nm and the prefix of the outputs; to explain, with a limit and whether a table is printed; to check a certificate,
+-- and maybe to list what was read; or to make a book of a table of differences, or of a book with heights
 pub data Asked : Type 0 where
   list : Text → Asked
   adjust : Files → ℤ → Text → Asked
@@ -23,6 +23,7 @@ pub data Asked : Type 0 where
   explain : Files → ℤ → Bool → Asked
   page : Files → ℤ → Text → Asked
   check : Files → Text → Asked
+  check_with_inputs : Files → Text → Asked
   book : Text → Asked
   book_of_heights : Text → Asked
 
@@ -66,9 +67,12 @@ options_in rows =
 abbrev pub flag_in : Text → List Row → Bool
 flag_in name rows = option_map_or (λ text. bytes_eq text (codes "true")) (first_of name rows) false
 
--- the flag for a table, and that for a book with heights
+-- the flag for a table, that for a list of the inputs, and that for a book with heights
 abbrev pub table_in : List Row → Bool
 table_in rows = flag_in (codes "csv") rows
+
+abbrev pub inputs_in : List Row → Bool
+inputs_in rows = flag_in (codes "inputs") rows
 
 abbrev pub heights_in : List Row → Bool
 heights_in rows = flag_in (codes "heights") rows
@@ -98,7 +102,8 @@ abbrev pub page_asked : List Row → Option Asked
 page_asked rows = option_map (λ own. page own.0 own.1 own.2) (options_in rows)
 
 abbrev pub check_asked : List Row → Option Asked
-check_asked rows = option_and_then (λ files. option_map (check files) (first_of (codes "certificate") rows)) (files_in rows)
+check_asked rows =
+    option_and_then (λ files. option_map (if inputs_in rows then check_with_inputs files else check files) (first_of (codes "certificate") rows)) (files_in rows)
 
 abbrev pub book_asked : List Row → Option Asked
 book_asked rows = option_map (λ file. if heights_in rows then book_of_heights file else book file) (first_of (codes "table") rows)

@@ -76,11 +76,11 @@ explain_command =
     with_rule (with_rule (with_rule (with_rule (with_rule (new_app (codes "explain")) (needed_rule (codes "benchmarks")))
     (option_rule (codes "weights"))) blunder_rule) (flag_rule (codes "csv"))) books_rule
 
--- `check --benchmarks FILE [--weights FILE] --certificate FILE BOOK...`
+-- `check --benchmarks FILE [--weights FILE] --certificate FILE [--inputs] BOOK...`
 abbrev pub check_command : App
 check_command =
-    with_rule (with_rule (with_rule (with_rule (new_app (codes "check")) (needed_rule (codes "benchmarks")))
-    (option_rule (codes "weights"))) (needed_rule (codes "certificate"))) books_rule
+    with_rule (with_rule (with_rule (with_rule (with_rule (new_app (codes "check")) (needed_rule (codes "benchmarks")))
+    (option_rule (codes "weights"))) (needed_rule (codes "certificate"))) (flag_rule (codes "inputs"))) books_rule
 
 -- `book TABLE`, and `book --heights BOOK`
 abbrev pub book_command : App

@@ -163,6 +163,7 @@ fn check_of<'a>(found: &ArgMatches<'a>) -> Option<Plan<'a>>
     Some(Plan::Check {
         inputs: inputs_of(found)?,
         certificate: value_of(found, "certificate")?,
+        with_inputs: flag_of(found, "inputs"),
     })
 }
 

@@ -122,7 +122,9 @@ Exit status: 0 the page was written, 2 an input was refused, 3 a bad command lin
 4 out of memory, 5 a file could not be read or written";
 
 /// What the help of `check` ends with.
-const AFTER_CHECK: &str = "It prints 'yes', or 'no' with the first reason.
+const AFTER_CHECK: &str =
+    "It prints 'yes', or 'no' with the first reason. With '--inputs' it prints after 'yes' a line for each file
+that it read: its length, SHA-256 and name, as a review has them, and the certificate last.
 
 Example:
   height_office check --benchmarks marks.csv --certificate dam.certificate.csv monday.gsi tuesday.gsi
@@ -247,6 +249,7 @@ fn check_command<'a>(alloc: Global) -> Result<Command<'a>, AllocError>
         .arg(benchmarks(alloc))?
         .arg(weights(alloc))?
         .arg(certificate(alloc))?
+        .arg(inputs(alloc))?
         .arg(books(alloc))
 }
 
@@ -338,6 +341,16 @@ fn csv<'a>(alloc: Global) -> Arg<'a>
         .long("csv")
         .action(ArgAction::SetTrue)
         .help("Print a table of comma-separated values in place of the text")
+}
+
+/// `--inputs`.
+fn inputs<'a>(alloc: Global) -> Arg<'a>
+    ensures { IsArgument (flag_rule (codes "inputs")) result }
+{
+    Arg::new(alloc, "inputs")
+        .long("inputs")
+        .action(ArgAction::SetTrue)
+        .help("Print after 'yes' the length, SHA-256 and name of each file that was read")
 }
 
 /// `--heights`.

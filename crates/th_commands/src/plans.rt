@@ -52,10 +52,12 @@ pub enum Plan<'a> {
         limit: Limit,
         prefix: &'a str,
     },
-    /// `check`: check the certificate in the file of this name against the inputs.
+    /// `check`: check the certificate in the file of this name against the inputs, and after a `yes` list
+    /// all that was read, if that is wanted.
     Check {
         inputs: Inputs<'a>,
         certificate: &'a str,
+        with_inputs: bool,
     },
     /// `book TABLE`: make a book of the table of differences in the file of this name.
     Book {

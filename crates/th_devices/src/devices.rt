@@ -69,8 +69,8 @@ pub trait Sink {
     // What contracts see of it.
     ghost state: { Self → SinkState };
 
-    /// Empties the output. If the call fails, nothing is known of the bytes. Either way the output
-    /// is not finished afterwards.
+    /// Empties the output. If the call fails, the bytes stay as they are. Either way the output is not
+    /// finished afterwards.
     fn begin(&mut self) -> Result<(), Failed>
         requires { (state self.old).counts.calls < call_limit }
         ensures { IsBegun (state self.old) (state self.new) result };

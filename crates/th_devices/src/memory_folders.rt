@@ -90,7 +90,7 @@ pub struct MemoryFolder {
 }
 
 impl Model for MemoryFolder {
-    ghost use Rattle.std.specs.Prelude.{◌≤◌, ◌≡◌, false};
+    ghost use Rattle.std.specs.Prelude.{◌≤◌, ◌≡◌, [], false};
     ghost use Rattle.th_devices.specs.MemoryFolders.{MemoryFolderState, files_in};
 
     ghost Value = { MemoryFolderState };
@@ -102,8 +102,8 @@ impl Model for MemoryFolder {
       errors = folder.errors;
     } };
 
-    ghost invariant = { λ folder. (1 ≤ folder.piece) × (folder.spare.counts.calls ≡ 0)
-        × (folder.spare.finished ≡ false) };
+    ghost invariant = { λ folder. (1 ≤ folder.piece) × (folder.spare.held ≡ [])
+        × (folder.spare.counts.calls ≡ 0) × (folder.spare.finished ≡ false) };
 }
 
 impl MemoryFolder {

@@ -1,18 +1,20 @@
 -- The sinks that a folder gives for the outputs of a run and takes back, and what the run leaves at their spots.
 use Rattle.std.proofs.Common.{◌≡◌, ◌≢◌, ◌<◌, ◌+◌, ◌++◌, ◌&&◌, ◌∙◌, ℕ, Bool, true, false, List, [], ◌∷◌, None, Some, Ok, Err, IfSome, ap, ap₂, bytes_eq, drop, get_or, inl, inr, length, map, not, refl, subst, sym, take, arith}
-use Rattle.std.specs.Prelude.{IsSomeAnd, Option, Result}
+use Rattle.std.specs.Prelude.{Option, Result}
 use Rattle.std.specs.List.{AllByRecursion, Contains, All}
 use Rattle.std.proofs.lemmas.List.{append_cancel_left, get_or-map, length-map, map-append, take_at, take_more}
 use Rattle.std.proofs.lemmas.List.Elements.{All-from_recursion, Contains-append_right, Contains-get_or}
 use Rattle.std.proofs.lemmas.Slice.Eq.{bytes_eq-Decides}
 use Rattle.std.proofs.lemmas.Slice.Zip.{AllZip-long}
+use Rattle.std.proofs.Math.Nat.{eq-or-lt_of_le}
+use Rattle.std.specs.Io.KnownBytes.{Keeps}
 use Rattle.th_devices.specs.Devices.{IsMade, IsReady, SinkState}
 use Rattle.th_devices.specs.Spots.{Spot, errors, file, is_file, output}
-use Rattle.th_devices.specs.Transfer.{HasTaken}
+use Rattle.th_devices.specs.Transfer.{HasTaken, IsBroken}
 use Rattle.th_devices.specs.Folders.{IsClosed, IsWholeFile}
 use Rattle.th_files.proofs.OpenedLemmas.{zip_more}
 use Rattle.th_files.specs.Opened.{AreApart, AreMade, IsTaken, IsUntouched}
-use Rattle.th_files.specs.Outputs.{IsLeft, spot_at, spots_of}
+use Rattle.th_files.specs.Outputs.{HoldsPart, IsLeft, spot_at, spots_of}
 use Rattle.th_files.specs.Owed.{Told}
 use Rattle.th_run_parts.specs.Outcomes.{Outcome}
 use Rattle.th_run_parts.specs.Outputs.{ending_of}
@@ -66,12 +68,14 @@ pub taken_next : {F K : Type 0} (state_of : K → SinkState) (tells : Bool) (hel
 taken_next state_of tells held has_failed sinks sink later old mid new are apart closed taken others =
     subst (AllByRecursion (λ own. IsTaken (held old) (held new) (state_of own))) (sym are) (
       record {
+        called = λ stream some. kept ∙ closed.called stream some;
         finished = λ stream done. kept ∙ closed.finished stream done;
         file = λ is. kept ∙ ap (λ folder. held folder (state_of sink).spot) (closed.file is);
       },
       each_both (λ own. IsTaken (held mid) (held new) (state_of own)) (λ own. (state_of own).spot ≢ (state_of sink).spot)
           (λ own. IsTaken (held old) (held new) (state_of own)) later
           (λ own is differs. record {
+            called = is.called;
             finished = is.finished;
             file = λ is_named. is.file is_named ∙ closed.others (state_of own).spot differs;
           })
@@ -223,16 +227,16 @@ not_among (one ∷ spots) spot none =
     (λ same. none (0, omega arith, sym same), not_among spots spot (λ has. none (Contains-append_right (one ∷ []) spots spot has)))
 
 -- what is known where something is told
-pub where_told : {A : Type 0} (told : Option A) (P : Type 0) → IsSomeAnd told (λ _. Unit {0}) → IfSome told (λ _. P) → P
-where_told None P is known = absurd is
-where_told (Some x) P is known = known
+pub where_told : {A : Type 0} (told : Option A) (own : A) (P : Type 0) → told ≡ Some own → IfSome told (λ _. P) → P
+where_told None own P is known = absurd (cc is)
+where_told (Some x) own P is known = known
 
 -- the sink of a stream that was written whole and given back
 whole_at : (tells may_fail : Bool) (before after : Told) (text : List ℕ) (spot : Spot) (old new : SinkState) → is_file spot ≡ false → IsMade tells may_fail spot old
     → new.spot ≡ old.spot → IsTaken before after new → HasTaken text old new → tells ≡ true → after spot ≡ Some text
 whole_at tells may_fail before after text spot old new stream made there taken has =
     λ tell. sym (ap after (there ∙ made.there)) ∙ taken.finished (ap is_file (there ∙ made.there) ∙ stream) has.finished
-    ∙ where_told old.held (new.held ≡ Some text) (made.told tell) has.held
+    ∙ where_told old.held [] (new.held ≡ Some text) (made.empty tell) has.held
 
 -- sinks of streams that were written whole and given back
 pub all_whole : {K : Type 0} (state_of : K → SinkState) (tells : Bool) (writing : Spot → Bool) (before after : Told) (texts : Texts) (spots : List Spot) (olds news : List K)
@@ -246,6 +250,34 @@ all_whole state_of tells writing before after (text ∷ texts) (spot ∷ spots) 
 all_whole state_of tells writing before after texts [] (old ∷ olds) news streams made taken written = absurd made
 all_whole state_of tells writing before after texts (spot ∷ spots) [] news streams made taken written = absurd made
 all_whole state_of tells writing before after texts spots olds news streams made taken written = absurd written
+
+-- a sink that began empty and failed to take a text holds a beginning of it
+part_held : (text : List ℕ) (old new : SinkState) → old.held ≡ Some [] → IsBroken text old new → (n : ℕ) × (new.held ≡ Some (take n text))
+part_held text old new empty broken =
+    elim (eq-or-lt_of_le broken.called) [
+      | inl is ↦ (0, kept old.held new.held empty (broken.kept (omega (arith, is))))
+      | inr more ↦ where_told old.held [] ((n : ℕ) × (new.held ≡ Some (take n text))) empty (broken.beginning (omega (arith, more)))
+    ]
+  where
+    kept : (before after : Option (List ℕ)) → before ≡ Some [] → Keeps before after → after ≡ Some []
+    kept None after is keeps = absurd (cc is)
+    kept (Some xs) None is keeps = absurd keeps
+    kept (Some xs) (Some ys) is keeps = ap Some keeps ∙ is
+
+-- standard output after its sink failed to take a text and was given back
+pub part_left : {K : Type 0} (state_of : K → SinkState) (tells : Bool) (writing : Spot → Bool) (before after : Told) (which : Output) (text : Output × List ℕ) (olds news : List K)
+    → AreMade state_of tells writing (output ∷ []) olds → AllByRecursion (λ own. IsTaken before after (state_of own)) news
+    → EachOut (IsAt state_of) (UpTo which) (text ∷ []) olds news → HoldsPart tells after text.1
+part_left state_of tells writing before after which text (old ∷ []) (new ∷ []) made taken (inl (whole, rest)) = absurd rest
+part_left state_of tells writing before after which text (old ∷ []) (new ∷ []) made taken (inr (is, broken, rest)) = λ tell.
+    let there : (state_of new).spot ≡ output = broken.called.spot ∙ made.0.there in
+    let (n, held) = part_held text.1 (state_of old) (state_of new) (made.0.empty tell) broken.stands in
+    (n, sym (ap after there) ∙ taken.0.called (ap is_file there) (omega (arith, broken.stands.called)) ∙ held)
+part_left state_of tells writing before after which text [] news made taken written = absurd made
+part_left state_of tells writing before after which text (old ∷ one ∷ more) news made taken written = absurd made.1
+part_left state_of tells writing before after which text (old ∷ []) [] made taken written = absurd written
+part_left state_of tells writing before after which text (old ∷ []) (new ∷ one ∷ more) made taken (inl (whole, rest)) = absurd rest
+part_left state_of tells writing before after which text (old ∷ []) (new ∷ one ∷ more) made taken (inr (is, broken, rest)) = absurd rest
 
 -- standard error is no file
 pub file-apart : (name : List ℕ) → file name ≢ errors

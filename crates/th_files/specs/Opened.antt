@@ -1,5 +1,5 @@
 -- The sources and sinks that a folder gave for a run.
-use Rattle.std.specs.Prelude.{◌≡◌, ◌≢◌, Bool, true, false, List, [], ◌∷◌, ℕ, Option, Some, None, Result, Ok, Err, slice_get}
+use Rattle.std.specs.Prelude.{◌≡◌, ◌≢◌, ◌<◌, Bool, true, false, List, [], ◌∷◌, ℕ, Option, Some, None, Result, Ok, Err, slice_get}
 use Rattle.std.specs.List.{AllByRecursion, AllZip}
 use Rattle.th_devices.specs.Devices.{IsMade, IsOpened, SinkState, SourceState}
 use Rattle.th_devices.specs.Spots.{Spot, file, is_file}
@@ -34,8 +34,10 @@ AreMade state_of tells may_fail = AllZip (λ spot sink. IsMade tells (may_fail s
 abbrev pub IsUntouched : SinkState → Type 0
 IsUntouched sink = (sink.counts.calls ≡ 0) × (sink.is_finished ≡ false)
 
--- a folder took a sink back, and other sinks with it: a finished sink of a stream left its bytes at its spot, and one of a file what was there before
+-- a folder took a sink back, and other sinks with it: a sink of a stream that was called or finished left its bytes at its spot, and one of a file what was there
+-- before
 pub record IsTaken (before after : Told) (sink : SinkState) : Type 0 where
+  pub called : is_file sink.spot ≡ false → 0 < sink.counts.calls → after sink.spot ≡ sink.held
   pub finished : is_file sink.spot ≡ false → sink.is_finished ≡ true → after sink.spot ≡ sink.held
   pub file : is_file sink.spot ≡ true → after sink.spot ≡ before sink.spot
 

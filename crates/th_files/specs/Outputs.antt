@@ -1,5 +1,5 @@
 -- Where the outputs of a run go, and what a run leaves there.
-use Rattle.std.specs.Prelude.{◌≡◌, ◌++◌, ◌⊎◌, ℕ, Bool, true, List, Option, Some, None, map}
+use Rattle.std.specs.Prelude.{◌≡◌, ◌++◌, ◌⊎◌, ℕ, Bool, true, List, Option, Some, None, map, take}
 use Rattle.th_devices.specs.Spots.{Spot, file, output}
 use Rattle.th_files.specs.Owed.{Told}
 use Rattle.th_run_parts.specs.Outputs.{ending_of}
@@ -10,6 +10,10 @@ use Rattle.th_run_parts.specs.declared.refusals.Refusal.{Refusal}
 -- the spot has this text, if the folder reports its bytes
 abbrev pub Holds : Bool → Told → Spot → List ℕ → Type 0
 Holds tells told spot text = tells ≡ true → told spot ≡ Some text
+
+-- standard output has a beginning of this text, perhaps none of it or all of it, if the folder reports its bytes
+abbrev pub HoldsPart : Bool → Told → List ℕ → Type 0
+HoldsPart tells told text = tells ≡ true → (n : ℕ) × (told output ≡ Some (take n text))
 
 -- the spot of an output with this ending, if it has one
 abbrev pub spot_at : List ℕ → Option (List ℕ) → Spot

@@ -21,6 +21,10 @@ Told = Spot → Option (List ℕ)
 abbrev pub all_names : Files → List (List ℕ)
 all_names from = from.books ++ from.benchmarks ∷ option_to_list from.weights
 
+-- and with the certificate that a check reads last
+abbrev pub claim_names : Files → List ℕ → List (List ℕ)
+claim_names from certificate = all_names from ++ certificate ∷ []
+
 -- what the named files told before a run
 abbrev pub tolds_in : Told → Files → Tolds
 tolds_in told from = record {

@@ -9,6 +9,6 @@ mod outputs;
 // Outputs that would overwrite an input.
 mod overwrites;
 
-pub use opening::{Sources, names_of, sources_of};
+pub use opening::{Sources, names_of, names_of_claim, sources_of};
 pub use outputs::{close_sinks, place_sinks, sinks_of};
 pub use overwrites::{Overwrite, Stop, keep_all};

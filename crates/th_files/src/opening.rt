@@ -3,7 +3,7 @@ ghost use Rattle.std.specs.Prelude.{◌≤◌, ◌≡◌, IfOk, length, map, opt
 ghost use Rattle.th_commands.specs.PlanLimits.{max_books};
 ghost use Rattle.th_commands.specs.Plans.{files};
 ghost use Rattle.th_files.specs.Opened.{AreOpened, EachIsOpened, IsOpenedIfAny};
-ghost use Rattle.th_files.specs.Owed.{all_names};
+ghost use Rattle.th_files.specs.Owed.{all_names, claim_names};
 
 use std::alloc::{AllocError, Global};
 use th_commands::Inputs;
@@ -50,6 +50,20 @@ pub fn names_of<'a>(alloc: Global, inputs: &Inputs<'a>) -> Result<Vec<&'a str>, 
     if let Some(weights) = inputs.weights {
         names.push(weights)?;
     }
+    Ok(names)
+}
+
+/// The same, and the name of the certificate that a check reads last.
+pub fn names_of_claim<'a>(
+    alloc: Global,
+    inputs: &Inputs<'a>,
+    certificate: &'a str,
+) -> Result<Vec<&'a str>, AllocError>
+    ensures { IfOk result (λ names. map (λ name. name.now) names.items
+        ≡ claim_names (files inputs.now) certificate.entry.now) }
+{
+    let mut names = names_of(alloc, inputs)?;
+    names.push(certificate)?;
     Ok(names)
 }
 

@@ -37,8 +37,8 @@ name_of_input (plan.Adjust inputs limit prefix) which = name_in (files inputs) w
 name_of_input (plan.Review inputs limit prefix) which = name_in (files inputs) which
 name_of_input (plan.Explain inputs limit table) which = name_in (files inputs) which
 name_of_input (plan.Page inputs limit prefix) which = name_in (files inputs) which
-name_of_input (plan.Check inputs certificate) source.Certificate = Some certificate.now
-name_of_input (plan.Check inputs certificate) other = name_in (files inputs) other
+name_of_input (plan.Check inputs certificate with_inputs) source.Certificate = Some certificate.now
+name_of_input (plan.Check inputs certificate with_inputs) other = name_in (files inputs) other
 name_of_input (plan.Book table) which = Some table.now
 name_of_input (plan.BookOfHeights book) which = Some book.now
 

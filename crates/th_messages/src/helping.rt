@@ -109,6 +109,7 @@ fn name_of_input<'a>(plan: &Plan<'a>, input: Input) -> Option<FileName<'a>>
         Plan::Check {
             inputs,
             certificate,
+            ..
         } => match input {
             Input::Certificate => Some(given(*certificate)),
             other => name_in(inputs, other),

@@ -11,7 +11,7 @@ use Rattle.th_devices.specs.Folders.{Failing}
 use Rattle.th_network.specs.Networks.{Survey}
 use Rattle.th_observations.specs.Observed.{Observed}
 use Rattle.th_report.specs.Lists.{list_text}
-use Rattle.th_commands.specs.Asked.{Asked, Files, adjust, book, book_of_heights, check, explain, list, page, review}
+use Rattle.th_commands.specs.Asked.{Asked, Files, adjust, book, book_of_heights, check, check_with_inputs, explain, list, page, review}
 use Rattle.th_commands.specs.PlanLimits.{max_books}
 use Rattle.th_commands.specs.Plans.{AreTaken, IsFaultOf, IsPlanOf, asked, books_named, name_no_files, said_by}
 use Rattle.th_commands.specs.Commands.{command_line}
@@ -51,6 +51,7 @@ DoneAs tells old new status (Some (review from limit prefix)) = (status ≡ 0) �
 DoneAs tells old new status (Some (explain from limit table)) = (status ≡ 0) × IsExplained tells old new from limit (form_of table)
 DoneAs tells old new status (Some (page from limit prefix)) = (status ≡ 0) × IsPagedFile tells old new from limit prefix None
 DoneAs tells old new status (Some (check from certificate)) = Unit {0}
+DoneAs tells old new status (Some (check_with_inputs from certificate)) = Unit {0}
 DoneAs tells old new status (Some (book table)) = (status ≡ 0) × IsBooked tells old new Differences table
 DoneAs tells old new status (Some (book_of_heights name)) = (status ≡ 0) × IsBooked tells old new Heights name
 
@@ -62,6 +63,7 @@ RefusedAs tells failing old new own (Some (review from limit prefix)) = IsRefuse
 RefusedAs tells failing old new own (Some (explain from limit table)) = IsRefusedExplain failing old from own
 RefusedAs tells failing old new own (Some (page from limit prefix)) = IsRefusedPage tells failing old new from limit prefix own
 RefusedAs tells failing old new own (Some (check from certificate)) = Unit {0}
+RefusedAs tells failing old new own (Some (check_with_inputs from certificate)) = Unit {0}
 RefusedAs tells failing old new own (Some (book table)) = IsRefusedBook failing old Differences table own
 RefusedAs tells failing old new own (Some (book_of_heights name)) = IsRefusedBook failing old Heights name own
 
@@ -73,6 +75,7 @@ StoppedAs tells (Some (review from limit prefix)) = tells ≡ true → OutputsSp
 StoppedAs tells (Some (explain from limit table)) = ⊥
 StoppedAs tells (Some (page from limit prefix)) = tells ≡ true → OutputsSpare paging.outputs from prefix → ⊥
 StoppedAs tells (Some (check from certificate)) = Unit {0}
+StoppedAs tells (Some (check_with_inputs from certificate)) = Unit {0}
 StoppedAs tells (Some (book table)) = ⊥
 StoppedAs tells (Some (book_of_heights name)) = ⊥
 
@@ -98,7 +101,8 @@ module _ {F : Type 0} (tells : Bool) (held : F → Told) (has_failed : F → Spo
   carried (plan.Explain inputs limit table) (inr (own, run)) = inr (inl (own, run.status_is, run.refused))
   carried (plan.Page inputs limit prefix) (inl run) = inl run.done
   carried (plan.Page inputs limit prefix) (inr (own, run)) = inr (inl (own, run.status_is, run.refused))
-  carried (plan.Check inputs certificate) run = inl tt
+  carried (plan.Check inputs certificate true) run = inl tt
+  carried (plan.Check inputs certificate false) run = inl tt
   carried (plan.Book table) (inl run) = inl run.done
   carried (plan.Book table) (inr (own, run)) = inr (inl (own, run.status_is, run.refused))
   carried (plan.BookOfHeights name) (inl run) = inl run.done
@@ -113,7 +117,8 @@ module _ {F : Type 0} (tells : Bool) (held : F → Told) (has_failed : F → Spo
   stopped (plan.Explain inputs limit table) written which name would = no_file written would.is_written
   stopped (plan.Page inputs limit prefix) written which name would =
       λ telling spare. spare which name would.is_read (subst (λ (own : List ℕ). Contains (spots_of prefix.now paging.outputs) (file own)) (would.same telling) would.is_written)
-  stopped (plan.Check inputs certificate) written which name would = tt
+  stopped (plan.Check inputs certificate true) written which name would = tt
+  stopped (plan.Check inputs certificate false) written which name would = tt
   stopped (plan.Book table) written which name would = no_file written would.is_written
   stopped (plan.BookOfHeights name') written which name would = no_file written would.is_written
 
@@ -129,7 +134,7 @@ module _ {F : Type 0} (tells : Bool) (held : F → Told) (has_failed : F → Spo
   said_is words (plan.Review inputs limit prefix) wanted is asks = sym is.2 ∙ asks.2
   said_is words (plan.Explain inputs limit table) wanted is asks = sym is.2 ∙ asks.2
   said_is words (plan.Page inputs limit prefix) wanted is asks = sym is.2 ∙ asks.2
-  said_is words (plan.Check inputs certificate) wanted is asks = sym is.2 ∙ asks.2
+  said_is words (plan.Check inputs certificate with_inputs) wanted is asks = sym is.2 ∙ asks.2
   said_is words (plan.Book table) wanted is asks = sym is.2 ∙ asks.2
   said_is words (plan.BookOfHeights name) wanted is asks = sym is.2 ∙ asks.2
 

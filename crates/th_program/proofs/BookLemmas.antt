@@ -7,15 +7,16 @@ use Rattle.th_run_book.specs.declared.conversions.Conversion.{Conversion}
 use Rattle.th_devices.specs.Devices.{SinkState}
 use Rattle.th_devices.specs.Spots.{Spot, file, output}
 use Rattle.th_devices.specs.Folders.{Failing}
-use Rattle.th_program.specs.Done.{IsBooked, IsRefusedBook}
+use Rattle.th_program.specs.Done.{IsBooked, IsCutBook, IsRefusedBook, IsWrite}
 use Rattle.th_program.specs.Failing.{HasCause}
 use Rattle.th_files.specs.Owed.{Told, converted_owed}
 use Rattle.th_files.specs.Opened.{AreMade, IsTaken}
-use Rattle.th_files.proofs.OutputLemmas.{all_whole}
+use Rattle.th_files.proofs.OutputLemmas.{all_whole, part_left}
 use Rattle.th_run_parts.specs.Inputs.{Meets, MeetsRefusal, Owed}
 use Rattle.th_run_parts.specs.Reads.{refused}
 use Rattle.th_run_parts.specs.Writes.{AreWritten, IsWritten, UnlessWrite}
 use Rattle.th_run_parts.specs.declared.refusals.Refusal.{Refusal}
+use Rattle.th_run_parts.specs.declared.refusals.Refusal.TheVariants as refusal
 
 -- a book that was written
 pub booked : {X K : Type 0} (tells : Bool) (writing : Spot → Bool) (before after : Told) (conversion : Conversion) (name : List ℕ) (state_of : K → SinkState) (olds news : List K) (given_owed : Owed (List ℕ))
@@ -32,6 +33,21 @@ booked tells writing before after conversion name state_of olds news given_owed 
       given = subst (λ (known : Owed (List ℕ)). Meets known (Ok book)) owed meets;
       booked = whole.0;
     }
+
+-- a book that could not be written whole
+pub cut-book : {X K : Type 0} (tells : Bool) (writing : Spot → Bool) (before after : Told) (conversion : Conversion) (name : List ℕ) (state_of : K → SinkState) (olds news : List K) (given_owed : Owed (List ℕ))
+    (result : Result X Refusal) → given_owed ≡ converted_owed before (refused result) conversion name → AreMade state_of tells writing (output ∷ []) olds
+    → AllByRecursion (λ own. IsTaken before after (state_of own)) news
+    → (IsWritten result → ((book : List ℕ) × Meets given_owed (Ok book) × AreWritten state_of (refused result) (booked_texts book) olds news))
+    → IfErr result (λ own. IsWrite own → IsCutBook tells before after conversion name own)
+cut-book tells writing before after conversion name state_of olds news given_owed (Ok x) owed made taken written = tt
+cut-book tells writing before after conversion name state_of olds news given_owed (Err (refusal.Write which)) owed made taken written = λ write.
+    let (book, meets, of_book) = written tt in (
+      book,
+      subst (λ (known : Owed (List ℕ)). Meets known (Ok book)) owed meets,
+      part_left state_of tells writing before after which _ olds news made taken of_book,
+    )
+cut-book tells writing before after conversion name state_of olds news given_owed (Err other) owed made taken written = λ write. absurd write
 
 -- a book that was refused
 pub refused-book : {X : Type 0} (failing : Failing) (before : Told) (conversion : Conversion) (name : List ℕ) (given_owed : Owed (List ℕ)) (result : Result X Refusal)

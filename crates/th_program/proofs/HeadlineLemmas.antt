@@ -44,7 +44,7 @@ said_is words (plan.Adjust inputs limit prefix) wanted is asks = sym is.2 ∙ as
 said_is words (plan.Review inputs limit prefix) wanted is asks = sym is.2 ∙ asks.2
 said_is words (plan.Explain inputs limit table) wanted is asks = sym is.2 ∙ asks.2
 said_is words (plan.Page inputs limit prefix) wanted is asks = sym is.2 ∙ asks.2
-said_is words (plan.Check inputs certificate) wanted is asks = sym is.2 ∙ asks.2
+said_is words (plan.Check inputs certificate with_inputs) wanted is asks = sym is.2 ∙ asks.2
 said_is words (plan.Book table) wanted is asks = sym is.2 ∙ asks.2
 said_is words (plan.BookOfHeights book) wanted is asks = sym is.2 ∙ asks.2
 
@@ -174,11 +174,12 @@ ended_plan tells held has_failed failing old new (plan.Adjust inputs limit prefi
 ended_plan tells held has_failed failing old new (plan.Review inputs limit prefix) status run = tt
 ended_plan tells held has_failed failing old new (plan.Explain inputs limit table) status run = tt
 ended_plan tells held has_failed failing old new (plan.Page inputs limit prefix) status run = tt
-ended_plan tells held has_failed failing old new (plan.Check inputs certificate) status (inl (keeps, inl run)) = inl run.done
-ended_plan tells held has_failed failing old new (plan.Check inputs certificate) status (inl (keeps, inr (own, run))) = inr (inl (own, run.status_is, run.refused))
-ended_plan tells held has_failed failing old new (plan.Check inputs certificate) status (inr (inl (is, (written, which, name, would, begun)))) =
+ended_plan tells held has_failed failing old new (plan.Check inputs certificate false) status (inl (keeps, inl run)) = inl run.done
+ended_plan tells held has_failed failing old new (plan.Check inputs certificate false) status (inl (keeps, inr (own, run))) = inr (inl (own, run.status_is, run.refused))
+ended_plan tells held has_failed failing old new (plan.Check inputs certificate false) status (inr (inl (is, (written, which, name, would, begun)))) =
     absurd (no_file written would.is_written)
-ended_plan tells held has_failed failing old new (plan.Check inputs certificate) status (inr (inr (is, begun))) = inr (inr is)
+ended_plan tells held has_failed failing old new (plan.Check inputs certificate false) status (inr (inr (is, begun))) = inr (inr is)
+ended_plan tells held has_failed failing old new (plan.Check inputs certificate true) status run = tt
 ended_plan tells held has_failed failing old new (plan.Book table) status run = tt
 ended_plan tells held has_failed failing old new (plan.BookOfHeights book) status run = tt
 

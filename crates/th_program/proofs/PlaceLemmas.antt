@@ -65,7 +65,7 @@ one_placed : {F : Type 0} (tells may_fail : Bool) (held : F → Told) (has_faile
     → tells ≡ true → held after spot ≡ Some text
 one_placed tells may_fail held has_failed sinks text spot old new before next after made there has placed rest apart =
     λ tell. placed_others tells held has_failed sinks next after rest spot apart ∙ sym (ap (held next) (there ∙ made.there)) ∙ placed.there tell
-    ∙ where_told old.held (new.held ≡ Some text) (made.told tell) has.held
+    ∙ where_told old.held [] (new.held ≡ Some text) (made.empty tell) has.held
 
 -- all files took their places
 pub placed_left : {F K : Type 0} (state_of : K → SinkState) (tells : Bool) (writing : Spot → Bool) (held : F → Told) (has_failed : F → Spot → Bool) (texts : Texts) (spots : List Spot)

@@ -1,5 +1,5 @@
 -- What a run leaves after its refusal was reported.
-use Rattle.std.proofs.Common.{◌≡◌, ◌≢◌, ◌∙◌, ℕ, Bool, true, List, None, Some, get_or, map, refl, [], ◌∷◌, ap₂, subst, sym}
+use Rattle.std.proofs.Common.{◌≡◌, ◌≢◌, ◌∙◌, ℕ, Bool, true, false, List, None, Some, get_or, map, refl, [], ◌∷◌, ap₂, subst, sym}
 use Rattle.std.proofs.lemmas.List.Elements.{All-from_recursion}
 use Rattle.std.specs.List.{AllByRecursion, Contains}
 use Rattle.th_run_book.specs.declared.conversions.Conversion.{Conversion}
@@ -12,9 +12,9 @@ use Rattle.th_commands.specs.declared.plans.Plan.{Plan}
 use Rattle.th_commands.specs.declared.plans.Plan.TheVariants as plan
 use Rattle.th_files.proofs.OutputLemmas.{all_files, no_errors}
 use Rattle.th_program.proofs.RefusalLemmas.{refused-for-map}
-use Rattle.th_program.specs.Done.{IsBooked, IsDone, IsListed, IsOutputOf, IsRefused, IsPrinted}
+use Rattle.th_program.specs.Done.{IsBooked, IsCut, IsDone, IsListed, IsOutputOf, IsRefused, IsPrinted}
 use Rattle.th_files.specs.Owed.{Told, survey_owed}
-use Rattle.th_files.specs.Outputs.{spots_of, AreLeftAs}
+use Rattle.th_files.specs.Outputs.{spots_of, AreLeftAs, HoldsPart}
 use Rattle.th_runs.specs.Adjusted.{adjusting}
 use Rattle.th_run_review.specs.Reviewed.{reviewing}
 use Rattle.th_run_parts.specs.declared.refusals.Refusal.{Refusal}
@@ -58,7 +58,7 @@ refused-after tells failing before after later (plan.Page inputs limit prefix) o
     refused-for-map paging (files inputs) _ (survey_owed before (Some own) (files inputs)) _ _ _ own
     (printed_after tells before after later (files inputs) prefix.now paging.outputs _ (all_files prefix.now (map ending_of paging.outputs) refl) same) is
 refused-after tells failing before after later (plan.Explain inputs limit table) own same is = is
-refused-after tells failing before after later (plan.Check inputs certificate) own same is = is
+refused-after tells failing before after later (plan.Check inputs certificate with_inputs) own same is = is
 refused-after tells failing before after later (plan.Book table) own same is = is
 refused-after tells failing before after later (plan.BookOfHeights book) own same is = is
 
@@ -104,7 +104,7 @@ done-after tells before after later (plan.Explain inputs limit table) status sam
     printed = λ tell. same output output_apart ∙ is.1.printed tell;
   },
 )
-done-after tells before after later (plan.Check inputs certificate) status same (verdict, of_verdict, is) = (
+done-after tells before after later (plan.Check inputs certificate false) status same (verdict, of_verdict, is) = (
   verdict,
   of_verdict,
   record {
@@ -116,8 +116,37 @@ done-after tells before after later (plan.Check inputs certificate) status same 
     right = is.right;
   },
 )
+done-after tells before after later (plan.Check inputs certificate true) status same (verdict, of_verdict, is) = (
+  verdict,
+  of_verdict,
+  record {
+    claim = is.claim;
+    sums = is.sums;
+    given = is.given;
+    network = is.network;
+    answered = is.answered;
+    summed = is.summed;
+    text = λ tell. same output output_apart ∙ is.text tell;
+    right = is.right;
+  },
+)
 done-after tells before after later (plan.Book table) status same is = (is.0, booked-after tells before after later Differences table.now same is.1)
 done-after tells before after later (plan.BookOfHeights book) status same is = (is.0, booked-after tells before after later Heights book.now same is.1)
+
+-- nor does it change what standard output has of a text
+part_after : (tells : Bool) (after later : Told) (text : List ℕ) → ((spot : Spot) → spot ≢ errors → later spot ≡ after spot) → HoldsPart tells after text → HoldsPart tells later text
+part_after tells after later text same part = λ tell. let (n, is) = part tell in (n, same output output_apart ∙ is)
+
+pub cut-after : (tells : Bool) (before after later : Told) (asked : Plan) (own : Refusal) → ((spot : Spot) → spot ≢ errors → later spot ≡ after spot)
+    → IsCut tells before after asked own → IsCut tells before later asked own
+cut-after tells before after later plan.Standard own same (text, given, part) = (text, given, part_after tells after later _ same part)
+cut-after tells before after later (plan.List book) own same (text, given, part) = (text, given, part_after tells after later _ same part)
+cut-after tells before after later (plan.Explain inputs limit table) own same (survey, text, given, is, part) = (survey, text, given, is, part_after tells after later text same part)
+cut-after tells before after later (plan.Check inputs certificate false) own same (claim, given, part) = (claim, given, part_after tells after later _ same part)
+cut-after tells before after later (plan.Check inputs certificate true) own same (claim, sums, given, summed, part) = (claim, sums, given, summed, part_after tells after later _ same part)
+cut-after tells before after later (plan.Book table) own same (text, given, part) = (text, given, part_after tells after later _ same part)
+cut-after tells before after later (plan.BookOfHeights book) own same (text, given, part) = (text, given, part_after tells after later _ same part)
+cut-after tells before after later other own same is = is
 
 -- no plan writes its outputs to standard error
 none_among : (spots : List Spot) → AllByRecursion (λ spot. is_file spot ≡ true) spots → Contains spots errors → ⊥
@@ -132,6 +161,6 @@ errors_apart (plan.Page inputs limit prefix) is = none_among (spots_of prefix.no
 errors_apart plan.Standard is = cc
 errors_apart (plan.List book) is = cc
 errors_apart (plan.Explain inputs limit table) is = cc
-errors_apart (plan.Check inputs certificate) is = cc
+errors_apart (plan.Check inputs certificate with_inputs) is = cc
 errors_apart (plan.Book table) is = cc
 errors_apart (plan.BookOfHeights book) is = cc

@@ -21,18 +21,20 @@ use Rattle.th_run_book.specs.Booked.{IsOfBooking}
 use Rattle.th_run_book.specs.declared.conversions.Conversion.{Conversion}
 use Rattle.th_run_book.specs.declared.conversions.Conversion.TheVariants.{Differences, Heights}
 use Rattle.th_runs.specs.Adjusted.{AreOfAdjustment, adjusting}
-use Rattle.th_runs.specs.Checked.{IsRight, checking, verdict_line, verdict_on}
+use Rattle.th_runs.specs.Checked.{IsRight, check_text, checking, verdict_line, verdict_on}
 use Rattle.th_run_explain.specs.Explained.{AreOfExplanation, explaining}
 use Rattle.th_run_parts.specs.Inputs.{Claim, IsOwed, MakesNetwork, Meets, MeetsRefusal, Owed}
 use Rattle.th_runs.specs.Listed.{IsOfList}
 use Rattle.th_runs.specs.Noted.{AreNone}
 use Rattle.th_run_parts.specs.Reads.{IsNamed, Run}
 use Rattle.th_run_parts.specs.Refusals.{status_of, status_of_verdict}
+use Rattle.th_run_parts.specs.Summed.{AreClaimSummed}
 use Rattle.th_run_review.specs.Reviewed.{AreOfReview, reviewing}
 use Rattle.th_run_parts.specs.Writes.{Texts, UnlessWrite}
 use Rattle.th_runs.specs.declared.notes.Notes.{Notes}
 use Rattle.th_inputs.specs.declared.inputs.Input.{Input}
 use Rattle.th_inputs.specs.declared.inputs.Input.TheVariants as source
+use Rattle.th_inputs.specs.declared.sums.Sum.{Sum}
 use Rattle.th_run_explain.specs.declared.explaining.Form.{Form}
 use Rattle.th_run_explain.specs.declared.explaining.Form.TheVariants as form
 use Rattle.th_run_parts.specs.declared.outputs.Output.{Output}
@@ -42,8 +44,8 @@ use Rattle.th_run_parts.specs.declared.refusals.Refusal.TheVariants as refusal
 use Rattle.th_program.specs.Failing.{HasCause, IsInClaim, IsInFiles}
 use Rattle.th_program.specs.Noted.{AreNotesOf}
 use Rattle.th_messages.specs.Noted.{notes_lines}
-use Rattle.th_files.specs.Outputs.{AreLeft, Holds, spots_of}
-use Rattle.th_files.specs.Owed.{HasName, Told, all_names, book_owed, claim_owed, converted_owed, survey_owed, tolds_in}
+use Rattle.th_files.specs.Outputs.{AreLeft, Holds, HoldsPart, spots_of}
+use Rattle.th_files.specs.Owed.{HasName, Told, all_names, book_owed, claim_names, claim_owed, converted_owed, survey_owed, tolds_in}
 
 -- standard output has the list of the book at this spot
 pub record IsListed (tells : Bool) (old new : Told) (book : Spot) : Type 0 where
@@ -105,6 +107,22 @@ pub record IsChecked (tells : Bool) (old new : Told) (from : Files) (certificate
   pub line : Holds tells new output (verdict_line verdict)
   pub right : status_of_verdict verdict ≡ 0 → IsRight claim
 
+-- the same with the line of each file behind a `yes`, the certificate last: its name, and the sum of the bytes that were read
+pub record IsCheckedInputs (tells : Bool) (old new : Told) (from : Files) (certificate : List ℕ) (verdict : Verdict) : Type 0 where
+  pub claim : Claim
+  pub sums : List Sum
+  pub given : Meets (claim_owed old None from certificate) (Ok claim)
+  pub network : MakesNetwork claim.survey
+  pub answered : verdict ≡ verdict_on claim
+  pub summed : AreClaimSummed (tolds_in old from) (old (file certificate)) sums
+  pub text : Holds tells new output (check_text (Some (claim_names from certificate)) sums verdict)
+  pub right : status_of_verdict verdict ≡ 0 → IsRight claim
+
+-- a check was done in the form that a plan requests
+abbrev pub IsCheckedAs : Bool → Bool → Told → Told → Files → List ℕ → Verdict → Type 0
+IsCheckedAs false = IsChecked
+IsCheckedAs true = IsCheckedInputs
+
 -- what a plan requests was done, with this status
 abbrev pub IsDone : Bool → Told → Told → Plan → ℕ → Type 0
 IsDone tells old new plan.Standard status = (status ≡ 0) × IsListed tells old new input
@@ -113,8 +131,8 @@ IsDone tells old new (plan.Adjust inputs limit prefix) status = (status ≡ 0) �
 IsDone tells old new (plan.Review inputs limit prefix) status = (status ≡ 0) × IsReviewed tells old new (files inputs) limit prefix.now None
 IsDone tells old new (plan.Explain inputs limit table) status = (status ≡ 0) × IsExplained tells old new (files inputs) limit (form_of table)
 IsDone tells old new (plan.Page inputs limit prefix) status = (status ≡ 0) × IsPagedFile tells old new (files inputs) limit prefix.now None
-IsDone tells old new (plan.Check inputs certificate) status =
-    (verdict : Verdict) × (status ≡ status_of_verdict verdict) × IsChecked tells old new (files inputs) certificate.now verdict
+IsDone tells old new (plan.Check inputs certificate with_inputs) status =
+    (verdict : Verdict) × (status ≡ status_of_verdict verdict) × IsCheckedAs with_inputs tells old new (files inputs) certificate.now verdict
 IsDone tells old new (plan.Book table) status = (status ≡ 0) × IsBooked tells old new Differences table.now
 IsDone tells old new (plan.BookOfHeights book) status = (status ≡ 0) × IsBooked tells old new Heights book.now
 
@@ -179,9 +197,41 @@ IsRefused tells failing old new (plan.Adjust inputs limit prefix) own = IsRefuse
 IsRefused tells failing old new (plan.Review inputs limit prefix) own = IsRefusedReview tells failing old new (files inputs) limit prefix.now own
 IsRefused tells failing old new (plan.Explain inputs limit table) own = IsRefusedExplain failing old (files inputs) own
 IsRefused tells failing old new (plan.Page inputs limit prefix) own = IsRefusedPage tells failing old new (files inputs) limit prefix.now own
-IsRefused tells failing old new (plan.Check inputs certificate) own = IsRefusedCheck failing old (files inputs) certificate.now own
+IsRefused tells failing old new (plan.Check inputs certificate with_inputs) own = IsRefusedCheck failing old (files inputs) certificate.now own
 IsRefused tells failing old new (plan.Book table) own = IsRefusedBook failing old Differences table.now own
 IsRefused tells failing old new (plan.BookOfHeights book) own = IsRefusedBook failing old Heights book.now own
+
+-- Standard output has a beginning of the list of the book at this spot, after a refusal; and the same of the book that a file becomes, of the text of an
+-- explanation, and of what a check prints.
+abbrev pub IsCutList : Bool → Told → Told → Spot → Refusal → Type 0
+IsCutList tells old new book own =
+    (observations : List Observed) × Meets (book_owed old (Some own) book) (Ok observations) × HoldsPart tells new (list_text observations)
+
+abbrev pub IsCutBook : Bool → Told → Told → Conversion → List ℕ → Refusal → Type 0
+IsCutBook tells old new conversion name own =
+    (book : List ℕ) × Meets (converted_owed old (Some own) conversion name) (Ok book) × HoldsPart tells new book
+
+abbrev pub IsCutExplanation : Bool → Told → Told → Files → ℤ → Form → Refusal → Type 0
+IsCutExplanation tells old new from limit wanted own =
+    (survey : Survey) × (text : List ℕ) × Meets (survey_owed old (Some own) from) (Ok survey)
+    × AreOfExplanation (map (λ name. old (file name)) from.books) limit wanted survey ((out.Explanations, text) ∷ []) × HoldsPart tells new text
+
+abbrev pub IsCutVerdict : Bool → Bool → Told → Told → Files → List ℕ → Refusal → Type 0
+IsCutVerdict false tells old new from certificate own =
+    (claim : Claim) × Meets (claim_owed old (Some own) from certificate) (Ok claim) × HoldsPart tells new (verdict_line (verdict_on claim))
+IsCutVerdict true tells old new from certificate own =
+    (claim : Claim) × (sums : List Sum) × Meets (claim_owed old (Some own) from certificate) (Ok claim)
+    × AreClaimSummed (tolds_in old from) (old (file certificate)) sums × HoldsPart tells new (check_text (Some (claim_names from certificate)) sums (verdict_on claim))
+
+-- what standard output has of what a plan prints there, after a refusal
+abbrev pub IsCut : Bool → Told → Told → Plan → Refusal → Type 0
+IsCut tells old new plan.Standard own = IsCutList tells old new input own
+IsCut tells old new (plan.List book) own = IsCutList tells old new (file book.now) own
+IsCut tells old new (plan.Explain inputs limit table) own = IsCutExplanation tells old new (files inputs) limit (form_of table) own
+IsCut tells old new (plan.Check inputs certificate with_inputs) own = IsCutVerdict with_inputs tells old new (files inputs) certificate.now own
+IsCut tells old new (plan.Book table) own = IsCutBook tells old new Differences table.now own
+IsCut tells old new (plan.BookOfHeights book) own = IsCutBook tells old new Heights book.now own
+IsCut tells old new other own = Unit {0}
 
 -- the spots that an adjustment with this prefix writes to, those of a review, and that of a page
 abbrev pub IsAdjustOutput : List ℕ → Spot → Type 0
@@ -208,7 +258,7 @@ IsInputOf (plan.Adjust inputs limit prefix) which name = HasName (files inputs) 
 IsInputOf (plan.Review inputs limit prefix) which name = HasName (files inputs) which name
 IsInputOf (plan.Explain inputs limit table) which name = HasName (files inputs) which name
 IsInputOf (plan.Page inputs limit prefix) which name = HasName (files inputs) which name
-IsInputOf (plan.Check inputs certificate) which name = HasName (files inputs) which name ⊎ ((which ≡ source.Certificate) × (name ≡ certificate.now))
+IsInputOf (plan.Check inputs certificate with_inputs) which name = HasName (files inputs) which name ⊎ ((which ≡ source.Certificate) × (name ≡ certificate.now))
 IsInputOf (plan.Book table) which name = (which ≡ source.Differences) × (name ≡ table.now)
 IsInputOf (plan.BookOfHeights book) which name = (which ≡ source.Book 1) × (name ≡ book.now)
 
@@ -224,12 +274,13 @@ pub record WouldOverwrite (tells : Bool) (asked : Plan) (written : List ℕ) (wh
   pub same : tells ≡ true → written ≡ name
 
 -- A plan was refused: the status is that of the refusal, and unless standard error failed, its lines are
--- there. Only standard error changes, and after a failed write the plan's outputs too.
+-- there. Only standard error changes, and after a failed write the plan's outputs too: standard output then has a beginning of what the plan prints there.
 pub record IsRefusedRun {F : Type 0} (tells : Bool) (held : F → Told) (has_failed : F → Spot → Bool) (failing : F → Failing) (old new : F) (asked : Plan) (status : ℕ) (own : Refusal) : Type 0 where
   pub refused : IsRefused tells (failing old) (held old) (held new) asked own
   pub status_is : status ≡ status_of own
   pub reported : has_failed new errors ≡ false → IsReported tells (held new) asked own
   pub untouched : UnlessWrite own ((spot : Spot) → spot ≢ errors → held new spot ≡ held old spot)
+  pub left : IsWrite own → IsCut tells (held old) (held new) asked own
   pub others : (spot : Spot) → spot ≢ errors → (IsOutputOf asked spot → ⊥) → held new spot ≡ held old spot
 
 -- A plan was done, and these are its notes: unless standard error failed, just their lines are there. Without a note it is unchanged. No other spot changed but those

@@ -1,7 +1,7 @@
 //! Making a book of a file of a folder.
 ghost use Rattle.std.specs.Prelude.{◌≡◌, ◌≢◌, OnOk, IfErr};
 ghost use Rattle.th_devices.specs.Spots.{output};
-ghost use Rattle.th_program.specs.Done.{IsBooked, IsRefusedBook};
+ghost use Rattle.th_program.specs.Done.{IsBooked, IsCutBook, IsRefusedBook, IsWrite};
 ghost use Rattle.th_run_parts.specs.Writes.{UnlessWrite};
 
 use std::alloc::Global;
@@ -21,6 +21,8 @@ pub(crate) fn make_book<F: Folder>(
         conversion name.now) }
     ensures refused { IfErr result (IsRefusedBook (F.failing folder.old)
         (F.held folder.old) conversion name.now) }
+    ensures left { IfErr result (λ own. IsWrite own → IsCutBook F.tells (F.held folder.old)
+        (F.held folder.new) conversion name.now own) }
     ensures untouched { IfErr result (λ own. UnlessWrite own (folder.new ≡ folder.old)) }
     ensures others { (spot : _) → spot ≢ output → F.held folder.new spot ≡ F.held folder.old spot }
 {

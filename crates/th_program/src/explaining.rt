@@ -2,7 +2,7 @@
 ghost use Rattle.std.specs.Prelude.{◌≡◌, ◌≢◌, IfErr, OnOk};
 ghost use Rattle.th_devices.specs.Spots.{output};
 ghost use Rattle.th_commands.specs.Plans.{files};
-ghost use Rattle.th_program.specs.Done.{IsExplained, IsRefusedExplain, form_of};
+ghost use Rattle.th_program.specs.Done.{IsCutExplanation, IsExplained, IsRefusedExplain, IsWrite, form_of};
 ghost use Rattle.th_run_parts.specs.Writes.{UnlessWrite};
 
 use std::alloc::Global;
@@ -25,6 +25,8 @@ pub(crate) fn explain<F: Folder>(
         (files inputs.now) limit form) }
     ensures refused { IfErr result (IsRefusedExplain (F.failing folder.old)
         (F.held folder.old) (files inputs.now)) }
+    ensures left { IfErr result (λ own. IsWrite own → IsCutExplanation F.tells (F.held folder.old)
+        (F.held folder.new) (files inputs.now) limit form own) }
     ensures untouched { IfErr result (λ own. UnlessWrite own (folder.new ≡ folder.old)) }
     ensures others { (spot : _) → spot ≢ output → F.held folder.new spot ≡ F.held folder.old spot }
 {

@@ -2,7 +2,7 @@
 ghost use Rattle.std.specs.Prelude.{◌≡◌, ◌≢◌, OnOk, IfErr};
 ghost use Rattle.th_devices.specs.Folders.{spot_of_origin};
 ghost use Rattle.th_devices.specs.Spots.{output};
-ghost use Rattle.th_program.specs.Done.{IsListed, IsRefusedList};
+ghost use Rattle.th_program.specs.Done.{IsCutList, IsListed, IsRefusedList, IsWrite};
 ghost use Rattle.th_runs.specs.Noted.{AreNone, AreNotesOfList};
 ghost use Rattle.th_run_parts.specs.Writes.{UnlessWrite};
 
@@ -25,6 +25,8 @@ pub fn list<F: Folder>(
         (spot_of_origin book.entry)) }
     ensures refused { IfErr result (IsRefusedList (F.failing folder.old)
         (F.held folder.old) (spot_of_origin book.entry)) }
+    ensures left { IfErr result (λ own. IsWrite own → IsCutList F.tells (F.held folder.old)
+        (F.held folder.new) (spot_of_origin book.entry) own) }
     ensures untouched { IfErr result (λ own. UnlessWrite own (folder.new ≡ folder.old)) }
     ensures others { (spot : _) → spot ≢ output → F.held folder.new spot ≡ F.held folder.old spot }
 {

@@ -1,7 +1,7 @@
 //! Running a plan.
 ghost use Rattle.std.specs.Prelude.{◌≡◌, ◌≤◌, IfErr, IfOk, OnOk, length};
 ghost use Rattle.th_commands.specs.PlanLimits.{max_books};
-ghost use Rattle.th_program.specs.Done.{IsCarriedOut, IsDone, IsOutputOf, IsRefused, IsRun};
+ghost use Rattle.th_program.specs.Done.{IsCarriedOut, IsCut, IsDone, IsOutputOf, IsRefused, IsRun, IsWrite};
 ghost use Rattle.th_program.specs.Noted.{AreNotesOf};
 ghost use Rattle.th_runs.specs.Noted.{AreNone};
 ghost use Rattle.th_run_parts.specs.Writes.{UnlessWrite};
@@ -65,6 +65,8 @@ fn carry_out<F: Folder>(
     ensures refused { IfErr result (IsRefused F.tells (F.failing folder.old)
         (F.held folder.old) (F.held folder.new) plan.now) }
     ensures untouched { IfErr result (λ own. UnlessWrite own (folder.new ≡ folder.old)) }
+    ensures left { IfErr result (λ own. IsWrite own → IsCut F.tells (F.held folder.old)
+        (F.held folder.new) plan.now own) }
     ensures others { (spot : _) → (IsOutputOf plan.now spot → ⊥)
         → F.held folder.new spot ≡ F.held folder.old spot }
 {
@@ -94,8 +96,9 @@ fn carry_out<F: Folder>(
         Plan::Check {
             inputs,
             certificate,
+            with_inputs,
         } => {
-            let verdict = check(alloc, folder, inputs, *certificate)?;
+            let verdict = check(alloc, folder, inputs, *certificate, *with_inputs)?;
             return Ok(status_of_verdict(&verdict));
         }
         Plan::Book { table } => make_book(alloc, folder, Conversion::Differences, *table)?,

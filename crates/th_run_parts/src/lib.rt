@@ -26,7 +26,7 @@ mod writing;
 pub use feeds::{Feed, SeenFeed, SummedFeed, feed_from};
 pub use inputs::read_text;
 pub use outputs::Output;
-pub use readers::{BookReader, ObservationReader, refusal_of};
+pub use readers::{BookReader, ObservationReader, SumReader, refusal_of};
 pub use refusals::{
     DEVICE_FAILED, DONE, INPUT_REFUSED, NO_MEMORY, REFUSED_VERDICT, Refusal, USAGE, status_of,
     status_of_verdict,

@@ -1,16 +1,16 @@
 //! What a run reads of its books.
-ghost use Rattle.std.specs.Prelude.{◌≡◌, ◌≢◌, ℕ, List, Option, IfErr, IfOk, Ok};
+ghost use Rattle.std.specs.Prelude.{◌≡◌, ◌≢◌, ◌∷◌, ◌++◌, ℕ, List, Option, IfErr, IfOk, OnOk, Ok, []};
 ghost use Rattle.th_observations.specs.Observed.{Observed};
 ghost use Rattle.th_run_parts.specs.Inputs.{Meets, MeetsRefusal, given, owed_for_book};
 ghost use Rattle.th_run_parts.specs.Reads.{IsOfBook, IsReadFor, refused};
 ghost use Rattle.th_devices.specs.Devices.{IsReady};
 
-use crate::feeds::feed_from;
+use crate::feeds::{SummedFeed, feed_from};
 use crate::refusals::Refusal;
-use std::alloc::Global;
+use std::alloc::{AllocError, Global};
 use th_book::{BookFault, BookFeed, BookKind};
 use th_devices::Source;
-use th_inputs::Input;
+use th_inputs::{Input, Sum, Summing};
 use th_observations::Observation;
 
 /// What reads the books of a run, one after the other: their observations, and what else the run needs.
@@ -58,6 +58,61 @@ impl BookReader for ObservationReader {
         feed_from(number, book, &mut feed)?;
         match feed.finish() {
             Ok(observations) => Ok(observations),
+            Err(fault) => Err(refusal_of(number, fault)),
+        }
+    }
+}
+
+/// Reads the observations of books, and their sums.
+#[derive(Drop)]
+pub struct SumReader {
+    /// The sums of the books that were read, in their order.
+    pub sums: Vec<Sum>,
+}
+
+impl SumReader {
+    /// No book was read.
+    pub fn new(alloc: Global) -> SumReader
+        ensures { result.sums.items ≡ [] }
+    {
+        SumReader {
+            sums: Vec::new(alloc),
+        }
+    }
+
+    /// Puts the sum of the next book behind the others.
+    fn add(&mut self, sum: Sum) -> Result<(), AllocError>
+        ensures { OnOk result (self.new.sums.items ≡ self.old.sums.items ++ sum ∷ []) }
+    {
+        self.sums.push(sum)?;
+        Ok(())
+    }
+}
+
+impl BookReader for SumReader {
+    ghost use Rattle.th_inputs.specs.declared.inputs.Input.TheVariants.{Book};
+    ghost use Rattle.th_run_parts.specs.Summed.{IsSummedNext};
+
+    ghost has_read = { λ number told observations old new.
+        IsSummedNext (Book number) told old.sums.items new.sums.items };
+
+    fn read<S: Source>(
+        &mut self,
+        alloc: Global,
+        number: u32,
+        book: &mut S,
+    ) -> Result<Vec<Observation>, Refusal> {
+        let mut feed = SummedFeed {
+            feed: BookFeed::new(alloc, number),
+            summing: Summing::new(),
+        };
+        feed_from(number, book, &mut feed)?;
+        let SummedFeed { feed, summing } = feed;
+        match feed.finish() {
+            Ok(observations) => {
+                self.add(summing.finish(Input::Book(number)))?;
+                Ok(observations)
+            }
             Err(fault) => Err(refusal_of(number, fault)),
         }
     }

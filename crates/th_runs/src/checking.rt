@@ -1,25 +1,27 @@
 //! A run that checks a certificate.
-ghost use Rattle.std.specs.Prelude.{◌≡◌, IfErr, IfOk, false, is_some, length};
+ghost use Rattle.std.specs.Prelude.{◌≡◌, ◌++◌, List, IfErr, IfOk, is_some, length, map, option_map, zip};
 ghost use Rattle.th_devices.specs.Devices.{IsReady};
-ghost use Rattle.th_runs.specs.Checked.{IsVerdictOn, checking, judged, verdict_line, verdict_on};
-ghost use Rattle.th_run_parts.specs.Inputs.{AnswersOwed, MakesNetwork, claim_owed_by_sources, given, owed_for_certificate};
+ghost use Rattle.th_inputs.specs.Inputs.{input_lines, inputs_of};
+ghost use Rattle.th_inputs.specs.declared.sums.Sum.{Sum};
+ghost use Rattle.th_runs.specs.Checked.{AreSummedIfNamed, IsVerdictOn, check_text, checking, judged, verdict_on};
+ghost use Rattle.th_run_parts.specs.Inputs.{MakesNetwork, claim_owed_by_sources};
 ghost use Rattle.th_runs.specs.Inside.Judged.{IsJudged};
 ghost use Rattle.th_run_parts.specs.Refused.{IsOfNetwork};
-ghost use Rattle.th_run_parts.specs.Reads.{AreRead, AreReady, IsFrom, IsFromInput, IsNamed, IsReadFor, refused};
+ghost use Rattle.th_run_parts.specs.Reads.{AreRead, AreReady, IsNamed, IsReadFor, refused};
 ghost use Rattle.th_run_parts.specs.Outcomes.{SurveyOutcome};
+ghost use Rattle.th_run_parts.specs.Summed.{tolds_of};
 ghost use Rattle.th_run_parts.specs.Writes.{AreWritable, AreWritten};
 
+use crate::claims::{Stated, read_stated};
 use std::alloc::{AllocError, Global};
-use std::marker::Model;
-use th_certificate::{CertKind, Certificate, read_certificate};
+use th_certificate::Certificate;
 use th_checker::laws::yes_implies_least;
 use th_checker::{Verdict, check};
+use th_columns::Page;
 use th_devices::{Sink, Source};
+use th_inputs::{NamedInputs, Sum, write_inputs};
 use th_network::Network;
-use th_run_parts::{
-    Input, ObservationReader, Output, OutputText, Refusal, Survey, network_of, read_survey,
-    read_text, write_outs,
-};
+use th_run_parts::{Input, Output, OutputText, Refusal, SumReader, Survey, network_of, write_outs};
 
 /// What a check writes.
 pub const CHECKED: [Output; 1] = [Output::Verdict];
@@ -30,13 +32,17 @@ pub const CHECKED: [Output; 1] = [Output::Verdict];
 /// Inputs are read one after the other: the books, the benchmarks, the weights, the certificate.
 /// Each is read to its end, or to one byte more than it may have, before its faults are reported.
 /// The first that is refused decides. The faults of the network come after those of all inputs. The
-/// line is made in memory before the output is begun.
+/// text is made in memory before the output is begun.
+///
+/// If the names of all inputs are given, in the order in which they are read, the line of each follows behind
+/// `yes`, with the sum of the bytes that were read.
 pub fn run_check<B: Source, T: Source, W: Source, C: Source, K: Sink>(
     alloc: Global,
     books: &mut [B],
     benchmarks: &mut T,
     weights: &mut Option<W>,
     certificate: &mut C,
+    names: Option<&[&str]>,
     outs: &mut [K],
 ) -> Result<Verdict, Refusal>
     requires ready { AreReady B.state T.state W.state books.old benchmarks.old weights.old }
@@ -47,8 +53,13 @@ pub fn run_check<B: Source, T: Source, W: Source, C: Source, K: Sink>(
     ensures outcome { SurveyOutcome (λ claim. claim.survey)
         (claim_owed_by_sources B.state T.state W.state C.state books.old books.new
         benchmarks.old benchmarks.new weights.old weights.new certificate.old certificate.new)
-        (λ claim. IfOk result (IsVerdictOn claim)
-        × AreWritten K.state (refused result) (judged (verdict_on claim)) outs.old outs.new)
+        (λ claim. IfOk result (IsVerdictOn claim) × (sums : List Sum)
+        × AreSummedIfNamed (option_map (λ own. map (λ name. name.now) own.now) names.entry)
+        (tolds_of B.state T.state W.state books.old benchmarks.old weights.old)
+        (C.state certificate.old).left sums
+        × AreWritten K.state (refused result) (judged
+        (option_map (λ own. map (λ name. name.now) own.now) names.entry) sums (verdict_on claim))
+        outs.old outs.new)
         result outs.old outs.new }
     ensures named { IfErr result (IsNamed (length books.old) (is_some weights.old) checking) }
 
@@ -58,85 +69,77 @@ pub fn run_check<B: Source, T: Source, W: Source, C: Source, K: Sink>(
     ensures certificate { IsReadFor C.state Input.Certificate (refused result)
         certificate.old certificate.new }
 {
-    let stated = read_stated(alloc, books, benchmarks, weights, certificate)?;
-    let judged = judge(alloc, stated)?;
-    let Judged { verdict, line } = judged;
-    write_outs(outs, &[OutputText::new(Output::Verdict, line)])?;
+    let mut reader = SumReader::new(alloc);
+    let mut others = Vec::new(alloc);
+    let stated = read_stated(
+        alloc,
+        books,
+        benchmarks,
+        weights,
+        certificate,
+        names.is_some(),
+        &mut reader,
+        &mut others,
+    )?;
+    let judged = judge(
+        alloc,
+        stated,
+        names,
+        reader.sums.as_slice(),
+        others.as_slice(),
+    )?;
+    let Judged { verdict, text } = judged;
+    write_outs(outs, &[OutputText::new(Output::Verdict, text)])?;
     Ok(verdict)
 }
 
-/// What is checked: a survey, and a certificate for it.
-#[derive(Drop)]
-struct Stated {
-    survey: Survey,
-    certificate: Certificate,
-}
-
-impl Model for Stated {
-    ghost use Rattle.th_run_parts.specs.Inputs.{Claim};
-
-    ghost Value = { Claim };
-
-    ghost view = { λ stated. record { survey = stated.survey; certificate = stated.certificate } };
-}
-
-/// Reads the inputs of a check, up to the first that is refused.
-fn read_stated<B: Source, T: Source, W: Source, C: Source>(
-    alloc: Global,
-    books: &mut [B],
-    benchmarks: &mut T,
-    weights: &mut Option<W>,
-    certificate: &mut C,
-) -> Result<Stated, Refusal>
-    requires ready { AreReady B.state T.state W.state books.old benchmarks.old weights.old }
-    requires certificate { IsReady (C.state certificate.old).counts }
-    ensures answer { AnswersOwed (claim_owed_by_sources B.state T.state W.state C.state
-        books.old books.new benchmarks.old benchmarks.new weights.old weights.new
-        certificate.old certificate.new) result }
-    ensures at { IfErr result IsFromInput }
-    ensures named { IfErr result (IsNamed (length books.old) (is_some weights.old) checking) }
-    ensures sources { AreRead B.state T.state W.state (refused result) books.old books.new
-        benchmarks.old benchmarks.new weights.old weights.new }
-    ensures certificate { IsReadFor C.state Input.Certificate (refused result)
-        certificate.old certificate.new }
-{
-    let survey = read_survey(alloc, &mut ObservationReader, books, benchmarks, weights)?;
-    let certificate = certificate_from(alloc, certificate)?;
-    Ok(Stated {
-        survey,
-        certificate,
-    })
-}
-
-/// A verdict, and its line.
+/// A verdict, and what is printed.
 #[derive(Drop)]
 struct Judged {
     verdict: Verdict,
-    line: Vec<u8>,
+    text: Vec<u8>,
 }
 
 /// The verdict on what is checked, or the first fault of its network.
-fn judge(alloc: Global, stated: Stated) -> Result<Judged, Refusal>
-    ensures { IsOfNetwork stated.survey (IsJudged stated) result }
+fn judge(
+    alloc: Global,
+    stated: Stated,
+    names: Option<&[&str]>,
+    of_books: &[Sum],
+    others: &[Sum],
+) -> Result<Judged, Refusal>
+    ensures { IsOfNetwork stated.survey (IsJudged
+        (option_map (λ own. map (λ name. name.now) own.now) names.entry)
+        (of_books.now ++ others.now) stated) result }
 {
     let Stated {
         survey,
         certificate,
     } = stated;
-    judge_survey(alloc, survey, &certificate)
+    judge_survey(alloc, survey, &certificate, names, of_books, others)
 }
 
 /// The verdict on a certificate for this survey, or the first fault of its network.
-fn judge_survey(alloc: Global, survey: Survey, certificate: &Certificate) -> Result<Judged, Refusal>
-    ensures { IsOfNetwork survey
-        (IsJudged (record { survey = survey; certificate = certificate.now })) result }
+fn judge_survey(
+    alloc: Global,
+    survey: Survey,
+    certificate: &Certificate,
+    names: Option<&[&str]>,
+    of_books: &[Sum],
+    others: &[Sum],
+) -> Result<Judged, Refusal>
+    ensures { IsOfNetwork survey (IsJudged
+        (option_map (λ own. map (λ name. name.now) own.now) names.entry) (of_books.now ++ others.now)
+        (record { survey = survey; certificate = certificate.now })) result }
 {
     let Survey {
         observations,
         tables,
     } = survey;
     let network = network_of(alloc, observations, &tables.benchmarks, &tables.weights)?;
-    Ok(judge_network(alloc, &network, certificate)?)
+    let verdict = judge_network(alloc, &network, certificate)?;
+    let text = text_of(alloc, &verdict, names, of_books, others)?;
+    Ok(Judged { verdict, text })
 }
 
 /// The verdict on a certificate for a network.
@@ -144,44 +147,57 @@ fn judge_network(
     alloc: Global,
     network: &Network,
     certificate: &Certificate,
-) -> Result<Judged, AllocError>
+) -> Result<Verdict, AllocError>
     requires { MakesNetwork network.now }
     ensures { IfOk result
-        (IsJudged (record { survey = network.now; certificate = certificate.now })) }
+        (IsVerdictOn (record { survey = network.now; certificate = certificate.now })) }
 {
     yes_implies_least();
-    let verdict = check(
+    let found = check(
         alloc,
         network.observations(),
         network.benchmarks(),
         network.weight_table(),
         certificate,
     )?;
-    let line = line_of(alloc, &verdict)?;
-    Ok(Judged { verdict, line })
+    Ok(found)
 }
 
-/// The line of a verdict.
-fn line_of(alloc: Global, verdict: &Verdict) -> Result<Vec<u8>, AllocError>
-    ensures { IfOk result (λ line. line.items ≡ verdict_line verdict.now) }
+/// What is printed of a verdict.
+fn text_of(
+    alloc: Global,
+    verdict: &Verdict,
+    names: Option<&[&str]>,
+    of_books: &[Sum],
+    others: &[Sum],
+) -> Result<Vec<u8>, AllocError>
+    ensures { IfOk result (λ text. text.items ≡ check_text
+        (option_map (λ own. map (λ name. name.now) own.now) names.entry)
+        (of_books.now ++ others.now) verdict.now) }
 {
-    Ok(format!(in alloc; "{verdict}\n")?.into_bytes())
-}
-
-/// The certificate that a source says.
-fn certificate_from<S: Source>(alloc: Global, source: &mut S) -> Result<Certificate, Refusal>
-    requires { IsReady (S.state source.old).counts }
-    ensures answer { AnswersOwed (owed_for_certificate (given S.state source.old source.new)) result }
-    ensures at { IfErr result (IsFrom Input.Certificate) }
-    ensures named { IfErr result (IsNamed 0 false checking) }
-    ensures source { IsReadFor S.state Input.Certificate (refused result) source.old source.new }
-{
-    let text = read_text(alloc, Input::Certificate, source)?;
-    match read_certificate(alloc, text.as_slice()) {
-        Ok(certificate) => Ok(certificate),
-        Err(fault) => match fault.kind {
-            CertKind::NoMemory => Err(Refusal::NoMemory),
-            _ => Err(Refusal::Certificate(fault)),
-        },
+    let line = format!(in alloc; "{verdict}\n")?.into_bytes();
+    match (names, verdict) {
+        (Some(names), Verdict::Yes) => with_inputs(alloc, line.as_slice(), names, of_books, others),
+        _ => Ok(line),
     }
+}
+
+/// A line, and behind it the line of each input.
+fn with_inputs(
+    alloc: Global,
+    line: &[u8],
+    names: &[&str],
+    of_books: &[Sum],
+    others: &[Sum],
+) -> Result<Vec<u8>, AllocError>
+    ensures { IfOk result (λ text. text.items ≡ line.now
+        ++ input_lines (zip (map (λ name. name.now) names.now) (of_books.now ++ others.now))) }
+{
+    let mut sums = Vec::from_slice(alloc, of_books)?;
+    sums.extend_from_slice(others)?;
+    let mut page = Page::new(alloc);
+    page.add(line)?;
+    let inputs = NamedInputs { names, sums: &sums };
+    write_inputs(alloc, &mut page, inputs)?;
+    Ok(page.into_bytes())
 }

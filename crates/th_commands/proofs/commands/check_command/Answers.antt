@@ -15,4 +15,5 @@ returns c =
     let one = with_arg _ _ _ _ _ c.in_ok-arg.ensures c.benchmarks.ensures bare in
     let two = with_arg _ _ _ _ _ c.in_ok-arg-2.ensures c.weights.ensures one in
     let three = with_arg _ _ _ _ _ c.in_ok-arg-3.ensures c.certificate.ensures two in
-    IfOk-weaker c.arg-4.result _ _ (λ command adds. with_arg _ _ _ _ _ adds c.books.ensures three) c.arg-4.ensures
+    let four = with_arg _ _ _ _ _ c.in_ok-arg-4.ensures c.inputs.ensures three in
+    IfOk-weaker c.arg-5.result _ _ (λ command adds. with_arg _ _ _ _ _ adds c.books.ensures four) c.arg-5.ensures

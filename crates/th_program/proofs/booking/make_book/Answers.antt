@@ -2,7 +2,7 @@ use Rattle.std.proofs.Common.{◌≡◌, ◌∙◌, [], ap, map, refl, subst, sy
 use Rattle.std.specs.List.{AllByRecursion}
 use Rattle.th_devices.specs.Spots.{file}
 use Rattle.th_program.proofs.CauseLemmas.{input_caused, output_caused, run_caused}
-use Rattle.th_program.proofs.BookLemmas.{booked, refused-book}
+use Rattle.th_program.proofs.BookLemmas.{booked, cut-book, refused-book}
 use Rattle.th_files.proofs.OutputLemmas.{lent, made_ready, made_untouched, none_among, spots_after}
 use Rattle.th_program.proofs.RefusalLemmas.{unless-all}
 use Rattle.th_files.proofs.OpenedLemmas.{given-there}
@@ -37,6 +37,19 @@ returns-clause-booked g c =
     rw c.as_mut_slice.ensures.value (subst (λ folder. AreMade g.F.Out.Sink.state g.F.Folder.tells (g.F.Folder.failing folder).writing (spots_of [] booking) c.in_ok-outs.outs.items) unopened c.in_ok-outs.ensures.made) in
     let same : c.sinks_of.new.folder ≡ c.args.folder.now = c.sinks_of.ensures.same ∙ c.source.ensures.same in
     booked g.F.Folder.tells (g.F.Folder.failing c.args.folder.now).writing told (g.F.Folder.held c.close_sinks.new.folder) c.args.conversion _ g.F.Out.Sink.state _ _ _ run.result owed made (subst (AllByRecursion (λ own. IsTaken told (g.F.Folder.held c.close_sinks.new.folder) (g.F.Out.Sink.state own))) outs (rw same at c.close_sinks.ensures.taken))
+    run.ensures.outcome.written
+
+pub returns-clause-left : goal.returns-clause-left
+returns-clause-left g c =
+    let outs = lent c.in_ok-outs.outs.items c.run_book-answer.new.outs c.in_ok-outs.outs.len (omega (arith, c.as_mut_slice.ensures.len, c.run_book-answer.auto.outs)) in
+    let run = c.run_book-answer in
+    let told = g.F.Folder.held c.args.folder.now in
+    let owed = ap (converted c.args.conversion) (given-there g.F.In.Source.state (g.F.Folder.failing c.args.folder.now).reading told (input_of c.args.conversion) (refused run.result) _ _ _ c.in_ok-source.ensures.opened run.ensures.source.read.failed) in
+    let unopened : c.source.new.self ≡ c.args.folder.now = c.source.ensures.same in
+    let made : AreMade g.F.Out.Sink.state g.F.Folder.tells (g.F.Folder.failing c.args.folder.now).writing (spots_of [] booking) c.as_mut_slice.result.now =
+    rw c.as_mut_slice.ensures.value (subst (λ folder. AreMade g.F.Out.Sink.state g.F.Folder.tells (g.F.Folder.failing folder).writing (spots_of [] booking) c.in_ok-outs.outs.items) unopened c.in_ok-outs.ensures.made) in
+    let same : c.sinks_of.new.folder ≡ c.args.folder.now = c.sinks_of.ensures.same ∙ c.source.ensures.same in
+    cut-book g.F.Folder.tells (g.F.Folder.failing c.args.folder.now).writing told (g.F.Folder.held c.close_sinks.new.folder) c.args.conversion _ g.F.Out.Sink.state _ _ _ run.result owed made (subst (AllByRecursion (λ own. IsTaken told (g.F.Folder.held c.close_sinks.new.folder) (g.F.Out.Sink.state own))) outs (rw same at c.close_sinks.ensures.taken))
     run.ensures.outcome.written
 
 pub returns-clause-refused : goal.returns-clause-refused

@@ -1,11 +1,11 @@
 use Rattle.std.proofs.Common.{◌≡◌, ◌∙◌, [], ap, refl, subst, sym, arith, map, ◌≢◌}
 use Rattle.std.specs.List.{AllByRecursion}
-use Rattle.std.specs.Prelude.{IfErr}
+use Rattle.std.specs.Prelude.{IfErr, option_map}
 use Rattle.th_devices.specs.Spots.{file}
 use Rattle.th_commands.specs.Plans.{files}
-use Rattle.th_program.proofs.CheckLemmas.{checked}
+use Rattle.th_program.proofs.CheckLemmas.{checked, cut-verdict, of-files, wanted_names}
 use Rattle.th_program.proofs.CauseLemmas.{certificate_blamed, files_caused, output_caused, run_caused, widened}
-use Rattle.th_files.proofs.OpenedLemmas.{claim-opened, named-opened, opened-are-ready}
+use Rattle.th_files.proofs.OpenedLemmas.{claim-opened, named-opened, opened-are-ready, tolds-opened}
 use Rattle.th_files.proofs.OutputLemmas.{lent, made_ready, made_untouched, none_among, spots_after}
 use Rattle.th_program.proofs.RefusalLemmas.{refused-for, unless-all}
 use Rattle.th_program.specs.Failing.{HasCause, IsInClaim}
@@ -35,7 +35,7 @@ close_sinks-requires g c =
     rw c.as_mut_slice-2.ensures.value (subst (λ folder. AreMade g.F.Out.Sink.state g.F.Folder.tells (g.F.Folder.failing folder).writing (spots_of [] checking.outputs) c.in_ok-outs.outs.items) unopened c.in_ok-outs.ensures.made) in
     let outs = lent c.in_ok-outs.outs.items c.run_check-answer.new.outs c.in_ok-outs.outs.len (omega (arith, c.as_mut_slice-2.ensures.len, c.run_check-answer.auto.outs)) in
     subst (λ sinks. AreApart (map (λ own. (g.F.Out.Sink.state own).spot) sinks)) (sym outs)
-    (subst AreApart (sym (spots_after g.F.Out.Sink.state g.F.Folder.tells (g.F.Folder.failing c.args.folder.now).writing (spots_of [] checking.outputs) _ _ _ run.result _ _ run.ensures.outcome made (λ claim has. (judged (verdict_on claim), has.1)))) (tt, tt))
+    (subst AreApart (sym (spots_after g.F.Out.Sink.state g.F.Folder.tells (g.F.Folder.failing c.args.folder.now).writing (spots_of [] checking.outputs) _ _ _ run.result _ _ run.ensures.outcome made (λ claim has. (judged _ has.1 (verdict_on claim), has.3)))) (tt, tt))
 
 pub returns-clause-checked : goal.returns-clause-checked
 returns-clause-checked g c =
@@ -47,12 +47,35 @@ returns-clause-checked g c =
     rw c.as_mut_slice.ensures.value c.in_ok-sources.ensures.opened in
     let owed = claim-opened g.F.In.Source.state (g.F.Folder.failing c.args.folder.now).reading told from c.args.certificate.now (refused run.result) _ _ _ _ _ _ _ _
     opened (rw c.sources_of.ensures.same at c.in_ok-certificate.ensures.opened) run.ensures.sources run.ensures.certificate in
+    let at_certificate = rw c.sources_of.ensures.same at c.in_ok-certificate.ensures.opened in
     let unopened : c.source.new.self ≡ c.args.folder.now = c.source.ensures.same ∙ c.sources_of.ensures.same in
     let made : AreMade g.F.Out.Sink.state g.F.Folder.tells (g.F.Folder.failing c.args.folder.now).writing (spots_of [] checking.outputs) c.as_mut_slice-2.result.now =
     rw c.as_mut_slice-2.ensures.value (subst (λ folder. AreMade g.F.Out.Sink.state g.F.Folder.tells (g.F.Folder.failing folder).writing (spots_of [] checking.outputs) c.in_ok-outs.outs.items) unopened c.in_ok-outs.ensures.made) in
     let same : c.sinks_of.new.folder ≡ c.args.folder.now = c.sinks_of.ensures.same ∙ c.source.ensures.same ∙ c.sources_of.ensures.same in
-    checked g.F.Folder.tells (g.F.Folder.failing c.args.folder.now).writing told (g.F.Folder.held c.close_sinks.new.folder) from c.args.certificate.now
-    g.F.Out.Sink.state _ _ _ run.result owed made (subst (AllByRecursion (λ own. IsTaken told (g.F.Folder.held c.close_sinks.new.folder) (g.F.Out.Sink.state own))) outs (rw same at c.close_sinks.ensures.taken)) run.ensures.outcome.written
+    let tolds = tolds-opened g.F.In.Source.state (g.F.Folder.failing c.args.folder.now).reading told from _ _ _ opened in
+    let names = wanted_names (λ own. map (λ name. name.now) own.now) c.args.with_inputs c.as_slice.result from c.args.certificate.now (ap (λ own. map (λ name. name.now) own) c.as_slice.ensures.value ∙ c.in_ok-names.ensures) in
+    checked c.args.with_inputs g.F.Folder.tells (g.F.Folder.failing c.args.folder.now).writing told (g.F.Folder.held c.close_sinks.new.folder) from c.args.certificate.now
+    g.F.Out.Sink.state _ _ _ run.result owed made (subst (AllByRecursion (λ own. IsTaken told (g.F.Folder.held c.close_sinks.new.folder) (g.F.Out.Sink.state own))) outs (rw same at c.close_sinks.ensures.taken)) (of-files c.args.with_inputs told from c.args.certificate.now g.F.Out.Sink.state run.result _ _ _ _ _ _ (ap (option_map (λ own. map (λ name. name.now) own.now)) c.then_some-names.ensures ∙ names) tolds at_certificate.tells run.ensures.outcome.written)
+
+pub returns-clause-left : goal.returns-clause-left
+returns-clause-left g c =
+    let outs = lent c.in_ok-outs.outs.items c.run_check-answer.new.outs c.in_ok-outs.outs.len (omega (arith, c.as_mut_slice-2.ensures.len, c.run_check-answer.auto.outs)) in
+    let run = c.run_check-answer in
+    let from = files c.args.inputs.now in
+    let told = g.F.Folder.held c.args.folder.now in
+    let opened : AreOpened g.F.In.Source.state (g.F.Folder.failing c.args.folder.now).reading told from c.as_mut_slice.result.now c.in_ok-sources.sources.benchmarks c.in_ok-sources.sources.weights =
+    rw c.as_mut_slice.ensures.value c.in_ok-sources.ensures.opened in
+    let owed = claim-opened g.F.In.Source.state (g.F.Folder.failing c.args.folder.now).reading told from c.args.certificate.now (refused run.result) _ _ _ _ _ _ _ _
+    opened (rw c.sources_of.ensures.same at c.in_ok-certificate.ensures.opened) run.ensures.sources run.ensures.certificate in
+    let at_certificate = rw c.sources_of.ensures.same at c.in_ok-certificate.ensures.opened in
+    let unopened : c.source.new.self ≡ c.args.folder.now = c.source.ensures.same ∙ c.sources_of.ensures.same in
+    let made : AreMade g.F.Out.Sink.state g.F.Folder.tells (g.F.Folder.failing c.args.folder.now).writing (spots_of [] checking.outputs) c.as_mut_slice-2.result.now =
+    rw c.as_mut_slice-2.ensures.value (subst (λ folder. AreMade g.F.Out.Sink.state g.F.Folder.tells (g.F.Folder.failing folder).writing (spots_of [] checking.outputs) c.in_ok-outs.outs.items) unopened c.in_ok-outs.ensures.made) in
+    let same : c.sinks_of.new.folder ≡ c.args.folder.now = c.sinks_of.ensures.same ∙ c.source.ensures.same ∙ c.sources_of.ensures.same in
+    let tolds = tolds-opened g.F.In.Source.state (g.F.Folder.failing c.args.folder.now).reading told from _ _ _ opened in
+    let names = wanted_names (λ own. map (λ name. name.now) own.now) c.args.with_inputs c.as_slice.result from c.args.certificate.now (ap (λ own. map (λ name. name.now) own) c.as_slice.ensures.value ∙ c.in_ok-names.ensures) in
+    cut-verdict c.args.with_inputs g.F.Folder.tells (g.F.Folder.failing c.args.folder.now).writing told (g.F.Folder.held c.close_sinks.new.folder) from c.args.certificate.now
+    g.F.Out.Sink.state _ _ _ run.result owed made (subst (AllByRecursion (λ own. IsTaken told (g.F.Folder.held c.close_sinks.new.folder) (g.F.Out.Sink.state own))) outs (rw same at c.close_sinks.ensures.taken)) (of-files c.args.with_inputs told from c.args.certificate.now g.F.Out.Sink.state run.result _ _ _ _ _ _ (ap (option_map (λ own. map (λ name. name.now) own.now)) c.then_some-names.ensures ∙ names) tolds at_certificate.tells run.ensures.outcome.written)
 
 pub returns-clause-refused : goal.returns-clause-refused
 returns-clause-refused g c =
@@ -74,7 +97,7 @@ returns-clause-refused g c =
     run.ensures.sources run.ensures.named
     (λ is has. (file stated, refl, certificate_blamed g.F.In.Source.state (g.F.Folder.failing c.args.folder.now).reading told stated run.result _ _ at_certificate run.ensures.certificate is)))
     (output_caused g.F.Out.Sink.state g.F.Folder.tells (g.F.Folder.failing c.args.folder.now).writing [] checking.outputs run.result _ _ made
-    (λ begun. let (claim, accepted, has) = run.ensures.outcome.written begun in (judged (verdict_on claim), refl, has.1))) in
+    (λ begun. let (claim, accepted, has) = run.ensures.outcome.written begun in (judged _ has.1 (verdict_on claim), refl, has.3))) in
     refused-for checking from (λ (claim : Claim). claim.survey) (λ answer. claim_owed told answer from c.args.certificate.now) (λ answer. Unit {0})
     (HasCause failing (IsInClaim from stated) []) run.result
     (named-opened g.F.In.Source.state (g.F.Folder.failing c.args.folder.now).reading told from checking _ _ _ _ opened run.ensures.named)
@@ -88,7 +111,7 @@ returns-clause-others g c =
     let unopened : c.source.new.self ≡ c.args.folder.now = c.source.ensures.same ∙ c.sources_of.ensures.same in
     let made : AreMade g.F.Out.Sink.state g.F.Folder.tells (g.F.Folder.failing c.args.folder.now).writing (spots_of [] checking.outputs) c.as_mut_slice-2.result.now =
     rw c.as_mut_slice-2.ensures.value (subst (λ folder. AreMade g.F.Out.Sink.state g.F.Folder.tells (g.F.Folder.failing folder).writing (spots_of [] checking.outputs) c.in_ok-outs.outs.items) unopened c.in_ok-outs.ensures.made) in
-    let there = spots_after g.F.Out.Sink.state g.F.Folder.tells (g.F.Folder.failing c.args.folder.now).writing (spots_of [] checking.outputs) _ _ _ run.result _ _ run.ensures.outcome made (λ claim has. (judged (verdict_on claim), has.1)) in
+    let there = spots_after g.F.Out.Sink.state g.F.Folder.tells (g.F.Folder.failing c.args.folder.now).writing (spots_of [] checking.outputs) _ _ _ run.result _ _ run.ensures.outcome made (λ claim has. (judged _ has.1 (verdict_on claim), has.3)) in
     let same : c.sinks_of.new.folder ≡ c.args.folder.now = c.sinks_of.ensures.same ∙ c.source.ensures.same ∙ c.sources_of.ensures.same in
     λ spot none. c.close_sinks.ensures.others spot (subst (AllByRecursion (λ own. spot ≢ (g.F.Out.Sink.state own).spot)) (sym outs) (none_among g.F.Out.Sink.state _ (spots_of [] checking.outputs) spot there (none, tt))) ∙ ap (λ own. g.F.Folder.held own spot) same
 

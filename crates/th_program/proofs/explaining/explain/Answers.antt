@@ -3,7 +3,7 @@ use Rattle.std.specs.List.{AllByRecursion}
 use Rattle.std.specs.Prelude.{IfErr}
 use Rattle.th_network.specs.Networks.{Survey}
 use Rattle.th_commands.specs.Plans.{files}
-use Rattle.th_program.proofs.ExplainedLemmas.{explained}
+use Rattle.th_program.proofs.ExplainedLemmas.{cut-explanation, explained}
 use Rattle.th_program.proofs.CauseLemmas.{files_caused, output_caused, run_caused}
 use Rattle.th_files.proofs.OpenedLemmas.{named-opened, opened-are-ready, survey-opened, tells-opened}
 use Rattle.th_files.proofs.OutputLemmas.{lent, made_ready, made_untouched, none_among, spots_after}
@@ -53,6 +53,25 @@ returns-clause-explained g c =
     let same : c.sinks_of.new.folder ≡ c.args.folder.now = c.sinks_of.ensures.same ∙ c.sources_of.ensures.same in
     let limit : to_z w64 (of_z w64 c.get.result) ≡ c.args.limit = search rules in
     explained g.F.Folder.tells (g.F.Folder.failing c.args.folder.now).writing told (g.F.Folder.held c.close_sinks.new.folder) from c.args.limit c.args.form
+    g.F.Out.Sink.state _ _ _ run.result owed made (subst (AllByRecursion (λ own. IsTaken told (g.F.Folder.held c.close_sinks.new.folder) (g.F.Out.Sink.state own))) outs (rw same at c.close_sinks.ensures.taken))
+    (rw (limit, books) at run.ensures.outcome.written)
+
+pub returns-clause-left : goal.returns-clause-left
+returns-clause-left g c =
+    let outs = lent c.in_ok-outs.outs.items c.run_explain-answer.new.outs c.in_ok-outs.outs.len (omega (arith, c.as_mut_slice-2.ensures.len, c.run_explain-answer.auto.outs)) in
+    let run = c.run_explain-answer in
+    let from = files c.args.inputs.now in
+    let told = g.F.Folder.held c.args.folder.now in
+    let opened : AreOpened g.F.In.Source.state (g.F.Folder.failing c.args.folder.now).reading told from c.as_mut_slice.result.now c.in_ok-sources.sources.benchmarks c.in_ok-sources.sources.weights =
+    rw c.as_mut_slice.ensures.value c.in_ok-sources.ensures.opened in
+    let owed = survey-opened g.F.In.Source.state (g.F.Folder.failing c.args.folder.now).reading told from (refused run.result) _ _ _ _ _ _ opened run.ensures.sources in
+    let books = tells-opened g.F.In.Source.state (g.F.Folder.failing c.args.folder.now).reading told _ _ opened.of_books in
+    let unopened : c.sources_of.new.folder ≡ c.args.folder.now = c.sources_of.ensures.same in
+    let made : AreMade g.F.Out.Sink.state g.F.Folder.tells (g.F.Folder.failing c.args.folder.now).writing (spots_of [] explaining.outputs) c.as_mut_slice-2.result.now =
+    rw c.as_mut_slice-2.ensures.value (subst (λ folder. AreMade g.F.Out.Sink.state g.F.Folder.tells (g.F.Folder.failing folder).writing (spots_of [] explaining.outputs) c.in_ok-outs.outs.items) unopened c.in_ok-outs.ensures.made) in
+    let same : c.sinks_of.new.folder ≡ c.args.folder.now = c.sinks_of.ensures.same ∙ c.sources_of.ensures.same in
+    let limit : to_z w64 (of_z w64 c.get.result) ≡ c.args.limit = search rules in
+    cut-explanation g.F.Folder.tells (g.F.Folder.failing c.args.folder.now).writing told (g.F.Folder.held c.close_sinks.new.folder) from c.args.limit c.args.form
     g.F.Out.Sink.state _ _ _ run.result owed made (subst (AllByRecursion (λ own. IsTaken told (g.F.Folder.held c.close_sinks.new.folder) (g.F.Out.Sink.state own))) outs (rw same at c.close_sinks.ensures.taken))
     (rw (limit, books) at run.ensures.outcome.written)
 

@@ -1,6 +1,6 @@
 use Rattle.std.proofs.Common.{◌∙◌, ap, inl, inr}
 use Rattle.th_program.proofs.RefusalLemmas.{unless-map}
-use Rattle.th_program.proofs.RunLemmas.{done-after, errors_apart, refused-after}
+use Rattle.th_program.proofs.RunLemmas.{cut-after, done-after, errors_apart, refused-after}
 use Rattle.th_devices.specs.Spots.{errors}
 use Rattle.th_program.proofs.plans.run_apart.Goals as goal
 
@@ -14,6 +14,7 @@ returns g c =
         status_is = c.refuse.ensures.status;
         reported = c.refuse.ensures.reported;
         untouched = unless-map own _ _ (λ same. λ spot apart. c.refuse.ensures.others spot apart ∙ ap (λ folder. g.F.Folder.held folder spot) same) c.in-Err.ensures.untouched;
+        left = λ write. cut-after g.F.Folder.tells (g.F.Folder.held c.args.folder.now) (g.F.Folder.held c.carry_out.new.folder) (g.F.Folder.held c.refuse.new.folder) c.args.plan.now own c.refuse.ensures.others (c.in-Err.ensures.left write);
         others = λ spot apart no_output. c.refuse.ensures.others spot apart ∙ c.carry_out.ensures.others spot no_output;
       },
     )
