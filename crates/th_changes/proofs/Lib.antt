@@ -7,5 +7,6 @@ pub mod SlopeLemmas
 pub mod ReroutedLemmas
 pub mod PriceLemmas
 pub mod NetLemmas
+pub mod SumLemmas
 pub mod LineLemmas
 pub mod BalanceLemmas

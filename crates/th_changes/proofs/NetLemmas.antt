@@ -2,7 +2,6 @@
 use Rattle.std.proofs.Common.{◌≡◌, ℕ, zero, suc, ◌+◌, ◌-◌, ◌<◌, ◌≤◌, ℤ, pos, ◌+ℤ◌, ◌*ℤ◌, true, List, [], get_or, length, take, refl, ap, ◌∙◌, sym, arith}
 use Rattle.std.proofs.lemmas.Int.{ints}
 use Rattle.std.proofs.lemmas.List.{get_or_default}
-use Rattle.std.proofs.lemmas.List.Sums.{fold_more}
 use Rattle.std.proofs.Math.IntN.{*ℤ-zero, *ℤ_comm}
 use Rattle.std.specs.List.{zip}
 use Rattle.th_observations.specs.Observed.{Observed}
@@ -16,6 +15,7 @@ use Rattle.th_changes.specs.Rerouted.{HoldsNumber}
 use Rattle.th_changes.specs.Inside.Sums.{sum_between}
 use Rattle.th_changes.specs.Numbers.{sign, touch}
 use Rattle.th_changes.proofs.SlopeLemmas.{net_all, net_more, nets}
+use Rattle.th_changes.proofs.SumLemmas.{before_more}
 
 nowhere : Observed
 nowhere = record { station = []; target = []; difference = pos 0; book = 0; line = 0 }
@@ -50,7 +50,7 @@ net_behind number survey flows run each holds =
 -- a sum of flows, with one more
 pub between_more : (flows : List ℤ) (start n : ℕ) → n < length flows → sum_between flows start (n + 1) ≡ sum_between flows start n +ℤ get_or flows n (pos 0)
 between_more flows start n within =
-    let more = fold_more (λ total flow. total +ℤ flow) (pos 0) flows n (pos 0) within in
+    let more = before_more flows n within in
     omega (arith, ints, more)
 
 -- a factor on the right of a sum

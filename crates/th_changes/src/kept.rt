@@ -1,7 +1,8 @@
 //! Circulations of a network that are kept, to bound what it costs whatever a number is changed by.
 ghost use Rattle.std.specs.Prelude.{◌≡◌, ◌<◌, ◌≤◌, ◌+ℤ◌, ◌*ℤ◌, pos, All, IfOk, IfSome, length, slice_index, slice_index_or, slice_set, true, unsigned_abs, ℕ};
-ghost use Rattle.th_changes.specs.Flows.{value};
+ghost use Rattle.th_changes.specs.Flows.{net, value};
 ghost use Rattle.th_changes.specs.Inside.Balances.{AreBalances};
+ghost use Rattle.th_changes.specs.Inside.Sums.{AreSums};
 ghost use Rattle.th_changes.specs.Kept.{AreClosed, IsKept};
 ghost use Rattle.th_changes.specs.Lines.{IsLine};
 ghost use Rattle.th_changes.specs.Rerouted.{HoldsNumber};
@@ -9,9 +10,10 @@ ghost use Rattle.th_network.specs.Networks.{AreOfObservations, weights_of};
 
 use crate::cases::Case;
 use crate::lines::Line;
-use crate::nets::net_in;
+use crate::nets::{net_by_touch, sum_up, sums_of};
 use crate::numbers::Number;
 use crate::prices::signed;
+use crate::rerouting::Rerouted;
 use crate::runs::Run;
 use std::alloc::{AllocError, Global};
 use th_network::Network;
@@ -23,7 +25,10 @@ pub struct KeptFlows<'a> {
     pub(crate) flows: Vec<i64>,
     /// By how much the value of the flows is less than what the network costs.
     pub(crate) lost: i64,
+    /// What the flows before each place come to together.
+    sums: Vec<i64>,
     ghost kept: { IsKept case.now.network.now case.now.cost flows.items lost },
+    ghost are_sums: { AreSums flows.items sums.items },
 }
 
 impl<'a> KeptFlows<'a> {
@@ -42,8 +47,40 @@ impl<'a> KeptFlows<'a> {
         let Some(lost) = lost_by(case, flows) else {
             return Ok(None);
         };
+        let kept = KeptFlows::with_sums(alloc, case, flows, lost)?;
+        Ok(Some(kept))
+    }
+
+    /// A circulation with what it loses, and its sums.
+    pub(crate) fn with_sums(
+        alloc: Global,
+        case: &'a Case<'a>,
+        flows: &[i64],
+        lost: i64,
+    ) -> Result<KeptFlows<'a>, AllocError>
+        requires { IsKept case.now.network.now case.now.cost flows.now lost }
+        ensures { IfOk result (λ own. own.case.now ≡ case.now) }
+    {
+        let sums = sums_of(alloc, case.network, flows)?;
         let flows = Vec::from_slice(alloc, flows)?;
-        Ok(Some(KeptFlows { case, flows, lost }))
+        Ok(KeptFlows {
+            case,
+            flows,
+            lost,
+            sums,
+        })
+    }
+
+    /// Takes flows that were sent other ways, in place of its own, if their walk is closed.
+    pub fn take(&mut self, rerouted: &Rerouted<'_>)
+        requires { rerouted.now.case.now ≡ self.old.case.now }
+        ensures { self.new.case.now ≡ self.old.case.now }
+    {
+        if let Some((flows, lost)) = rerouted.closed() {
+            self.flows.copy_from_slice(flows);
+            self.lost = lost;
+            sum_up(&mut self.sums, self.case.network, flows);
+        }
     }
 
     /// The flows of the observations, in their order.
@@ -63,8 +100,19 @@ impl<'a> KeptFlows<'a> {
     {
         Line {
             lost: self.lost,
-            net: net_in(self.case.network, number, &self.flows, run),
+            net: self.net(number, run),
         }
+    }
+
+    /// What flows through a number, whose observations are in a run.
+    fn net(&self, number: &Number, run: Run) -> i64
+        requires { HoldsNumber self.now.case.now.network.now.observations number.now run }
+        ensures { result ≡ net number.now self.now.case.now.network.now self.now.flows.items }
+    {
+        if run.is_whole {
+            return number.signed(self.sums[run.end] - self.sums[run.start]);
+        }
+        net_by_touch(self.case.network, number, &self.flows, run)
     }
 }
 

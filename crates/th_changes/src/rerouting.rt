@@ -4,6 +4,7 @@
 //! walks instead, less flows through the number, and the flows show less by what the walks cost. Once
 //! none is left, or some flows the other way, they bound what the network costs if the number changes.
 ghost use Rattle.std.specs.Prelude.{◌≡◌, ◌<◌, ◌≤◌, ◌+ℤ◌, ◌-ℤ◌, ◌*ℤ◌, IfOk, IfSome, length, pos, slice_index, slice_index_or, unsigned_abs};
+ghost use Rattle.th_changes.specs.Kept.{IsKept};
 ghost use Rattle.th_changes.specs.Lines.{IsLine};
 ghost use Rattle.th_changes.specs.Rerouted.{HoldsNumber, IsNext, IsRerouted};
 ghost use Rattle.th_network.specs.Links.{link_of};
@@ -187,14 +188,20 @@ impl<'a> Rerouted<'a> {
     pub fn kept(&self, alloc: Global) -> Result<Option<KeptFlows<'a>>, AllocError>
         ensures { IfOk result (λ own. IfSome own (λ own. own.case.now ≡ self.now.case.now)) }
     {
-        if self.start != self.at {
+        let Some((flows, lost)) = self.closed() else {
             return Ok(None);
+        };
+        let kept = KeptFlows::with_sums(alloc, self.case, flows, lost)?;
+        Ok(Some(kept))
+    }
+
+    /// The flows as they are, and what they lose, if the walk is closed.
+    pub(crate) fn closed(&self) -> Option<(&[i64], i64)>
+        ensures { IfSome result (λ own. IsKept self.now.case.now.network.now self.now.case.now.cost own.0.now own.1) }
+    {
+        if self.start != self.at {
+            return None;
         }
-        let flows = Vec::from_slice(alloc, &self.flows)?;
-        Ok(Some(KeptFlows {
-            case: self.case,
-            flows,
-            lost: self.lost,
-        }))
+        Some((&self.flows, self.lost))
     }
 }

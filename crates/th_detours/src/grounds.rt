@@ -79,14 +79,14 @@ impl Ground<'_> {
     #[inline]
     pub fn other(&self, way: Way, vertex: u32, side: &Side) -> Option<u32> {
         let is_spare = vertex == self.spare;
-        if self.ends.has(side.arc) != is_spare {
+        if (is_spare || vertex == self.base) && self.ends.has(side.arc) != is_spare {
             return None;
         }
         let link = self.links.get(side.arc.row())?;
         if link.room(way.along(side.arc))? == 0 {
             return None;
         }
-        if self.ends.has(side.arc.reversed()) {
+        if side.other == self.base && self.ends.has(side.arc.reversed()) {
             Some(self.spare)
         } else {
             Some(side.other)

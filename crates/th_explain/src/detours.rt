@@ -70,6 +70,17 @@ impl<'a> Detours<'a> {
         turned
     }
 
+    /// Gives the flows that go round all walks that the guide proposed to some that are kept.
+    pub fn give_turned(&mut self, kept: &mut KeptFlows<'_>)
+        requires { kept.old.case.now ≡ self.old.rerouted.case.now }
+        ensures case { self.new.rerouted.case.now ≡ self.old.rerouted.case.now }
+        ensures kept { kept.new.case.now ≡ kept.old.case.now }
+    {
+        send(&mut self.rerouted, &self.guide);
+        kept.take(&self.rerouted);
+        send_back(&mut self.rerouted, &self.guide);
+    }
+
     /// Has the guide propose walks for a number, through which so much flows. They send back more, so that no change
     /// beyond the limit is needed.
     pub fn propose(&mut self, number: &Number, run: Run, net: i64, limit: u64) -> Option<()>

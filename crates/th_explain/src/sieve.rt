@@ -8,12 +8,15 @@ use crate::pairs::{Pair, best_pair, nearest_line};
 use crate::unshown::Unshown;
 use std::alloc::{AllocError, Global};
 use th_blunders::Fit;
-use th_changes::{Case, KeptFlows, Line, Number, run_of};
+use th_changes::{Case, KeptFlows, Line, Number, Rerouted, run_of};
 use th_freeing::{Seed, Simplex};
 use th_reliability::Runs;
 
 /// So many circulations are kept at most.
 const MOST_KEPT: usize = 64;
+
+/// So many of those that went other ways are kept beside them.
+const MOST_TURNED: usize = 16;
 
 /// The best flows of a network, circulations that freed one number or another, and what proposes other ways for
 /// them.
@@ -27,6 +30,9 @@ pub struct Sieve<'a> {
     pub(crate) kept: Vec<KeptFlows<'a>>,
     /// For each of them where the simplex goes on from it. Nothing is promised of that.
     pub(crate) seeds: Vec<Seed>,
+    /// The last circulations that went other ways and showed something of a number, the latest last. They mostly show
+    /// the same of the numbers that follow.
+    turned: Vec<KeptFlows<'a>>,
     pub(crate) runs: Runs<'a>,
     pub(crate) simplex: Simplex,
     /// What the kept circulations say of the number that was asked for last. Nothing is promised of it.
@@ -37,6 +43,7 @@ pub struct Sieve<'a> {
     ghost same_best: { best.rerouted.case.now ≡ case.now },
     ghost same_near: { near.rerouted.case.now ≡ case.now },
     ghost same_kept: { All (λ own. own.case.now ≡ case.now) kept.items },
+    ghost same_turned: { All (λ own. own.case.now ≡ case.now) turned.items },
 }
 
 impl<'a> Sieve<'a> {
@@ -44,16 +51,19 @@ impl<'a> Sieve<'a> {
     pub fn of(alloc: Global, case: &'a Case<'a>, fit: &Fit) -> Result<Sieve<'a>, AllocError>
         ensures { IfOk result (λ own. own.case.now ≡ case.now) }
     {
+        let best = Detours::of(alloc, case, fit)?;
+        let turned = copies_of(alloc, &best.rerouted)?;
         Ok(Sieve {
             case,
-            best: Detours::of(alloc, case, fit)?,
+            best,
             near: Detours::of(alloc, case, fit)?,
             near_place: None,
             kept: Vec::with_capacity(alloc, MOST_KEPT)?,
             seeds: Vec::with_capacity(alloc, MOST_KEPT)?,
+            turned,
             runs: Runs::of(case.network.observations()),
             simplex: simplex_of(alloc, case, fit)?,
-            lines: Vec::with_capacity(alloc, MOST_KEPT)?,
+            lines: Vec::with_capacity(alloc, MOST_KEPT + MOST_TURNED)?,
             unshown: Unshown::new(),
         })
     }
@@ -90,8 +100,11 @@ impl<'a> Sieve<'a> {
         let run = run_of(number, &self.runs);
         let _ = self.best.propose(number, run, given.net, limit);
         match self.turned(number) {
-            Some(turned) => turned.are_costly_beyond(&given, limit),
-            None => false,
+            Some(turned) if turned.are_costly_beyond(&given, limit) => {
+                self.keep_turned();
+                true
+            }
+            _ => false,
         }
     }
 
@@ -101,7 +114,7 @@ impl<'a> Sieve<'a> {
         ensures { result ≡ true
             → IsCostlyBeyond self.now.case.now.network.now number.now self.now.case.now.cost limit }
     {
-        for place in 0..self.kept.len() {
+        for place in 0..self.count() {
             if let Some(line) = self.kept_line(place, number)
                 && line.are_costly_beyond(given, limit)
             {
@@ -154,8 +167,11 @@ impl<'a> Sieve<'a> {
         let worth = worth_above(self.case.cost, least);
         let _ = self.best.propose_below(number, run, given.net, worth);
         match self.turned(number) {
-            Some(turned) => turned.leave_at_least(given, self.case.cost, least),
-            None => false,
+            Some(turned) if turned.leave_at_least(given, self.case.cost, least) => {
+                self.keep_turned();
+                true
+            }
+            _ => false,
         }
     }
 
@@ -175,8 +191,11 @@ impl<'a> Sieve<'a> {
             limit,
         };
         match self.turned_near(number, worth) {
-            Some(turned) => turned.leave_at_least(given, self.case.cost, least),
-            None => false,
+            Some(turned) if turned.leave_at_least(given, self.case.cost, least) => {
+                self.keep_turned_near();
+                true
+            }
+            _ => false,
         }
     }
 
@@ -213,7 +232,7 @@ impl<'a> Sieve<'a> {
         ensures { self.new.case.now ≡ self.old.case.now }
     {
         self.lines.clear();
-        for place in 0..self.kept.len() {
+        for place in 0..self.count() {
             let line = self.kept_line(place, number)?;
             self.lines.push(line).ok()?;
         }
@@ -227,14 +246,29 @@ impl<'a> Sieve<'a> {
         self.best.line(number, run_of(number, &self.runs))
     }
 
-    /// A line of one of the circulations that are kept.
+    /// How many circulations are kept, with those that went other ways.
+    fn count(&self) -> usize {
+        self.kept.len().saturating_add(self.turned.len())
+    }
+
+    /// A line of one of the circulations that are kept: of those that went other ways behind the others.
     pub(crate) fn kept_line(&self, place: usize, number: &Number) -> Option<Line>
         ensures { IfSome result (IsLine self.now.case.now.network.now number.now self.now.case.now.cost) }
     {
         if place >= self.kept.len() {
-            return None;
+            return self.turned_line(place - self.kept.len(), number);
         }
         Some(self.kept[place].line(number, run_of(number, &self.runs)))
+    }
+
+    /// A line of one of those that went other ways.
+    fn turned_line(&self, place: usize, number: &Number) -> Option<Line>
+        ensures { IfSome result (IsLine self.now.case.now.network.now number.now self.now.case.now.cost) }
+    {
+        if place >= self.turned.len() {
+            return None;
+        }
+        Some(self.turned[place].line(number, run_of(number, &self.runs)))
     }
 
     /// A line of the best flows where they go round all walks that were proposed.
@@ -260,11 +294,62 @@ impl<'a> Sieve<'a> {
     fn draw_near(&mut self, place: usize)
         ensures { self.new.case.now ≡ self.old.case.now }
     {
-        if self.near_place == Some(place) || place >= self.kept.len() {
-            return;
+        let kept = self.kept.len();
+        if place >= kept {
+            self.draw_turned_near(place - kept);
+        } else if self.near_place != Some(place) {
+            self.near.take(&self.kept[place]);
+            self.near_place = Some(place);
         }
-        self.near.take(&self.kept[place]);
-        self.near_place = Some(place);
+    }
+
+    /// The same of those that went other ways.
+    fn draw_turned_near(&mut self, place: usize)
+        ensures { self.new.case.now ≡ self.old.case.now }
+    {
+        if place < self.turned.len() {
+            self.near.take(&self.turned[place]);
+            self.near_place = None;
+        }
+    }
+
+    /// Keeps the best flows where they go round the walks that were proposed last.
+    fn keep_turned(&mut self)
+        ensures { self.new.case.now ≡ self.old.case.now }
+    {
+        if let Some(mut own) = self.oldest_turned() {
+            self.best.give_turned(&mut own);
+            let _ = self.add_turned(own);
+        }
+    }
+
+    /// The same, of the near circulation.
+    fn keep_turned_near(&mut self)
+        ensures { self.new.case.now ≡ self.old.case.now }
+    {
+        if let Some(mut own) = self.oldest_turned() {
+            self.near.give_turned(&mut own);
+            let _ = self.add_turned(own);
+        }
+    }
+
+    /// Those circulations that went other ways that were kept longest, which are kept no more.
+    fn oldest_turned(&mut self) -> Option<KeptFlows<'a>>
+        ensures case { self.new.case.now ≡ self.old.case.now }
+        ensures same { IfSome result (λ own. own.case.now ≡ self.old.case.now) }
+    {
+        if self.turned.is_empty() {
+            return None;
+        }
+        Some(self.turned.remove(0))
+    }
+
+    /// Keeps a circulation that went other ways, where there is room.
+    fn add_turned(&mut self, own: KeptFlows<'a>) -> Option<()>
+        requires { own.case.now ≡ self.old.case.now }
+        ensures { self.new.case.now ≡ self.old.case.now }
+    {
+        self.turned.push(own).ok()
     }
 
     /// Keeps flows, in place of those that were kept longest if there is no room, and where the simplex goes on from
@@ -298,6 +383,19 @@ impl<'a> Sieve<'a> {
 /// How much less than a cost may be left, if at least another one is to be left.
 fn worth_above(cost: u128, least: u128) -> u64 {
     u64::try_from(cost.saturating_sub(least)).unwrap_or(u64::MAX)
+}
+
+/// So many copies of flows as circulations that went other ways are kept.
+fn copies_of<'a>(alloc: Global, flows: &Rerouted<'a>) -> Result<Vec<KeptFlows<'a>>, AllocError>
+    ensures { IfOk result (λ copies. All (λ own. own.case.now ≡ flows.now.case.now) copies.items) }
+{
+    let mut copies = Vec::with_capacity(alloc, MOST_TURNED)?;
+    for _ in 0..MOST_TURNED {
+        if let Some(own) = flows.kept(alloc)? {
+            copies.push(own)?;
+        }
+    }
+    Ok(copies)
 }
 
 /// The simplex for a network with its best flows.

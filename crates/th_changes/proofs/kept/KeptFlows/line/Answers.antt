@@ -1,5 +1,5 @@
-use Rattle.std.proofs.Common.{◌≡◌, ℤ, List, ap, of_z, rules, subst, sym, to_z, w64, FitsSigned, ◌∙◌, arith}
-use Rattle.std.proofs.lemmas.Int.{fits_signed_from_abs, to_z-of_z}
+use Rattle.std.proofs.Common.{◌≡◌, FitsSigned, of_z, rules, subst, sym, to_z, w64, ◌∙◌}
+use Rattle.std.proofs.lemmas.Int.{to_z-of_z}
 use Rattle.th_changes.specs.Flows.{net}
 use Rattle.th_changes.specs.Kept.{IsKept}
 use Rattle.th_changes.proofs.ReroutedLemmas.{line_of}
@@ -11,10 +11,7 @@ returns c =
     let case = own.case.now in
     let survey = case.network.now in
     let number = c.args.number.now in
-    let flows : List ℤ = own.flows.items in
-    let small = c.net_in.ensures.small in
-    let plain = to_z-of_z w64 c.net_in.result (fits_signed_from_abs w64 c.net_in.result (omega (arith, small))) in
-    let flowing : to_z w64 (of_z w64 c.net_in.result) ≡ net number survey flows = plain ∙ c.net_in.ensures.net ∙ ap (λ (flows : List ℤ). net number survey flows) c.deref.ensures.value in
+    let net_fits : FitsSigned w64 c.net.result = search rules in
+    let flowing : to_z w64 (of_z w64 c.net.result) ≡ net number survey own.flows.items = to_z-of_z w64 c.net.result net_fits ∙ c.net.ensures in
     let lost_fits : FitsSigned w64 own.lost = search rules in
-    let lost = to_z-of_z w64 own.lost lost_fits in
-    line_of survey number case.cost flows _ (subst (IsKept survey case.cost flows) (sym lost) own.kept) flowing
+    line_of survey number case.cost own.flows.items _ (subst (IsKept survey case.cost own.flows.items) (sym (to_z-of_z w64 own.lost lost_fits)) own.kept) flowing

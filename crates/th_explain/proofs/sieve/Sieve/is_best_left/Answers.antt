@@ -8,6 +8,6 @@ returns-in-Some-clause-left c holds =
     let number = c.args.number.now in
     let case : Case = c.args.self.now.case.now in
     let cost : c.turned.new.self.case.now.cost ≡ case.cost = ap (λ (own : Case). own.cost) c.turned.ensures.case in
-    c.leave_at_least.ensures holds case.network.now number
+    c.leave_at_least.ensures c.if-leave_at_least.true case.network.now number
     (subst (λ (cost : ℕ). IsLine case.network.now number cost c.in-Some.turned) (sym cost) c.in-Some.ensures.line)
     (subst (λ (cost : ℕ). IsLine case.network.now number cost c.args.given.now) (sym cost) c.requires)
