@@ -12,8 +12,8 @@ use Rattle.th_cuts.specs.CutWeights.{crosses, cut_weight}
 use Rattle.th_cuts.specs.Drains.{drain, room_at, room_in}
 use Rattle.th_cuts.specs.Graphs.{AreAmong, edge_at, finish_of, start_of}
 use Rattle.th_cuts.specs.Inside.Trees.{IsSent, at}
-use Rattle.th_cuts.specs.Inside.Flows.{AreBounded, AreFullOut, CanCarry, IsClosed, IsFlow, IsFullOut, carried, carry, flow_at, net, out_of, signed}
-use Rattle.th_cuts.proofs.RoomLemmas.{room_in_least, room_in_none, room_in_set}
+use Rattle.th_cuts.specs.Inside.Flows.{AreBounded, AreFullOut, CanCarry, IsClosed, IsFlow, IsFullOut, carried, carry, flow_at, moved, net, out_of, signed}
+use Rattle.th_cuts.proofs.RoomLemmas.{room_in_least, room_in_more, room_in_none, room_in_set}
 
 -- ---- no cut weighs less than what is taken out of it
 out_most : (s t : Bool) (f : ℤ) (w : ℕ) → unsigned_abs f ≤ w → (if s then (if t then pos 0 else f) else (if t then (pos 0 -ℤ f) else pos 0)) ≤ℤ pos (if (if s then (if t then false else true) else t) then w else 0)
@@ -262,3 +262,24 @@ flow_sent edges source end amount value rooms left first flows flow sent enough 
       let set = room_in_set left inside end amount within enough in
       omega (arith, ints);
 }
+
+-- ---- an amount that a way carries, with as much room moved from its finish to its start
+pub flow_pulled : (edges : List Edge) (source start finish amount value : ℕ) (way : Way) (rooms left : List ℕ) (flows : List ℤ) → IsFlow edges source rooms left value flows → way.edge < length edges → CanCarry edges flows amount way → start ≡ start_of way (edge_at edges way.edge) → finish ≡ finish_of way (edge_at edges way.edge) → start < length left → finish < length left → amount ≤ room_at left finish → IsFlow edges source rooms (moved left finish start amount) value (carry amount flows way)
+flow_pulled edges source start finish amount value way rooms left flows flow among room from to within ends enough =
+    let less = slice_set left finish (room_at left finish - amount) in
+    let long = length-set left finish (room_at left finish - amount) in
+    let longer = length-set less start (room_at less start + amount) in
+    record {
+      within = carry_bounded edges flows amount way flow.within room;
+      each = let same = flow.each in omega arith;
+      valued = λ inside in_it.
+          let carries = net_carry inside edges flows amount way among flow.within.sized in
+          let before = flow.valued inside in_it in
+          let begins = ap (λ (v : ℕ). at amount (inside v)) from in
+          let ends_there = ap (λ (v : ℕ). at amount (inside v)) to in
+          let starts = at_is amount (inside start) in
+          let finishes = at_is amount (inside finish) in
+          let set = room_in_set left inside finish amount ends enough in
+          let more = room_in_more less inside start amount (omega arith) in
+          omega (arith, ints);
+    }

@@ -7,6 +7,7 @@ use crate::flows::{Drain, Flow};
 use crate::graphs::Graph;
 use crate::guides::Guide;
 use crate::paths::Path;
+use crate::sweeps::Sweep;
 use crate::trees::{Found, Tree, search};
 use std::alloc::{AllocError, Global};
 
@@ -119,6 +120,7 @@ fn fill(alloc: Global, flow: &mut Flow<'_>, ends: &[u32]) -> Result<Option<Vec<b
 {
     let mut guide = Guide::new(alloc, flow.drain.graph)?;
     let mut path = Path::new(alloc);
+    let mut sweep = Sweep::new(alloc);
     'filling: while flow.value < flow.drain.most {
         let before = flow.value;
         let aim = guide.aim(flow, ends)?;
@@ -132,6 +134,10 @@ fn fill(alloc: Global, flow: &mut Flow<'_>, ends: &[u32]) -> Result<Option<Vec<b
                 Found::Way(steps, last) => flow.send(&steps, last),
                 Found::Side(side) => return Ok(Some(side)),
             }
+        } else if guide.is_long(flow.drain.graph) {
+            sweep.bring(flow)?;
+            guide.follow_sweep();
+            flow.send_more(&mut guide, &mut path)?;
         }
     }
     Ok(None)

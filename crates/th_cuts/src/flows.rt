@@ -1,6 +1,7 @@
 //! Flow from a source along the edges of a graph, with room for some of it at each vertex.
-ghost use Rattle.std.specs.Prelude.{◌≡◌, ◌<◌, ◌≤◌, ◌↔◌, ℕ, IfOk, false, length, true};
+ghost use Rattle.std.specs.Prelude.{◌≡◌, ◌+◌, ◌<◌, ◌≤◌, ◌↔◌, ℕ, IfOk, false, length, true};
 ghost use Rattle.th_cuts.specs.Drains.{on_side, room_at};
+ghost use Rattle.th_cuts.specs.Graphs.{edge_at, finish_of, start_of};
 ghost use Rattle.th_cuts.specs.Inside.Flows.{AreBounded, IsFlow};
 ghost use Rattle.th_cuts.specs.Inside.Trees.{AreApart, AreSteps, IsSent, step_at};
 
@@ -8,7 +9,7 @@ use crate::edges::Way;
 use crate::graphs::Graph;
 use crate::guides::Guide;
 use crate::paths::Path;
-use crate::rooms::{carry, room};
+use crate::rooms::{carry, move_room, room};
 use crate::trees::WayStep;
 use std::alloc::{AllocError, Global};
 
@@ -64,6 +65,15 @@ impl<'a> Flow<'a> {
         room(self.drain.graph, &self.flows, way)
     }
 
+    /// How much more can flow along a way; nothing along one of no edge.
+    pub fn room_along(&self, way: Way) -> u32 {
+        if way.edge < self.drain.graph.edges.len() {
+            self.room(way)
+        } else {
+            0
+        }
+    }
+
     /// How much more may end at a vertex.
     pub fn left_at(&self, vertex: u32) -> u32
         ensures { result ≡ room_at self.now.left.items vertex }
@@ -94,16 +104,59 @@ impl<'a> Flow<'a> {
         self.value += amount;
     }
 
-    /// Sends more along ways that lead one level on, until there is enough or no such ways lead to where
-    /// more may end.
+    /// Sends more along ways that lead one level on, until there is enough, the paths took many steps, or no
+    /// such ways lead to where more may end.
     pub fn send_more(&mut self, guide: &mut Guide, path: &mut Path) -> Result<(), AllocError>
         ensures drain { IfOk result (λ _. self.new.drain ≡ self.old.drain) }
         ensures more { IfOk result (λ _. self.old.value ≤ self.new.value) }
     {
         'sending: while self.value < self.drain.most && path.find(self, guide)? {
             self.send(&path.steps, path.steps.len() - 1);
+            guide.walk(path.steps.len());
+            if guide.has_walked(self.drain.graph) {
+                return Ok(());
+            }
         }
         Ok(())
+    }
+
+    /// Pulls up to an amount back along a way: what may end where the way leads may end where it begins
+    /// instead, and flows along the way. As much flows from the source as before.
+    pub fn pull(&mut self, way: Way, most: u32)
+        ensures drain { self.new.drain ≡ self.old.drain }
+        ensures value { self.new.value ≡ self.old.value }
+    {
+        let graph = self.drain.graph;
+        if way.edge >= graph.edges.len() {
+            return;
+        }
+        let start = way.start(graph.edges[way.edge]);
+        let finish = way.finish(graph.edges[way.edge]);
+        let amount = least(most, least(self.room(way), self.left_at(finish)));
+        if amount == 0 || start as usize >= self.left.len() {
+            return;
+        }
+        if self.left_at(start) > u32::MAX - amount {
+            return;
+        }
+        self.pull_just(way, start, finish, amount);
+    }
+
+    /// Pulls an amount back along a way.
+    fn pull_just(&mut self, way: Way, start: u32, finish: u32, amount: u32)
+        requires way { way.edge < length self.old.drain.graph.now.edges.items }
+        requires room { CanCarryMore self.old amount way }
+        requires start { start ≡ start_of way (edge_at self.old.drain.graph.now.edges.items way.edge) }
+        requires finish { finish ≡ finish_of way (edge_at self.old.drain.graph.now.edges.items way.edge) }
+        requires within { start < length self.old.left.items }
+        requires ends { finish < length self.old.left.items }
+        requires enough { amount ≤ room_at self.old.left.items finish }
+        requires light { room_at self.old.left.items start + amount ≤ 4294967295 }
+        ensures drain { self.new.drain ≡ self.old.drain }
+        ensures value { self.new.value ≡ self.old.value }
+    {
+        carry(self.drain.graph, &mut self.flows, way, amount);
+        move_room(&mut self.left, finish, start, amount);
     }
 
     /// Whether a side holds the source, and nothing more can leave it or end in it.

@@ -25,6 +25,8 @@ struct Wave {
     front: usize,
     /// The last level.
     last: u32,
+    /// The most room along a way on from there that was too narrow.
+    narrow: u32,
 }
 
 /// Which way a search goes.
@@ -60,6 +62,12 @@ pub(crate) struct Guide {
     least_room: u32,
     /// How many searches there were.
     searches: u32,
+    /// How many vertices they reached since the last sweep.
+    reached: usize,
+    /// How many steps the paths took since then that led to where more may end.
+    walked: usize,
+    /// Whether a sweep has moved room to vertices that are no ends.
+    is_swept: bool,
 }
 
 impl Wave {
@@ -70,6 +78,7 @@ impl Wave {
             queue: Vec::new(alloc),
             front: 0,
             last: 0,
+            narrow: 0,
         })
     }
 
@@ -83,6 +92,7 @@ impl Wave {
         self.queue.clear();
         self.front = 0;
         self.last = 0;
+        self.narrow = 0;
     }
 
     /// The level of a vertex.
@@ -156,11 +166,14 @@ impl Wave {
         let (first, end) = graph.range(vertex);
         for number in first..end {
             let neighbour = graph.way(number);
-            if self.level(neighbour.finish) == u32::MAX
-                && flow.room(heading.along(neighbour.way)) >= least_room
-            {
-                self.add(neighbour.finish, level)?;
-                has_met = has_met || other.level(neighbour.finish) != u32::MAX;
+            if self.level(neighbour.finish) == u32::MAX {
+                let room = flow.room(heading.along(neighbour.way));
+                if room >= least_room {
+                    self.add(neighbour.finish, level)?;
+                    has_met = has_met || other.level(neighbour.finish) != u32::MAX;
+                } else {
+                    self.narrow = self.narrow.max(room);
+                }
             }
         }
         Ok(has_met)
@@ -200,6 +213,9 @@ impl Guide {
             cursors: vec![in alloc; 0usize; vertices]?,
             least_room: 1,
             searches: 0,
+            reached: 0,
+            walked: 0,
+            is_swept: false,
         })
     }
 
@@ -216,10 +232,19 @@ impl Guide {
             if self.least_room <= 1 || aim == Aim::Ways {
                 return Ok(aim);
             }
-            self.least_room /= 2;
+            self.narrow_down(aim);
             aim = self.search(flow, ends)?;
         }
         Ok(aim)
+    }
+
+    /// Lets ways be tried that are half as wide, or as wide as the widest one that leads on.
+    fn narrow_down(&mut self, aim: Aim) {
+        let widest = match aim {
+            Aim::ToEnds => self.behind.narrow,
+            Aim::FromSource | Aim::Ways => self.ahead.narrow,
+        };
+        self.least_room = (self.least_room / 2).min(widest).max(1);
     }
 
     /// Lets wide ways alone be tried.
@@ -235,6 +260,18 @@ impl Guide {
     /// Searches from the source and back from some vertices where more may end, a level at a time, always
     /// where fewer vertices have the last level, until both meet or one of them has no way on.
     fn search(&mut self, flow: &Flow<'_>, ends: &[u32]) -> Result<Aim, AllocError> {
+        let aim = self.meet(flow, ends)?;
+        let both = self
+            .ahead
+            .queue
+            .len()
+            .saturating_add(self.behind.queue.len());
+        self.reached = self.reached.saturating_add(both);
+        Ok(aim)
+    }
+
+    /// The search itself.
+    fn meet(&mut self, flow: &Flow<'_>, ends: &[u32]) -> Result<Aim, AllocError> {
         self.begin(flow, ends)?;
         let graph = flow.drain.graph;
         for _ in 0..graph.vertices {
@@ -257,12 +294,50 @@ impl Guide {
         self.ahead.clear();
         self.behind.clear();
         self.ahead.add(flow.drain.source, 0)?;
+        if self.is_swept {
+            return self.begin_everywhere(flow);
+        }
         for end in ends {
             if flow.left_at(*end) != 0 && self.behind.level(*end) == u32::MAX {
                 self.behind.add(*end, 0)?;
             }
         }
         Ok(())
+    }
+
+    /// Begins at all vertices where more may end.
+    fn begin_everywhere(&mut self, flow: &Flow<'_>) -> Result<(), AllocError> {
+        for vertex in 0..flow.drain.graph.vertices {
+            if flow.left_at(vertex) != 0 {
+                self.behind.add(vertex, 0)?;
+            }
+        }
+        Ok(())
+    }
+
+    /// Whether a sweep takes about as long as the paths since the last one took, or as the searches if there
+    /// were many of them.
+    pub fn is_long(&self, graph: &Graph) -> bool {
+        let has_searched = self.searches >= PLAIN_SEARCHES
+            && self.reached >= graph.vertices as usize;
+        has_searched || self.has_walked(graph)
+    }
+
+    /// Whether the paths since the last sweep took as many steps as there are vertices.
+    pub fn has_walked(&self, graph: &Graph) -> bool {
+        self.walked >= graph.vertices as usize
+    }
+
+    /// Counts the steps of a path.
+    pub fn walk(&mut self, steps: usize) {
+        self.walked = self.walked.saturating_add(steps);
+    }
+
+    /// Searches from wherever more may end from now on, as a sweep moves room to other vertices.
+    pub fn follow_sweep(&mut self) {
+        self.is_swept = true;
+        self.reached = 0;
+        self.walked = 0;
     }
 
     /// Goes one level on, and returns whether ways lead from the source to where more may end.

@@ -24,6 +24,7 @@ mod flows;
 mod guides;
 mod paths;
 mod rooms;
+mod sweeps;
 mod trees;
 
 // What flow shows.

@@ -1,8 +1,8 @@
 -- The other ends of some observations, one observation after another.
-use Rattle.std.proofs.Common.{◌≡◌, ℕ, pos, ◌+◌, ◌<◌, ◌≤◌, Bool, true, false, List, [], ◌∷◌, ◌++◌, get_or, map, take, replicate, Contains, if◌then◌else◌, length, sum_by, refl, sym, ap, ◌∙◌, subst, arith}
+use Rattle.std.proofs.Common.{◌≡◌, ℕ, zero, suc, inl, inr, pos, ◌+◌, ◌-◌, ◌<◌, ◌≤◌, Bool, true, false, List, [], ◌∷◌, ◌++◌, get_or, map, take, replicate, Contains, if◌then◌else◌, length, sum_by, refl, sym, ap, ◌∙◌, subst, arith}
 use Rattle.std.specs.Prelude.{slice_set}
 use borrow.Author.Count.{below_more}
-use Rattle.std.proofs.lemmas.Bool.{false≢true}
+use Rattle.std.proofs.lemmas.Bool.{cases_lt, false≢true}
 use Rattle.std.proofs.lemmas.List.{get_or_append_left, get_or_default, get_or_push, get_or-map, length-append, length-map, length-replicate, length-set, take_all}
 use Rattle.std.proofs.lemmas.List.Sums.{sum_by_more, sum_by_more_le}
 use Rattle.th_observations.specs.Observed.{Observed}
@@ -179,6 +179,21 @@ module _ (survey : Survey) (edges : List Edge) (is : AreEdges survey edges) wher
             (λ is. (o, (i, within, at o), on, sym there ∙ sym (get_or_push targets far target (length targets) refl) ∙ is))
             k (let long = length-append targets (far ∷ []) in omega arith) found_there
 
+  -- ---- several that do not
+  pub sized_skips : (count i j weight : ℕ) (rooms : List ℕ) → j ≡ i + count → j ≤ length edges → AreSized survey edges i weight rooms → AreSized survey edges j weight rooms
+  sized_skips zero i j weight rooms there within sized = subst (λ (n : ℕ). AreSized survey edges n weight rooms) (omega arith) sized
+  sized_skips (suc count) i j weight rooms there within sized =
+      sized_skips count (i + 1) j weight rooms (omega arith) within (sized_skip i weight rooms sized (omega arith))
+
+  pub found_skips : (group : Observed → Bool) (start : ℕ) (marks : List Bool) (same : marks ≡ map group survey.observations) (count i j weight : ℕ) (rooms targets : List ℕ) → j ≡ i + count → j ≤ length survey.observations → ((k : ℕ) → i ≤ k → k < j → get_or marks k false ≡ false) → AreFound survey group start i weight rooms targets → AreFound survey group start j weight rooms targets
+  found_skips group start marks same zero i j weight rooms targets there within off found = subst (λ (n : ℕ). AreFound survey group start n weight rooms targets) (omega arith) found
+  found_skips group start marks same (suc count) i j weight rooms targets there within off found =
+      let inner : i < length survey.observations = omega arith in
+      let o : Observed = get_or survey.observations i nowhere in
+      let here : o ≡ get_or survey.observations i o = get_or_default survey.observations i nowhere o inner in
+      found_skips group start marks same count (i + 1) j weight rooms targets (omega arith) within (λ k h. off k (omega arith))
+      (found_skip group start i weight rooms targets o found inner here (sym (mark_is survey group marks i same inner) ∙ off i (omega arith) (omega arith)))
+
   pub found_all : (group : Observed → Bool) (start i weight : ℕ) (rooms targets : List ℕ) → length survey.observations ≤ i → AreFound survey group start i weight rooms targets → AreTargets survey group start rooms targets × (weight ≡ weight_in survey.observations survey.weights group)
   found_all group start i weight rooms targets past found =
       let whole = take_all i survey.observations past in (
@@ -189,3 +204,13 @@ module _ (survey : Survey) (edges : List Edge) (is : AreEdges survey edges) wher
         },
         found.weighs ∙ ap (λ (os : List Observed). weight_in os survey.weights group) whole,
       )
+
+  -- none is marked from a place on
+  pub found_rest : (group : Observed → Bool) (start : ℕ) (marks : List Bool) (same : marks ≡ map group survey.observations) (i weight : ℕ) (rooms targets : List ℕ) → ((k : ℕ) → i ≤ k → get_or marks k false ≡ false) → AreFound survey group start i weight rooms targets → AreTargets survey group start rooms targets × (weight ≡ weight_in survey.observations survey.weights group)
+  found_rest group start marks same i weight rooms targets off found = elim (cases_lt i (length survey.observations)) [
+    | inl less ↦
+        let all = length survey.observations in
+        found_all group start all weight rooms targets (omega arith)
+        (found_skips group start marks same (all - i) i all weight rooms targets (omega arith) (omega arith) (λ k h before. off k h) found)
+    | inr more ↦ found_all group start i weight rooms targets more found
+  ]

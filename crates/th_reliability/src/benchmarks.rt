@@ -62,7 +62,7 @@ fn benchmark_effect(
 {
     let network = ground.network;
     let mistaken = marks_at(alloc, network, name)?;
-    let flowed = effect_at(alloc, ground, &mistaken, 0)?;
+    let flowed = effect_at(alloc, ground, &mistaken, (0, mistaken.len()), 0)?;
     let sights = count_marked(&mistaken);
     Ok(BenchmarkEffect {
         sights,

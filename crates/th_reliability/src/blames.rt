@@ -1,13 +1,13 @@
 //! What a mistake that does not show would move, and what would be blamed for it.
-ghost use Rattle.std.specs.Prelude.{◌≡◌, count_by, IfOk, length, nat_lt};
+ghost use Rattle.std.specs.Prelude.{◌≡◌, ◌+◌, ◌<◌, ◌≤◌, ℕ, List, count_by, get_or, length};
 ghost use Rattle.th_cuts.specs.Drains.{on_side};
 ghost use Rattle.th_cuts.specs.CutWeights.{separates};
 ghost use Rattle.th_network.specs.Networks.{points_of};
-ghost use Rattle.th_reliability.specs.Blames.{IsBlame, IsHeaviest, blamed_weights};
+ghost use Rattle.th_reliability.specs.Blames.{IsBlame, blamed_weights};
+ghost use Rattle.th_reliability.specs.Inside.Blamed.{IsBlamed};
 ghost use Rattle.th_reliability.specs.Inside.Sides.{blamed_edge, names_beyond};
 ghost use Rattle.th_reliability.specs.Inside.Targets.{AreEdges};
 
-use std::alloc::{AllocError, Global};
 use th_cuts::Edge;
 use th_network::Network;
 
@@ -24,25 +24,48 @@ pub struct Blame {
     pub blamed: Option<usize>,
 }
 
+/// What is blamed among the first of some observations.
+#[derive(Clone, Copy)]
+struct Blamed {
+    /// How many of them are blamed.
+    count: usize,
+    /// What the heaviest of these weighs; 0 if there is none.
+    most: u32,
+    /// The number, from 1, of the heaviest, the first of equals.
+    number: Option<usize>,
+}
+
+impl Blamed {
+    /// Adds an observation at a place, which is blamed with this weight, or not at all if it is 0.
+    fn add(&mut self, place: usize, weight: u32)
+        requires few { self.old.count ≤ place }
+        requires place { place < 9223372036854775807 }
+        ensures { (weights : List ℕ) → place < length weights → weight ≡ get_or weights place 0
+            → IsBlamed weights place self.old → IsBlamed weights (place + 1) self.new }
+    {
+        if weight > 0 {
+            self.count += 1;
+        }
+        if weight > self.most {
+            self.most = weight;
+            self.number = Some(place + 1);
+        }
+    }
+}
+
 /// What would move and be blamed, if the vertices move that a side separates from vertex 0. Which of
 /// the observations have a part in the mistake is listed in their order.
-pub(crate) fn blame_of(
-    alloc: Global,
-    network: &Network,
-    edges: &[Edge],
-    mistaken: &[bool],
-    side: &[bool],
-) -> Result<Blame, AllocError>
+pub(crate) fn blame_of(network: &Network, edges: &[Edge], mistaken: &[bool], side: &[bool]) -> Blame
     requires edges { AreEdges network.now edges.now }
     requires each { length mistaken.now ≡ length network.now.observations }
-    ensures { IfOk result (IsBlame network.now mistaken.now (names_beyond network.now (on_side side.now))) }
+    ensures { IsBlame network.now mistaken.now (names_beyond network.now (on_side side.now)) result }
 {
-    let weights = blamed_weights(alloc, network, edges, mistaken, side)?;
-    Ok(Blame {
+    let blamed = blamed_of(network, edges, mistaken, side);
+    Blame {
         moves: moved_points(network, side),
-        blames: count_some(&weights),
-        blamed: heaviest(&weights),
-    })
+        blames: blamed.count,
+        blamed: blamed.number,
+    }
 }
 
 /// How many points have vertices that a side separates from vertex 0.
@@ -59,25 +82,22 @@ fn moved_points(network: &Network, side: &[bool]) -> usize
     count
 }
 
-/// For each observation the weight with which it is blamed.
-fn blamed_weights(
-    alloc: Global,
-    network: &Network,
-    edges: &[Edge],
-    mistaken: &[bool],
-    side: &[bool],
-) -> Result<Vec<u32>, AllocError>
+/// What is blamed among all observations.
+fn blamed_of(network: &Network, edges: &[Edge], mistaken: &[bool], side: &[bool]) -> Blamed
     requires edges { AreEdges network.now edges.now }
     requires each { length mistaken.now ≡ length network.now.observations }
-    ensures { IfOk result (λ weights. weights.items
-        ≡ blamed_weights network.now mistaken.now (names_beyond network.now (on_side side.now))) }
+    ensures { IsBlamed (blamed_weights network.now mistaken.now (names_beyond network.now (on_side side.now)))
+        (length network.now.observations) result }
 {
-    let count = network.observations().len();
-    let mut weights = Vec::with_capacity(alloc, count)?;
-    for i in 0..count {
-        weights.push(blamed_edge(mistaken[i], side, edges[i]))?;
+    let mut blamed = Blamed {
+        count: 0,
+        most: 0,
+        number: None,
+    };
+    for i in 0..network.observations().len() {
+        blamed.add(i, blamed_edge(mistaken[i], side, edges[i]));
     }
-    Ok(weights)
+    blamed
 }
 
 /// The weight with which the observation of an edge is blamed.
@@ -91,34 +111,6 @@ fn blamed_edge(mistaken: bool, side: &[bool], edge: Edge) -> u32
     } else {
         0
     }
-}
-
-/// How many of some weights are not 0.
-fn count_some(weights: &[u32]) -> usize
-    ensures { result ≡ count_by (λ weight. nat_lt 0 weight) weights.now }
-{
-    let mut count = 0;
-    for weight in weights {
-        if *weight > 0 {
-            count += 1;
-        }
-    }
-    count
-}
-
-/// The number, from 1, of the first of the heaviest; `None` if all weigh 0.
-fn heaviest(weights: &[u32]) -> Option<usize>
-    ensures { IsHeaviest weights.now result }
-{
-    let mut most = 0;
-    let mut number = None;
-    for (k, weight) in weights.iter().enumerate() {
-        if *weight > most {
-            most = *weight;
-            number = Some(k + 1);
-        }
-    }
-    number
 }
 
 /// Whether exactly one of two vertices is on a side.

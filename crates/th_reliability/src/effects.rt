@@ -3,6 +3,7 @@ ghost use Rattle.std.specs.Prelude.{◌≡◌, ◌<◌, Bool, IfOk, length, map}
 ghost use Rattle.th_observations.specs.Observed.{Observed};
 ghost use Rattle.th_network.specs.Networks.{vertices_of};
 ghost use Rattle.th_reliability.specs.Inside.Effects.{IsFlowed, Moves, of_less};
+ghost use Rattle.th_reliability.specs.Inside.Targets.{HoldsMarks};
 
 use crate::blames::{Blame, blame_of};
 use crate::ground::Ground;
@@ -42,7 +43,7 @@ pub(crate) struct Flowed {
 }
 
 /// What a mistake does that observations with an end at one vertex share. Which observations these are
-/// is listed in the order of all.
+/// is listed in the order of all, and a run holds them.
 ///
 /// From the vertex flows twice the weight of each of them to its other end. A set that contains the vertex
 /// drains that much in all, and what the other observations that cross it weigh above these.
@@ -50,15 +51,17 @@ pub(crate) fn effect_at(
     alloc: Global,
     ground: &Ground<'_, '_>,
     mistaken: &[bool],
+    run: (usize, usize),
     start: u32,
 ) -> Result<Flowed, AllocError>
     requires each { length mistaken.now ≡ length ground.now.network.now.observations }
+    requires run { HoldsMarks mistaken.now run }
     requires start { start < vertices_of ground.now.network.now }
     ensures { IfOk result (λ flowed. (group : Observed → Bool)
         → mistaken.now ≡ map group ground.now.network.now.observations
         → IsFlowed ground.now.network.now group start flowed) }
 {
-    let found = targets_of(alloc, ground, mistaken, start)?;
+    let found = targets_of(alloc, ground, mistaken, run, start)?;
     let weight = found.weight;
     let most = weight + weight;
     match least_drain(
@@ -71,7 +74,7 @@ pub(crate) fn effect_at(
     )? {
         Drained::Less(drained, side) => {
             let mistake = of_less(drained, weight);
-            let effect = effect_of(alloc, ground, mistaken, mistake, &side)?;
+            let effect = effect_of(ground, mistaken, mistake, &side);
             Ok(Flowed {
                 effect,
                 weight,
@@ -79,7 +82,7 @@ pub(crate) fn effect_at(
             })
         }
         Drained::Just(side) => {
-            let effect = effect_of(alloc, ground, mistaken, SharedMistake::Ties, &side)?;
+            let effect = effect_of(ground, mistaken, SharedMistake::Ties, &side);
             Ok(Flowed {
                 effect,
                 weight,
@@ -96,20 +99,18 @@ pub(crate) fn effect_at(
 
 /// What a mistake does that moves the points of a side.
 fn effect_of(
-    alloc: Global,
     ground: &Ground<'_, '_>,
     mistaken: &[bool],
     mistake: SharedMistake,
     side: &[bool],
-) -> Result<Effect, AllocError>
+) -> Effect
     requires each { length mistaken.now ≡ length ground.now.network.now.observations }
-    ensures { IfOk result (λ effect. Moves ground.now.network.now mistaken.now mistake side.now effect) }
+    ensures { Moves ground.now.network.now mistaken.now mistake side.now result }
 {
-    let blame = blame_of(alloc, ground.network, &ground.edges, mistaken, side)?;
-    Ok(Effect {
+    Effect {
         mistake,
-        blame: Some(blame),
-    })
+        blame: Some(blame_of(ground.network, &ground.edges, mistaken, side)),
+    }
 }
 
 /// What a mistake does if a set drains less than twice the weight of those that share it. If it drains just

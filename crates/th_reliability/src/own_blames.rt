@@ -63,6 +63,6 @@ fn own_blame(
     }
     let side = tree.least_side(alloc, edge.tail, edge.head)?;
     let mistaken = mark_at(alloc, network, place)?;
-    let blame = blame_of(alloc, network, edges, &mistaken, &side)?;
+    let blame = blame_of(network, edges, &mistaken, &side);
     Ok(Some(blame))
 }

@@ -85,7 +85,7 @@ fn shared_effect(
     }
     let mistaken = marks_of(alloc, runs, sights)?;
     let start = start_of(ground, runs, sights);
-    let flowed = effect_at(alloc, ground, &mistaken, start)?;
+    let flowed = effect_at(alloc, ground, &mistaken, runs.run_of(sights), start)?;
     Ok(flowed.effect)
 }
 

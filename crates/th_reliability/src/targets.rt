@@ -1,7 +1,7 @@
 //! Observations that share a mistake at a point as flow sees them: from the vertex of the point to those
 //! of their other ends.
 ghost use Rattle.std.specs.Prelude.{◌≡◌, IfOk, length};
-ghost use Rattle.th_reliability.specs.Inside.Targets.{AreTargetsOf, far_end};
+ghost use Rattle.th_reliability.specs.Inside.Targets.{AreTargetsOf, HoldsMarks, far_end};
 
 use crate::ground::Ground;
 use std::alloc::{AllocError, Global};
@@ -19,14 +19,16 @@ pub(crate) struct Targets {
 }
 
 /// Finds the other ends of some observations with an end at a vertex. Which observations these are is
-/// listed in the order of all.
+/// listed in the order of all, and a run holds them.
 pub(crate) fn targets_of(
     alloc: Global,
     ground: &Ground<'_, '_>,
     mistaken: &[bool],
+    run: (usize, usize),
     start: u32,
 ) -> Result<Targets, AllocError>
     requires each { length mistaken.now ≡ length ground.now.network.now.observations }
+    requires run { HoldsMarks mistaken.now run }
     ensures { IfOk result (AreTargetsOf ground.now.network.now mistaken.now start) }
 {
     let observations = ground.network.observations();
@@ -35,7 +37,8 @@ pub(crate) fn targets_of(
     let mut rooms = vec![in alloc; 0u32; ground.network.vertices() as usize]?;
     let mut targets = Vec::new(alloc);
     let mut weight = 0;
-    for i in 0..observations.len() {
+    let end = run.1.min(observations.len());
+    for i in run.0..end {
         if mistaken[i] {
             let far = far_end(start, edges[i]);
             let heavy = weights[i];

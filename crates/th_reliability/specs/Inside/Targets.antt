@@ -1,4 +1,4 @@
-use Rattle.std.specs.Prelude.{◌≡◌, ℕ, ◌+◌, ◌<◌, ◌≤◌, ◌⊎◌, ◌==◌, Bool, true, List, All, Contains, if◌then◌else◌, length, map, sum_by}
+use Rattle.std.specs.Prelude.{◌≡◌, ℕ, ◌+◌, ◌<◌, ◌≤◌, ◌⊎◌, ◌==◌, Bool, false, true, List, All, Contains, get_or, if◌then◌else◌, length, map, sum_by}
 use Rattle.th_limits.specs.Limits.{max_total_weight}
 use Rattle.th_observations.specs.Observed.{Observed}
 use Rattle.th_tables.specs.Rows.{weight_of}
@@ -50,6 +50,13 @@ pub record AreTargets (survey : Survey) (group : Observed → Bool) (start : ℕ
   pub room : (inside : ℕ → Bool) → room_in rooms inside ≡ group_room survey group start inside survey.observations
   pub all : All (λ o. group o ≡ true → Contains targets (far_vertex survey start o)) survey.observations
   pub only : (target : ℕ) → Contains targets target → (o : Observed) × Contains survey.observations o × (group o ≡ true) × (far_vertex survey start o ≡ target)
+
+-- a run of places, up to the second without it, holds all that are marked
+pub record HoldsMarks (marks : List Bool) (run : ℕ × ℕ) : Type 0 where
+  pub ordered : run.0 ≤ run.1
+  pub within : run.1 ≤ length marks
+  pub below : (k : ℕ) → k < run.0 → get_or marks k false ≡ false
+  pub above : (k : ℕ) → run.1 ≤ k → get_or marks k false ≡ false
 
 -- the targets of the observations that a list marks, and what those weigh, in a network whose weights are 1 or more
 pub record AreTargetsOf (survey : Survey) (mistaken : List Bool) (start : ℕ) (found : Targets) : Type 0 where

@@ -18,10 +18,10 @@ returns c =
     let drained = c.in_ok-flowed.flowed.drained in
     let weight = c.in_ok-flowed.flowed.weight in
     let flowed = c.in_ok-flowed.ensures group marked in
-    let rows = c.len.ensures.rows ∙ ap (λ (own : BenchmarkRows). length own) c.benchmarks.ensures in
+    let rows = c.len-2.ensures.rows ∙ ap (λ (own : BenchmarkRows). length own) c.benchmarks.ensures in
     record {
       sights = counted;
       weight = flowed.weight;
-      strength = strength_is survey name fixed between c.len.result _ c.strength_of.result rows (drained_strength survey name fixed between drained weight flowed.weight (flowed.drained at)) c.strength_of.ensures;
+      strength = strength_is survey name fixed between c.len-2.result _ c.strength_of.result rows (drained_strength survey name fixed between drained weight flowed.weight (flowed.drained at)) c.strength_of.ensures;
       effect = effect_is survey name fixed between c.count_marked-sights.result c.in_ok-flowed.flowed.effect c.if_some.result counted (flowed.effect at) c.if_some.ensures;
     }

@@ -27,8 +27,8 @@ returns-in-Less c group same =
     let are : AreTargets survey group start rooms targets = found_targets survey group start c.in_ok-found.found.rooms.items rooms c.in_ok-found.found.targets.items targets c.deref.ensures.value c.deref-2.ensures.value (c.in_ok-found.ensures.targets group same) in
     let weighs = c.in_ok-found.ensures.weight group same in
     let found = subst (λ (d : Drained). IsDrained graph.edges rooms start (weight + weight) targets d) c.in-Less.is c.in_ok-drained.ensures in
-    let effect = c.in_ok-effect-in-Less.effect in
-    let sided = subst (λ (side : List Bool). Moves survey c.args.mistaken.now c.of_less-mistake.result side effect) c.deref-in-Less.ensures.value c.in_ok-effect-in-Less.ensures in
+    let effect = c.effect_of-effect.result in
+    let sided = subst (λ (side : List Bool). Moves survey c.args.mistaken.now c.of_less-mistake.result side effect) c.deref-in-Less.ensures.value c.effect_of-effect.ensures in
     let moves = subst (λ (mistake : SharedMistake). Moves survey c.args.mistaken.now mistake c.in-Less.side.items effect) c.of_less-mistake.ensures sided in
     record {
       weight = weighs;
@@ -48,8 +48,8 @@ returns-in-Just c group same =
     let are : AreTargets survey group start rooms targets = found_targets survey group start c.in_ok-found.found.rooms.items rooms c.in_ok-found.found.targets.items targets c.deref.ensures.value c.deref-2.ensures.value (c.in_ok-found.ensures.targets group same) in
     let weighs = c.in_ok-found.ensures.weight group same in
     let found = subst (λ (d : Drained). IsDrained graph.edges rooms start (weight + weight) targets d) c.in-Just.is c.in_ok-drained.ensures in
-    let effect = c.in_ok-effect-in-Just.effect in
-    let moves = subst (λ (side : List Bool). Moves survey c.args.mistaken.now Ties side effect) c.deref-in-Just.ensures.value c.in_ok-effect-in-Just.ensures in
+    let effect = c.effect_of-effect-in-Just.result in
+    let moves = subst (λ (side : List Bool). Moves survey c.args.mistaken.now Ties side effect) c.deref-in-Just.ensures.value c.effect_of-effect-in-Just.ensures in
     record {
       weight = weighs;
       effect = λ at. just_effect survey group c.args.mistaken.now same start weight at rooms targets are graph is weighs c.in-Just.side.items effect found.0 found.1 moves;

@@ -1,4 +1,4 @@
-use Rattle.std.proofs.Common.{◌≡◌, ◌<◌, ◌≤◌, ◌+◌, ◌∙◌, ℕ, Bool, List, Global, Vec, ap, get_or, length, map, replicate, subst, sym, arith}
+use Rattle.std.proofs.Common.{◌≡◌, ◌<◌, ◌+◌, ◌∙◌, ℕ, Bool, List, [], Global, Vec, ap, get_or, length, map, replicate, subst, sym, arith}
 use Rattle.std.specs.Prelude.{slice_set}
 use Rattle.std.proofs.lemmas.Grind.{get_or_default_zero}
 use Rattle.std.proofs.lemmas.List.{get_or_default}
@@ -9,7 +9,7 @@ use Rattle.th_network.specs.Networks.{vertices_of}
 use Rattle.th_cuts.specs.Graphs.{edge_at}
 use Rattle.th_cuts.specs.Drains.{room_at}
 use Rattle.th_reliability.specs.Inside.Targets.{far_end}
-use Rattle.th_reliability.proofs.TargetLemmas.{AreFound, AreSized, edges_long, far_inside, found_all, found_hold, found_skip, found_start, heavy_is, mark_is, nowhere, room_fits, same_found, same_sized, sized_hold, sized_skip, sized_start, weight_fits}
+use Rattle.th_reliability.proofs.TargetLemmas.{AreFound, AreSized, edges_long, far_inside, found_hold, found_rest, found_skip, found_skips, found_start, heavy_is, mark_is, nowhere, room_fits, same_found, same_sized, sized_hold, sized_skip, sized_skips, sized_start, weight_fits}
 use Rattle.th_reliability.proofs.WeightLemmas.{heavy_listed}
 use Rattle.th_reliability.proofs.targets.targets_of.Goals as goal
 use Rattle.th_reliability.proofs.targets.targets_of.Goals.{then-mistaken-i+in_ok-push, else-mistaken-i}
@@ -19,10 +19,15 @@ loop-i-init c =
     let survey = c.args.ground.now.network.now in
     let edges = c.args.ground.now.edges.items in
     let is = c.args.ground.now.edged in
+    let run = c.requires.run in
+    let long = edges_long survey edges is in
+    let each = c.requires.each in
+    let first = c.args.run.0 in
     let zeros : c.in_ok-rooms.rooms.items ≡ replicate (vertices_of survey) 0 = c.in_ok-rooms.ensures.items_if_clones_equal (λ y e. e) ∙ ap (λ n. replicate n 0) c.vertices.ensures.vertices in
     record {
-      sized = subst (λ (rooms : List ℕ). AreSized survey edges 0 0 rooms) (sym zeros) (sized_start survey edges is);
-      found = λ group same. subst (λ (rooms : List ℕ). AreFound survey group c.args.start 0 0 rooms c.new-targets.result.items) (sym zeros) (subst (λ (targets : List ℕ). AreFound survey group c.args.start 0 0 (replicate (vertices_of survey) 0) targets) (sym c.new-targets.ensures.items) (found_start survey edges is group c.args.start));
+      sized = subst (λ (rooms : List ℕ). AreSized survey edges first 0 rooms) (sym zeros) (sized_skips survey edges is first 0 first 0 (replicate (vertices_of survey) 0) (omega arith) (omega (arith, run.ordered, run.within)) (sized_start survey edges is));
+      found = λ group same. subst (λ (rooms : List ℕ). AreFound survey group c.args.start first 0 rooms c.new-targets.result.items) (sym zeros) (subst (λ (targets : List ℕ). AreFound survey group c.args.start first 0 (replicate (vertices_of survey) 0) targets) (sym c.new-targets.ensures.items)
+          (found_skips survey edges is group c.args.start c.args.mistaken.now same first 0 first 0 (replicate (vertices_of survey) 0) [] (omega arith) (omega (arith, run.ordered, run.within)) (λ k h before. run.below k before) (found_start survey edges is group c.args.start)));
     }
 
 pub loop-i-preserved : goal.loop-i-preserved
@@ -33,7 +38,7 @@ loop-i-preserved c =
     let start = c.args.start in
     let i = c.loop-i.i in
     let rooms = c.loop-i.rooms.items in
-    let within : i < length survey.observations = omega (arith, ap length c.observations-observations.ensures.observations, c.loop-i-test.true) in
+    let within : i < length survey.observations = omega (arith, c.requires.each, c.requires.run.within, c.min-end.ensures, c.loop-i-test.true) in
     let long = edges_long survey edges is in
     let inner : i < length edges = omega arith in
     let sized = c.loop-i.invariant.sized in
@@ -72,7 +77,7 @@ overflow_add-index_mut c =
     let is = c.args.ground.now.edged in
     let i = c.loop-i.i in
     let rooms = c.loop-i.rooms.items in
-    let within : i < length survey.observations = omega (arith, ap length c.observations-observations.ensures.observations, c.loop-i-test.true) in
+    let within : i < length survey.observations = omega (arith, c.requires.each, c.requires.run.within, c.min-end.ensures, c.loop-i-test.true) in
     let long = edges_long survey edges is in
     let inner : i < length edges = omega arith in
     let sized = c.loop-i.invariant.sized in
@@ -91,13 +96,12 @@ overflow_add-index_mut c =
 pub returns : goal.returns
 returns c =
     let survey = c.args.ground.now.network.now in
-    let past : length survey.observations ≤ c.loop-i.i = omega (arith, ap length c.observations-observations.ensures.observations, c.loop-i-test.false) in
     let sized = c.loop-i.invariant.sized in
     let part = sum_by-take-le (λ (e : Edge). e.weight) c.args.ground.now.edges.items c.loop-i.i in
     let most = sized.light in
     let whole = c.args.ground.now.edged.light in
     let all = λ (group : Observed → Bool) (same : c.args.mistaken.now ≡ map group survey.observations).
-    found_all survey c.args.ground.now.edges.items c.args.ground.now.edged group c.args.start c.loop-i.i c.loop-i.weight c.loop-i.rooms.items c.loop-i.targets.items past (c.loop-i.invariant.found group same) in
+    found_rest survey c.args.ground.now.edges.items c.args.ground.now.edged group c.args.start c.args.mistaken.now same c.loop-i.i c.loop-i.weight c.loop-i.rooms.items c.loop-i.targets.items (λ k h. c.requires.run.above k (omega (arith, ap length c.observations-observations.ensures.observations, c.requires.each, c.requires.run.within, c.min-end.ensures, c.loop-i-test.false))) (c.loop-i.invariant.found group same) in
     record {
       each = sized.each;
       light = omega arith;
