@@ -185,9 +185,13 @@ page-tidy:
 	@tests/page_tidy
 
 EVERY ?= 10
+TRIES ?= 2
 planted: built
 	@tests/planted/explained.py --program $(PROGRAM) --share $(EVERY)
 	@tests/planted/reviewed.py --program $(PROGRAM) --share $(EVERY)
+	@tests/planted/meant.py --program $(PROGRAM) --share $(EVERY)
+	@tests/planted/sentences.py --program $(PROGRAM) --tries $(TRIES)
+	@tests/planted/noted.py --program $(PROGRAM)
 
 memory: built
 	@tests/refused_memory/run.py --program $(PROGRAM) --calls $(CALLS)

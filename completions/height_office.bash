@@ -1,4 +1,4 @@
-# Completion of height_office for bash.
+# Completion of height_office for bash. Made by tools/command_pages.
 _height_office() {
     local word=${COMP_WORDS[COMP_CWORD]} before=${COMP_WORDS[COMP_CWORD - 1]} options=
     COMPREPLY=()
@@ -7,7 +7,7 @@ _height_office() {
         return
     fi
     case $before in
-        --benchmarks | --weights | --certificate | --out)
+        --benchmarks | --weights | --out | --certificate)
             compopt -o filenames
             mapfile -t COMPREPLY < <(compgen -f -- "$word")
             return
@@ -18,10 +18,12 @@ _height_office() {
     esac
     case ${COMP_WORDS[1]} in
         list) options='--help' ;;
-        book) options='--heights --help' ;;
-        adjust | review | page) options='--benchmarks --weights --blunder --out --help' ;;
+        adjust) options='--benchmarks --weights --blunder --out --help' ;;
+        review) options='--benchmarks --weights --blunder --out --help' ;;
         explain) options='--benchmarks --weights --blunder --csv --help' ;;
+        page) options='--benchmarks --weights --blunder --out --help' ;;
         check) options='--benchmarks --weights --certificate --inputs --help' ;;
+        book) options='--heights --help' ;;
         help) options='list adjust review explain page check book' ;;
     esac
     if [[ $word == -* || ${COMP_WORDS[1]} == help ]]; then

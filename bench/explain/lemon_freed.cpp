@@ -8,8 +8,8 @@
 //
 // A freed number's ends leave from a vertex of their own, the spare one; its change is how much higher that is than the old one. For each
 // number a line is printed: the least cost with any change of it; the lowest and the highest change with which it costs so little, or 'none
-// none' where any change does; the least cost with a change of at most `reach` in size; and, where the mildest change is more than LIMIT or
-// there is no end, how many links have a residual above LIMIT at the lowest best heights with that change, else -1.
+// none' where any change does; the least cost with a change of at most `reach` in size; and, where the mildest change is more than half of
+// LIMIT or there is no end, how many links have a residual above LIMIT at the lowest best heights with that change, else -1.
 #include <lemon/network_simplex.h>
 #include <lemon/smart_graph.h>
 
@@ -168,7 +168,7 @@ void print_freed(const Network& network, const Freed& number, Number limit) {
     }
     const Number mildest = std::clamp(Number{0}, now - down, now + up), near = std::clamp(mildest, -number.reach, number.reach);
     const Number reached = near == mildest ? settled.cost : settle(network, changed_links(network, number, near)).cost;
-    const int left = std::abs(mildest) > limit ? marks(network, changed_links(network, number, mildest), limit) : -1;
+    const int left = 2 * std::abs(mildest) > limit ? marks(network, changed_links(network, number, mildest), limit) : -1;
     std::printf("%lld %lld %lld %lld %d\n", settled.cost, now - down, now + up, reached, left);
 }
 

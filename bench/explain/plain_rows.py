@@ -242,14 +242,20 @@ class Row(NamedTuple):
         return self.freed.left, RANKS[own.kind], own.line or 0, -int(WORDS[own.kind] or 0)
 
 
-def is_row(row: Row, freed: Dict[Tuple[str, Optional[int]], Freed], cost: int) -> bool:
-    """Whether a number is a row. `freed` has the whole entry of a forgotten change."""
+def is_possible(row: Row, freed: Dict[Tuple[str, Optional[int]], Freed]) -> bool:
+    """Whether a number may be a row, but for the size of its change. `freed` has the whole entry of a forgotten change."""
     own = row.number
-    if own.kind == "book":
-        return BOOK_TIMES * row.freed.left < cost
-    if row.freed.mildest <= LIMIT or row.freed.furthest >= own.reach:
+    if row.freed.low is None or row.freed.furthest >= own.reach:
         return False
     return own.entry is None or row.freed.left <= freed[own.entry].reached
+
+
+def filtered(rows: List[Row], freed: Dict[Tuple[str, Optional[int]], Freed]) -> List[Row]:
+    """Those beyond the limit; and if there are some, those beyond half of it that leave no more than the best of them."""
+    possible = [row for row in rows if is_possible(row, freed)]
+    best = min((row.freed.left for row in possible if row.freed.mildest > LIMIT), default=None)
+    return [row for row in possible
+            if row.freed.mildest > LIMIT or best is not None and row.freed.left <= best and 2 * row.freed.mildest > LIMIT]
 
 
 def metres(units: Optional[int]) -> str:
@@ -294,7 +300,8 @@ def plain_rows(lemon: Path, folder: Path, printed: List[List[str]], sample: int)
     now, *freed = freed_by(lemon, network, [whole, *chosen], folder / "numbers.txt")
     (read,) = freed_by(lemon, mark_to_mark(network, book), [whole], folder / "numbers.txt")
     found = {own.key: one for own, one in zip(chosen, freed)}
-    rows = [row for row in [Row(whole, read), *map(Row, chosen, freed)] if is_row(row, found, now.left)]
+    rows = filtered(list(map(Row, chosen, freed)), found)
+    rows += [Row(whole, read)] if BOOK_TIMES * read.left < now.left else []
     return numbered(rows, now.left, len(book.sights)), len(chosen) + 1
 
 

@@ -67,8 +67,8 @@ DIFFERENCES_BOOK = (b"*110001+000000000000000A 84..40+0000000000000000 87..48+00
                     b"*110002+000000000000000B 33..48+0000000000150000 \r\n"
                     b"*110003+000000000000000C 33..48-0000000000000001 \r\n")
 # What explains them, as the second office prints it.
-MISREAD_EXPLAINED = (b"number,kind,book,line,word,from,to,sights,given,low,high,explains,left,blunders\n"
-                        b"1,sight,1,4,,A,B,1,3.54500000,2.54500000,2.54600000,0.99900000,0.00100000,0\n")
+MISREAD_EXPLAINED = (b"number,kind,book,line,word,from,to,sights,given,low,high,explains,left,blunders,last,poles,instruments\n"
+                        b"1,sight,1,4,,A,B,1,3.54500000,2.54500000,2.54600000,0.99900000,0.00100000,0,,,\n")
 TRIANGLE_EXPLAINED = (b"cost                          0.50000000\n"
                         b"blunder limit                 0.02000000\n"
                         b"marked                                 1\n"
@@ -81,7 +81,8 @@ TRIANGLE_EXPLAINED = (b"cost                          0.50000000\n"
                         b"  NO  BK    LINE  WORD  FROM              TO                     PROPOSED     COST LEFT BLUNDERS\n"
                         b"   1   1       8        A                 C                    2.00000000    0.00000000        0\n"
                         b"\n"
-                        b"One wrong number explains this: the sight of line 8.\n")
+                        b"One wrong number explains this: the sight of line 8.\n"
+                        b"The sight of line 8: given 2.50000000, fits 2.00000000.\n")
 # A setup and a sight with heights, and their book.
 HEIGHTS = (b"110001+0000000A 86..40+00250112 88..10+00001545\n"
            b"110002+0000000B 31..00+00027472 83..00+00251384\n")
@@ -123,6 +124,10 @@ class Answer(NamedTuple):
     refused: bool
 
 
+MISREAD_NOTE = b"note: 1 of 3 sights is marked, up to 0.99900000 m: explain names the number that may be wrong\n"
+TRIANGLE_NOTE = b"note: 1 of 4 sights is marked, up to 0.50000000 m: explain names the number that may be wrong\n"
+
+
 class Series(NamedTuple):
     """A command line, what it has to print, a file that it has to write, and its notes on standard error."""
 
@@ -139,13 +144,13 @@ SERIES = (
     Series("list of a book without sights", ["list", "heights.gsi"], b"number,from,to,difference\n", None,
            b"note: book 1 has no sight in 2 blocks (no word 33; it has words 31 and 83)\n"),
     Series("adjustment of a misread sight", ["adjust"] + TABLES + ["--out", "own", "misread.gsi"], b"",
-           ("own.heights.csv", MISREAD_HEIGHTS)),
+           ("own.heights.csv", MISREAD_HEIGHTS), MISREAD_NOTE),
     Series("adjustment of a triangle", ["adjust"] + TABLES + ["--out", "own", "triangle.gsi"], b"",
-           ("own.heights.csv", TRIANGLE_HEIGHTS)),
+           ("own.heights.csv", TRIANGLE_HEIGHTS), TRIANGLE_NOTE),
     Series("adjustment of a triangle and a book without sights",
            ["adjust"] + TABLES + ["--out", "own", "triangle.gsi", "heights.gsi"], b"",
            ("own.heights.csv", TRIANGLE_HEIGHTS),
-           b"note: book 2 has no sight in 2 blocks (no word 33; it has words 31 and 83)\n"),
+           b"note: book 2 has no sight in 2 blocks (no word 33; it has words 31 and 83)\n" + TRIANGLE_NOTE),
     Series("review of a misread sight", ["review"] + TABLES + ["--out", "own", "misread.gsi"], b"",
            ("own.observations.csv", MISREAD_MISTAKES)),
     Series("review of a triangle", ["review"] + TABLES + ["--out", "own", "triangle.gsi"], b"",

@@ -4,23 +4,28 @@ from typing import Dict, List, NamedTuple, Optional, Tuple
 
 from certificates import csv_row, number_text
 from freed import Freed, Number, Survey, differences_read, marks_of, rows_of
+from named import Named, heights_named, last_line, last_lines
 from network import Heights, Network, cost_of
 from tables import reader
 from texts import label_line, metres
 
 MOST_ROWS = 20
 MOST_NAMED = 3
+HIGHEST_STAND = 500_000_000  # of an instrument, or the longest pole: 5 m, in units of 10 nm
+SIGHT_HEIGHTS = {reader.REFLECTOR_HEIGHT: "the pole", reader.INSTRUMENT_HEIGHT: "the instrument height"}
 LABELS = ("sights", "entries", "changes", "benchmarks", "books")
 
 
 class Explanation(NamedTuple):
-    """What is printed: the rows with their numbers, and what stands above them."""
+    """What is printed: the rows with their numbers, what stands above them, the last lines of their entries, and what may have been meant."""
 
     cost: int
     limit: int
     marked: int
     counts: Dict[str, int]
     rows: List[Tuple[int, Freed]]
+    lasts: List[Optional[int]]
+    named: List[Named]
 
 
 def numbered(rows: List[Freed]) -> List[Tuple[int, Freed]]:
@@ -31,8 +36,10 @@ def numbered(rows: List[Freed]) -> List[Tuple[int, Freed]]:
 
 def explanation_of(network: Network, low: Heights, limit: int, books: List[bytes]) -> Explanation:
     survey = Survey(network, cost_of(network, low), limit, differences_read(network, books))
-    rows, counts = rows_of(survey, books)
-    return Explanation(survey.cost, limit, marks_of(network, low, limit), counts, numbered(rows[:MOST_ROWS]))
+    found, counts = rows_of(survey, books)
+    rows, lasts = numbered(found[:MOST_ROWS]), last_lines(network, books)
+    return Explanation(survey.cost, limit, marks_of(network, low, limit), counts, rows, [last_line(row, lasts) for _, row in rows],
+                       heights_named(network, books, rows, limit))
 
 
 # The table
@@ -42,17 +49,25 @@ def optional(number: Optional[int], text) -> str:
     return "" if number is None else text(number)
 
 
-def csv_line(number: int, row: Freed) -> bytes:
+def meant_field(explanation: Explanation, place: int, word: bytes) -> bytes:
+    """The heights of a kind that are named for a row."""
+    return b" ".join(reader.metres(own.meant) for own in explanation.named if (own.row, own.word) == (place, word))
+
+
+def csv_line(explanation: Explanation, place: int) -> bytes:
+    number, row = explanation.rows[place]
     own = row.number
     return csv_row(number_text(number), own.kind.encode("ascii"), optional(own.book, str).encode("ascii"),
                    optional(own.line, str).encode("ascii"), own.word(), own.station, own.target, number_text(len(own.places)),
                    *(optional(length, metres).encode("ascii") for length in (own.given, row.low, row.high)),
-                   reader.metres(row.explains), reader.metres(row.left), number_text(row.blunders))
+                   reader.metres(row.explains), reader.metres(row.left), number_text(row.blunders),
+                   optional(explanation.lasts[place], str).encode("ascii"), meant_field(explanation, place, reader.REFLECTOR_HEIGHT),
+                   meant_field(explanation, place, reader.INSTRUMENT_HEIGHT))
 
 
 def csv_text(explanation: Explanation) -> bytes:
-    header = b"number,kind,book,line,word,from,to,sights,given,low,high,explains,left,blunders\n"
-    return header + b"".join(csv_line(*row) for row in explanation.rows)
+    header = b"number,kind,book,line,word,from,to,sights,given,low,high,explains,left,blunders,last,poles,instruments\n"
+    return header + b"".join(csv_line(explanation, place) for place in range(len(explanation.rows)))
 
 
 # The text
@@ -74,41 +89,102 @@ def text_line(number: int, row: Freed) -> str:
     return line + ("  since" if own.kind.endswith("since") else "")
 
 
-def said(own: Number, books: int) -> str:
+def lines_said(own: Number, last: Optional[int], books: int) -> str:
+    """The line of a number in a sentence, or its lines if later ones repeat it."""
+    lines = f"line {own.line}" if last in (None, own.line) else f"lines {own.line} to {last}"
+    return lines + (f" of book {own.book}" if books > 1 else "")
+
+
+def said(own: Number, last: Optional[int], books: int) -> str:
     """A number in a sentence."""
     if own.kind == "benchmark":
         return f"the height of {own.station.decode('ascii')}"
     if own.kind == "book":
         return f"word 33 of book {own.book}"
-    where = f"line {own.line}" + (f" of book {own.book}" if books > 1 else "")
+    where = lines_said(own, last, books)
     if own.kind == "sight":
         return f"the sight of {where}"
     return f"word {own.word().decode('ascii')} {'since' if own.kind.endswith('since') else 'of'} {where}"
 
 
-def first_sentences(first: List[Freed], books: int) -> List[str]:
-    """What the rows with number 1 say."""
+def capital(text: str) -> str:
+    return text[:1].upper() + text[1:]
+
+
+def count_said(ranked: int, count: int) -> str:
+    """How many numbers explain equally; there may be more of them where all rows have number 1."""
+    return f"At least {count}" if ranked == MOST_ROWS else str(count)
+
+
+def joined(explanation: Explanation, places: List[int]) -> str:
+    """What sentences call some rows."""
+    books = explanation.counts["books"]
+    return " or ".join(said(explanation.rows[place][1].number, explanation.lasts[place], books) for place in places)
+
+
+def explaining_sentence(explanation: Explanation, first: List[int], explaining: List[int]) -> str:
+    """Which numbers explain all."""
+    if len(explaining) > MOST_NAMED:
+        return (f"{count_said(len(first), len(explaining))} numbers explain this equally well: any one of them may be wrong. "
+                "The books do not say which. Measure one of them again.")
+    return f"One wrong number explains this: {joined(explanation, explaining)}."
+
+
+def most_sentence(explanation: Explanation, first: List[int]) -> str:
+    """Which numbers explain most, where none explains all."""
+    left = min(explanation.rows[place][1].blunders for place in first)
+    marked = "1 sight stays marked" if left == 1 else f"{left} sights stay marked"
     if len(first) > MOST_NAMED:
-        count = f"At least {len(first)}" if len(first) == MOST_ROWS else str(len(first))
-        return [f"{count} numbers explain this equally well: any one of them may be wrong. The books do not say which. "
-                "Measure one of them again."]
-    sentence = f"One wrong number explains this: {' or '.join(said(row.number, books) for row in first)}."
-    return [sentence] if len(first) == 1 else [sentence, "The books do not say which of them."]
+        return (f"No one number explains all of this. {count_said(len(first), len(first))} numbers explain most, equally well: {marked}. "
+                "The books do not say which. Measure one of them again.")
+    return f"No one number explains all of this. {capital(joined(explanation, first))} explains most: {marked}."
+
+
+def impossible_sentences(row: Freed) -> List[str]:
+    """That no proposed value can be, of a height that was keyed in."""
+    word = row.number.word()
+    if word not in (b"88", b"87") or 0 <= row.high and row.low <= HIGHEST_STAND:
+        return []
+    if word == b"88":
+        return [f"No instrument stands at {metres(mildest(row))} m: look at the name of the station."]
+    return [f"No pole is {metres(mildest(row))} m long."]
+
+
+def given_sentences(explanation: Explanation, place: int) -> List[str]:
+    """What was given and what fits."""
+    row = explanation.rows[place][1]
+    if row.low is None:
+        return []
+    fits = metres(row.low) if row.low == row.high else f"from {metres(row.low)} to {metres(row.high)}"
+    return [f"{capital(joined(explanation, [place]))}: given {metres(row.number.given)}, fits {fits}."] + impossible_sentences(row)
+
+
+def meant_sentences(explanation: Explanation) -> List[str]:
+    """What may have been meant."""
+    lines = []
+    for named in explanation.named if len(explanation.named) <= MOST_NAMED else ():
+        own, height = explanation.rows[named.row][1].number, joined(explanation, [named.row])
+        if own.kind == "sight":
+            height = f"{SIGHT_HEIGHTS[named.word]} of {lines_said(own, None, explanation.counts['books'])}"
+        lines.append(f"{capital(height)}: typed {metres(named.typed)}, meant {metres(named.meant)}?")
+    return lines
 
 
 def sentences(explanation: Explanation) -> List[str]:
-    first = [row for number, row in explanation.rows if number == 1]
+    first = [place for place, (number, _) in enumerate(explanation.rows) if number == 1]
     if not first and explanation.marked:
         return ["No single number explains what is marked."]
     if not first:
         return [f"Nothing to explain: no number has to be wrong by more than {metres(explanation.limit)} m."]
-    lines = first_sentences(first, explanation.counts["books"])
+    explaining = [place for place in first if explanation.rows[place][1].blunders == 0]
+    named = explaining or first
+    lines = [explaining_sentence(explanation, first, explaining) if explaining else most_sentence(explanation, first)]
+    if len(named) <= MOST_NAMED:
+        lines += ["The books do not say which of them."] if len(named) > 1 else []
+        lines += [line for place in named for line in given_sentences(explanation, place)]
+    lines += meant_sentences(explanation)
     lines += [f"The next best leaves {metres(row.left)}." for _, row in explanation.rows[len(first) : len(first) + 1]]
-    left = min(row.blunders for row in first)
-    if left:
-        sights = "1 sight stays" if left == 1 else f"{left} sights stay"
-        lines.append(f"It does not explain all: {sights} marked. Mend it and run again.")
-    return lines
+    return lines if explaining else lines + ["Mend it and run again."]
 
 
 def people_text(explanation: Explanation) -> bytes:

@@ -5,6 +5,7 @@ Each number is set free by solving the network that is left without it, plainly 
 dozens of observations is large for it.
 """
 
+from fractions import Fraction
 from typing import Dict, Iterator, List, NamedTuple, Optional, Tuple
 
 from network import (Heights, Network, anchored_points, best_flows, bounds_of, highest_heights, least_labels, lowest_heights, value_of,
@@ -53,7 +54,7 @@ class Freed(NamedTuple):
     high: Optional[int]
     blunders: int
 
-    def is_beyond(self, limit: int) -> bool:
+    def is_beyond(self, limit: Fraction) -> bool:
         """Whether even the mildest proposed value is more than the limit away."""
         given = self.number.given
         return self.explains > 0 and (self.low > given + limit or self.high < given - limit)
@@ -216,30 +217,34 @@ def least_in_reach(survey: Survey, own: Freed) -> int:
 # The rows
 
 
-def is_row(survey: Survey, own: Freed) -> bool:
-    return own.is_beyond(survey.limit) and own.is_within_reach(survey.network)
+def numbers_in_rows(survey: Survey, numbers: List[Freed]) -> List[Freed]:
+    """Those beyond the limit; and if there are some, those beyond half of it that explain as much as the best of them."""
+    reached = [own for own in numbers if own.explains > 0 and own.is_within_reach(survey.network)]
+    beyond = [own for own in reached if own.is_beyond(Fraction(survey.limit))]
+    best = max((own.explains for own in beyond), default=None)
+    milder = [own for own in reached if best is not None and own.explains >= best and own.is_beyond(Fraction(survey.limit, 2))]
+    return beyond + [own for own in milder if own not in beyond]
 
 
-def entry_rows(survey: Survey, books: List[bytes]) -> Tuple[List[Freed], Dict[str, int]]:
-    """The rows of entries and their endings, and how many of each there are. An ending must leave no more than its whole entry."""
-    rows: List[Freed] = []
+def freed_entries(survey: Survey, books: List[bytes]) -> Tuple[List[Freed], Dict[str, int]]:
+    """The entries and their endings, and how many of each there are. An ending must leave no more than its whole entry."""
+    numbers: List[Freed] = []
     counts = {"entries": 0, "changes": 0}
     for whole, endings in entry_numbers(survey.network, books):
         counts["entries"] += 1
         counts["changes"] += len(endings)
         explained = freed(survey, whole)
         least = least_in_reach(survey, explained)
-        others = [own for own in (freed(survey, ending) for ending in endings) if own.left <= least]
-        rows += [own for own in [explained] + others if is_row(survey, own)]
-    return rows, counts
+        numbers += [explained] + [own for own in (freed(survey, ending) for ending in endings) if own.left <= least]
+    return numbers, counts
 
 
 def rows_of(survey: Survey, books: List[bytes]) -> Tuple[List[Freed], Dict[str, int]]:
     """All rows that pass the filter, in order, and how many numbers of each kind were set free."""
     network = survey.network
-    rows, counts = entry_rows(survey, books)
+    numbers, counts = freed_entries(survey, books)
     sights, benchmarks, read = sight_numbers(network), benchmark_numbers(network), book_numbers(network, len(books))
-    rows += [own for own in (freed(survey, number) for number in sights + benchmarks) if is_row(survey, own)]
+    rows = numbers_in_rows(survey, numbers + [freed(survey, number) for number in sights + benchmarks])
     rows += [own for own in (freed(survey, number) for number in read) if 10 * own.left < survey.cost]
     rows.sort(key=lambda own: (-own.explains, own.number.order()))
     return rows, {"sights": len(sights), **counts, "benchmarks": len(benchmarks), "books": len(read)}

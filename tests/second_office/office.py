@@ -24,9 +24,10 @@ from inputs import Input, input_line, inputs_of
 from network import Heights, Network, NetworkFault, Sight, best_flows, cost_of, highest_heights, lowest_heights, make_network
 from page import page_text
 from pages import page_of
+import notes
 import review as reviews
 from tables import TableFault, read_benchmarks, read_weights, reader
-from texts import gsi_text, heights_text, metres, report_text
+from texts import gsi_text, heights_text, report_text
 
 UNITS_IN_MICROMETRE = 100
 DEFAULT_BLUNDER = 20_000
@@ -130,16 +131,10 @@ def files_of(answer: Adjusted, limit: int) -> Dict[str, bytes]:
 
 
 def notes_of(books: List[bytes], answer: Adjusted, limit: int) -> bytes:
-    """The lines on standard error at status 0: of books without a sight, and of heights that are not unique."""
-    lines = [reader.note_of(number, book) for number, book in enumerate(books, start=1)]
-    gaps = {name: answer.high[name] - answer.low[name] for name in answer.network.points}
-    widest = max(gaps.values(), default=0)
-    if widest > limit:
-        loose = sum(gap > 0 for gap in gaps.values())
-        first = next(name for name, gap in gaps.items() if gap == widest).decode("ascii")
-        have = "point has" if loose == 1 else "points have"
-        lines.append(f"note: {loose} {have} more than one best height, up to {metres(widest)} m apart at {first}\n".encode("ascii"))
-    return b"".join(lines)
+    """The lines on standard error at status 0 of an adjustment."""
+    return notes.joined(notes.sightless(books) + notes.repeated(answer.network.observations) + notes.loose(answer.network, answer.low, answer.high, limit)
+                        + notes.marked(answer.network, answer.low, limit) + notes.outlying(answer.network, answer.low, limit)
+                        + notes.in_one_case(answer.network))
 
 
 def refused(fault: Refused) -> Answer:

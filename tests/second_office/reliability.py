@@ -17,7 +17,8 @@ KINDS = ((reader.REFLECTOR_HEIGHT, "reflector"), (reader.INSTRUMENT_HEIGHT, "ins
 
 
 class Entry(NamedTuple):
-    """A keyed-in height that at least one sight uses: where its first word is, and the lines of its sights."""
+    """A keyed-in height that at least one sight uses: where its first word is and in which unit, the lines of its sights, and the last
+    line whose word repeats it in the setup, which is its own if none does."""
 
     book: int
     line: int
@@ -25,6 +26,8 @@ class Entry(NamedTuple):
     station: bytes
     length: int
     sights: List[int]
+    unit: bytes
+    repeated: int
 
 
 class Benchmark(NamedTuple):
@@ -129,22 +132,25 @@ def mistake_of(control: Optional[int], weight: int) -> str:
 def entries_of(number: int, book: bytes) -> List[Entry]:
     """The entries of a book without a fault, in the order of lines, word 87 before word 88."""
     station: Optional[bytes] = None
-    last: Dict[bytes, Tuple[int, int]] = {}
-    used: Dict[Tuple[int, bytes], Entry] = {}
+    last: Dict[bytes, Entry] = {}
+    entries: List[Entry] = []
     for line, text in enumerate(reader.split_into_lines(book), start=1):
         words = [] if reader.is_blank(text) else reader.read_block(text)
         if reader.is_setup(words):
-            station, last = reader.name_of(words[0].data), {}
+            entries, station, last = entries + list(last.values()), reader.name_of(words[0].data), {}
         for word, _ in KINDS:
             if station is not None and reader.has_counting_word(words, word):
-                length = reader.length_of(reader.counting_words(words, word)[0])
-                if word not in last or last[word][1] != length:
-                    last[word] = (line, length)
+                first = reader.counting_words(words, word)[0]
+                if word in last and last[word].length == reader.length_of(first):
+                    last[word] = last[word]._replace(repeated=line)
+                    continue
+                entries += [last[word]] if word in last else []
+                last[word] = Entry(number, line, word, station, reader.length_of(first), [], first.unit(), line)
         if reader.is_sight(words):
-            for word, (own, length) in last.items():
-                entry = used.setdefault((own, word), Entry(number, own, word, station, length, []))
+            for entry in last.values():
                 entry.sights.append(line)
-    return [used[key] for key in sorted(used)]
+    entries += list(last.values())
+    return sorted((entry for entry in entries if entry.sights), key=lambda entry: (entry.line, entry.word))
 
 
 def crosses_alone(network: Network, entry: Entry, own: List[Observation], rest: List[Edge]) -> bool:

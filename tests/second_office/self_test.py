@@ -279,25 +279,28 @@ explanations                           4
 
 One wrong number explains this: word 88 of line 2 or word 87 of line 2.
 The books do not say which of them.
+Word 88 of line 2: given 1.64500000, fits 1.54600000.
+Word 87 of line 2: given 1.50000000, fits 1.59900000.
+Word 88 of line 2: typed 1.64500000, meant 1.54500000?
 The next best leaves 0.10100000.
 """
-TYPED_AT_KO1_TABLE = b"""number,kind,book,line,word,from,to,sights,given,low,high,explains,left,blunders
-1,instrument,1,2,88,KO1,,4,1.64500000,1.54600000,1.54600000,0.19800000,0.00200000,0
-1,reflector,1,2,87,KO1,,4,1.50000000,1.59900000,1.59900000,0.19800000,0.00200000,0
-2,sight,1,8,,KO2,KO1,1,-2.79600000,-2.89500000,-2.89500000,0.09900000,0.10100000,1
-2,sight,1,15,,KO3,KO1,1,-1.54400000,-1.64300000,-1.64300000,0.09900000,0.10100000,1
+TYPED_AT_KO1_TABLE = b"""number,kind,book,line,word,from,to,sights,given,low,high,explains,left,blunders,last,poles,instruments
+1,instrument,1,2,88,KO1,,4,1.64500000,1.54600000,1.54600000,0.19800000,0.00200000,0,2,,1.54500000
+1,reflector,1,2,87,KO1,,4,1.50000000,1.59900000,1.59900000,0.19800000,0.00200000,0,2,,
+2,sight,1,8,,KO2,KO1,1,-2.79600000,-2.89500000,-2.89500000,0.09900000,0.10100000,1,,,
+2,sight,1,15,,KO3,KO1,1,-1.54400000,-1.64300000,-1.64300000,0.09900000,0.10100000,1,,,
 """
 FORGOTTEN_POLE = Inputs([(EXAMPLES / "building_site" / "monday.gsi").read_bytes()], TYPED_AT_KO1.benchmarks, None)
-FORGOTTEN_POLE_TABLE = b"""number,kind,book,line,word,from,to,sights,given,low,high,explains,left,blunders
-1,sight,1,14,,KO3,D1,1,0.07500000,-0.92600000,-0.92500000,1.00000000,0.00400000,0
+FORGOTTEN_POLE_TABLE = b"""number,kind,book,line,word,from,to,sights,given,low,high,explains,left,blunders,last,poles,instruments
+1,sight,1,14,,KO3,D1,1,0.07500000,-0.92600000,-0.92500000,1.00000000,0.00400000,0,,2.50000000,
 """
 DAM = (EXAMPLES / "dam" / "crest.gsi").read_bytes().splitlines(True)
 TYPED_AT_P1 = Inputs([b"".join(DAM[:7] + DAM[8:18]).replace(b"88..10+00001612", b"88..10+00001712")],
                      (EXAMPLES / "dam" / "rocks.csv").read_bytes(), None)
-TYPED_AT_P1_TABLE = b"""number,kind,book,line,word,from,to,sights,given,low,high,explains,left,blunders
-1,instrument,1,2,88,P1,,5,1.71200000,1.61200000,1.61300000,0.09900000,0.01000000,0
-1,reflector,1,2,87,P1,,5,1.30000000,1.39900000,1.40000000,0.09900000,0.01000000,0
-1,sight,1,9,,C1,P1,1,-0.80200000,-0.90200000,-0.90100000,0.09900000,0.01000000,0
+TYPED_AT_P1_TABLE = b"""number,kind,book,line,word,from,to,sights,given,low,high,explains,left,blunders,last,poles,instruments
+1,instrument,1,2,88,P1,,5,1.71200000,1.61200000,1.61300000,0.09900000,0.01000000,0,2,,1.61200000
+1,reflector,1,2,87,P1,,5,1.30000000,1.39900000,1.40000000,0.09900000,0.01000000,0,2,,
+1,sight,1,9,,C1,P1,1,-0.80200000,-0.90200000,-0.90100000,0.09900000,0.01000000,0,,,
 """
 LINE = EXAMPLES / "levelling_line"
 ONE_WAY = Inputs([(LINE / "there.gsi").read_bytes()], (LINE / "marks.csv").read_bytes(), (LINE / "weights.csv").read_bytes())
@@ -339,6 +342,8 @@ explanations                           2
    2   2      16        T2                T1                  -1.77110000   23.02750000        2
 
 One wrong number explains this: the sight of line 7 of book 1.
+The sight of line 7 of book 1: given 1.77110000, fits 1.27120000.
+The instrument height of line 7 of book 1: typed 1.60350000, meant 1.10350000?
 The next best leaves 23.02750000.
 """
 NOTHING_TEXT = b"""cost                          0.00000000
@@ -367,13 +372,19 @@ FORGOTTEN_LINES = (
     "   1   1       3    87  A                                      2.50000000    0.00000000        0  since\n").encode("ascii")
 # Words 88 and 87 written again in each sight are still one entry each.
 REPEATED = FORGOTTEN.replace(b"33..", b"88..10+00001500 87..10+00001500 33..")
+# At A the instrument stood at 1.860 m, and each line says 1.680 m.
+MISTYPED = (REPEATED.replace(b"88..10+00001500", b"88..10+00001680", 4).replace(b"+00001000", b"+00000640", 1)
+            .replace(b"+00003000", b"+00001640", 1).replace(b"+00004000", b"+00002640", 1))
+MISTYPED_LINES = (b"\nWord 88 of lines 1 to 4: given 1.68000000, fits 1.86000000.\n"
+                  b"Word 87 of lines 1 to 4: given 1.50000000, fits 1.32000000.\n"
+                  b"Word 88 of lines 1 to 4: typed 1.68000000, meant 1.86000000?\n")
 # A benchmark, D, that is 30 mm wrong. Nothing ties C twice, so that the last two sights could be wrong together.
 SUNK = S + b"110002+0000000B 33..00+00000000 87..10+00001500 \n110003+0000000C 33..00+00000000 \n110004+0000000D 33..00+00000000 \n"
-SUNK_TABLE = b"""number,kind,book,line,word,from,to,sights,given,low,high,explains,left,blunders
-1,instrument since,1,3,88,A,,2,1.50000000,1.53000000,1.53000000,0.03000000,0.00000000,0
-1,reflector since,1,3,87,A,,2,1.50000000,1.47000000,1.47000000,0.03000000,0.00000000,0
-1,sight,1,4,,A,D,1,0.00000000,0.03000000,0.03000000,0.03000000,0.00000000,0
-1,benchmark,,4,,D,,1,100.03000000,100.00000000,100.00000000,0.03000000,0.00000000,0
+SUNK_TABLE = b"""number,kind,book,line,word,from,to,sights,given,low,high,explains,left,blunders,last,poles,instruments
+1,instrument since,1,3,88,A,,2,1.50000000,1.53000000,1.53000000,0.03000000,0.00000000,0,,,
+1,reflector since,1,3,87,A,,2,1.50000000,1.47000000,1.47000000,0.03000000,0.00000000,0,,,
+1,sight,1,4,,A,D,1,0.00000000,0.03000000,0.03000000,0.03000000,0.00000000,0,,,
+1,benchmark,,4,,D,,1,100.03000000,100.00000000,100.00000000,0.03000000,0.00000000,0,,,
 """
 # A book whose word 33 holds the heights already.
 MARK_TO_MARK = S + b"".join(b"1100%02d+0000000%s 33..00+00001000 87..10+0000%04d \n" % (2 + k, name, 1300 - 200 * k)
@@ -382,8 +393,8 @@ MARK_TO_MARK = S + b"".join(b"1100%02d+0000000%s 33..00+00001000 87..10+0000%04d
 FAR = (b"110001+0000000A 84..10+00000000 88..10+06000000 87..10+00000000 \n110002+0000000B 33..00+06000000 \n"
        b"110003+0000000B 84..10+00000000 88..10+06000000 87..10+00000000 \n110004+0000000C 33..00+06000000 \n"
        b"110005+0000000C 84..10+00000000 88..10+00000000 87..10+00000000 \n110006+0000000A 33..00-04000000 \n")
-FAR_TABLE = b"""number,kind,book,line,word,from,to,sights,given,low,high,explains,left,blunders
-1,sight,1,6,,C,A,1,-4000.00000000,-24000.00000000,-24000.00000000,20000.00000000,0.00000000,0
+FAR_TABLE = b"""number,kind,book,line,word,from,to,sights,given,low,high,explains,left,blunders,last,poles,instruments
+1,sight,1,6,,C,A,1,-4000.00000000,-24000.00000000,-24000.00000000,20000.00000000,0.00000000,0,,,
 """
 EXPLAINED = (
     ("an instrument height keyed in wrongly", TYPED_AT_KO1, people_text, TYPED_AT_KO1_TEXT),
@@ -399,6 +410,7 @@ EXPLAINED = (
 EXPLAINED_LINES = (
     ("a forgotten change", Inputs([FORGOTTEN], A_100, None), FORGOTTEN_LINES),
     ("the same with words 87 and 88 in each sight", Inputs([REPEATED], A_100, None), FORGOTTEN_LINES),
+    ("two digits exchanged in four lines", Inputs([MISTYPED], A_100, None), MISTYPED_LINES),
     ("a book read from mark to mark", Inputs([MARK_TO_MARK], A_100 + b"B,101\nC,101\nD,101\n", None),
      b"\n   1   1            33                                                       0.00000000        0\n"),
     ("it in a sentence", Inputs([MARK_TO_MARK], A_100 + b"B,101\nC,101\nD,101\n", None), b"\nOne wrong number explains this: word 33 of book 1.\n"),

@@ -151,7 +151,7 @@ def one_entry_is_as_its_cuts_say(network: Network, rng: Random) -> List[str]:
     station = rng.choice(network.observations).station
     lines = [own.line for own in network.observations if own.station == station]
     sights = rng.sample(lines, rng.randint(1, len(lines)))
-    entry = Entry(1, min(sights), reader.INSTRUMENT_HEIGHT, station, 0, sights)
+    entry = Entry(1, min(sights), reader.INSTRUMENT_HEIGHT, station, 0, sights, b"0", min(sights))
     group = [own for own in network.observations if own.line in sights]
     kind = shared_mistake_of(network, entry)
     if kind != shared_over_sets(network, group):

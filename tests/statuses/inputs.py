@@ -10,7 +10,7 @@ from rows import Case, Row, RowCase
 
 MARKS = "--benchmarks marks.csv"
 LIST = "number,from,to,difference"
-ROWS_OF_EXPLANATIONS = "number,kind,book,line,word,from,to,sights,given,low,high,explains,left,blunders"
+ROWS_OF_EXPLANATIONS = "number,kind,book,line,word,from,to,sights,given,low,high,explains,left,blunders,last,poles,instruments"
 
 READ_FAILED = [
     ("book 1", "list missing.gsi"),
@@ -106,14 +106,17 @@ HEIGHTS = [
     ("line 0: B12 book too long", lambda: f"{STATION}\n".encode() + f"{SIGHT}\n".encode() * 1_100_000),
 ]
 
-# A book has blocks and no sight, or heights are not unique.
+# A book has blocks and no sight, heights are not unique, a sight is marked, or a book is given twice.
 NO_SIGHT = "has no sight in 2 blocks (no word 33; it has words 31 and 83)"
 NOTES = [
     Row(0, f"note: book 1 {NO_SIGHT}", "list with_heights.gsi", LIST, WITH_HEIGHTS),
     Row(0, f"note: book 1 {NO_SIGHT}", f"adjust {MARKS} --out mask with_heights.gsi", files=WITH_HEIGHTS),
     Row(0, f"note: book 2 {NO_SIGHT}", f"adjust {MARKS} --out mask cellar.gsi with_heights.gsi", files=WITH_HEIGHTS),
     Row(0, "", f"adjust {MARKS} --out mask cellar.gsi"),
-    Row(0, "note: 3 points have more than one best height, up to 0.00200000 m apart at G2", f"adjust {MARKS} --blunder 1900 --out mask cellar.gsi"),
+    Row(0, "note: 3 points have more than one best height, up to 0.00200000 m apart at G2",
+        f"adjust {MARKS} --blunder 1900 --out mask cellar.gsi",
+        second="note: 1 of 5 sights is marked, up to 0.00200000 m: explain names the number that may be wrong"),
+    Row(0, "note: book 2: 5 of 5 sights are in book 1 too", f"adjust {MARKS} --out mask cellar.gsi cellar.gsi"),
     Row(0, "", f"adjust {MARKS} --blunder 2000 --out mask cellar.gsi"),
     Row(0, "", f"review {MARKS} --out mask with_heights.gsi", files=WITH_HEIGHTS),
     Row(0, "", f"page {MARKS} --out mask with_heights.gsi", files=WITH_HEIGHTS),

@@ -8,6 +8,8 @@
 #[cfg(test)]
 mod oddities;
 #[cfg(test)]
+mod repeated;
+#[cfg(test)]
 mod reviews;
 #[cfg(test)]
 mod spellings;

@@ -18,7 +18,7 @@ type Row = (
 );
 
 /// `examples/building_site.gsi`.
-const BUILDING_SITE: &[&[u8]] = &[
+pub(crate) const BUILDING_SITE: &[&[u8]] = &[
     b"410001+00000007 42....+000SITE3 43....+00240607 ",
     b"110002+00000KO1 84..10+01000000 85..10+02000000 86..10+00250112 87..10+00001500 88..10+00001545 ",
     b"110003+0000BM12 21.322+12344929 22.322+09715570 31..00+00027472 32..00+00027445 33..00+00001227 ",
@@ -86,12 +86,12 @@ const THERE: &[&[u8]] = &[
 ];
 
 /// A setup with both heights, and a sight.
-const SETUP: &[u8] = b"110001+0000000A 84..10+00000000 87..10+00001300 88..10+00001500 ";
+pub(crate) const SETUP: &[u8] = b"110001+0000000A 84..10+00000000 87..10+00001300 88..10+00001500 ";
 
-const SIGHT: &[u8] = b"110002+0000000B 33..00+00002345 ";
+pub(crate) const SIGHT: &[u8] = b"110002+0000000B 33..00+00002345 ";
 
 /// A pole that is changed and changed back is three entries, also with other units in between.
-const CHANGED_BACK: &[&[u8]] = &[
+pub(crate) const CHANGED_BACK: &[&[u8]] = &[
     SETUP,
     SIGHT,
     b"110003+0000000C 33..10+00002345 87..16+00014000 ",
@@ -321,6 +321,17 @@ const REVIEWS: [Row; 20] = [
     ),
 ];
 
+/// A survey with the heights in each sight, and the instrument height in each setup.
+pub(crate) const IN_EACH_SIGHT: &[&[u8]] = &[
+    b"110001+0000000A 84..10+00000000 88..10+00001500 ",
+    b"110002+0000000B 33..10+00002345 87..10+00001300 88..10+00001500 ",
+    b"110003+0000000C 33..10+00001345 87..10+00001300 88..10+00001500 ",
+    b"110004+0000000D 33..10+00001340 87..10+00002000 88..10+00001500 ",
+    b"110005+0000000B 84..10+00000000 88..10+00001500 ",
+    b"110006+0000000C 33..10+00000345 87..10+00002000 88..10+00001500 ",
+    b"110007+0000000A 33..10-00000345 87..10+00002000 88..10+00001500 ",
+];
+
 /// One survey with the heights once a setup, at its front; at the first sight; in every sight; and in every sight in
 /// other units. The second setup has the heights of the first.
 const SURVEYS: [&[&[u8]]; 4] = [
@@ -342,15 +353,7 @@ const SURVEYS: [&[&[u8]]; 4] = [
         b"110006+0000000C 33..10+00000345 87..10+00002000 88..10+00001500 ",
         b"110007+0000000A 33..10-00000345 ",
     ],
-    &[
-        b"110001+0000000A 84..10+00000000 88..10+00001500 ",
-        b"110002+0000000B 33..10+00002345 87..10+00001300 88..10+00001500 ",
-        b"110003+0000000C 33..10+00001345 87..10+00001300 88..10+00001500 ",
-        b"110004+0000000D 33..10+00001340 87..10+00002000 88..10+00001500 ",
-        b"110005+0000000B 84..10+00000000 88..10+00001500 ",
-        b"110006+0000000C 33..10+00000345 87..10+00002000 88..10+00001500 ",
-        b"110007+0000000A 33..10-00000345 87..10+00002000 88..10+00001500 ",
-    ],
+    IN_EACH_SIGHT,
     &[
         b"110001+0000000A 84..10+00000000 88..18+00150000 ",
         b"110002+0000000B 33..10+00002345 87..16+00013000 88..10+00001500 ",
@@ -373,7 +376,7 @@ const KEYED_IN: [(HeightKind, &[u8], i64, u32, u32); 5] = [
 ];
 
 /// The review of a book that comes in pieces of so many bytes.
-fn reviewed(rt: &impl Abort, alloc: Global, text: &[u8], piece: usize) -> BookReview {
+pub(crate) fn reviewed(rt: &impl Abort, alloc: Global, text: &[u8], piece: usize) -> BookReview {
     assert!(rt; piece >= 1);
     let mut feed = BookFeed::new(alloc, 7);
     let mut tally = Tally::new(alloc, 7, SeenNames::new(alloc));
@@ -387,7 +390,7 @@ fn reviewed(rt: &impl Abort, alloc: Global, text: &[u8], piece: usize) -> BookRe
 }
 
 /// The lines joined, each with this end.
-fn joined(rt: &impl Abort, alloc: Global, lines: &[&[u8]], end: &[u8]) -> Vec<u8> {
+pub(crate) fn joined(rt: &impl Abort, alloc: Global, lines: &[&[u8]], end: &[u8]) -> Vec<u8> {
     let mut text = Vec::new(alloc);
     for line in lines {
         text.extend_from_slice(line).expect(rt, "memory");

@@ -47,6 +47,10 @@ explanations                           3
 
 One wrong number explains this: word 88 of line 2 or word 87 of line 2 or the sight of line 9.
 The books do not say which of them.
+Word 88 of line 2: given 1.71200000, fits from 1.61200000 to 1.61300000.
+Word 87 of line 2: given 1.30000000, fits from 1.39900000 to 1.40000000.
+The sight of line 9: given -0.80200000, fits from -0.90200000 to -0.90100000.
+Word 88 of line 2: typed 1.71200000, meant 1.61200000?
 ";
 
 /// On the dam the height of ROCK R in the table is 50 mm too low.
@@ -94,6 +98,7 @@ explanations                           3
    3   1      18        C4                ROCK R              -2.07900000    0.06300000        1
 
 One wrong number explains this: the height of ROCK R.
+The height of ROCK R: given 1203.92700000, fits 1203.98300000.
 The next best leaves 0.06200000.
 ";
 
@@ -140,6 +145,8 @@ explanations                           6
 
 One wrong number explains this: word 88 since line 5 or word 87 since line 5.
 The books do not say which of them.
+Word 88 since line 5: given 1.54500000, fits from 2.54500000 to 2.54600000.
+Word 87 since line 5: given 1.50000000, fits from 0.49900000 to 0.50000000.
 The next best leaves 1.00300000.
 ";
 
@@ -249,6 +256,8 @@ explanations                           2
    2   2      16        T2                T1                  -1.77110000   23.02750000        2
 
 One wrong number explains this: the sight of line 7 of book 1.
+The sight of line 7 of book 1: given 1.77110000, fits 1.27120000.
+The instrument height of line 7 of book 1: typed 1.60350000, meant 1.10350000?
 The next best leaves 23.02750000.
 ";
 

@@ -45,13 +45,15 @@ pub fn explained(
 
 /// Both texts are these.
 pub fn are_printed(rt: &impl Abort, alloc: Global, own: &Explanations, table: &[u8], text: &[u8]) {
-    let printed = explanations_csv(alloc, &own.rows).expect(rt, "memory");
+    let printed = explanations_csv(alloc, &own.rows, &own.named).expect(rt, "memory");
     assert!(rt; printed.as_slice() == table);
     is_text(rt, alloc, own, text);
 }
 
 /// The text for people is this.
 pub fn is_text(rt: &impl Abort, alloc: Global, own: &Explanations, text: &[u8]) {
-    let printed = explanations_text(alloc, &own.summary, &own.rows).expect(rt, "memory");
+    let printed = explanations_text(alloc, &own.summary, &own.rows, &own.named).expect(
+        rt, "memory",
+    );
     assert!(rt; printed.as_slice() == text);
 }

@@ -11,16 +11,16 @@
 //!
 //! `-` is a value that is missing. Lengths are in units of 10 nm.
 use crate::words::{
-    bytes_of, cost, keyed_in, length, name, number, optional, optional_name, place,
+    bytes_of, cost, keyed_in, length, name, number, optional, optional_name, place, unit,
 };
 use anyhow::{Context, Result, bail};
 use std::alloc::Global;
 use th_book::read_book;
 use th_entries::{Entry, HeightKind};
 use th_explain_texts::{Kind, Row, Values};
-use th_html::{BenchmarkRow, EntryRow, Mistake, PointRow, SightRow};
 use th_observations::Observation;
-use th_picture::{End, Sight};
+use th_reliability::{Mistake, SharedMistake};
+use th_review_rows::{BenchmarkRow, End, EntryRow, ObservationRow, PointRow};
 
 /// What a page shows.
 #[derive(Drop)]
@@ -29,7 +29,7 @@ pub struct Rows {
     read: u32,
     pub books: Vec<Vec<u8>>,
     pub points: Vec<PointRow>,
-    pub sights: Vec<Sight>,
+    pub sights: Vec<ObservationRow>,
     pub entries: Vec<EntryRow>,
     pub benchmarks: Vec<BenchmarkRow>,
     pub explanations: Vec<Row>,
@@ -149,16 +149,20 @@ fn point_of(alloc: Global, words: &[&str]) -> Result<PointRow> {
     let [own, low, high, strength] = words else {
         bail!("a point")
     };
+    let low = length(low)?;
+    let high = length(high)?;
     Ok(PointRow {
         name: name(alloc, own)?,
-        low: length(low)?,
-        high: length(high)?,
+        low,
+        high,
+        spread: high.checked_sub(low).context("a large spread")?,
         strength: optional(strength)?,
+        alone: false,
     })
 }
 
 /// The sight of observation `k`, from 0.
-fn sight_of(k: usize, observation: &Observation, words: &[&str]) -> Result<Sight> {
+fn sight_of(k: usize, observation: &Observation, words: &[&str]) -> Result<ObservationRow> {
     let [
         weight,
         residual,
@@ -174,18 +178,17 @@ fn sight_of(k: usize, observation: &Observation, words: &[&str]) -> Result<Sight
     };
     let weight = number(weight)?;
     let control = optional(control)?;
-    Ok(Sight {
-        row: SightRow {
-            number: u32::try_from(k)
-                .ok()
-                .and_then(|k| k.checked_add(1))
-                .context("many sights")?,
-            observation: *observation,
-            weight,
-            residual: length(residual)?,
-            control,
-            mistake: mistake_of(mistake)?,
-        },
+    Ok(ObservationRow {
+        number: u32::try_from(k)
+            .ok()
+            .and_then(|k| k.checked_add(1))
+            .context("many sights")?,
+        observation: *observation,
+        weight,
+        residual: length(residual)?,
+        control,
+        mistake: mistake_of(mistake)?,
+        blame: None,
         from: End {
             place: place(from)?,
             low: length(from_low)?,
@@ -197,15 +200,25 @@ fn sight_of(k: usize, observation: &Observation, words: &[&str]) -> Result<Sight
     })
 }
 
-/// What a mistake would do.
+/// What a mistake in a sight would do.
 fn mistake_of(word: &str) -> Result<Mistake> {
     match word {
         "shows" => Ok(Mistake::Shows),
         "ties" => Ok(Mistake::Ties),
         "hides" => Ok(Mistake::Hides),
-        "drags" => Ok(Mistake::Drags),
         "unchecked" => Ok(Mistake::Unchecked),
-        _ => bail!("no mistake"),
+        _ => bail!("no mistake in a sight"),
+    }
+}
+
+/// What a mistake in a number of several sights would do.
+fn shared_mistake_of(word: &str) -> Result<SharedMistake> {
+    match word {
+        "shows" => Ok(SharedMistake::Shows),
+        "ties" => Ok(SharedMistake::Ties),
+        "drags" => Ok(SharedMistake::Drags),
+        "unchecked" => Ok(SharedMistake::Unchecked),
+        _ => bail!("no mistake in several sights"),
     }
 }
 
@@ -218,7 +231,7 @@ fn entry_of(alloc: Global, words: &[&str]) -> Result<EntryRow> {
         station,
         sign,
         digits,
-        unit,
+        code,
         sights,
         weight,
         mistake,
@@ -232,6 +245,7 @@ fn entry_of(alloc: Global, words: &[&str]) -> Result<EntryRow> {
     } else {
         HeightKind::Instrument
     };
+    let unit = unit(code)?;
     Ok(EntryRow {
         entry: Entry {
             book: number(book)?,
@@ -239,11 +253,14 @@ fn entry_of(alloc: Global, words: &[&str]) -> Result<EntryRow> {
             kind,
             station: name(alloc, station)?,
             length: keyed_in(sign, digits, unit)?,
+            unit,
+            repeated: line,
             sights: number(sights)?,
             last: line,
         },
         weight: number(weight)?,
-        mistake: mistake_of(mistake)?,
+        mistake: shared_mistake_of(mistake)?,
+        blame: None,
     })
 }
 
@@ -255,13 +272,15 @@ fn benchmark_of(alloc: Global, words: &[&str]) -> Result<BenchmarkRow> {
     Ok(BenchmarkRow {
         name: name(alloc, own)?,
         height: length(height)?,
-        sights: number(sights)?,
+        sights: number(sights)? as usize,
         weight: number(weight)?,
+        strength: None,
         mistake: if *mistake == "-" {
             None
         } else {
-            Some(mistake_of(mistake)?)
+            Some(shared_mistake_of(mistake)?)
         },
+        blame: None,
     })
 }
 
@@ -288,6 +307,7 @@ fn add_explanation(alloc: Global, rows: &mut Vec<Row>, words: &[&str]) -> Result
         kind: kind_of(kind)?,
         book: optional(book)?,
         line: optional(line)?,
+        last: None,
         from: optional_name(alloc, from)?,
         to: optional_name(alloc, to)?,
         sights: 0,

@@ -10,7 +10,7 @@ use lines::Rows;
 use std::alloc::Global;
 use std::io::{self, Write};
 use th_inputs::{Input, Sum, add_sum};
-use th_page::{Shown, page_text};
+use th_page::{Explained, Shown, page_text};
 
 fn main(rt: HostRuntime) -> Result<()> {
     let text = io::read_to_string(rt.alloc(), rt.reader())?;
@@ -34,10 +34,12 @@ fn page_of(alloc: Global, rows: &Rows) -> Result<Vec<u8>> {
             sights: &rows.sights,
             entries: &rows.entries,
             benchmarks: &rows.benchmarks,
-            explanations: &rows.explanations,
             notes: &notes,
-            cost: rows.cost,
-            limit: rows.limit,
+            explained: Explained {
+                cost: rows.cost,
+                limit: rows.limit,
+                rows: &rows.explanations,
+            },
         },
     )?;
     Ok(page)

@@ -2,7 +2,7 @@
 use anyhow::{Context, Result};
 use gsi_word::{Name, name_of};
 use std::alloc::Global;
-use th_units::{Len, to_len, unit_of};
+use th_units::{Len, Unit, to_len, unit_of};
 
 /// The bytes of a word with two hexadecimal digits for each.
 pub fn bytes_of(alloc: Global, word: &str) -> Result<Vec<u8>> {
@@ -73,10 +73,14 @@ pub fn optional_name(alloc: Global, word: &str) -> Result<Option<Name>> {
     }
 }
 
-/// A length of a book: a sign, its digits, and the code of their unit.
-pub fn keyed_in(sign: &str, digits: &str, unit: &str) -> Result<Len> {
-    let code = unit.bytes().next().context("no unit")?;
-    let unit = unit_of(code).context("no unit")?;
+/// The unit of a code.
+pub fn unit(word: &str) -> Result<Unit> {
+    let code = word.bytes().next().context("no unit")?;
+    unit_of(code).context("no unit")
+}
+
+/// A length of a book: a sign, its digits, and their unit.
+pub fn keyed_in(sign: &str, digits: &str, unit: Unit) -> Result<Len> {
     to_len(sign == "-", digits.as_bytes(), unit)
         .ok()
         .context("no length")

@@ -11,7 +11,7 @@ const MASK: &[u8] =
 const NOTHING_LISTED: &[u8] = b"number,from,to,difference\n";
 
 /// Command lines that are done, and the notes of each.
-const NOTED: [(&str, &[u8]); 10] = [
+const NOTED: [(&str, &[u8]); 13] = [
     (
         "list mask.gsi",
         b"note: book 1 has no sight in 2 blocks (no word 33; it has words 22, 31 and 83)\n",
@@ -26,11 +26,23 @@ const NOTED: [(&str, &[u8]); 10] = [
     ),
     (
         "adjust --benchmarks heights --blunder 1000 --out out code.gsi back.gsi",
-        b"note: book 1 has no sight in 1 block (no word 33)\nnote: 1 point has more than one best height, up to 0.01000000 m apart at B\n",
+        b"note: book 1 has no sight in 1 block (no word 33)\nnote: 1 point has more than one best height, up to 0.01000000 m apart at B\nnote: 1 of 2 sights is marked, up to 0.01000000 m: explain names the number that may be wrong\n",
     ),
     (
         "adjust --benchmarks heights --blunder 10000 --out out back.gsi",
         b"",
+    ),
+    (
+        "adjust --benchmarks heights --out out seven.gsi",
+        b"note: a residual of 0.01500000 m (book 1 line 8) is within the limit, and 15 times the usual one: --blunder 8000 marks it\n",
+    ),
+    (
+        "adjust --benchmarks heights --blunder 8000 --out out seven.gsi copy.gsi",
+        b"note: book 2: 7 of 7 sights are in book 1 too\nnote: 2 of 14 sights are marked, up to 0.01500000 m: explain names the number that may be wrong\n",
+    ),
+    (
+        "adjust --benchmarks heights --out out site.gsi cases.gsi",
+        b"note: B (book 1 line 2) and b (book 2 line 2) differ only in upper and lower case\n",
     ),
     ("list blank.gsi", b""),
     ("list back.gsi", b""),
@@ -39,7 +51,15 @@ const NOTED: [(&str, &[u8]); 10] = [
     ("page --benchmarks heights --out out mask.gsi", b""),
 ];
 
-/// A folder with books that have no sight.
+/// Seven sights, of which the last is longer than the others.
+const SEVEN: &[u8] =
+    b"110001+0000000A 84..10+00000000 88..10+00001500 \n110002+0000000B 33..00+00002344 87..10+00001300 \n110003+0000000B 33..00+00002344 \n110004+0000000B 33..00+00002345 \n110005+0000000B 33..00+00002345 \n110006+0000000B 33..00+00002346 \n110007+0000000B 33..00+00002346 \n110008+0000000B 33..00+00002360 \n";
+
+/// A sight of a point whose name is written in lower case.
+const CASES: &[u8] =
+    b"110001+0000000A 84..10+00000000 88..10+00001500 \n110002+0000000b 33..00+00002345 87..10+00001300 \n";
+
+/// A folder with books that have no sight, and others that are noted.
 fn sightless(rt: &(impl AllocGlobal + Abort)) -> MemoryFolder {
     let mut folder = project(rt, WIDE);
     put(rt, &mut folder, "mask.gsi", MASK);
@@ -47,6 +67,9 @@ fn sightless(rt: &(impl AllocGlobal + Abort)) -> MemoryFolder {
     put(rt, &mut folder, "code.gsi", b"410001+0000000A\n");
     let level = b"110001+0000000A 331.08+00158231\n";
     put(rt, &mut folder, "level.gsi", level);
+    put(rt, &mut folder, "seven.gsi", SEVEN);
+    put(rt, &mut folder, "copy.gsi", SEVEN);
+    put(rt, &mut folder, "cases.gsi", CASES);
     folder
 }
 

@@ -1,6 +1,6 @@
 //! What a run that explains writes, and each of its reads and writes, refused in turn.
 ghost use Rattle.th_devices.specs.Memory.{text_sink};
-ghost use Rattle.th_run_explain.specs.Explained.{explaining};
+ghost use Rattle.th_runs.specs.Explained.{explaining};
 ghost use Rattle.th_run_parts.specs.Writes.{AreWritable};
 
 use crate::helpers::{
@@ -10,8 +10,7 @@ use crate::projects::{A_AT_100, LIMIT};
 use std::process::Abort;
 use th_devices::TextSink;
 use th_progress::Silent;
-use th_run_explain::{Form, run_explain};
-use th_runs::Refusal;
+use th_runs::{Explain, Form, Refusal, ReviewReader, run_command};
 
 /// What is printed of a book of one sight.
 const ONE_SIGHT_EXPLAINED: &[u8] = b"cost                          0.00000000
@@ -34,8 +33,8 @@ const THREE_SIGHTS: &[u8] =
 
 /// Its table.
 const THREE_SIGHTS_TABLE: &[u8] =
-    b"number,kind,book,line,word,from,to,sights,given,low,high,explains,left,blunders
-1,sight,1,3,,A,B,1,2.64500000,2.54500000,2.54500000,0.10000000,0.00000000,0
+    b"number,kind,book,line,word,from,to,sights,given,low,high,explains,left,blunders,last,poles,instruments
+1,sight,1,3,,A,B,1,2.64500000,2.54500000,2.54500000,0.10000000,0.00000000,0,,,
 ";
 
 /// The devices of a run that explains, and how often each source is called.
@@ -59,13 +58,16 @@ fn explain_where<R: AllocGlobal + Abort>(
     requires { AreWritable text_sink explaining.outputs outs.old }
 {
     let (mut books, mut table, mut weights) = failing_sources(failing, call);
-    run_explain(
+    run_command(
         rt.alloc(),
+        &Explain {
+            limit: LIMIT,
+            form: Form::Text,
+        },
+        &mut ReviewReader::new(rt.alloc()),
         &mut books,
         &mut table,
         &mut weights,
-        LIMIT,
-        Form::Text,
         outs,
         &mut Silent,
     )
@@ -113,13 +115,16 @@ fn a_sight_is_explained(rt: HostRuntime) {
     let mut benchmarks = source(A_AT_100);
     let mut weights = Some(source(b""));
     let mut outs = [failing_sink(&rt, Device::Explanations, Device::Verdict, 1)];
-    let answer = run_explain(
+    let answer = run_command(
         rt.alloc(),
+        &Explain {
+            limit: LIMIT,
+            form: Form::Table,
+        },
+        &mut ReviewReader::new(rt.alloc()),
         &mut books,
         &mut benchmarks,
         &mut weights,
-        LIMIT,
-        Form::Table,
         &mut outs,
         &mut Silent,
     );

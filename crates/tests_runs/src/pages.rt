@@ -2,7 +2,7 @@
 //! in turn.
 ghost use Rattle.std.specs.Prelude.{◌≤◌};
 ghost use Rattle.th_devices.specs.Memory.{text_sink};
-ghost use Rattle.th_run_page.specs.Paged.{paging};
+ghost use Rattle.th_runs.specs.Paged.{paging};
 ghost use Rattle.th_run_parts.specs.Writes.{AreWritable};
 
 use crate::helpers::{Device, HELD_BEFORE, failing_sources, refusal_of, source};
@@ -10,8 +10,7 @@ use crate::projects::{A_AT_100, LIMIT, MISREAD_SIGHT};
 use std::process::Abort;
 use th_devices::{TextSink, write_all};
 use th_progress::Silent;
-use th_run_page::run_page;
-use th_runs::Refusal;
+use th_runs::{MakePage, Refusal, ReviewReader, run_command};
 
 /// The names of the inputs of which one call fails.
 const NAMES: [&str; 4] = ["monday.gsi", "none.gsi", "marks.csv", "weights.csv"];
@@ -72,13 +71,16 @@ fn page_where<R: AllocGlobal + Abort>(
         None
     };
     let mut outs = [page_sink(rt, fail_at)];
-    let answer = run_page(
+    let answer = run_command(
         rt.alloc(),
+        &MakePage {
+            limit: LIMIT,
+            names: &NAMES,
+        },
+        &mut ReviewReader::new(rt.alloc()),
         &mut books,
         &mut table,
         &mut weights,
-        &NAMES,
-        LIMIT,
         &mut outs,
         &mut Silent,
     );
@@ -121,13 +123,16 @@ fn a_misread_sight_is_shown(rt: HostRuntime) {
     let mut benchmarks = source(A_AT_100);
     let mut weights = Some(source(b"from,to,weight\nB,A,7\n"));
     let mut outs = [page_sink(&rt, None)];
-    let answer = run_page(
+    let answer = run_command(
         rt.alloc(),
+        &MakePage {
+            limit: LIMIT,
+            names: &["client/<b> & 'so'.gsi", "marks.csv", "weights.csv"],
+        },
+        &mut ReviewReader::new(rt.alloc()),
         &mut books,
         &mut benchmarks,
         &mut weights,
-        &["client/<b> & 'so'.gsi", "marks.csv", "weights.csv"],
-        LIMIT,
         &mut outs,
         &mut Silent,
     );

@@ -2,7 +2,7 @@
 //! refused in turn.
 ghost use Rattle.std.specs.Prelude.{◌≤◌};
 ghost use Rattle.th_devices.specs.Memory.{text_sink};
-ghost use Rattle.th_run_review.specs.Reviewed.{reviewing};
+ghost use Rattle.th_runs.specs.Reviewed.{reviewing};
 ghost use Rattle.th_run_parts.specs.Writes.{AreWritable};
 
 use crate::helpers::{Device, add, are_left, failing_sink, failing_sources, refusal_of, source};
@@ -13,8 +13,7 @@ use crate::review_rows::{
 use std::process::Abort;
 use th_devices::{TextSink, TextSource};
 use th_progress::Silent;
-use th_run_review::run_review;
-use th_runs::Refusal;
+use th_runs::{Refusal, Review, ReviewReader, run_command};
 
 /// The sinks of a review, in memory, in its order.
 type ReviewSinks = [TextSink; 5];
@@ -96,13 +95,16 @@ fn try_row<R: AllocGlobal + Abort>(rt: &R, row: &Row) {
     let mut table = source(benchmarks);
     let mut factors = Some(source(weights));
     let mut outs = failing_sinks(rt, Device::Verdict, 1);
-    let answer = run_review(
+    let answer = run_command(
         rt.alloc(),
+        &Review {
+            limit: LIMIT,
+            names: &NAMES,
+        },
+        &mut ReviewReader::new(rt.alloc()),
         &mut books,
         &mut table,
         &mut factors,
-        &NAMES,
-        LIMIT,
         &mut outs,
         &mut Silent,
     );
@@ -126,13 +128,16 @@ fn review_where<R: AllocGlobal + Abort>(
 ) -> (Result<(), Refusal>, ReviewSinks) {
     let (mut books, mut table, mut weights) = failing_sources(failing, call);
     let mut outs = failing_sinks(rt, failing, call);
-    let answer = run_review(
+    let answer = run_command(
         rt.alloc(),
+        &Review {
+            limit: LIMIT,
+            names: &NAMES_OF_TWO,
+        },
+        &mut ReviewReader::new(rt.alloc()),
         &mut books,
         &mut table,
         &mut weights,
-        &NAMES_OF_TWO,
-        LIMIT,
         &mut outs,
         &mut Silent,
     );
@@ -234,13 +239,16 @@ fn one_pair_is_reviewed(rt: HostRuntime) {
         wide_sink(&rt),
         wide_sink(&rt),
     ];
-    let answer = run_review(
+    let answer = run_command(
         rt.alloc(),
+        &Review {
+            limit: LIMIT,
+            names: &NAMES,
+        },
+        &mut ReviewReader::new(rt.alloc()),
         &mut books,
         &mut benchmarks,
         &mut weights,
-        &NAMES,
-        LIMIT,
         &mut outs,
         &mut Silent,
     );

@@ -1,4 +1,6 @@
-//! The commands and their options, as `clap` reads them, with the help texts.
+//! The commands and their options, as `clap` reads them, with the help texts. `tools/command_pages` makes the
+//! completions and the manual page's options of this file: what an option's comment has behind its first line
+//! is for the manual page.
 ghost use Rattle.std.specs.Prelude.{◌≡◌, IfOk, codes};
 ghost use Rattle.clap.specs.Words.{App, app_of};
 ghost use Rattle.th_commands.specs.Inside.Arguments.{IsArgument, IsCommand};
@@ -299,6 +301,8 @@ fn table<'a>(alloc: Global) -> Arg<'a>
 }
 
 /// `--benchmarks FILE`.
+///
+/// A row has the name of a point and its height in metres.
 fn benchmarks<'a>(alloc: Global) -> Arg<'a>
     ensures { IsArgument (needed_rule (codes "benchmarks")) result }
 {
@@ -310,6 +314,9 @@ fn benchmarks<'a>(alloc: Global) -> Arg<'a>
 }
 
 /// `--weights FILE`.
+///
+/// A row has the names of station and target, and a whole number from 1 to 1000, proportional to 1/sigma.
+/// Only ratios count.
 fn weights<'a>(alloc: Global) -> Arg<'a>
     ensures { IsArgument (option_rule (codes "weights")) result }
 {
@@ -322,6 +329,8 @@ fn weights<'a>(alloc: Global) -> Arg<'a>
 }
 
 /// `--blunder MICROMETRES`.
+///
+/// 'explain' explains nothing that differs by less. The default is 20000, which is 20 mm.
 fn blunder<'a>(alloc: Global) -> Arg<'a>
     ensures { IsArgument blunder_rule result }
 {
@@ -364,6 +373,8 @@ fn heights<'a>(alloc: Global) -> Arg<'a>
 }
 
 /// `--out PREFIX`.
+///
+/// Its last part must not be empty, '.' or '..'.
 fn out<'a>(alloc: Global) -> Arg<'a>
     ensures { IsArgument (needed_rule (codes "out")) result }
 {
@@ -371,7 +382,7 @@ fn out<'a>(alloc: Global) -> Arg<'a>
         .long("out")
         .required(true)
         .value_name("PREFIX")
-        .help("The beginning of the names of the four output files")
+        .help("The beginning of the names of the output files")
 }
 
 /// `--certificate FILE`.

@@ -13,16 +13,16 @@ use Rattle.th_book.specs.Entered.{IsWhole, entered_by}
 use Rattle.th_book.specs.Setups.{IsHeight, IsRunning}
 use Rattle.th_book.specs.declared.setups.Setup.{Setup}
 use Rattle.th_entries.specs.Below.{all_below, count_below}
-use Rattle.th_entries.specs.Entries.{begins, begins_from, continues, index_of, last_before, length_at, uses}
-use Rattle.th_entries.specs.Inside.Running.{Entering, begun_by, entering_after, entry_in, height_of, is_repeated, is_same, place_of, served, setup_on, sighted, with_heights}
-use Rattle.th_entries.specs.Inside.Tallies.{IsEntering, both_at, candidate, candidate_at, open_at, opens, place_in}
+use Rattle.th_entries.specs.Entries.{begins, begins_from, continues, index_of, last_before, length_at, repeated_below, unit_in, uses, writes}
+use Rattle.th_entries.specs.Inside.Running.{Entering, begun_by, entering_after, entry_in, height_of, is_repeated, is_same, place_of, served, setup_on, sighted, with_heights, with_words, written}
+use Rattle.th_entries.specs.Inside.Tallies.{Bounds, IsEntering, both_at, candidate, candidate_at, open_at, opens, place_in, upto}
 use Rattle.th_entries.specs.declared.entries.Entry.{Entry}
 use Rattle.th_entries.specs.declared.entries.HeightKind.{HeightKind}
 use Rattle.th_entries.specs.declared.entries.HeightKind.TheVariants.{Reflector, Instrument}
 use Rattle.th_entries.specs.declared.running.Latest.{Latest}
 use Rattle.th_entries.proofs.BelowLemmas.{all-same, count-none, last-lt, last-none}
-use Rattle.th_entries.proofs.Candidates.{place-instrument, place-reflector, unused-at}
-use Rattle.th_entries.proofs.Served.{serve-instrument, serve-reflector}
+use Rattle.th_entries.proofs.Candidates.{place-instrument, place-reflector, unused-at, unwritten, unwritten-before, writes-none}
+use Rattle.th_entries.proofs.Served.{serve-instrument, serve-reflector, write-instrument, write-reflector}
 use Rattle.th_entries.proofs.Uses.{no-setup, used, used-le}
 
 -- the last entry that begins before a line, in the setup that runs behind it
@@ -77,7 +77,7 @@ on_line parsed n running whole runs = go (is_setup (words_at parsed n)) (point_n
 record Begun (number : ℕ) (parsed : List ParsedLine) (n : ℕ) (state : Entering) : Type 0 where
   pub reflector : state.latest.reflector ≡ option_map (place_in parsed Reflector) (open_before reflector_height parsed n)
   pub instrument : state.latest.instrument ≡ option_map (place_in parsed Instrument) (open_before instrument_height parsed n)
-  pub entries : state.entries ≡ all_below (both_at number parsed n n) n
+  pub entries : state.entries ≡ all_below (both_at number parsed (upto n n) (upto n n)) n
 
 begun-more : (number : ℕ) (parsed : List ParsedLine) (n : ℕ) (state : Entering) → IsWhole (words_at parsed n) (entered_by (words_at parsed n)) → IsEntering number parsed n state → Begun number parsed n (record state { latest = begun_by (entered_by (words_at parsed n)) state.latest })
 begun-more number parsed n state whole was = go (is_setup (words_at parsed n)) refl
@@ -127,7 +127,7 @@ and_true true = refl
 and_true false = refl
 
 -- the entry that a line begins, which no sight uses yet
-added : (number : ℕ) (parsed : List ParsedLine) (kind : HeightKind) (n : ℕ) (setup : Option Setup) → IsOn parsed n (setup_of parsed (suc n)) setup → is_some (length_in (index_of kind) (words_at parsed n)) ≡ holds (index_of kind) (words_at parsed n) → entry_in setup number (n + 1) kind (length_in (index_of kind) (words_at parsed n)) ≡ cond (opens parsed kind n) (Some (candidate number parsed kind n n)) None
+added : (number : ℕ) (parsed : List ParsedLine) (kind : HeightKind) (n : ℕ) (setup : Option Setup) → IsOn parsed n (setup_of parsed (suc n)) setup → is_some (length_in (index_of kind) (words_at parsed n)) ≡ holds (index_of kind) (words_at parsed n) → entry_in setup number (n + 1) kind (unit_in (index_of kind) (words_at parsed n)) (length_in (index_of kind) (words_at parsed n)) ≡ cond (opens parsed kind n) (Some (candidate number parsed kind (upto n n) n)) None
 added number parsed kind n setup on read = go (setup_of parsed (suc n)) setup (length_in (index_of kind) (words_at parsed n)) refl on refl
   where
     opened_as : (found : Option ℕ) (length : Option ℤ) → setup_of parsed (suc n) ≡ found → length_in (index_of kind) (words_at parsed n) ≡ length → opens parsed kind n ≡ ((is_some length && not (continues (index_of kind) parsed n)) && is_some found)
@@ -138,19 +138,22 @@ added number parsed kind n setup on read = go (setup_of parsed (suc n)) setup (l
     none_last : last_below (uses (index_of kind) parsed n) n ≡ None
     none_last = last-none (uses (index_of kind) parsed n) n (λ k before. not_before (index_of kind) parsed n k before)
 
+    none_written : last_below (writes (index_of kind) parsed n) n ≡ None
+    none_written = last-none (writes (index_of kind) parsed n) n (λ k before. unwritten-before (index_of kind) parsed n k before)
+
     turned : (repeated : Bool) (entry : Entry) → cond repeated None (Some entry) ≡ cond (not repeated) (Some entry) None
     turned true entry = refl
     turned false entry = refl
 
-    go : (found : Option ℕ) (own : Option Setup) (length : Option ℤ) → setup_of parsed (suc n) ≡ found → IsOn parsed n found own → length_in (index_of kind) (words_at parsed n) ≡ length → entry_in own number (n + 1) kind length ≡ cond (opens parsed kind n) (Some (candidate number parsed kind n n)) None
+    go : (found : Option ℕ) (own : Option Setup) (length : Option ℤ) → setup_of parsed (suc n) ≡ found → IsOn parsed n found own → length_in (index_of kind) (words_at parsed n) ≡ length → entry_in own number (n + 1) kind (unit_in (index_of kind) (words_at parsed n)) length ≡ cond (opens parsed kind n) (Some (candidate number parsed kind (upto n n) n)) None
     go None None length is on has =
         let no : opens parsed kind n ≡ false = opened_as None length is has ∙ and_right (is_some length && not (continues (index_of kind) parsed n)) false refl in
-        sym (ap (λ own. cond own (Some (candidate number parsed kind n n)) None) no)
+        sym (ap (λ own. cond own (Some (candidate number parsed kind (upto n n) n)) None) no)
     go None (Some own) length is on has = absurd on
     go (Some from) None length is on has = absurd on
     go (Some from) (Some own) None is on has =
         let no : opens parsed kind n ≡ false = opened_as (Some from) None is has in
-        sym (ap (λ own. cond own (Some (candidate number parsed kind n n)) None) no)
+        sym (ap (λ own. cond own (Some (candidate number parsed kind (upto n n) n)) None) no)
     go (Some from) (Some own) (Some length) is on has =
         let read : length ≡ length_at (index_of kind) parsed n = ap known (sym has) in
         let repeats : is_repeated kind length own ≡ continues (index_of kind) parsed n =
@@ -160,22 +163,24 @@ added number parsed kind n setup on read = go (setup_of parsed (suc n)) setup (l
         let station : own.station ≡ known_name (station_at parsed (suc n)) = ap known_name (sym (ap (option_and_then (λ (setup : ℕ). point_name (words_at parsed setup))) is ∙ on.name)) in
         let sights : 0 ≡ count_below (uses (index_of kind) parsed n) n = sym (count-none (uses (index_of kind) parsed n) n none_last) in
         let last : 0 ≡ option_map_or (λ (last : ℕ). last + 1) (last_below (uses (index_of kind) parsed n) n) 0 = ap (λ found. option_map_or (λ (last : ℕ). last + 1) found 0) (sym none_last) in
-        let same : record { book = number; line = n + 1; kind = kind; station = own.station; length = length; sights = 0; last = 0 } ≡ candidate number parsed kind n n = cc in
-        ap (λ repeated. cond repeated None (Some (record { book = number; line = n + 1; kind = kind; station = own.station; length = length; sights = 0; last = 0 }))) repeats
+        let repeated : n + 1 ≡ repeated_below (index_of kind) parsed n n = ap (λ found. option_map_or (λ (last : ℕ). last + 1) found (n + 1)) (sym none_written) in
+        let unit = unit_in (index_of kind) (words_at parsed n) in
+        let same : record { book = number; line = n + 1; kind = kind; station = own.station; length = length; unit = unit; repeated = n + 1; sights = 0; last = 0 } ≡ candidate number parsed kind (upto n n) n = cc in
+        ap (λ repeated. cond repeated None (Some (record { book = number; line = n + 1; kind = kind; station = own.station; length = length; unit = unit; repeated = n + 1; sights = 0; last = 0 }))) repeats
         ∙ turned (continues (index_of kind) parsed n) _
         ∙ ap (λ entry. cond (not (continues (index_of kind) parsed n)) (Some entry) None) same
-        ∙ ap (λ own. cond own (Some (candidate number parsed kind n n)) None) (sym opened)
+        ∙ ap (λ own. cond own (Some (candidate number parsed kind (upto n n) n)) None) (sym opened)
 
 -- what it adds to the entries
-added-list : (number : ℕ) (parsed : List ParsedLine) (kind : HeightKind) (n : ℕ) (entry : Option Entry) → entry ≡ cond (opens parsed kind n) (Some (candidate number parsed kind n n)) None → option_to_list entry ≡ candidate_at number parsed kind n n
+added-list : (number : ℕ) (parsed : List ParsedLine) (kind : HeightKind) (n : ℕ) (entry : Option Entry) → entry ≡ cond (opens parsed kind n) (Some (candidate number parsed kind (upto n n) n)) None → option_to_list entry ≡ candidate_at number parsed kind (upto n n) n
 added-list number parsed kind n entry is = ap option_to_list is ∙ go (opens parsed kind n)
   where
-    go : (there : Bool) → option_to_list (cond there (Some (candidate number parsed kind n n)) None) ≡ cond there (candidate number parsed kind n n ∷ []) []
+    go : (there : Bool) → option_to_list (cond there (Some (candidate number parsed kind (upto n n) n)) None) ≡ cond there (candidate number parsed kind (upto n n) n ∷ []) []
     go true = refl
     go false = refl
 
 -- the place of the last entry after a line
-place-more : (number : ℕ) (parsed : List ParsedLine) (kind : HeightKind) (n : ℕ) (entries : List Entry) (entry : Option Entry) (before : Option ℕ) → entry ≡ cond (opens parsed kind n) (Some (candidate number parsed kind n n)) None → length entries ≡ place_in parsed kind n → before ≡ option_map (place_in parsed kind) (open_before (index_of kind) parsed n) → place_of entry entries before ≡ option_map (place_in parsed kind) (open_at (index_of kind) parsed (suc n))
+place-more : (number : ℕ) (parsed : List ParsedLine) (kind : HeightKind) (n : ℕ) (entries : List Entry) (entry : Option Entry) (before : Option ℕ) → entry ≡ cond (opens parsed kind n) (Some (candidate number parsed kind (upto n n) n)) None → length entries ≡ place_in parsed kind n → before ≡ option_map (place_in parsed kind) (open_before (index_of kind) parsed n) → place_of entry entries before ≡ option_map (place_in parsed kind) (open_at (index_of kind) parsed (suc n))
 place-more number parsed kind n entries entry before is many was =
     ap (λ own. place_of own entries before) is
     ∙ after (opens parsed kind n)
@@ -183,7 +188,7 @@ place-more number parsed kind n entries entry before is many was =
     ∙ ap (λ own. cond (opens parsed kind n) (Some (place_in parsed kind n)) own) was
     ∙ go (setup_of parsed (suc n)) refl
   where
-    after : (there : Bool) → place_of (cond there (Some (candidate number parsed kind n n)) None) entries before ≡ cond there (Some (length entries)) before
+    after : (there : Bool) → place_of (cond there (Some (candidate number parsed kind (upto n n) n)) None) entries before ≡ cond there (Some (length entries)) before
     after true = refl
     after false = refl
 
@@ -203,9 +208,15 @@ place-more number parsed kind n entries entry before is many was =
 record Entered (number : ℕ) (parsed : List ParsedLine) (n : ℕ) (state : Entering) : Type 0 where
   pub reflector : state.latest.reflector ≡ option_map (place_in parsed Reflector) (open_at reflector_height parsed (suc n))
   pub instrument : state.latest.instrument ≡ option_map (place_in parsed Instrument) (open_at instrument_height parsed (suc n))
-  pub entries : state.entries ≡ all_below (both_at number parsed n n) (suc n)
+  pub entries : state.entries ≡ all_below (both_at number parsed (upto n n) (upto n n)) (suc n)
 
-heights-more : (number : ℕ) (parsed : List ParsedLine) (n : ℕ) (running : Option Setup) (state : Entering) → IsWhole (words_at parsed n) (entered_by (words_at parsed n)) → IsRunning parsed n (setup_of parsed n) running → IsEntering number parsed n state → Entered number parsed n (with_heights number (n + 1) running (entered_by (words_at parsed n)) state)
+-- and so are its words
+record HasWords (number : ℕ) (parsed : List ParsedLine) (n : ℕ) (state : Entering) : Type 0 where
+  pub reflector : state.latest.reflector ≡ option_map (place_in parsed Reflector) (open_at reflector_height parsed (suc n))
+  pub instrument : state.latest.instrument ≡ option_map (place_in parsed Instrument) (open_at instrument_height parsed (suc n))
+  pub entries : state.entries ≡ all_below (both_at number parsed (upto n (suc n)) (upto n (suc n))) (suc n)
+
+heights-more : (number : ℕ) (parsed : List ParsedLine) (n : ℕ) (running : Option Setup) (state : Entering) → IsWhole (words_at parsed n) (entered_by (words_at parsed n)) → IsRunning parsed n (setup_of parsed n) running → IsEntering number parsed n state → Entered number parsed n (with_heights number (n + 1) running (words_at parsed n) (entered_by (words_at parsed n)) state)
 heights-more number parsed n running state whole runs was =
     let entered = entered_by (words_at parsed n) in
     let start : Entering = record state { latest = begun_by entered state.latest } in
@@ -214,36 +225,51 @@ heights-more number parsed n running state whole runs was =
     let on = on_line parsed n running whole runs in
     let reflector = added number parsed Reflector n setup on whole.reflector in
     let instrument = added number parsed Instrument n setup on whole.instrument in
-    let one = entry_in setup number (n + 1) Reflector entered.reflector in
-    let other = entry_in setup number (n + 1) Instrument entered.instrument in
-    let first : start.entries ++ option_to_list one ≡ all_below (both_at number parsed n n) n ++ candidate_at number parsed Reflector n n = ap (λ own. own ++ option_to_list one) begun.entries ∙ ap (λ own. all_below (both_at number parsed n n) n ++ own) (added-list number parsed Reflector n one reflector) in
+    let one = entry_in setup number (n + 1) Reflector (unit_in reflector_height (words_at parsed n)) entered.reflector in
+    let other = entry_in setup number (n + 1) Instrument (unit_in instrument_height (words_at parsed n)) entered.instrument in
+    let first : start.entries ++ option_to_list one ≡ all_below (both_at number parsed (upto n n) (upto n n)) n ++ candidate_at number parsed Reflector (upto n n) n = ap (λ own. own ++ option_to_list one) begun.entries ∙ ap (λ own. all_below (both_at number parsed (upto n n) (upto n n)) n ++ own) (added-list number parsed Reflector n one reflector) in
     record {
-      reflector = place-more number parsed Reflector n start.entries one start.latest.reflector reflector (ap length begun.entries ∙ place-reflector number parsed n n n) begun.reflector;
-      instrument = place-more number parsed Instrument n (start.entries ++ option_to_list one) other start.latest.instrument instrument (ap length first ∙ place-instrument number parsed n n n n) begun.instrument;
+      reflector = place-more number parsed Reflector n start.entries one start.latest.reflector reflector (ap length begun.entries ∙ place-reflector number parsed (upto n n) (upto n n) n) begun.reflector;
+      instrument = place-more number parsed Instrument n (start.entries ++ option_to_list one) other start.latest.instrument instrument (ap length first ∙ place-instrument number parsed (upto n n) (upto n n) (upto n n) n) begun.instrument;
       entries = ap (λ own. own ++ option_to_list other) first
-          ∙ ap (λ own. (all_below (both_at number parsed n n) n ++ candidate_at number parsed Reflector n n) ++ own) (added-list number parsed Instrument n other instrument)
-          ∙ append_assoc (all_below (both_at number parsed n n) n) (candidate_at number parsed Reflector n n) (candidate_at number parsed Instrument n n);
+          ∙ ap (λ own. (all_below (both_at number parsed (upto n n) (upto n n)) n ++ candidate_at number parsed Reflector (upto n n) n) ++ own) (added-list number parsed Instrument n other instrument)
+          ∙ append_assoc (all_below (both_at number parsed (upto n n) (upto n n)) n) (candidate_at number parsed Reflector (upto n n) n) (candidate_at number parsed Instrument (upto n n) n);
     }
 
 -- where the line is no sight, it uses nothing
-no-sight : (number : ℕ) (parsed : List ParsedLine) (n : ℕ) → is_sight (words_at parsed n) ≡ false → all_below (both_at number parsed n n) (suc n) ≡ all_below (both_at number parsed (suc n) (suc n)) (suc n)
-no-sight number parsed n none =
-    all-same (both_at number parsed n n) (both_at number parsed (suc n) (suc n)) (suc n) (λ line below. ap (λ own. own ++ candidate_at number parsed Instrument n line) (unused-at number parsed Reflector n line (and_left _ _ none)) ∙ ap (λ own. candidate_at number parsed Reflector (suc n) line ++ own) (unused-at number parsed Instrument n line (and_left _ _ none)))
+no-sight : (number : ℕ) (parsed : List ParsedLine) (n words : ℕ) → is_sight (words_at parsed n) ≡ false → all_below (both_at number parsed (upto n words) (upto n words)) (suc n) ≡ all_below (both_at number parsed (upto (suc n) words) (upto (suc n) words)) (suc n)
+no-sight number parsed n words none =
+    all-same (both_at number parsed (upto n words) (upto n words)) (both_at number parsed (upto (suc n) words) (upto (suc n) words)) (suc n) (λ line below. ap (λ own. own ++ candidate_at number parsed Instrument (upto n words) line) (unused-at number parsed Reflector n words line (and_left _ _ none)) ∙ ap (λ own. candidate_at number parsed Reflector (upto (suc n) words) line ++ own) (unused-at number parsed Instrument n words line (and_left _ _ none)))
+
+-- the words of a line are entered
+words-more : (number : ℕ) (parsed : List ParsedLine) (n : ℕ) (state : Entering) → IsWhole (words_at parsed n) (entered_by (words_at parsed n)) → Entered number parsed n state → HasWords number parsed n (with_words (n + 1) (entered_by (words_at parsed n)) state)
+words-more number parsed n state whole own =
+    let entered = entered_by (words_at parsed n) in
+    let line = n + 1 in
+    record {
+      reflector = own.reflector;
+      instrument = own.instrument;
+      entries = ap (λ place. written entered.instrument state.latest.instrument line (written entered.reflector place line state.entries)) own.reflector
+          ∙ ap (λ entries. written entered.instrument state.latest.instrument line (written entered.reflector (option_map (place_in parsed Reflector) (open_at reflector_height parsed (suc n))) line entries)) own.entries
+          ∙ ap (written entered.instrument state.latest.instrument line) (write-reflector number parsed n n (upto n n) entered.reflector whole.reflector)
+          ∙ ap (λ place. written entered.instrument place line (all_below (both_at number parsed (upto n (suc n)) (upto n n)) (suc n))) own.instrument
+          ∙ write-instrument number parsed n n (upto n (suc n)) entered.instrument whole.instrument;
+    }
 
 -- all of a line is entered
-pub entering-more : (number : ℕ) (parsed : List ParsedLine) (n : ℕ) (running : Option Setup) (state : Entering) → n < 4294967295 → IsWhole (words_at parsed n) (entered_by (words_at parsed n)) → IsRunning parsed n (setup_of parsed n) running → IsEntering number parsed n state → IsEntering number parsed (suc n) (entering_after number (n + 1) running (entered_by (words_at parsed n)) state)
+pub entering-more : (number : ℕ) (parsed : List ParsedLine) (n : ℕ) (running : Option Setup) (state : Entering) → n < 4294967295 → IsWhole (words_at parsed n) (entered_by (words_at parsed n)) → IsRunning parsed n (setup_of parsed n) running → IsEntering number parsed n state → IsEntering number parsed (suc n) (entering_after number (n + 1) running (words_at parsed n) (entered_by (words_at parsed n)) state)
 entering-more number parsed n running state small whole runs was = go (is_sight (words_at parsed n)) refl
   where
     after : Entering
-    after = with_heights number (n + 1) running (entered_by (words_at parsed n)) state
+    after = with_words (n + 1) (entered_by (words_at parsed n)) (with_heights number (n + 1) running (words_at parsed n) (entered_by (words_at parsed n)) state)
 
-    own : Entered number parsed n after
-    own = heights-more number parsed n running state whole runs was
+    own : HasWords number parsed n after
+    own = words-more number parsed n (with_heights number (n + 1) running (words_at parsed n) (entered_by (words_at parsed n)) state) whole (heights-more number parsed n running state whole runs was)
 
-    go : (sight : Bool) → is_sight (words_at parsed n) ≡ sight → IsEntering number parsed (suc n) (entering_after number (n + 1) running (entered_by (words_at parsed n)) state)
+    go : (sight : Bool) → is_sight (words_at parsed n) ≡ sight → IsEntering number parsed (suc n) (entering_after number (n + 1) running (words_at parsed n) (entered_by (words_at parsed n)) state)
     go false none =
         subst (λ (state : Entering). IsEntering number parsed (suc n) state) (sym (cond-false (is_some (entered_by (words_at parsed n)).target) (sighted (n + 1) after) after (whole.target ∙ none)))
-        (record { reflector = own.reflector; instrument = own.instrument; entries = own.entries ∙ no-sight number parsed n none })
+        (record { reflector = own.reflector; instrument = own.instrument; entries = own.entries ∙ no-sight number parsed n (suc n) none })
     go true sight =
         let line = n + 1 in
         let none = no-setup parsed n sight in
@@ -253,10 +279,20 @@ entering-more number parsed n running state small whole runs was = go (is_sight 
           instrument = own.instrument;
           entries = ap (λ place. served after.latest.instrument line (served place line after.entries)) own.reflector
               ∙ ap (λ entries. served after.latest.instrument line (served (option_map (place_in parsed Reflector) (open_at reflector_height parsed (suc n))) line entries)) own.entries
-              ∙ ap (served after.latest.instrument line) (serve-reflector number parsed n n small sight none)
-              ∙ ap (λ place. served place line (all_below (both_at number parsed (suc n) n) (suc n))) own.instrument
-              ∙ serve-instrument number parsed n (suc n) small sight none;
+              ∙ ap (served after.latest.instrument line) (serve-reflector number parsed n (suc n) (upto n (suc n)) small sight none)
+              ∙ ap (λ place. served place line (all_below (both_at number parsed (upto (suc n) (suc n)) (upto n (suc n))) (suc n))) own.instrument
+              ∙ serve-instrument number parsed n (suc n) (upto (suc n) (suc n)) small sight none;
         })
+
+-- a blank line has no words
+no-words : (number : ℕ) (parsed : List ParsedLine) (n sights : ℕ) → words_at parsed n ≡ [] → all_below (both_at number parsed (upto sights n) (upto sights n)) (suc n) ≡ all_below (both_at number parsed (upto sights (suc n)) (upto sights (suc n))) (suc n)
+no-words number parsed n sights blank =
+    all-same (both_at number parsed (upto sights n) (upto sights n)) (both_at number parsed (upto sights (suc n)) (upto sights (suc n))) (suc n)
+    (λ line below. ap (λ own. cond (opens parsed Reflector line) (own ∷ []) [] ++ candidate_at number parsed Instrument (upto sights n) line) (unwritten number parsed Reflector sights n line (none Reflector line))
+    ∙ ap (λ own. candidate_at number parsed Reflector (upto sights (suc n)) line ++ cond (opens parsed Instrument line) (own ∷ []) []) (unwritten number parsed Instrument sights n line (none Instrument line)))
+  where
+    none : (kind : HeightKind) (line : ℕ) → writes (index_of kind) parsed line n ≡ false
+    none kind line = writes-none (index_of kind) parsed n line (ap (holds (index_of kind)) blank)
 
 -- a blank line begins no entry
 blank-begins : (index : ℕ) (parsed : List ParsedLine) (n : ℕ) → words_at parsed n ≡ [] → begins index parsed n ≡ false
@@ -271,7 +307,7 @@ blank-open index parsed n blank =
     go None = refl
     go (Some from) = sym (cond-false (begins_from parsed index from n) (Some n) (last_below (begins_from parsed index from) n) (and_right (nat_le from n) (begins index parsed n) (blank-begins index parsed n blank)))
 
-blank-none : (number : ℕ) (parsed : List ParsedLine) (kind : HeightKind) (bound n : ℕ) → words_at parsed n ≡ [] → candidate_at number parsed kind bound n ≡ []
+blank-none : (number : ℕ) (parsed : List ParsedLine) (kind : HeightKind) (bound : Bounds) (n : ℕ) → words_at parsed n ≡ [] → candidate_at number parsed kind bound n ≡ []
 blank-none number parsed kind bound n blank =
     cond-false (opens parsed kind n) (candidate number parsed kind bound n ∷ []) [] (ap (λ own. own && is_some (setup_of parsed (suc n))) (blank-begins (index_of kind) parsed n blank))
 
@@ -280,8 +316,9 @@ entering-blank number parsed n state blank was = record {
   reflector = was.reflector ∙ ap (option_map (place_in parsed Reflector)) (blank-open reflector_height parsed n blank);
   instrument = was.instrument ∙ ap (option_map (place_in parsed Instrument)) (blank-open instrument_height parsed n blank);
   entries = was.entries
-      ∙ sym (append-nil (all_below (both_at number parsed n n) n))
-      ∙ ap (λ own. all_below (both_at number parsed n n) n ++ (own ++ [])) (sym (blank-none number parsed Reflector n n blank))
-      ∙ ap (λ own. all_below (both_at number parsed n n) n ++ (candidate_at number parsed Reflector n n ++ own)) (sym (blank-none number parsed Instrument n n blank))
-      ∙ no-sight number parsed n (ap is_sight blank);
+      ∙ sym (append-nil (all_below (both_at number parsed (upto n n) (upto n n)) n))
+      ∙ ap (λ own. all_below (both_at number parsed (upto n n) (upto n n)) n ++ (own ++ [])) (sym (blank-none number parsed Reflector (upto n n) n blank))
+      ∙ ap (λ own. all_below (both_at number parsed (upto n n) (upto n n)) n ++ (candidate_at number parsed Reflector (upto n n) n ++ own)) (sym (blank-none number parsed Instrument (upto n n) n blank))
+      ∙ no-sight number parsed n n (ap is_sight blank)
+      ∙ no-words number parsed n (suc n) blank;
 }

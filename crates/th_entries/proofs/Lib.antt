@@ -15,3 +15,4 @@ mod MentionLemmas
 mod SeenLemmas
 mod StationLemmas
 mod SeveralLemmas
+mod WordLemmas

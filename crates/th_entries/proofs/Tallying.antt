@@ -132,11 +132,11 @@ block-taken names number parsed n running old new counts watch small sound count
         ∙ ap (λ own. mention_by number own entered words) line
         ∙ mention_same number (n + 1) words
 
-    after : entering new ≡ entering_after number (n + 1) running entered (entering old)
+    after : entering new ≡ entering_after number (n + 1) running words entered (entering old)
     after =
         has.entered
-        ∙ ap (λ book. entering_after book counts.lines running entered (entering old)) was.book
-        ∙ ap (λ own. entering_after number own running entered (entering old)) line
+        ∙ ap (λ book. entering_after book counts.lines running words entered (entering old)) was.book
+        ∙ ap (λ own. entering_after number own running words entered (entering old)) line
 
 -- the next line says nothing
 pub blank-taken : (names : SeenNames) (number : ℕ) (parsed : List ParsedLine) (n : ℕ) (old : Tally) (counts : BookCount) (watch : SightWatch) → words_at parsed n ≡ [] → counts ≡ counts_below parsed (suc n) → IsWatched parsed (suc n) watch → IsTallied names number parsed n old → IsTallied names number parsed (suc n) (record old { counts = counts; watch = watch })

@@ -6,7 +6,7 @@ ghost use Rattle.th_book.specs.Lines.{ParsedLine, is_sight};
 ghost use Rattle.th_observations.specs.Observed.{Observed};
 ghost use Rattle.th_book.specs.Places.{height_at, last_below, words_at};
 ghost use Rattle.th_entries.specs.declared.entries.Entry.{Entry};
-ghost use Rattle.th_entries.specs.Entries.{entries_of, length_at, uses};
+ghost use Rattle.th_entries.specs.Entries.{entries_of, length_at, uses, writes};
 ghost use Rattle.th_entries.specs.Reviews.{parsed_of};
 ghost use Rattle.th_entries.specs.Several.{AreObserved, entries_of_books, numbered};
 ghost use Rattle.th_entries.specs.Stations.{HasOneStation};
@@ -29,6 +29,15 @@ pub fn sights_from_line_to_last_use_it()
 pub fn entry_has_the_height_of_its_sights()
     ensures { (index : ℕ) (parsed : List ParsedLine) (line place : ℕ) →
         uses index parsed line place ≡ true → known (height_at index parsed place) ≡ length_at index parsed line }
+{}
+
+/// So is the height that each word of the entry writes: the one that begins it, and those behind it that
+/// repeat it.
+pub fn words_of_an_entry_have_its_height()
+    ensures height { (index : ℕ) (parsed : List ParsedLine) (line place : ℕ) →
+        writes index parsed line place ≡ true → length_at index parsed place ≡ length_at index parsed line }
+    ensures behind { (index : ℕ) (parsed : List ParsedLine) (line place : ℕ) →
+        writes index parsed line place ≡ true → line ≤ place }
 {}
 
 /// The sights of an entry are from one station, where the book has no fault.

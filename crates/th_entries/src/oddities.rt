@@ -14,7 +14,7 @@ use th_book::{Entered, Setup};
 use th_units::Len;
 
 /// Whether a word counts for an index.
-fn counts_for(word: &Word<'_>, index: u8) -> bool
+pub(crate) fn counts_for(word: &Word<'_>, index: u8) -> bool
     ensures { result ≡ counts_for index (parts_of word.now) }
 {
     match two_digit(word) {

@@ -127,6 +127,7 @@ impl Tally {
             line,
             running,
             entered,
+            words,
         )
     }
 }

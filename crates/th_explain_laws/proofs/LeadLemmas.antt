@@ -17,10 +17,12 @@ use Rattle.th_review_rows.specs.Entries.{entries_of}
 use Rattle.th_numbers.specs.Candidates.{number_of, whole_of}
 use Rattle.th_numbers.specs.Lists.{in_order, listed_of}
 use Rattle.th_explain_rows.specs.Explanations.{AreExplained}
-use Rattle.th_explain_rows.specs.Rows.{IsRow, LeavesNoMore, Passes, limit_size}
+use Rattle.th_explain_rows.specs.Rows.{IsRow, LeavesNoMore, Passes, beyond, limit_size}
+use Rattle.th_explain_rows.proofs.SiftLemmas.{passes_each}
+use Rattle.th_explain_rows.specs.declared.rows.Filter.{Filter}
 use Rattle.th_numbers.specs.declared.candidates.Candidate.{Candidate}
 use Rattle.th_explain_rows.specs.declared.findings.Explanations.{Explanations}
-use Rattle.th_explain_laws.specs.Printed.{IsAmongRows}
+use Rattle.th_explain_laws.specs.Printed.{IsAmongRows, filter_of}
 use Rattle.th_explain_laws.proofs.PrintedLemmas.{complete_printed}
 use Rattle.th_explain_laws.proofs.WrongLemmas.{near, wrong_leads}
 
@@ -82,7 +84,7 @@ module _ (right : Survey) (candidate : Candidate) (wrong : ℤ) (truth : List �
   through = unsigned_abs (net (number_of candidate) right flows)
 
   passes : (limit : ℤ) (freed : Freed) → IsExact survey (number_of candidate) freed → LeavesNoMore survey (whole_of candidate) freed.left
-      → limit_size limit * through + 2 * cost_of right truth < unsigned_abs wrong * through → unsigned_abs wrong * through + 2 * cost_of right truth < reach_of (number_of candidate) survey.observations * through → Passes survey limit candidate freed
+      → limit_size limit * through + 2 * cost_of right truth < unsigned_abs wrong * through → unsigned_abs wrong * through + 2 * cost_of right truth < reach_of (number_of candidate) survey.observations * through → Passes survey (beyond limit) candidate freed
   passes limit freed is no_more_left far within =
       let low = near right (number_of candidate) wrong freed.low truth flows circulation kept is.low in
       let high = near right (number_of candidate) wrong freed.high truth flows circulation kept is.high in
@@ -101,13 +103,13 @@ module _ (right : Survey) (candidate : Candidate) (wrong : ℤ) (truth : List �
       → IsExact survey (number_of candidate) freed → LeavesNoMore survey (whole_of candidate) freed.left
       → limit_size limit * through + 2 * cost_of right truth < unsigned_abs wrong * through → unsigned_abs wrong * through + 2 * cost_of right truth < reach_of (number_of candidate) survey.observations * through
       → Contains (in_order (listed_of survey (entries_of reviews) are.tied)) candidate
-      → IsAmongRows survey (cost_of survey are.heights) limit candidate explained.rows.items ⊎ ((length explained.rows.items ≡ most_rows) × All (λ row. row.left ≤ freed.left) explained.rows.items)
+      → IsAmongRows survey (cost_of survey are.heights) (filter_of are) candidate explained.rows.items ⊎ ((length explained.rows.items ≡ most_rows) × All (λ row. row.left ≤ freed.left) explained.rows.items)
   wrong_printed alone reviews limit explained freed are is no_more_left far within has =
-      complete_printed survey reviews limit explained are alone candidate freed has (passes limit freed is no_more_left far within)
+      complete_printed survey reviews limit explained are alone candidate freed has (passes_each survey limit are.printed.best candidate freed (passes limit freed is no_more_left far within))
 
-  pub ahead : (other : Candidate) (limit : ℤ) (cost : ℕ) (own row : Row) → net (number_of other) right flows ≡ pos 0 → 2 * cost_of right truth < unsigned_abs wrong * through
-      → IsRow survey cost limit candidate own → IsRow survey cost limit other row → own.left < row.left
-  ahead other limit cost own row none large is_own is_row =
+  pub ahead : (other : Candidate) (filter : Filter) (cost : ℕ) (own row : Row) → net (number_of other) right flows ≡ pos 0 → 2 * cost_of right truth < unsigned_abs wrong * through
+      → IsRow survey cost filter candidate own → IsRow survey cost filter other row → own.left < row.left
+  ahead other filter cost own row none large is_own is_row =
       let less = wrong_leads right (number_of candidate) (number_of other) wrong truth flows is_own.freed.left is_row.freed.left circulation none kept large is_own.passes.explains.exact.left is_row.passes.explains.exact.left in
       let a = ap (λ (r : Row). r.left) is_own.printed in
       let b = ap (λ (r : Row). r.left) is_row.printed in

@@ -19,10 +19,11 @@ use Rattle.th_review_rows.specs.Entries.{entries_of}
 use Rattle.th_numbers.specs.Candidates.{given_of, number_of, whole_of}
 use Rattle.th_numbers.specs.Lists.{in_order, listed_of}
 use Rattle.th_explain_rows.specs.Explanations.{AreExplained}
-use Rattle.th_explain_rows.specs.Rows.{LeavesNoMore, Passes, limit_size, values_of}
+use Rattle.th_explain_rows.specs.Rows.{LeavesNoMore, Passes, beyond, limit_size, values_of}
+use Rattle.th_explain_rows.proofs.SiftLemmas.{passes_each}
 use Rattle.th_numbers.specs.declared.candidates.Candidate.{Candidate}
 use Rattle.th_explain_rows.specs.declared.findings.Explanations.{Explanations}
-use Rattle.th_explain_laws.specs.Printed.{IsAmongRows}
+use Rattle.th_explain_laws.specs.Printed.{IsAmongRows, filter_of}
 use Rattle.th_explain_laws.specs.OneWrong.{IsMended}
 use Rattle.th_explain_laws.proofs.PrintedLemmas.{complete_printed}
 use Rattle.th_explain_laws.proofs.WrongLemmas.{exact}
@@ -91,7 +92,7 @@ module _ (right : Survey) (candidate : Candidate) (wrong : ℤ) (truth : List �
     greatest = λ x is. at_least x (neg_ℤ wrong) (one x is);
   }
 
-  passes : (limit : ℤ) → limit_size limit < unsigned_abs wrong → unsigned_abs wrong < reach_of (number_of candidate) survey.observations → Passes survey limit candidate back
+  passes : (limit : ℤ) → limit_size limit < unsigned_abs wrong → unsigned_abs wrong < reach_of (number_of candidate) survey.observations → Passes survey (beyond limit) candidate back
   passes limit far near = record {
     explains = record {
       exact = is_exact;
@@ -108,12 +109,12 @@ module _ (right : Survey) (candidate : Candidate) (wrong : ℤ) (truth : List �
       → Contains (in_order (listed_of survey (entries_of reviews) are.tied)) candidate
       → IsMended (given_of survey.benchmarks candidate) wrong explained.rows.items ⊎ ((length explained.rows.items ≡ most_rows) × All (λ row. row.left ≡ 0) explained.rows.items)
   one_wrong_printed alone reviews limit explained are far near has =
-      elim (complete_printed survey reviews limit explained are alone candidate back has (passes limit far near)) [
+      elim (complete_printed survey reviews limit explained are alone candidate back has (passes_each survey limit are.printed.best candidate back (passes limit far near))) [
         | inl h ↦ inl (by h)
         | inr h ↦ inr (h.0, All-weaker (λ (row : Row). row.left ≤ 0) (λ (row : Row). row.left ≡ 0) (λ row less. omega (arith, less)) explained.rows.items h.1)
       ]
     where
-      by : IsAmongRows survey (cost_of survey are.heights) limit candidate explained.rows.items → IsMended (given_of survey.benchmarks candidate) wrong explained.rows.items
+      by : IsAmongRows survey (cost_of survey are.heights) (filter_of are) candidate explained.rows.items → IsMended (given_of survey.benchmarks candidate) wrong explained.rows.items
       by is =
           let freed = is.passes.freed in
           let left : is.own.left ≡ 0 = ap (λ (row : Row). row.left) is.passes.printed ∙ alone survey (number_of candidate) freed.left 0 is.passes.passes.explains.exact.left (freed_nothing right (number_of candidate) wrong truth kept fits) in

@@ -1,11 +1,12 @@
 -- Rows that are printed: each is that of a number or of a book, and none that passes is missing.
-use Rattle.std.proofs.Common.{◌≡◌, ◌≤◌, ◌+◌, ◌⊎◌, inl, inr, ℕ, zero, suc, ℤ, List, [], ◌∷◌, All, Contains, Option, None, Some, length, refl, subst, sym, ap, ◌∙◌, arith}
+use Rattle.std.proofs.Common.{◌≡◌, ◌≤◌, ◌+◌, ◌⊎◌, inl, inr, ℕ, zero, suc, ℤ, List, [], ◌∷◌, All, Bool, true, false, Contains, Option, None, Some, length, nat_le, refl, subst, sym, ap, ◌∙◌, arith}
 use Rattle.std.specs.Prelude.{option_to_list}
 use Rattle.std.specs.List.{AllZip, enumerate_from, flat_map}
 use Rattle.std.proofs.lemmas.Bool.{cases_lt}
 use Rattle.std.proofs.lemmas.List.Elements.{All-cons, All-nil, All-weaker, Contains-append_cases, Contains-append_left, Contains-append_right}
 use Rattle.th_entries.specs.declared.reviews.BookReview.{BookReview}
 use Rattle.th_changes.specs.Freed.{IsFreed, cost_of}
+use Rattle.th_explain.specs.Explained.{mildest}
 use Rattle.th_explain.specs.declared.freed.Freed.{Freed}
 use Rattle.th_changes.specs.declared.numbers.Number.{Number}
 use Rattle.th_explain_texts.specs.Ranks.{ranked, with_number}
@@ -16,13 +17,15 @@ use Rattle.th_review_rows.specs.Entries.{entries_of}
 use Rattle.th_numbers.specs.Candidates.{number_of}
 use Rattle.th_explain_rows.specs.Explanations.{AreExplained, IsEnough, all_rows}
 use Rattle.th_numbers.specs.Lists.{books_of, in_order, listed_of}
-use Rattle.th_explain_laws.specs.Printed.{IsAmongRows, IsOfBook, IsOfNumber}
+use Rattle.th_explain_laws.specs.Printed.{IsAmongRows, IsLed, IsOfBook, IsOfNumber, filter_of}
 use Rattle.th_readings.specs.Readings.{IsBookRowOrNone}
-use Rattle.th_explain_rows.specs.Rows.{IsBehind, IsRowOrBehind, Passes}
+use Rattle.th_explain_rows.specs.Rows.{IsBehind, IsBestBeyond, IsRowOrBehind, Passes, beyond, half_of, limit_size, sifting}
+use Rattle.th_explain_rows.proofs.SiftLemmas.{half_passes, is_no_more, passes_each, passes_whole}
 use Rattle.th_numbers.specs.declared.candidates.Candidate.{Candidate}
 use Rattle.th_explain_rows.specs.declared.findings.Explanations.{Explanations}
 use Rattle.th_explain_rows.specs.declared.rows.Cutoff.{Cutoff}
-use Rattle.th_explain_laws.proofs.OrderLemmas.{complete_ranked, each_ranked, enough_ranked, small, small_all, small_append}
+use Rattle.th_explain_rows.specs.declared.rows.Filter.{Filter}
+use Rattle.th_explain_laws.proofs.OrderLemmas.{complete_ranked, each_ranked, enough_ranked, small_all, small_append}
 
 -- ---- rows that there are, of items that have one or none
 module _ {X : Type 0} (R : X → Option Row → Type 0) where
@@ -86,8 +89,8 @@ no_less : (cutoff : Cutoff) (place left : ℕ) → IsBehind (Some cutoff) place 
 no_less cutoff place left (inl more) = omega (arith, more)
 no_less cutoff place left (inr (same, later)) = omega (arith, same)
 
-module _ (survey : Survey) (cost : ℕ) (limit : ℤ) (cutoff : Cutoff) where
-  all_ahead : (xs : List (ℕ × Candidate)) (os : List (Option Row)) → AllZip (IsRowOrBehind survey cost limit (Some cutoff)) xs os → All (λ (row : Row). row.left ≤ cutoff.left) (flat_map option_to_list os)
+module _ (survey : Survey) (cost : ℕ) (filter : Filter) (cutoff : Cutoff) where
+  all_ahead : (xs : List (ℕ × Candidate)) (os : List (Option Row)) → AllZip (IsRowOrBehind survey cost filter (Some cutoff)) xs os → All (λ (row : Row). row.left ≤ cutoff.left) (flat_map option_to_list os)
   all_ahead [] [] all = All-nil (λ (row : Row). row.left ≤ cutoff.left)
   all_ahead [] (o ∷ os) all = absurd all
   all_ahead (x ∷ xs) [] all = absurd all
@@ -103,15 +106,15 @@ module _ (survey : Survey) (reviews : List BookReview) (limit : ℤ) (explained 
   candidates = in_order (listed_of survey (entries_of reviews) are.tied)
 
   abbrev IsOwnRow : ℕ × Candidate → Option Row → Type 0
-  IsOwnRow = IsRowOrBehind survey cost limit are.printed.cutoff
+  IsOwnRow = IsRowOrBehind survey cost (filter_of are) are.printed.cutoff
 
-  pub each_printed : All (λ (row : Row). IsOfNumber survey cost limit candidates row ⊎ IsOfBook survey (entries_of reviews) cost limit reviews row) explained.rows.items
+  pub each_printed : All (λ (row : Row). IsOfNumber survey cost (filter_of are) candidates row ⊎ IsOfBook survey (entries_of reviews) cost limit reviews row) explained.rows.items
   each_printed =
-      subst (All (λ (row : Row). IsOfNumber survey cost limit candidates row ⊎ IsOfBook survey (entries_of reviews) cost limit reviews row)) (sym are.printed.leading)
-      (All-weaker (λ (row : Row). (own : Row) × Contains (all_rows are.printed.own are.printed.read) own × (row ≡ with_number own row.number)) (λ (row : Row). IsOfNumber survey cost limit candidates row ⊎ IsOfBook survey (entries_of reviews) cost limit reviews row)
+      subst (All (λ (row : Row). IsOfNumber survey cost (filter_of are) candidates row ⊎ IsOfBook survey (entries_of reviews) cost limit reviews row)) (sym are.printed.leading)
+      (All-weaker (λ (row : Row). (own : Row) × Contains (all_rows are.printed.own are.printed.read) own × (row ≡ with_number own row.number)) (λ (row : Row). IsOfNumber survey cost (filter_of are) candidates row ⊎ IsOfBook survey (entries_of reviews) cost limit reviews row)
       by (ranked (all_rows are.printed.own are.printed.read)) (each_ranked (all_rows are.printed.own are.printed.read)))
     where
-      by : (row : Row) → (own : Row) × Contains (all_rows are.printed.own are.printed.read) own × (row ≡ with_number own row.number) → IsOfNumber survey cost limit candidates row ⊎ IsOfBook survey (entries_of reviews) cost limit reviews row
+      by : (row : Row) → (own : Row) × Contains (all_rows are.printed.own are.printed.read) own × (row ≡ with_number own row.number) → IsOfNumber survey cost (filter_of are) candidates row ⊎ IsOfBook survey (entries_of reviews) cost limit reviews row
       by row (own, has, same) =
           elim (Contains-append_cases (flat_map option_to_list are.printed.own) (flat_map option_to_list are.printed.read) own has) [
             | inl h ↦
@@ -123,19 +126,19 @@ module _ (survey : Survey) (reviews : List BookReview) (limit : ℤ) (explained 
           ]
 
   pub complete_printed : ((own : Survey) (number : Number) (first second : ℕ) → IsFreed own number first → IsFreed own number second → first ≡ second)
-      → (candidate : Candidate) (freed : Freed) → Contains candidates candidate → Passes survey limit candidate freed
-      → IsAmongRows survey cost limit candidate explained.rows.items ⊎ ((length explained.rows.items ≡ most_rows) × All (λ (row : Row). row.left ≤ freed.left) explained.rows.items)
+      → (candidate : Candidate) (freed : Freed) → Contains candidates candidate → Passes survey (filter_of are) candidate freed
+      → IsAmongRows survey cost (filter_of are) candidate explained.rows.items ⊎ ((length explained.rows.items ≡ most_rows) × All (λ (row : Row). row.left ≤ freed.left) explained.rows.items)
   complete_printed one candidate freed has passes =
       let (place, listed) = place_of 0 candidates candidate has in
       let (found, is, there) = to_row IsOwnRow (enumerate_from 0 candidates) are.printed.own (place, candidate) are.printed.found.numbers listed in
       by place found is there
     where
-      nothing_less : (place : ℕ) (cutoff : Option Cutoff) → AllZip (IsRowOrBehind survey cost limit cutoff) (enumerate_from 0 candidates) are.printed.own → IsEnough cutoff are.printed.own → IsBehind cutoff place freed.left
+      nothing_less : (place : ℕ) (cutoff : Option Cutoff) → AllZip (IsRowOrBehind survey cost (filter_of are) cutoff) (enumerate_from 0 candidates) are.printed.own → IsEnough cutoff (length (flat_map option_to_list are.printed.own)) → IsBehind cutoff place freed.left
           → (length explained.rows.items ≡ most_rows) × All (λ (row : Row). row.left ≤ freed.left) explained.rows.items
       nothing_less place None all enough behind = absurd behind
       nothing_less place (Some cutoff) all enough behind =
           let own : List Row = flat_map option_to_list are.printed.own in
-          let many = small_all cutoff.left own (all_ahead survey cost limit cutoff (enumerate_from 0 candidates) are.printed.own all) in
+          let many = small_all cutoff.left own (all_ahead survey cost (filter_of are) cutoff (enumerate_from 0 candidates) are.printed.own all) in
           let more = small_append cutoff.left own (flat_map option_to_list are.printed.read) in
           let (long, less) = enough_ranked cutoff.left (all_rows are.printed.own are.printed.read) (omega (arith, enough, many, more)) in
           let least = no_less cutoff place freed.left behind in (
@@ -145,7 +148,7 @@ module _ (survey : Survey) (reviews : List BookReview) (limit : ℤ) (explained 
           )
 
       by : (place : ℕ) (found : Option Row) → IsOwnRow (place, candidate) found → IsThere IsOwnRow are.printed.own found
-          → IsAmongRows survey cost limit candidate explained.rows.items ⊎ ((length explained.rows.items ≡ most_rows) × All (λ (row : Row). row.left ≤ freed.left) explained.rows.items)
+          → IsAmongRows survey cost (filter_of are) candidate explained.rows.items ⊎ ((length explained.rows.items ≡ most_rows) × All (λ (row : Row). row.left ≤ freed.left) explained.rows.items)
       by place None none there = inr (nothing_less place are.printed.cutoff are.printed.found.numbers are.printed.enough (none freed passes))
       by place (Some own) (is, ahead) there =
           let left : own.left ≡ freed.left = ap (λ (row : Row). row.left) is.printed ∙ one survey (number_of candidate) is.freed.left freed.left is.passes.explains.exact.left passes.explains.exact.left in
@@ -153,3 +156,38 @@ module _ (survey : Survey) (reviews : List BookReview) (limit : ℤ) (explained 
             | inl h ↦ inl (record { own = own; passes = is; number = h.0; printed = subst (λ (rows : List Row). Contains rows (with_number own h.0)) (sym are.printed.leading) h.1 })
             | inr h ↦ inr (ap length are.printed.leading ∙ h.0, subst (All (λ (row : Row). row.left ≤ freed.left)) (sym are.printed.leading) (subst (λ (n : ℕ). All (λ (row : Row). row.left ≤ n) (ranked (all_rows are.printed.own are.printed.read))) left h.1))
           ]
+
+  -- ---- numbers beyond half of the limit
+  pub beyond_passes : (candidate : Candidate) (freed : Freed) → Passes survey (beyond limit) candidate freed → Passes survey (filter_of are) candidate freed
+  beyond_passes candidate freed passes = passes_each survey limit are.printed.best candidate freed passes
+
+  led_passes : (best : Option ℕ) → IsBestBeyond survey limit candidates best → (candidate : Candidate) (freed : Freed) → Passes survey (beyond (half_of limit)) candidate freed → IsLed survey limit candidates freed.left
+      → Passes survey (sifting limit best) candidate freed
+  led_passes None none candidate freed passes led = absurd (none led.candidate led.freed led.listed led.passes)
+  led_passes (Some best) is candidate freed passes led =
+      let less = led.least is.candidate is.freed is.listed is.passes in
+      half_passes survey limit best candidate freed (omega (arith, less, is.left)) passes
+
+  pub half_of_limit_passes : (candidate : Candidate) (freed : Freed) → Passes survey (beyond (half_of limit)) candidate freed → IsLed survey limit candidates freed.left → Passes survey (filter_of are) candidate freed
+  half_of_limit_passes candidate freed passes led = led_passes are.printed.best are.printed.is_best candidate freed passes led
+
+  near_led : (best : Option ℕ) → IsBestBeyond survey limit candidates best → (candidate : Candidate) (freed : Freed) → Passes survey (sifting limit best) candidate freed → mildest freed.low freed.high ≤ limit_size limit → IsLed survey limit candidates freed.left
+  near_led None none candidate freed passes mild = let far = passes.explains.far in absurd (omega (arith, far, mild))
+  near_led (Some best) is candidate freed passes mild = by (nat_le freed.left best) refl
+    where
+      by : (b : Bool) → nat_le freed.left best ≡ b → IsLed survey limit candidates freed.left
+      by false e = let far = (passes_whole survey limit best candidate freed e passes).explains.far in absurd (omega (arith, far, mild))
+      by true e =
+          let less = is_no_more freed.left best e in
+          record {
+            candidate = is.candidate;
+            listed = is.listed;
+            freed = is.freed;
+            passes = is.passes;
+            least = λ other own has also. let least = is.least other own has also in omega (arith, less, least);
+          }
+
+  pub near_the_limit : (row : Row) (is : IsOfNumber survey cost (filter_of are) candidates row) → mildest is.passes.freed.low is.passes.freed.high ≤ limit_size limit → IsLed survey limit candidates row.left
+  near_the_limit row is mild =
+      let left : row.left ≡ is.passes.freed.left = ap (λ (own : Row). own.left) is.same ∙ ap (λ (own : Row). own.left) is.passes.printed in
+      subst (IsLed survey limit candidates) (sym left) (near_led are.printed.best are.printed.is_best is.candidate is.passes.freed is.passes.passes mild)

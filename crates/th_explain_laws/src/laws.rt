@@ -16,15 +16,18 @@ ghost use Rattle.th_explain_laws.specs.Ties.{AreTied};
 ghost use Rattle.th_explain_laws.specs.Parted.{IsParted, IsWithoutRow, parted};
 ghost use Rattle.th_entries.specs.Several.{AreObserved};
 ghost use Rattle.th_entries.specs.declared.reviews.BookReview.{BookReview};
-ghost use Rattle.th_explain.specs.Explained.{IsExact};
+ghost use Rattle.th_explain.specs.Explained.{IsExact, mildest};
 ghost use Rattle.th_explain.specs.declared.freed.Freed.{Freed};
 ghost use Rattle.th_explain_texts.specs.Ranks.{ranked, with_number};
 ghost use Rattle.th_explain_texts.specs.Sentences.{most_rows};
 ghost use Rattle.th_explain_texts.specs.declared.rows.Row.{Row};
 ghost use Rattle.th_explain_rows.specs.Explanations.{AreExplained};
+ghost use Rattle.th_named.specs.Doubted.{IsMeant};
+ghost use Rattle.th_named.specs.Keyed.{tolerance_of};
 ghost use Rattle.th_numbers.specs.Lists.{in_order, listed_of};
-ghost use Rattle.th_explain_laws.specs.Printed.{IsAmongRows, IsOfBook, IsOfNumber};
-ghost use Rattle.th_explain_rows.specs.Rows.{IsRow, LeavesNoMore, Passes, limit_size};
+ghost use Rattle.th_explain_laws.specs.Printed.{IsAmongRows, IsLed, IsOfBook, IsOfNumber, filter_of};
+ghost use Rattle.th_explain_rows.specs.Rows.{IsRow, LeavesNoMore, Passes, beyond, half_of, limit_size};
+ghost use Rattle.th_explain_rows.specs.declared.rows.Filter.{Filter};
 ghost use Rattle.th_changes.specs.Reach.{reach_of};
 ghost use Rattle.th_numbers.specs.Candidates.{given_of, number_of, whole_of};
 ghost use Rattle.th_explain_laws.specs.OnePoint.{IsAtOnePoint};
@@ -38,6 +41,7 @@ ghost use Rattle.th_review_rows.specs.Entries.{entries_of};
 use th_book::laws::observation_is_of_a_sight;
 use th_entries::laws::{entry_has_the_height_of_its_sights, sights_from_line_to_last_use_it};
 use th_explain::laws::freed_is_one;
+use th_named::laws::named_may_have_been_meant;
 
 /// Changes of a number add up, and a change by 0 is none.
 pub fn changes_add_up()
@@ -329,10 +333,19 @@ pub fn ranked_rows_leave_least()
 pub fn printed_rows_are_exact()
     ensures { (survey : Survey) (reviews : List BookReview) (limit : ℤ) (explained : Explanations)
         (are : AreExplained survey reviews limit explained)
-        → All (λ row. IsOfNumber survey (cost_of survey are.heights) limit
+        → All (λ row. IsOfNumber survey (cost_of survey are.heights) (filter_of are)
         (in_order (listed_of survey (entries_of reviews) are.tied)) row
         ⊎ IsOfBook survey (entries_of reviews) (cost_of survey are.heights) limit reviews row) explained.rows.items }
 {}
+
+/// Each height that is named beside the rows may have been meant where a row with number 1 doubts another one.
+pub fn named_heights_may_have_been_meant()
+    ensures { (survey : Survey) (reviews : List BookReview) (limit : ℤ) (explained : Explanations)
+        → AreExplained survey reviews limit explained
+        → All (IsMeant (entries_of reviews) (tolerance_of limit) explained.rows.items) explained.named.items }
+{
+    named_may_have_been_meant();
+}
 
 /// The rows that explain most come first: none leaves more than one behind it.
 pub fn printed_rows_are_sorted()
@@ -344,15 +357,36 @@ pub fn printed_rows_are_sorted()
         → (slice_index_or explained.rows.items j d).left ≤ (slice_index_or explained.rows.items k d).left }
 {}
 
-/// No number is missing: one that passes is printed, or as many rows as there may be are printed, and
-/// none of them explains less than it does.
-pub fn printed_rows_are_complete()
+/// A number whose mildest change is not beyond the limit is printed only beside one that is, and it leaves no
+/// more than the best of those.
+pub fn printed_near_the_limit_lead()
     ensures { (survey : Survey) (reviews : List BookReview) (limit : ℤ) (explained : Explanations)
+        (are : AreExplained survey reviews limit explained) (row : Row)
+        (is : IsOfNumber survey (cost_of survey are.heights) (filter_of are)
+        (in_order (listed_of survey (entries_of reviews) are.tied)) row)
+        → mildest is.passes.freed.low is.passes.freed.high ≤ limit_size limit
+        → IsLed survey limit (in_order (listed_of survey (entries_of reviews) are.tied)) row.left }
+{}
+
+/// No number is missing: one that passes is printed, or as many rows as there may be are printed, and
+/// none of them explains less than it does. A number beyond the limit passes; so does one beyond half of it
+/// that leaves no more than each number beyond the limit, if there is one.
+pub fn printed_rows_are_complete()
+    ensures printed { (survey : Survey) (reviews : List BookReview) (limit : ℤ) (explained : Explanations)
         (are : AreExplained survey reviews limit explained) (candidate : Candidate) (freed : Freed)
         → Contains (in_order (listed_of survey (entries_of reviews) are.tied)) candidate
-        → Passes survey limit candidate freed
-        → IsAmongRows survey (cost_of survey are.heights) limit candidate explained.rows.items
+        → Passes survey (filter_of are) candidate freed
+        → IsAmongRows survey (cost_of survey are.heights) (filter_of are) candidate explained.rows.items
         ⊎ ((length explained.rows.items ≡ most_rows) × All (λ row. row.left ≤ freed.left) explained.rows.items) }
+    ensures beyond { (survey : Survey) (reviews : List BookReview) (limit : ℤ) (explained : Explanations)
+        (are : AreExplained survey reviews limit explained) (candidate : Candidate) (freed : Freed)
+        → Passes survey (beyond limit) candidate freed
+        → Passes survey (filter_of are) candidate freed }
+    ensures half { (survey : Survey) (reviews : List BookReview) (limit : ℤ) (explained : Explanations)
+        (are : AreExplained survey reviews limit explained) (candidate : Candidate) (freed : Freed)
+        → Passes survey (beyond (half_of limit)) candidate freed
+        → IsLed survey limit (in_order (listed_of survey (entries_of reviews) are.tied)) freed.left
+        → Passes survey (filter_of are) candidate freed }
 {
     freed_is_one();
 }
@@ -409,19 +443,19 @@ pub fn wrong_number_leads()
         → Contains (in_order (listed_of (changed (number_of candidate) wrong right)
         (entries_of reviews) are.tied)) candidate
         → IsAmongRows (changed (number_of candidate) wrong right)
-        (cost_of (changed (number_of candidate) wrong right) are.heights) limit candidate
+        (cost_of (changed (number_of candidate) wrong right) are.heights) (filter_of are) candidate
         explained.rows.items
         ⊎ ((length explained.rows.items ≡ most_rows)
         × All (λ row. row.left ≤ freed.left) explained.rows.items) }
     ensures ahead { (right : Survey) (candidate other : Candidate) (wrong : ℤ) (truth : List ℕ → ℤ)
-        (flows : List ℤ) (limit : ℤ) (cost : ℕ) (own row : Row)
+        (flows : List ℤ) (filter : Filter) (cost : ℕ) (own row : Row)
         → Circulates right flows
         → net (number_of other) right flows ≡ pos 0
         → Keeps right truth
         → 2 * cost_of right truth
         < unsigned_abs wrong * unsigned_abs (net (number_of candidate) right flows)
-        → IsRow (changed (number_of candidate) wrong right) cost limit candidate own
-        → IsRow (changed (number_of candidate) wrong right) cost limit other row
+        → IsRow (changed (number_of candidate) wrong right) cost filter candidate own
+        → IsRow (changed (number_of candidate) wrong right) cost filter other row
         → own.left < row.left }
 {
     freed_is_one();

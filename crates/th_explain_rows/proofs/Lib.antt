@@ -1,4 +1,5 @@
 mod PassLemmas
+pub mod SiftLemmas
 mod RowLemmas
 mod FindLemmas
 mod GrowLemmas

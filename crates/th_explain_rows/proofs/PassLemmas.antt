@@ -1,6 +1,7 @@
 -- Numbers that pass, and those that may be missing.
-use Rattle.std.proofs.Common.{◌≡◌, ◌⊎◌, inl, inr, ℕ, zero, suc, ◌<◌, ◌≤◌, ◌+◌, ℤ, Bool, true, false, if◌then◌else◌, List, [], ◌∷◌, ◌++◌, All, Option, None, Some, drop, length, take, subst, sym, get_or, map, arith}
+use Rattle.std.proofs.Common.{◌≡◌, ◌⊎◌, inl, inr, ℕ, zero, suc, ◌<◌, ◌≤◌, ◌+◌, ◌∙◌, ℤ, Bool, true, false, if◌then◌else◌, List, [], ◌∷◌, ◌++◌, All, Option, None, Some, drop, length, take, subst, sym, ap, get_or, map, arith}
 use Rattle.std.proofs.lemmas.List.Elements.{All-push}
+use Rattle.std.proofs.lemmas.List.FromFn.{get_or-enumerate_from}
 use Rattle.std.specs.List.{AllZip, enumerate_from}
 use Rattle.th_explain.specs.Explained.{Explains, IsAtLeast, IsExplainedOrMore, IsLeastInReach}
 use Rattle.th_explain.specs.declared.freed.Freed.{Freed}
@@ -11,7 +12,7 @@ use Rattle.th_network.specs.Networks.{Survey}
 use Rattle.th_numbers.specs.Candidates.{number_of, whole_of}
 use Rattle.th_numbers.specs.declared.candidates.Candidate.{Candidate}
 use Rattle.th_explain_rows.specs.Inside.Passing.{IsAtMostOrNone, IsFinding, IsMore, IsMostOf, IsPassedOr, IsPassedOrBehind, freed_of}
-use Rattle.th_explain_rows.specs.Rows.{IsBehind, LeavesNoMore, Passes, limit_size}
+use Rattle.th_explain_rows.specs.Rows.{IsBehind, LeavesNoMore, Passes, beyond, limit_size}
 use Rattle.th_explain_rows.specs.declared.finder.Finding.{Finding}
 use Rattle.th_explain_rows.specs.declared.finder.Finding.TheVariants.{Exactly, More, AtLeast}
 use Rattle.th_explain_rows.specs.declared.rows.Cutoff.{Cutoff}
@@ -22,6 +23,12 @@ zip_at R [] ys i x d all within here = absurd (omega (arith, within))
 zip_at R (z ∷ xs) [] i x d all within here = absurd all
 zip_at R (z ∷ xs) (v ∷ ys) zero x d all within here = subst (λ own. R own v) (sym here) all.0
 zip_at R (z ∷ xs) (v ∷ ys) (suc i) x d all within here = zip_at R xs ys i x d all.1 (omega arith) here
+
+-- an item with its place
+pub numbered : (candidates : List Candidate) (k : ℕ) (candidate : Candidate) → k < length candidates → candidate ≡ get_or candidates k candidate → (k, candidate) ≡ get_or (enumerate_from 0 candidates) k (k, candidate)
+numbered candidates k candidate within here =
+    let same : k ≡ 0 + k = omega arith in
+    ap {B = ℕ × Candidate} (λ own. (k, own)) here ∙ ap {B = ℕ × Candidate} (λ n. (n, get_or candidates k candidate)) same ∙ sym (get_or-enumerate_from 0 candidates k (k, candidate) within)
 
 -- as many of the first list as the second has
 pub zip_taken : {A C : Type 0} (R : A → C → Type 0) (k : ℕ) (xs : List A) (ys : List C) → AllZip R (take k xs) ys → AllZip R (take (length ys) xs) ys
@@ -99,13 +106,13 @@ module _ (survey : Survey) (limit : ℤ) where
   }
 
   module _ (candidate : Candidate) (whole : Number) (part : whole_of candidate ≡ Some whole) (most : ℕ) (is : IsMostOf survey whole most) where
-    pub change_passes : (freed : Freed) → Explains survey (limit_size limit) (number_of candidate) freed → freed.left ≤ most → Passes survey limit candidate freed
+    pub change_passes : (freed : Freed) → Explains survey (limit_size limit) (number_of candidate) freed → freed.left ≤ most → Passes survey (beyond limit) candidate freed
     change_passes freed explains less = record {
       explains = explains;
       leads = subst (λ (own : Option Number). LeavesNoMore survey own freed.left) (sym part) (is.leads freed.left less);
     }
 
-    left_of_change : (freed : Freed) → Passes survey limit candidate freed → freed.left ≤ most
+    left_of_change : (freed : Freed) → Passes survey (beyond limit) candidate freed → freed.left ≤ most
     left_of_change freed passes = is.only freed.left (subst (λ (own : Option Number). LeavesNoMore survey own freed.left) part passes.leads)
 
     -- a change that is not found leaves at least the one bound, since it leaves less than the other
@@ -133,7 +140,7 @@ module _ (survey : Survey) (limit : ℤ) where
         → (found own : Option Freed) → IsExplainedOrMore survey (limit_size limit) nearer (number_of candidate) found → IsAtMostOrNone most found own → IsPassedOr survey limit (IsAtLeast least) candidate own
     change_found one least other nearer either more None own none at = subst (IsPassedOr survey limit (IsAtLeast least) candidate) (sym at) (none_below least other nearer either more none)
     change_found one least other nearer either more (Some found) None explains above = none_above one least found explains above
-    change_found one least other nearer either more (Some found) (Some own) explains (same, less) = subst (Passes survey limit candidate) (sym same) (change_passes found explains less)
+    change_found one least other nearer either more (Some found) (Some own) explains (same, less) = subst (Passes survey (beyond limit) candidate) (sym same) (change_passes found explains less)
 
 -- what is explained of one case is explained of another that is the same
 pub explained_in : (before after : Case) (limit size : ℕ) (number own : Number) (least : Option ℕ) (found : Option Freed) → before ≡ after → limit ≡ size → number ≡ own → IsExplainedOrMore before.network.now limit least number found → IsExplainedOrMore after.network.now size least own found

@@ -65,6 +65,13 @@ impl<'a> Finder<'a> {
         })
     }
 
+    /// From now on numbers pass that are beyond this limit, in units of 10 nm.
+    pub fn look_beyond(&mut self, limit: i64)
+        ensures { self.new.misfit ≡ record self.old.misfit { limit = limit } }
+    {
+        self.misfit.limit = limit;
+    }
+
     /// What is found of a number, compared with `least`, if it is given. A number is solved only if the sieve does
     /// not even show that it leaves at least so much.
     pub fn look(
@@ -238,7 +245,7 @@ pub(crate) fn next(most: Option<u128>) -> Option<u128>
 }
 
 /// What was found of a number, if it leaves no more than this.
-fn at_most(found: &Option<Freed>, most: u128) -> Option<Freed>
+pub(crate) fn at_most(found: &Option<Freed>, most: u128) -> Option<Freed>
     ensures { IsAtMostOrNone most found.now result }
 {
     match found {

@@ -1,36 +1,41 @@
 //! The rows of all numbers, and how many were looked at.
-ghost use Rattle.std.specs.Prelude.{◌≡◌, ◌≤◌, ◌++◌, ℕ, List, Option, IfOk, OnOk, length, option_to_list};
+ghost use Rattle.std.specs.Prelude.{◌≡◌, ◌≤◌, ◌++◌, ℕ, List, Option, IfOk, IfSome, OnOk, length, option_to_list, true};
 ghost use Rattle.std.specs.List.{AllZip, enumerate_from, flat_map};
 ghost use Rattle.th_blunders.specs.Fits.{IsFit};
 ghost use Rattle.th_circulation.specs.Best.{IsBest};
 ghost use Rattle.th_limits.specs.Limits.{max_books};
 ghost use Rattle.th_network.specs.Networks.{at_points_of};
-ghost use Rattle.th_explain_rows.specs.Explanations.{AreExplained, summary_with};
-ghost use Rattle.th_explain_rows.specs.Inside.Passing.{AreOwnRows, IsPassedOrBehind};
+ghost use Rattle.th_explain_rows.specs.Explanations.{AreExplained, IsEnough, summary_with};
+ghost use Rattle.th_explain_rows.specs.Inside.Passing.{AreOwnRows};
+ghost use Rattle.th_explain_rows.specs.Inside.Sifting.{IsSiftedOrBehind};
 ghost use Rattle.th_explain_rows.specs.Rows.{IsRowOrBehind};
 ghost use Rattle.th_numbers.specs.Lists.{in_order, listed_in};
 
-use crate::finder::{Finder, Misfit};
+use crate::finder::Finder;
 use crate::guesses::first_freed;
-use crate::passing::{Passed, all_passed, passed_before_cutoff};
-use crate::rows::rows_ahead;
+use crate::passing::{all_passed, passed_before_cutoff};
+use crate::rows::{Cutoff, rows_ahead};
+use crate::sifting::{Sifted, filtered, is_settled};
 use std::alloc::{AllocError, Global};
 use th_blunders::{Fit, blunder_count};
 use th_circulation::{BestHeights, best_heights};
 use th_entries::BookReview;
 use th_explain::Case;
-use th_explain_texts::{MOST_ROWS, Row, Summary, ranked};
+use th_explain_texts::{MOST_ROWS, Named, Row, Summary, ranked};
+use th_named::heights_named;
 use th_network::Network;
 use th_numbers::{Candidate, Kinds, Listing, books_of, listing_of};
 use th_progress::Progress;
 use th_readings::book_rows;
 use th_review_rows::entries_of;
 
-/// What was looked at, and the rows of the numbers that explain most.
+/// What was looked at, the rows of the numbers that explain most, and the heights that may have been meant where those with
+/// number 1 doubt what was keyed in.
 #[derive(Drop)]
 pub struct Explanations {
     pub summary: Summary,
     pub rows: Vec<Row>,
+    pub named: Vec<Named>,
 }
 
 /// Which numbers of a network, and of the books with these reviews, explain what does not fit.
@@ -84,7 +89,12 @@ pub fn explained_by<P: Progress>(
     let read = book_rows(alloc, network, &kinds, fit.cost, books, limit)?;
     add_rows(&mut found, read.as_slice())?;
     let rows = ranked(alloc, found.as_slice())?;
-    Ok(Explanations { summary, rows })
+    let named = heights_named(alloc, entries, limit, rows.as_slice())?;
+    Ok(Explanations {
+        summary,
+        rows,
+        named,
+    })
 }
 
 /// The rows of numbers that may be printed. Those that are looked at first only make others quicker.
@@ -98,29 +108,78 @@ fn rows_of<P: Progress>(
     ensures rows { IfOk result (λ rows.
         AreOwnRows finder.old.misfit.case.now.network.now finder.old.misfit.case.now.cost finder.old.misfit.limit candidates.now rows.items) }
 {
-    let found = passed_before_cutoff(alloc, finder, first, candidates, progress)?;
-    let rows = rows_in(alloc, &finder.misfit, candidates, &found)?;
-    if found.cutoff.is_none() || rows.len() >= MOST_ROWS {
-        return Ok(rows);
+    match rows_before_cutoff(alloc, finder, first, candidates, progress)? {
+        Some(rows) => Ok(rows),
+        None => rows_of_all(alloc, finder, candidates, progress),
     }
+}
+
+/// The same, where a cutoff was found with as many rows ahead of it as may be printed.
+fn rows_before_cutoff<P: Progress>(
+    alloc: Global,
+    finder: &mut Finder<'_>,
+    first: &[Candidate],
+    candidates: &[Candidate],
+    progress: &mut P,
+) -> Result<Option<Vec<Row>>, AllocError>
+    ensures rows { IfOk result (λ found. IfSome found (λ rows.
+        AreOwnRows finder.old.misfit.case.now.network.now finder.old.misfit.case.now.cost finder.old.misfit.limit candidates.now rows.items)) }
+    ensures misfit { OnOk result (finder.new.misfit ≡ finder.old.misfit) }
+{
+    let case = finder.misfit.case;
+    let found = passed_before_cutoff(alloc, finder, first, candidates, progress)?;
+    if !is_settled(&found) {
+        return Ok(None);
+    }
+    let own = filtered(alloc, finder, candidates, found, progress)?;
+    let rows = rows_in(alloc, case, candidates, &own)?;
+    if is_enough(own.cutoff, rows.len()) {
+        Ok(Some(rows))
+    } else {
+        Ok(None)
+    }
+}
+
+/// The same, without a cutoff.
+fn rows_of_all<P: Progress>(
+    alloc: Global,
+    finder: &mut Finder<'_>,
+    candidates: &[Candidate],
+    progress: &mut P,
+) -> Result<Vec<Row>, AllocError>
+    ensures rows { IfOk result (λ rows.
+        AreOwnRows finder.old.misfit.case.now.network.now finder.old.misfit.case.now.cost finder.old.misfit.limit candidates.now rows.items) }
+{
+    let case = finder.misfit.case;
     let all = all_passed(alloc, finder, candidates, progress)?;
-    let rows = rows_in(alloc, &finder.misfit, candidates, &all)?;
+    let own = filtered(alloc, finder, candidates, all, progress)?;
+    let rows = rows_in(alloc, case, candidates, &own)?;
     Ok(rows)
 }
 
-/// The rows of numbers that pass.
+/// Whether so many rows ahead of a cutoff are as many as may be printed.
+fn is_enough(cutoff: Option<Cutoff>, count: usize) -> bool
+    ensures { result ≡ true → IsEnough cutoff count }
+{
+    match cutoff {
+        Some(_) => count >= MOST_ROWS,
+        None => true,
+    }
+}
+
+/// The rows of numbers that pass a filter.
 fn rows_in(
     alloc: Global,
-    misfit: &Misfit<'_>,
+    case: &Case<'_>,
     candidates: &[Candidate],
-    found: &Passed,
+    found: &Sifted,
 ) -> Result<Vec<Row>, AllocError>
-    requires { AllZip (IsPassedOrBehind misfit.now.case.now.network.now misfit.now.limit found.now.cutoff) (enumerate_from 0 candidates.now) found.now.freed.items }
+    requires { AllZip (IsSiftedOrBehind case.now.network.now found.now.filter found.now.cutoff) (enumerate_from 0 candidates.now) found.now.freed.items }
     ensures { IfOk result (λ rows. (own : List (Option Row))
-        × AllZip (IsRowOrBehind misfit.now.case.now.network.now misfit.now.case.now.cost misfit.now.limit found.now.cutoff) (enumerate_from 0 candidates.now) own
+        × AllZip (IsRowOrBehind case.now.network.now case.now.cost found.now.filter found.now.cutoff) (enumerate_from 0 candidates.now) own
         × (rows.items ≡ flat_map option_to_list own)) }
 {
-    let own = rows_ahead(alloc, misfit, candidates, &found.freed, found.cutoff)?;
+    let own = rows_ahead(alloc, case, candidates, found)?;
     let mut rows = Vec::new(alloc);
     add_rows(&mut rows, own.as_slice())?;
     Ok(rows)

@@ -4,11 +4,14 @@
 //! definitions.
 #![tactic(auto)]
 
-// Which numbers pass: those that gain most first, then all, up to a cutoff that falls as they are found.
+// Which numbers pass beyond the limit: those that gain most first, then all, up to a cutoff that falls as they are found.
 mod finder;
 mod growing;
 mod guesses;
 mod passing;
+
+// With those beyond half of the limit that leave no more than the best of these.
+mod sifting;
 
 // The row of a number, or none.
 mod rows;

@@ -312,7 +312,10 @@ fn add_others(first: &mut Vec<Option<Freed>>, found: &[Option<Freed>]) -> Result
 }
 
 /// Adds what is left if one more number is freed.
-fn add_freed(freed: &mut Vec<Option<Freed>>, own: Option<Freed>) -> Result<(), AllocError>
+pub(crate) fn add_freed(
+    freed: &mut Vec<Option<Freed>>,
+    own: Option<Freed>,
+) -> Result<(), AllocError>
     ensures { OnOk result (freed.new.items ≡ freed.old.items ++ own ∷ []) }
 {
     Ok(freed.push(own)?)

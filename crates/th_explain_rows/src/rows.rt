@@ -2,17 +2,27 @@
 ghost use Rattle.std.specs.Prelude.{◌≡◌, ◌≤◌, ◌↔◌, IfOk, IfSome, true, unsigned_abs};
 ghost use Rattle.std.specs.List.{AllZip, enumerate_from};
 ghost use Rattle.th_observations.specs.Observed.{largest_difference};
-ghost use Rattle.th_explain_rows.specs.Inside.Passing.{IsAheadOrNone, IsPassedOrBehind, IsRowOfFound};
+ghost use Rattle.th_explain_rows.specs.Inside.Passing.{IsAheadOrNone, IsRowOfFound};
+ghost use Rattle.th_explain_rows.specs.Inside.Sifting.{IsSiftedOrBehind};
 ghost use Rattle.th_explain_rows.specs.Rows.{IsBehind, IsRow, IsRowOrBehind, Passes, mildest_change, row_of, row_with, values_of};
 
-use crate::finder::Misfit;
+use crate::sifting::Sifted;
 use std::alloc::{AllocError, Global};
 use th_explain::laws::{freed_is_one, mistake_explains};
-use th_explain::{Freed, blunders_left};
+use th_explain::{Case, Freed, blunders_left};
 use th_explain_texts::{Row, Values};
 use th_network::Network;
 use th_numbers::{Candidate, Label, sight_count};
 use th_readings::add_found;
+
+/// Which numbers are rows: those whose mildest change is beyond the limit of blunders, in units of 10 nm; and where
+/// there are such numbers, those whose mildest change is beyond half of the limit and which leave no more than `best`,
+/// the least that one beyond the limit leaves, in units of 10 nm times weight.
+#[derive(Clone, Copy)]
+pub struct Filter {
+    pub limit: i64,
+    pub best: Option<u128>,
+}
 
 /// Where rows end that may be printed: numbers that leave more than this, in units of 10 nm times weight, are behind
 /// it, and so are those from a place on that leave as much. Places in the order of numbers count from 0.
@@ -25,20 +35,19 @@ pub struct Cutoff {
 /// For each number its row, where it passes and is ahead of the cutoff, given what is left if it is freed.
 pub(crate) fn rows_ahead(
     alloc: Global,
-    misfit: &Misfit<'_>,
+    case: &Case<'_>,
     candidates: &[Candidate],
-    found: &[Option<Freed>],
-    cutoff: Option<Cutoff>,
+    found: &Sifted,
 ) -> Result<Vec<Option<Row>>, AllocError>
-    requires { AllZip (IsPassedOrBehind misfit.now.case.now.network.now misfit.now.limit cutoff) (enumerate_from 0 candidates.now) found.now }
+    requires { AllZip (IsSiftedOrBehind case.now.network.now found.now.filter found.now.cutoff) (enumerate_from 0 candidates.now) found.now.freed.items }
     ensures { IfOk result (λ rows.
-        AllZip (IsRowOrBehind misfit.now.case.now.network.now misfit.now.case.now.cost misfit.now.limit cutoff) (enumerate_from 0 candidates.now) rows.items) }
+        AllZip (IsRowOrBehind case.now.network.now case.now.cost found.now.filter found.now.cutoff) (enumerate_from 0 candidates.now) rows.items) }
 {
     freed_is_one();
     let mut rows = Vec::with_capacity(alloc, candidates.len())?;
     for k in 0..candidates.len() {
-        let own = ahead(cutoff, k, &found[k]);
-        let row = row_of_found(alloc, misfit, &candidates[k], &own)?;
+        let own = ahead(found.cutoff, k, &found.freed[k]);
+        let row = row_of_found(alloc, case, found.filter, &candidates[k], &own)?;
         add_found(&mut rows, row)?;
     }
     Ok(rows)
@@ -55,7 +64,7 @@ fn ahead(cutoff: Option<Cutoff>, place: usize, found: &Option<Freed>) -> Option<
 }
 
 /// Whether a number at a place that leaves so much is behind a cutoff.
-fn is_behind(cutoff: Option<Cutoff>, place: usize, left: u128) -> bool
+pub(crate) fn is_behind(cutoff: Option<Cutoff>, place: usize, left: u128) -> bool
     ensures { (result ≡ true) ↔ IsBehind cutoff place left }
 {
     match cutoff {
@@ -67,15 +76,16 @@ fn is_behind(cutoff: Option<Cutoff>, place: usize, left: u128) -> bool
 /// The row of what was found of a number.
 fn row_of_found(
     alloc: Global,
-    misfit: &Misfit<'_>,
+    case: &Case<'_>,
+    filter: Filter,
     candidate: &Candidate,
     found: &Option<Freed>,
 ) -> Result<Option<Row>, AllocError>
-    requires { IfSome found.now (Passes misfit.now.case.now.network.now misfit.now.limit candidate.now) }
-    ensures { IfOk result (IsRowOfFound misfit.now.case.now.network.now misfit.now.case.now.cost misfit.now.limit candidate.now found.now) }
+    requires { IfSome found.now (Passes case.now.network.now filter candidate.now) }
+    ensures { IfOk result (IsRowOfFound case.now.network.now case.now.cost filter candidate.now found.now) }
 {
     match found {
-        Some(freed) => Ok(Some(row_if_passed(alloc, misfit, candidate, freed)?)),
+        Some(freed) => Ok(Some(row_if_passed(alloc, case, filter, candidate, freed)?)),
         None => Ok(None),
     }
 }
@@ -83,19 +93,19 @@ fn row_of_found(
 /// The row of a number that passes.
 fn row_if_passed(
     alloc: Global,
-    misfit: &Misfit<'_>,
+    case: &Case<'_>,
+    filter: Filter,
     candidate: &Candidate,
     freed: &Freed,
 ) -> Result<Row, AllocError>
-    requires { Passes misfit.now.case.now.network.now misfit.now.limit candidate.now freed.now }
-    ensures row { IfOk result (IsRow misfit.now.case.now.network.now misfit.now.case.now.cost misfit.now.limit candidate.now) }
+    requires { Passes case.now.network.now filter candidate.now freed.now }
+    ensures row { IfOk result (IsRow case.now.network.now case.now.cost filter candidate.now) }
     ensures left { IfOk result (λ row. row.left ≡ freed.now.left) }
 {
     mistake_explains();
-    let case = misfit.case;
     let number = candidate.number();
     let change = mildest_change(freed);
-    let blunders = blunders_left(alloc, case.network, &number, change, misfit.limit)?;
+    let blunders = blunders_left(alloc, case.network, &number, change, filter.limit)?;
     Ok(row_of(case.network, case.cost, candidate, freed, blunders))
 }
 
@@ -141,6 +151,7 @@ fn row_with(label: Label, sights: u32, values: Values, cost: u128, left: u128, b
         kind,
         book,
         line,
+        last,
         from,
         to,
     } = label;
@@ -149,6 +160,7 @@ fn row_with(label: Label, sights: u32, values: Values, cost: u128, left: u128, b
         kind,
         book,
         line,
+        last,
         from,
         to,
         sights,

@@ -2,3 +2,4 @@ pub mod CostLemmas
 pub mod TextLemmas
 pub mod RankLemmas
 pub mod NumberLemmas
+mod StayLemmas

@@ -16,3 +16,16 @@ three_parts p a b c q r s first second third =
 pub three_parts_and_end : (p a b c l q r s : List ℕ) → q ≡ p ++ a → r ≡ q ++ b → s ≡ r ++ (c ++ l) → s ≡ p ++ (((a ++ b) ++ c) ++ l)
 three_parts_and_end p a b c l q r s first second third =
     three_parts p a b (c ++ l) q r s first second third ∙ ap (λ (x : List ℕ). p ++ x) (sym (append_assoc (a ++ b) c l))
+
+-- a text that has grown grows by one more part
+pub with_part : (p x c q r : List ℕ) → q ≡ p ++ x → r ≡ q ++ c → r ≡ p ++ (x ++ c)
+with_part p x c q r first second = second ∙ ap (λ (t : List ℕ). t ++ c) first ∙ append_assoc p x c
+
+-- by its last part, and the end of its line
+pub with_end : (p x c l q r : List ℕ) → q ≡ p ++ x → r ≡ q ++ (c ++ l) → r ≡ p ++ ((x ++ c) ++ l)
+with_end p x c l q r first second = with_part p x (c ++ l) q r first second ∙ ap (λ (t : List ℕ). p ++ t) (sym (append_assoc x c l))
+
+-- by two more parts
+pub with_two : (p x w c q r : List ℕ) → q ≡ p ++ x → r ≡ (q ++ w) ++ c → r ≡ p ++ ((x ++ w) ++ c)
+with_two p x w c q r first second =
+    second ∙ ap (λ (t : List ℕ). (t ++ w) ++ c) first ∙ ap (λ (t : List ℕ). t ++ c) (append_assoc p x w) ∙ append_assoc p (x ++ w) c

@@ -2,6 +2,9 @@ pub mod Words
 pub mod Costs
 pub mod Tables
 pub mod Columns
+pub mod Called
+pub mod Fitting
+pub mod Meant
 pub mod Sentences
 pub mod Ranks
 pub mod Texts

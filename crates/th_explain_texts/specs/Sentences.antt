@@ -3,10 +3,11 @@ use Rattle.std.specs.Prelude.{ℕ, ℤ, ◌==◌, ◌&&◌, Bool, List, [], ◌�
 use Rattle.std.specs.List.{flat_map}
 use Rattle.th_units.specs.Metres.{metres}
 use Rattle.th_columns.specs.Columns.{line_end}
+use Rattle.th_explain_texts.specs.Called.{capital, joined}
 use Rattle.th_explain_texts.specs.Costs.{cost_metres}
-use Rattle.th_explain_texts.specs.Tables.{name_field, number_field}
-use Rattle.th_explain_texts.specs.declared.rows.Kind.{Kind}
-use Rattle.th_explain_texts.specs.declared.rows.Kind.TheVariants.{Instrument, Reflector, InstrumentSince, ReflectorSince, Sight, Benchmark, Book}
+use Rattle.th_explain_texts.specs.Fitting.{number_lines}
+use Rattle.th_explain_texts.specs.Meant.{named_lines}
+use Rattle.th_explain_texts.specs.declared.rows.Named.{Named}
 use Rattle.th_explain_texts.specs.declared.rows.Row.{Row}
 use Rattle.th_explain_texts.specs.declared.rows.Summary.{Summary}
 
@@ -14,19 +15,12 @@ use Rattle.th_explain_texts.specs.declared.rows.Summary.{Summary}
 abbrev pub most_rows : ℕ
 most_rows = 20
 
--- a line of a book; the book is named if there are several
-abbrev pub line_name : Bool → Row → List ℕ
-line_name several row = codes "line " ++ number_field row.line ++ (if several then codes " of book " ++ number_field row.book else [])
+-- so many numbers are named in a sentence
+abbrev pub most_named : ℕ
+most_named = 3
 
--- what a sentence calls a number
-abbrev pub called : Bool → Kind → Row → List ℕ
-called several Instrument row = codes "word 88 of " ++ line_name several row
-called several Reflector row = codes "word 87 of " ++ line_name several row
-called several InstrumentSince row = codes "word 88 since " ++ line_name several row
-called several ReflectorSince row = codes "word 87 since " ++ line_name several row
-called several Sight row = codes "the sight of " ++ line_name several row
-called several Benchmark row = codes "the height of " ++ name_field row.from
-called several Book row = codes "word 33 of book " ++ number_field row.book
+abbrev pub are_few : List Row → Bool
+are_few rows = nat_le (length rows) most_named
 
 -- the rows that explain most
 abbrev pub is_first : Row → Bool
@@ -35,41 +29,24 @@ is_first row = row.number == 1
 abbrev pub firsts : List Row → List Row
 firsts rows = filter is_first rows
 
--- what a sentence calls several numbers
-abbrev pub or_called : Bool → Row → List ℕ
-or_called several row = codes " or " ++ called several row.kind row
+-- those that explain all: they leave no blunder
+abbrev pub leaves_none : Row → Bool
+leaves_none row = row.blunders == 0
 
-unfoldable pub joined : Bool → List Row → List ℕ
-joined several [] = []
-joined several (row ∷ rows) = called several row.kind row ++ flat_map (or_called several) rows
+abbrev pub explaining : List Row → List Row
+explaining rows = filter leaves_none (firsts rows)
 
--- how many numbers explain equally, if they are more than three
-abbrev pub count_called : ℕ → List ℕ
-count_called count = (if count == most_rows then codes "At least " else []) ++ decimal count
+-- how many numbers explain equally, given how many rows have number 1; there may be more of them if all rows have it
+abbrev pub count_called : ℕ → ℕ → List ℕ
+count_called ranked count = (if ranked == most_rows then codes "At least " else []) ++ decimal count
 
--- which numbers explain most: one, two or three
+-- one, two or three numbers explain all
 unfoldable pub few_line : Bool → List Row → List ℕ
 few_line several rows = codes "One wrong number explains this: " ++ joined several rows ++ codes "." ++ line_end
 
--- that more than three numbers explain most
-unfoldable pub many_line : ℕ → List ℕ
-many_line count = count_called count ++ codes " numbers explain this equally well: any one of them may be wrong. The books do not say which. Measure one of them again." ++ line_end
-
--- which numbers explain most
-abbrev pub best_line : Bool → List Row → List ℕ
-best_line several rows = if nat_le (length rows) 3 then few_line several rows else many_line (length rows)
-
--- that two or three numbers explain equally
-unfoldable pub which_line : List Row → List ℕ
-which_line rows = if nat_lt 1 (length rows) && nat_le (length rows) 3 then codes "The books do not say which of them." ++ line_end else []
-
--- what the first row behind those leaves
-abbrev pub is_second : Row → Bool
-is_second row = row.number == 2
-
-unfoldable pub leaves_line : Option Row → List ℕ
-leaves_line None = []
-leaves_line (Some row) = codes "The next best leaves " ++ cost_metres row.left ++ codes "." ++ line_end
+-- more numbers do
+unfoldable pub many_line : ℕ → ℕ → List ℕ
+many_line ranked count = count_called ranked count ++ codes " numbers explain this equally well: any one of them may be wrong. The books do not say which. Measure one of them again." ++ line_end
 
 -- the least number of blunders that a row leaves
 abbrev pub fewer : ℕ → Row → ℕ
@@ -81,14 +58,48 @@ least_blunders (row ∷ rows) = fold fewer row.blunders rows
 
 -- how many sights stay marked, whichever of the numbers that explain most is mended
 abbrev pub stay_called : ℕ → List ℕ
-stay_called count = if count == 1 then codes "1 sight stays" else (decimal count ++ codes " sights stay")
+stay_called count = if count == 1 then codes "1 sight stays marked" else (decimal count ++ codes " sights stay marked")
 
-unfoldable pub marked_line : ℕ → List ℕ
-marked_line count = codes "It does not explain all: " ++ stay_called count ++ codes " marked. Mend it and run again." ++ line_end
+-- one, two or three numbers explain most, and none explains all
+unfoldable pub most_line : Bool → List Row → List ℕ
+most_line several rows = codes "No one number explains all of this. " ++ capital (joined several rows) ++ codes " explains most: " ++ stay_called (least_blunders rows) ++ codes "." ++ line_end
 
--- that sights stay marked, if some do
-abbrev pub stay_line : ℕ → List ℕ
-stay_line count = if count == 0 then [] else marked_line count
+-- more numbers do
+unfoldable pub many_most_line : List Row → List ℕ
+many_most_line rows =
+    codes "No one number explains all of this. " ++ count_called (length rows) (length rows) ++ codes " numbers explain most, equally well: " ++ stay_called (least_blunders rows)
+    ++ codes ". The books do not say which. Measure one of them again." ++ line_end
+
+-- which numbers explain all, given how many rows have number 1; or if none does, which explain most
+abbrev pub first_line : Bool → List Row → List Row → List ℕ
+first_line several firsts [] = if are_few firsts then most_line several firsts else many_most_line firsts
+first_line several firsts (row ∷ rows) = if are_few (row ∷ rows) then few_line several (row ∷ rows) else many_line (length firsts) (length (row ∷ rows))
+
+-- those that the first line speaks of
+abbrev pub spoken_of : List Row → List Row → List Row
+spoken_of firsts [] = firsts
+spoken_of firsts (row ∷ rows) = row ∷ rows
+
+-- that two or three numbers explain equally
+unfoldable pub which_line : List Row → List ℕ
+which_line rows = if nat_lt 1 (length rows) && are_few rows then codes "The books do not say which of them." ++ line_end else []
+
+-- what was given and what fits, of each number that is named
+unfoldable pub given_lines : Bool → List Row → List ℕ
+given_lines several rows = if are_few rows then flat_map (number_lines several) rows else []
+
+-- what the first row behind those leaves
+abbrev pub is_second : Row → Bool
+is_second row = row.number == 2
+
+unfoldable pub leaves_line : Option Row → List ℕ
+leaves_line None = []
+leaves_line (Some row) = codes "The next best leaves " ++ cost_metres row.left ++ codes "." ++ line_end
+
+-- what to do where no number explains all
+unfoldable pub mend_line : List Row → List ℕ
+mend_line [] = codes "Mend it and run again." ++ line_end
+mend_line (row ∷ rows) = []
 
 -- that nothing has to be explained, with the limit
 unfoldable pub unmarked_line : ℤ → List ℕ
@@ -100,12 +111,17 @@ nothing_line summary =
     if summary.marked == 0 then unmarked_line summary.limit
     else (codes "No single number explains what is marked." ++ line_end)
 
--- the sentences on the rows that explain most
-unfoldable pub found_lines : Bool → List Row → List Row → List ℕ
-found_lines several firsts rows =
-    best_line several firsts ++ which_line firsts ++ leaves_line (find is_second rows) ++ stay_line (least_blunders firsts)
+-- the sentences on the rows that explain most, given those that explain all, and the heights that may have been meant
+unfoldable pub found_lines : Bool → List Row → List Row → List Row → List Named → List ℕ
+found_lines several firsts explaining rows named =
+    first_line several firsts explaining
+    ++ which_line (spoken_of firsts explaining)
+    ++ given_lines several (spoken_of firsts explaining)
+    ++ named_lines several rows named
+    ++ leaves_line (find is_second rows)
+    ++ mend_line explaining
 
 -- the sentences on all rows; the books are named if there are several
-unfoldable pub sentences : Summary → List Row → List ℕ
-sentences summary [] = nothing_line summary
-sentences summary (row ∷ rows) = found_lines (nat_lt 1 summary.books) (firsts (row ∷ rows)) (row ∷ rows)
+unfoldable pub sentences : Summary → List Row → List Named → List ℕ
+sentences summary [] named = nothing_line summary
+sentences summary (row ∷ rows) named = found_lines (nat_lt 1 summary.books) (firsts (row ∷ rows)) (explaining (row ∷ rows)) (row ∷ rows) named

@@ -1,5 +1,7 @@
--- The words for kinds of numbers.
-use Rattle.std.specs.Prelude.{ℕ, List, [], codes}
+-- Kinds of numbers, and the words for them.
+use Rattle.std.specs.Prelude.{ℕ, Bool, true, false, List, [], codes}
+use Rattle.th_entries.specs.declared.entries.HeightKind.{HeightKind}
+use Rattle.th_entries.specs.declared.entries.HeightKind.TheVariants as height
 use Rattle.th_explain_texts.specs.declared.rows.Kind.{Kind}
 use Rattle.th_explain_texts.specs.declared.rows.Kind.TheVariants.{Instrument, Reflector, InstrumentSince, ReflectorSince, Sight, Benchmark, Book}
 
@@ -32,3 +34,18 @@ since_mark ReflectorSince = codes "  since"
 since_mark Sight = []
 since_mark Benchmark = []
 since_mark Book = []
+
+-- the number is the difference of a sight
+abbrev pub is_sight : Kind → Bool
+is_sight Instrument = false
+is_sight Reflector = false
+is_sight InstrumentSince = false
+is_sight ReflectorSince = false
+is_sight Sight = true
+is_sight Benchmark = false
+is_sight Book = false
+
+-- the height is that of the reflector
+abbrev pub is_pole : HeightKind → Bool
+is_pole height.Reflector = true
+is_pole height.Instrument = false

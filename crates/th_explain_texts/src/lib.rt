@@ -1,7 +1,7 @@
 //! The texts of `explain`: which one number, if it were wrong, would explain what does not fit.
 //!
-//! `rows` has what they consist of: a row for each number that explains, and what was looked at in
-//! numbers. `ranked` puts rows in order. `explanations_csv` makes the table as comma-separated values, and `explanations_text` the
+//! `rows` has what they consist of: a row for each number that explains, the heights that may have been meant, and what was
+//! looked at in numbers. `ranked` puts rows in order. `explanations_csv` makes the table as comma-separated values, and `explanations_text` the
 //! text for people. Out of memory is the only failure.
 #![tactic(auto)]
 
@@ -17,11 +17,18 @@ mod words;
 mod tables;
 
 // The text for people: its head and its columns, and the sentences.
+mod called;
 mod columns;
+mod fitting;
+mod meant;
 mod sentences;
 mod texts;
 
+// Laws.
+pub mod laws;
+
 pub use ranks::{MOST_ROWS, ranked};
-pub use rows::{Kind, Row, Summary, Values};
+pub use rows::{Kind, Named, Row, Summary, Values};
 pub use tables::explanations_csv;
 pub use texts::explanations_text;
+pub use words::{is_pole, is_sight};

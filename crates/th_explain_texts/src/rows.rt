@@ -1,5 +1,6 @@
 //! What the texts of `explain` consist of: a row for each number that explains, and a summary.
 use gsi_word::Name;
+use th_entries::HeightKind;
 
 /// Which kind of number it is.
 #[derive(Clone, Copy, Debug, PartialEq, Eq)]
@@ -41,6 +42,8 @@ pub struct Row {
     pub book: Option<u32>,
     /// The line in the book, or the record of a benchmark, from 1. A book has none.
     pub line: Option<u32>,
+    /// The last line whose word repeats an entered height, or its own line. Other numbers have none.
+    pub last: Option<u32>,
     /// The station, or the benchmark.
     pub from: Option<Name>,
     /// The target of a sight.
@@ -55,6 +58,21 @@ pub struct Row {
     pub left: u128,
     /// How many blunders are left.
     pub blunders: u32,
+}
+
+/// A height that may have been meant in place of one that was keyed in. Lengths are in units of 10 nm.
+#[derive(Clone, Copy, Debug)]
+pub struct Named {
+    /// The place of its row, from 0.
+    pub row: usize,
+    /// Whether it is the height of the instrument or that of the reflector. A sight has both.
+    pub height: HeightKind,
+    /// The height that was keyed in.
+    pub typed: i64,
+    /// The height that may have been meant.
+    pub meant: i64,
+    /// Whether sights that the number does not have use what may have been meant.
+    pub elsewhere: bool,
 }
 
 /// What was looked at, in numbers.

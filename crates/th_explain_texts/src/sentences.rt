@@ -1,17 +1,33 @@
 //! What the rows say, in sentences.
-ghost use Rattle.std.specs.Prelude.{◌≡◌, ◌++◌, IfOk, OnOk, codes, find, fold};
+ghost use Rattle.std.specs.Prelude.{◌≡◌, ◌++◌, IfOk, OnOk, codes, filter, find, fold, length};
 ghost use Rattle.std.specs.List.{flat_map};
-ghost use Rattle.th_explain_texts.specs.Sentences.{best_line, called, count_called, few_line, fewer, firsts, found_lines, is_second, joined, least_blunders, leaves_line, line_name, many_line, marked_line, nothing_line, or_called, sentences, stay_called, stay_line, unmarked_line, which_line};
-ghost use Rattle.th_explain_texts.specs.Tables.{number_field};
+ghost use Rattle.th_explain_texts.specs.Fitting.{number_lines};
+ghost use Rattle.th_explain_texts.specs.Sentences.{are_few, count_called, explaining, few_line, fewer, first_line, firsts, found_lines, given_lines, is_second, least_blunders, leaves_line, leaves_none, many_line, many_most_line, mend_line, most_line, nothing_line, sentences, spoken_of, stay_called, unmarked_line, which_line};
 
+use crate::called::{write_capital, write_joined};
 use crate::costs::cost_text;
+use crate::fitting::write_number_lines;
+use crate::meant::write_named;
 use crate::ranks::MOST_ROWS;
-use crate::rows::{Kind, Row, Summary};
-use crate::tables::{name_field, number_field};
+use crate::rows::{Named, Row, Summary};
 use itoa::Buffer;
 use std::alloc::{AllocError, Global};
 use th_columns::Page;
 use th_units::metre_text;
+
+/// So many numbers are named in a sentence.
+const MOST_NAMED: usize = 3;
+
+/// The rows that explain most, and what is named of them.
+#[derive(Clone, Copy)]
+struct Leading<'a> {
+    /// Those with number 1.
+    firsts: &'a [Row],
+    /// Those of them that leave no blunder.
+    explaining: &'a [Row],
+    /// The heights that may have been meant.
+    named: &'a [Named],
+}
 
 /// Writes the sentences on all rows.
 #[tactic(auto, unfolding(crate::specs::Sentences::sentences))]
@@ -20,14 +36,21 @@ pub(crate) fn write_sentences(
     page: &mut Page,
     summary: &Summary,
     rows: &[Row],
+    named: &[Named],
 ) -> Result<(), AllocError>
-    ensures { OnOk result (page.new ≡ page.old ++ sentences summary.now rows.now) }
+    ensures { OnOk result (page.new ≡ page.old ++ sentences summary.now rows.now named.now) }
 {
     if rows.is_empty() {
         return write_nothing(page, summary);
     }
     let firsts = firsts_of(alloc, rows)?;
-    write_found(alloc, page, summary.books > 1, &firsts, rows)
+    let explaining = explaining_of(alloc, &firsts)?;
+    let leading = Leading {
+        firsts: &firsts,
+        explaining: &explaining,
+        named,
+    };
+    write_found(alloc, page, summary.books > 1, &leading, rows)
 }
 
 /// The rows that explain most.
@@ -37,6 +60,17 @@ fn firsts_of(alloc: Global, rows: &[Row]) -> Result<Vec<Row>, AllocError>
     rows.iter()
         .copied()
         .filter(|row| row.number == 1)
+        .collect(alloc)
+}
+
+/// Those of them that leave no blunder.
+fn explaining_of(alloc: Global, firsts: &[Row]) -> Result<Vec<Row>, AllocError>
+    ensures { IfOk result (λ own. own.items ≡ filter leaves_none firsts.now) }
+{
+    firsts
+        .iter()
+        .copied()
+        .filter(|row| row.blunders == 0)
         .collect(alloc)
 }
 
@@ -68,29 +102,63 @@ fn write_found(
     alloc: Global,
     page: &mut Page,
     several: bool,
-    firsts: &[Row],
+    leading: &Leading<'_>,
     rows: &[Row],
 ) -> Result<(), AllocError>
-    ensures { OnOk result (page.new ≡ page.old ++ found_lines several firsts.now rows.now) }
+    ensures { OnOk result (page.new ≡ page.old ++ found_lines several leading.now.firsts.now leading.now.explaining.now rows.now leading.now.named.now) }
 {
-    write_best(page, several, firsts)?;
-    write_which(page, firsts)?;
+    let spoken_of = leading.spoken_of();
+    write_first(alloc, page, several, leading)?;
+    write_which(page, spoken_of)?;
+    write_given(alloc, page, several, spoken_of)?;
+    write_named(alloc, page, several, rows, leading.named)?;
     write_leaves(alloc, page, &second_of(rows))?;
-    write_stay(page, least_blunders(firsts))
+    write_mend(page, leading.explaining)
 }
 
-/// Writes which numbers explain most.
-fn write_best(page: &mut Page, several: bool, rows: &[Row]) -> Result<(), AllocError>
-    ensures { OnOk result (page.new ≡ page.old ++ best_line several rows.now) }
-{
-    if rows.len() <= 3 {
-        write_few(page, several, rows)
-    } else {
-        write_many(page, rows.len())
+impl<'a> Leading<'a> {
+    /// Those that explain all; or if none does, all of them.
+    fn spoken_of(&self) -> &'a [Row]
+        ensures { result.now ≡ spoken_of self.now.firsts.now self.now.explaining.now }
+    {
+        if self.explaining.is_empty() {
+            self.firsts
+        } else {
+            self.explaining
+        }
     }
 }
 
-/// Writes which one, two or three numbers explain most.
+/// Whether some rows are so few that sentences name each.
+fn are_few(rows: &[Row]) -> bool
+    ensures { result ≡ are_few rows.now }
+{
+    rows.len() <= MOST_NAMED
+}
+
+/// Writes which numbers explain all, or else which explain most.
+fn write_first(
+    alloc: Global,
+    page: &mut Page,
+    several: bool,
+    leading: &Leading<'_>,
+) -> Result<(), AllocError>
+    ensures { OnOk result (page.new ≡ page.old ++ first_line several leading.now.firsts.now leading.now.explaining.now) }
+{
+    let Leading {
+        firsts,
+        explaining,
+        ..
+    } = *leading;
+    match (explaining.is_empty(), are_few(leading.spoken_of())) {
+        (true, true) => write_most(alloc, page, several, firsts),
+        (true, false) => write_many_most(page, firsts),
+        (false, true) => write_few(page, several, explaining),
+        (false, false) => write_many(page, firsts.len(), explaining.len()),
+    }
+}
+
+/// Writes which one, two or three numbers explain all.
 #[tactic(auto, unfolding(crate::specs::Sentences::few_line))]
 fn write_few(page: &mut Page, several: bool, rows: &[Row]) -> Result<(), AllocError>
     ensures { OnOk result (page.new ≡ page.old ++ few_line several rows.now) }
@@ -100,105 +168,52 @@ fn write_few(page: &mut Page, several: bool, rows: &[Row]) -> Result<(), AllocEr
     page.add(b".\n")
 }
 
-/// Writes that more numbers explain most.
+/// Writes that more numbers explain all.
 #[tactic(auto, unfolding(crate::specs::Sentences::many_line))]
-fn write_many(page: &mut Page, count: usize) -> Result<(), AllocError>
-    ensures { OnOk result (page.new ≡ page.old ++ many_line count) }
+fn write_many(page: &mut Page, ranked: usize, count: usize) -> Result<(), AllocError>
+    ensures { OnOk result (page.new ≡ page.old ++ many_line ranked count) }
 {
-    write_count_called(page, count)?;
+    write_count_called(page, ranked, count)?;
     page.add(
         b" numbers explain this equally well: any one of them may be wrong. The books do not say which. Measure one of them again.\n",
     )
 }
 
-/// Writes how many numbers explain equally.
-fn write_count_called(page: &mut Page, count: usize) -> Result<(), AllocError>
-    ensures { OnOk result (page.new ≡ page.old ++ count_called count) }
+/// Writes which one, two or three numbers explain most.
+#[tactic(auto, unfolding(crate::specs::Sentences::most_line))]
+fn write_most(alloc: Global, page: &mut Page, several: bool, rows: &[Row]) -> Result<(), AllocError>
+    ensures { OnOk result (page.new ≡ page.old ++ most_line several rows.now) }
 {
-    if count == MOST_ROWS {
+    let mut names = Page::new(alloc);
+    write_joined(&mut names, several, rows)?;
+    page.add(b"No one number explains all of this. ")?;
+    write_capital(page, names.as_bytes())?;
+    page.add(b" explains most: ")?;
+    write_stay_called(page, least_blunders(rows))?;
+    page.add(b".\n")
+}
+
+/// Writes that more numbers explain most.
+#[tactic(auto, unfolding(crate::specs::Sentences::many_most_line))]
+fn write_many_most(page: &mut Page, rows: &[Row]) -> Result<(), AllocError>
+    ensures { OnOk result (page.new ≡ page.old ++ many_most_line rows.now) }
+{
+    page.add(b"No one number explains all of this. ")?;
+    write_count_called(page, rows.len(), rows.len())?;
+    page.add(b" numbers explain most, equally well: ")?;
+    write_stay_called(page, least_blunders(rows))?;
+    page.add(b". The books do not say which. Measure one of them again.\n")
+}
+
+/// Writes how many numbers explain equally, of so many rows with number 1.
+fn write_count_called(page: &mut Page, ranked: usize, count: usize) -> Result<(), AllocError>
+    ensures { OnOk result (page.new ≡ page.old ++ count_called ranked count) }
+{
+    if ranked == MOST_ROWS {
         page.add(b"At least ")?;
     }
     let mut digits = Buffer::new();
     page.add(digits.format(count).as_bytes())
-}
-
-/// Writes what sentences call the rows, joined by `or`.
-#[tactic(auto, unfolding(crate::specs::Sentences::joined))]
-fn write_joined(page: &mut Page, several: bool, rows: &[Row]) -> Result<(), AllocError>
-    ensures { OnOk result (page.new ≡ page.old ++ joined several rows.now) }
-{
-    match rows.split_first() {
-        Some((row, others)) => {
-            write_called(page, several, row)?;
-            write_others(page, several, others)
-        }
-        None => Ok(()),
-    }
-}
-
-/// Writes what sentences call further rows.
-fn write_others(page: &mut Page, several: bool, rows: &[Row]) -> Result<(), AllocError>
-    ensures { OnOk result (page.new ≡ page.old ++ flat_map (or_called several) rows.now) }
-{
-    for row in rows {
-        page.add(b" or ")?;
-        write_called(page, several, row)?;
-    }
-    Ok(())
-}
-
-/// Writes what a sentence calls a number.
-fn write_called(page: &mut Page, several: bool, row: &Row) -> Result<(), AllocError>
-    ensures { OnOk result (page.new ≡ page.old ++ called several row.now.kind row.now) }
-{
-    match row.kind {
-        Kind::Instrument => write_line_name(page, b"word 88 of ", several, row),
-        Kind::Reflector => write_line_name(page, b"word 87 of ", several, row),
-        Kind::InstrumentSince => write_line_name(page, b"word 88 since ", several, row),
-        Kind::ReflectorSince => write_line_name(page, b"word 87 since ", several, row),
-        Kind::Sight => write_line_name(page, b"the sight of ", several, row),
-        Kind::Benchmark => write_named(page, b"the height of ", name_field(&row.from)),
-        Kind::Book => write_numbered(page, b"word 33 of book ", row.book),
-    }
-}
-
-/// Writes a word and a name.
-fn write_named(page: &mut Page, word: &[u8], name: &[u8]) -> Result<(), AllocError>
-    ensures { OnOk result (page.new ≡ page.old ++ word.now ++ name.now) }
-{
-    page.add(word)?;
-    page.add(name)
-}
-
-/// Writes a word and a number.
-fn write_numbered(page: &mut Page, word: &[u8], number: Option<u32>) -> Result<(), AllocError>
-    ensures { OnOk result (page.new ≡ page.old ++ word.now ++ number_field number) }
-{
-    page.add(word)?;
-    write_number(page, number)
-}
-
-/// Writes a word and the line of a row; the book is named if there are several.
-fn write_line_name(page: &mut Page, word: &[u8], several: bool, row: &Row) -> Result<(), AllocError>
-    ensures { OnOk result (page.new ≡ page.old ++ word.now ++ line_name several row.now) }
-{
-    page.add(word)?;
-    page.add(b"line ")?;
-    write_number(page, row.line)?;
-    if several {
-        page.add(b" of book ")?;
-        write_number(page, row.book)
-    } else {
-        Ok(())
-    }
-}
-
-/// Writes a number, and nothing where there is none.
-fn write_number(page: &mut Page, number: Option<u32>) -> Result<(), AllocError>
-    ensures { OnOk result (page.new ≡ page.old ++ number_field number) }
-{
-    let mut digits = Buffer::new();
-    page.add(number_field(&mut digits, number))
 }
 
 /// Writes that two or three numbers explain equally.
@@ -206,11 +221,43 @@ fn write_number(page: &mut Page, number: Option<u32>) -> Result<(), AllocError>
 fn write_which(page: &mut Page, rows: &[Row]) -> Result<(), AllocError>
     ensures { OnOk result (page.new ≡ page.old ++ which_line rows.now) }
 {
-    if 1 < rows.len() && rows.len() <= 3 {
+    if 1 < rows.len() && are_few(rows) {
         page.add(b"The books do not say which of them.\n")
     } else {
         Ok(())
     }
+}
+
+/// Writes what was given and what fits, of each number that is named.
+#[tactic(auto, unfolding(crate::specs::Sentences::given_lines))]
+fn write_given(
+    alloc: Global,
+    page: &mut Page,
+    several: bool,
+    rows: &[Row],
+) -> Result<(), AllocError>
+    ensures { OnOk result (page.new ≡ page.old ++ given_lines several rows.now) }
+{
+    if are_few(rows) {
+        write_each_given(alloc, page, several, rows)
+    } else {
+        Ok(())
+    }
+}
+
+/// Writes what was given and what fits, of each number.
+fn write_each_given(
+    alloc: Global,
+    page: &mut Page,
+    several: bool,
+    rows: &[Row],
+) -> Result<(), AllocError>
+    ensures { OnOk result (page.new ≡ page.old ++ flat_map (number_lines several) rows.now) }
+{
+    for row in rows {
+        write_number_lines(alloc, page, several, row)?;
+    }
+    Ok(())
 }
 
 /// The first row behind those that explain most.
@@ -257,36 +304,27 @@ fn fewest(blunders: u32, rows: &[Row]) -> u32
     least
 }
 
-/// Writes that sights stay marked, if some do.
-fn write_stay(page: &mut Page, count: u32) -> Result<(), AllocError>
-    ensures { OnOk result (page.new ≡ page.old ++ stay_line count) }
-{
-    if count == 0 {
-        Ok(())
-    } else {
-        write_marked(page, count)
-    }
-}
-
 /// Writes how many sights stay marked.
-#[tactic(auto, unfolding(crate::specs::Sentences::marked_line))]
-fn write_marked(page: &mut Page, count: u32) -> Result<(), AllocError>
-    ensures { OnOk result (page.new ≡ page.old ++ marked_line count) }
-{
-    page.add(b"It does not explain all: ")?;
-    write_stay_called(page, count)?;
-    page.add(b" marked. Mend it and run again.\n")
-}
-
-/// Writes how many sights stay.
 fn write_stay_called(page: &mut Page, count: u32) -> Result<(), AllocError>
     ensures { OnOk result (page.new ≡ page.old ++ stay_called count) }
 {
     if count == 1 {
-        page.add(b"1 sight stays")
+        page.add(b"1 sight stays marked")
     } else {
         let mut digits = Buffer::new();
         page.add(digits.format(count).as_bytes())?;
-        page.add(b" sights stay")
+        page.add(b" sights stay marked")
+    }
+}
+
+/// Writes what to do where no number explains all.
+#[tactic(auto, unfolding(crate::specs::Sentences::mend_line))]
+fn write_mend(page: &mut Page, explaining: &[Row]) -> Result<(), AllocError>
+    ensures { OnOk result (page.new ≡ page.old ++ mend_line explaining.now) }
+{
+    if explaining.is_empty() {
+        page.add(b"Mend it and run again.\n")
+    } else {
+        Ok(())
     }
 }

@@ -3,25 +3,27 @@ ghost use Rattle.std.specs.Prelude.{◌≡◌, IfOk};
 ghost use Rattle.th_explain_texts.specs.Texts.{explanation_text};
 
 use crate::columns::{write_costs, write_counts, write_table};
-use crate::rows::{Row, Summary};
+use crate::rows::{Named, Row, Summary};
 use crate::sentences::write_sentences;
 use std::alloc::{AllocError, Global};
 use th_columns::Page;
 
-/// The text for people: what was looked at in numbers, the rows, and what they say.
+/// The text for people: what was looked at in numbers, the rows, and what they say, with the heights that may have been
+/// meant.
 #[tactic(auto, unfolding(crate::specs::Texts::explanation_text))]
 pub fn explanations_text(
     alloc: Global,
     summary: &Summary,
     rows: &[Row],
+    named: &[Named],
 ) -> Result<Vec<u8>, AllocError>
-    ensures { IfOk result (λ text. text.items ≡ explanation_text summary.now rows.now) }
+    ensures { IfOk result (λ text. text.items ≡ explanation_text summary.now rows.now named.now) }
 {
     let mut page = Page::new(alloc);
     write_costs(alloc, &mut page, summary)?;
     write_counts(&mut page, summary)?;
     write_table(alloc, &mut page, rows)?;
     page.end_line()?;
-    write_sentences(alloc, &mut page, summary, rows)?;
+    write_sentences(alloc, &mut page, summary, rows, named)?;
     Ok(page.into_bytes())
 }

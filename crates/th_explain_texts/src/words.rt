@@ -1,8 +1,9 @@
-//! The words for kinds of numbers.
+//! Kinds of numbers, and the words for them.
 ghost use Rattle.std.specs.Prelude.{◌≡◌};
-ghost use Rattle.th_explain_texts.specs.Words.{kind_word, since_mark, word_index};
+ghost use Rattle.th_explain_texts.specs.Words.{is_pole, is_sight, kind_word, since_mark, word_index};
 
 use crate::rows::Kind;
+use th_entries::HeightKind;
 
 /// The name of a kind.
 pub(crate) fn kind_word(kind: &Kind) -> &[u8]
@@ -46,5 +47,30 @@ pub(crate) fn since_mark(kind: &Kind) -> &[u8]
         Kind::Sight => b"",
         Kind::Benchmark => b"",
         Kind::Book => b"",
+    }
+}
+
+/// Whether a number is the difference of a sight.
+pub fn is_sight(kind: &Kind) -> bool
+    ensures { result ≡ is_sight kind.now }
+{
+    match kind {
+        Kind::Instrument => false,
+        Kind::Reflector => false,
+        Kind::InstrumentSince => false,
+        Kind::ReflectorSince => false,
+        Kind::Sight => true,
+        Kind::Benchmark => false,
+        Kind::Book => false,
+    }
+}
+
+/// Whether a height is that of the reflector.
+pub fn is_pole(height: HeightKind) -> bool
+    ensures { result ≡ is_pole height }
+{
+    match height {
+        HeightKind::Reflector => true,
+        HeightKind::Instrument => false,
     }
 }

@@ -3,16 +3,16 @@ use Rattle.std.specs.Prelude.{ℕ, ℤ, ◌-◌, ◌%◌, ◌==◌, ◌&&◌, fa
 use Rattle.std.specs.List.{enumerate_from, flat_map}
 use Rattle.th_explain_texts.specs.declared.rows.Row.{Row}
 use Rattle.th_explain_texts.specs.declared.rows.Values.{Values}
-use Rattle.th_html.specs.declared.rows.EntryRow.{EntryRow}
-use Rattle.th_html.specs.declared.rows.SightRow.{SightRow}
-use Rattle.th_html.specs.declared.rows.PointRow.{PointRow}
+use Rattle.th_reliability.specs.declared.mistakes.SharedMistake.{SharedMistake}
+use Rattle.th_review_rows.specs.declared.rows.BenchmarkRow.{BenchmarkRow}
+use Rattle.th_review_rows.specs.declared.rows.EntryRow.{EntryRow}
+use Rattle.th_review_rows.specs.declared.rows.ObservationRow.{ObservationRow}
+use Rattle.th_review_rows.specs.declared.rows.PointRow.{PointRow}
 use Rattle.th_html.specs.Cells.{height_cell, name_cell, number_cell, optional_cell, optional_height_cell, place_cell, signed_cell, words_cell}
 use Rattle.th_html.specs.Lengths.{sized_text}
 use Rattle.th_html.specs.Places.{place_text}
 use Rattle.th_html.specs.Texts.{escaped}
-use Rattle.th_html.specs.Words.{entry_words, mistake_words, number_words}
-use Rattle.th_html.specs.declared.rows.BenchmarkRow.{BenchmarkRow}
-use Rattle.th_html.specs.declared.rows.Mistake.{Mistake}
+use Rattle.th_html.specs.Words.{entry_words, mistake_words, number_words, shared_mistake_words}
 
 -- the most rows of a table
 abbrev pub most_rows : ℕ
@@ -47,18 +47,18 @@ left_out count = if nat_lt most_rows count then more_text (count - most_rows) el
 unfoldable pub sight_head : List ℕ
 sight_head = codes "<td>Place<th>From<th>To<td>Observed<td>Residual<td>Weight<td>Control<th>A mistake"
 
-unfoldable pub sight_cells : SightRow → List ℕ
+unfoldable pub sight_cells : ObservationRow → List ℕ
 sight_cells row =
     place_cell row.observation.book row.observation.line ++ name_cell row.observation.station ++ name_cell row.observation.target
 
-unfoldable pub found_cells : SightRow → List ℕ
+unfoldable pub found_cells : ObservationRow → List ℕ
 found_cells row =
     height_cell row.observation.difference ++ signed_cell row.residual ++ number_cell row.weight ++ optional_cell row.control ++ words_cell (mistake_words row.mistake)
 
-unfoldable pub sight_row : SightRow → List ℕ
+unfoldable pub sight_row : ObservationRow → List ℕ
 sight_row row = codes "<tr>" ++ sight_cells row ++ found_cells row ++ codes "\n"
 
-unfoldable pub sight_table : List SightRow → List ℕ
+unfoldable pub sight_table : List ObservationRow → List ℕ
 sight_table rows = table_open sight_head ++ flat_map sight_row (take most_rows rows) ++ table_close ++ left_out (length rows)
 
 -- entries
@@ -71,7 +71,7 @@ entry_cells row = place_cell row.entry.book row.entry.line ++ words_cell (entry_
 unfoldable pub entry_row : EntryRow → List ℕ
 entry_row row =
     codes "<tr>" ++ entry_cells row ++ height_cell row.entry.length ++ number_cell row.entry.sights ++ number_cell row.weight
-    ++ words_cell (mistake_words row.mistake) ++ codes "\n"
+    ++ words_cell (shared_mistake_words row.mistake) ++ codes "\n"
 
 unfoldable pub entry_table : List EntryRow → List ℕ
 entry_table rows = table_open entry_head ++ flat_map entry_row (take most_rows rows) ++ table_close ++ left_out (length rows)
@@ -80,9 +80,9 @@ entry_table rows = table_open entry_head ++ flat_map entry_row (take most_rows r
 unfoldable pub benchmark_head : List ℕ
 benchmark_head = codes "<th>Benchmark<td>Height<td>Sights<td>Weight<th>A mistake"
 
-abbrev pub benchmark_words : Option Mistake → List ℕ
+abbrev pub benchmark_words : Option SharedMistake → List ℕ
 benchmark_words None = []
-benchmark_words (Some mistake) = mistake_words mistake
+benchmark_words (Some mistake) = shared_mistake_words mistake
 
 unfoldable pub benchmark_row : BenchmarkRow → List ℕ
 benchmark_row row =

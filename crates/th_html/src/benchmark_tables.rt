@@ -4,11 +4,12 @@ ghost use Rattle.std.specs.List.{flat_map};
 ghost use Rattle.th_html.specs.Tables.{benchmark_head, benchmark_row, benchmark_table, benchmark_words};
 
 use crate::cells::{write_height_cell, write_name_cell, write_number_cell, write_words_cell};
-use crate::rows::{BenchmarkRow, Mistake};
 use crate::tables::{first_rows, write_close, write_left_out, write_open};
-use crate::words::mistake_words;
+use crate::words::shared_mistake_words;
 use std::alloc::AllocError;
 use th_columns::Page;
+use th_reliability::SharedMistake;
+use th_review_rows::BenchmarkRow;
 
 /// Writes the table of some benchmarks.
 #[tactic(auto, unfolding(crate::specs::Tables::benchmark_table))]
@@ -47,18 +48,18 @@ fn write_row(page: &mut Page, row: &BenchmarkRow) -> Result<(), AllocError>
     page.add(b"<tr>")?;
     write_name_cell(page, &row.name)?;
     write_height_cell(page, row.height)?;
-    write_number_cell(page, row.sights)?;
-    write_number_cell(page, row.weight)?;
+    write_number_cell(page, row.sights as u64)?;
+    write_number_cell(page, u64::from(row.weight))?;
     write_words_cell(page, benchmark_words(&row.mistake))?;
     page.add(b"\n")
 }
 
 /// What a mistake in a benchmark would do, if anything.
-fn benchmark_words(mistake: &Option<Mistake>) -> &[u8]
+fn benchmark_words(mistake: &Option<SharedMistake>) -> &[u8]
     ensures { result.now ≡ benchmark_words mistake.now }
 {
     match mistake {
-        Some(mistake) => mistake_words(mistake),
+        Some(mistake) => shared_mistake_words(mistake),
         None => b"",
     }
 }

@@ -10,11 +10,11 @@ use std::alloc::AllocError;
 use th_columns::Page;
 
 /// Writes the cell of a number.
-pub(crate) fn write_number_cell(page: &mut Page, number: u32) -> Result<(), AllocError>
+pub(crate) fn write_number_cell(page: &mut Page, number: u64) -> Result<(), AllocError>
     ensures { OnOk result (page.new ≡ page.old ++ number_cell number) }
 {
     page.add(b"<td>")?;
-    write_number(page, u64::from(number))
+    write_number(page, number)
 }
 
 /// Writes the cell of a number that may be missing.
@@ -22,7 +22,7 @@ pub(crate) fn write_optional_cell(page: &mut Page, number: Option<u32>) -> Resul
     ensures { OnOk result (page.new ≡ page.old ++ optional_cell number) }
 {
     match number {
-        Some(number) => write_number_cell(page, number),
+        Some(number) => write_number_cell(page, u64::from(number)),
         None => page.add(b"<td>"),
     }
 }

@@ -6,11 +6,11 @@ ghost use Rattle.th_html.specs.Tables.{entry_cells, entry_head, entry_row, entry
 use crate::cells::{
     write_height_cell, write_name_cell, write_number_cell, write_place_cell, write_words_cell,
 };
-use crate::rows::EntryRow;
 use crate::tables::{first_rows, write_close, write_left_out, write_open};
-use crate::words::{entry_words, mistake_words};
+use crate::words::{entry_words, shared_mistake_words};
 use std::alloc::AllocError;
 use th_columns::Page;
+use th_review_rows::EntryRow;
 
 /// Writes the table of some entries.
 #[tactic(auto, unfolding(crate::specs::Tables::entry_table))]
@@ -49,9 +49,9 @@ fn write_row(page: &mut Page, row: &EntryRow) -> Result<(), AllocError>
     page.add(b"<tr>")?;
     write_entry_cells(page, row)?;
     write_height_cell(page, row.entry.length.get())?;
-    write_number_cell(page, row.entry.sights)?;
-    write_number_cell(page, row.weight)?;
-    write_words_cell(page, mistake_words(&row.mistake))?;
+    write_number_cell(page, u64::from(row.entry.sights))?;
+    write_number_cell(page, u64::from(row.weight))?;
+    write_words_cell(page, shared_mistake_words(&row.mistake))?;
     page.add(b"\n")
 }
 

@@ -59,7 +59,7 @@ fn write_row(page: &mut Page, row: &Row) -> Result<(), AllocError>
 fn write_number_cells(page: &mut Page, row: &Row) -> Result<(), AllocError>
     ensures { OnOk result (page.new ≡ page.old ++ number_cells row.now) }
 {
-    write_number_cell(page, row.number)?;
+    write_number_cell(page, u64::from(row.number))?;
     page.add(b"<td>")?;
     write_place_found(page, row.book, row.line)?;
     write_words_cell(page, number_words(&row.kind))?;
@@ -111,7 +111,7 @@ fn write_value_cells(page: &mut Page, row: &Row) -> Result<(), AllocError>
     write_optional_height(page, high_of(&row.values))?;
     page.add(b"<td>")?;
     write_sized(page, false, row.left)?;
-    write_number_cell(page, row.blunders)
+    write_number_cell(page, u64::from(row.blunders))
 }
 
 /// The highest proposed value, if it is above the lowest.

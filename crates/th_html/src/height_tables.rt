@@ -4,10 +4,10 @@ ghost use Rattle.std.specs.List.{enumerate_from, flat_map};
 ghost use Rattle.th_html.specs.Tables.{above, break_at, height_row, height_tables, heights_open, numbered_height, strength_cell};
 
 use crate::cells::{write_height_cell, write_name_cell, write_number_cell, write_optional_height};
-use crate::rows::PointRow;
 use crate::tables::write_close;
 use std::alloc::AllocError;
 use th_columns::Page;
+use th_review_rows::PointRow;
 
 /// How many points a table has.
 const BLOCK: usize = 20;
@@ -93,7 +93,7 @@ fn write_strength(page: &mut Page, strength: Option<u32>) -> Result<(), AllocErr
     ensures { OnOk result (page.new ≡ page.old ++ strength_cell strength) }
 {
     match strength {
-        Some(strength) => write_number_cell(page, strength),
+        Some(strength) => write_number_cell(page, u64::from(strength)),
         None => page.add(b"<td>benchmark"),
     }
 }

@@ -1,5 +1,6 @@
 //! The texts and tables of a page: names that make no markup, lengths in metres with four decimals,
-//! places in the books, and the tables of sights, entries, benchmarks, heights and explanations.
+//! places in the books, and the tables of sights, entries, benchmarks, heights and explanations, whose
+//! rows are those of `th_review_rows`.
 //!
 //! Each call adds the text of a definition to a `Page`. Out of memory is the only failure.
 #![tactic(auto)]
@@ -9,9 +10,6 @@ mod lengths;
 mod places;
 mod texts;
 mod words;
-
-// Rows that only a page has.
-mod rows;
 
 // The cells of rows.
 mod cells;
@@ -33,7 +31,6 @@ pub use explanation_tables::write_explanations;
 pub use height_tables::write_heights;
 pub use lengths::{write_height, write_signed, write_sized};
 pub use places::{write_ends, write_found, write_place};
-pub use rows::{BenchmarkRow, EntryRow, Mistake, PointRow, SightRow};
 pub use sight_tables::write_sights;
 pub use texts::{write_escaped, write_number};
 pub use words::entry_words;

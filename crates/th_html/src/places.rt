@@ -3,11 +3,11 @@ ghost use Rattle.std.specs.Prelude.{◌≡◌, ◌++◌, OnOk};
 ghost use Rattle.th_html.specs.Places.{ends_text, found_text, place_text};
 
 use crate::lengths::write_signed;
-use crate::rows::SightRow;
 use crate::texts::{write_escaped, write_number};
 use std::alloc::AllocError;
 use th_columns::Page;
 use th_observations::Observation;
+use th_review_rows::ObservationRow;
 
 /// Writes a line of a book, both from 1.
 #[tactic(auto, unfolding(crate::specs::Places::place_text))]
@@ -33,7 +33,7 @@ pub fn write_ends(page: &mut Page, o: &Observation) -> Result<(), AllocError>
 
 /// Writes a sight and its residual.
 #[tactic(auto, unfolding(crate::specs::Places::found_text))]
-pub fn write_found(page: &mut Page, row: &SightRow) -> Result<(), AllocError>
+pub fn write_found(page: &mut Page, row: &ObservationRow) -> Result<(), AllocError>
     ensures { OnOk result (page.new ≡ page.old ++ found_text row.now) }
 {
     write_ends(page, &row.observation)?;

@@ -7,15 +7,15 @@ use crate::cells::{
     write_height_cell, write_name_cell, write_number_cell, write_optional_cell, write_place_cell,
     write_signed_cell, write_words_cell,
 };
-use crate::rows::SightRow;
 use crate::tables::{first_rows, write_close, write_left_out, write_open};
 use crate::words::mistake_words;
 use std::alloc::AllocError;
 use th_columns::Page;
+use th_review_rows::ObservationRow;
 
 /// Writes the table of some sights.
 #[tactic(auto, unfolding(crate::specs::Tables::sight_table))]
-pub fn write_sights(page: &mut Page, rows: &[SightRow]) -> Result<(), AllocError>
+pub fn write_sights(page: &mut Page, rows: &[ObservationRow]) -> Result<(), AllocError>
     ensures { OnOk result (page.new ≡ page.old ++ sight_table rows.now) }
 {
     write_open(page, head())?;
@@ -33,7 +33,7 @@ fn head() -> &'static [u8]
 }
 
 /// Writes the row of each sight.
-fn write_rows(page: &mut Page, rows: &[SightRow]) -> Result<(), AllocError>
+fn write_rows(page: &mut Page, rows: &[ObservationRow]) -> Result<(), AllocError>
     ensures { OnOk result (page.new ≡ page.old ++ flat_map sight_row rows.now) }
 {
     for row in rows {
@@ -44,7 +44,7 @@ fn write_rows(page: &mut Page, rows: &[SightRow]) -> Result<(), AllocError>
 
 /// Writes the row of a sight.
 #[tactic(auto, unfolding(crate::specs::Tables::sight_row))]
-fn write_row(page: &mut Page, row: &SightRow) -> Result<(), AllocError>
+fn write_row(page: &mut Page, row: &ObservationRow) -> Result<(), AllocError>
     ensures { OnOk result (page.new ≡ page.old ++ sight_row row.now) }
 {
     page.add(b"<tr>")?;
@@ -55,7 +55,7 @@ fn write_row(page: &mut Page, row: &SightRow) -> Result<(), AllocError>
 
 /// Writes which sight it is.
 #[tactic(auto, unfolding(crate::specs::Tables::sight_cells))]
-fn write_sight_cells(page: &mut Page, row: &SightRow) -> Result<(), AllocError>
+fn write_sight_cells(page: &mut Page, row: &ObservationRow) -> Result<(), AllocError>
     ensures { OnOk result (page.new ≡ page.old ++ sight_cells row.now) }
 {
     write_place_cell(page, row.observation.book, row.observation.line)?;
@@ -65,12 +65,12 @@ fn write_sight_cells(page: &mut Page, row: &SightRow) -> Result<(), AllocError>
 
 /// Writes what was found of a sight.
 #[tactic(auto, unfolding(crate::specs::Tables::found_cells))]
-fn write_found_cells(page: &mut Page, row: &SightRow) -> Result<(), AllocError>
+fn write_found_cells(page: &mut Page, row: &ObservationRow) -> Result<(), AllocError>
     ensures { OnOk result (page.new ≡ page.old ++ found_cells row.now) }
 {
     write_height_cell(page, row.observation.difference())?;
     write_signed_cell(page, row.residual)?;
-    write_number_cell(page, row.weight)?;
+    write_number_cell(page, u64::from(row.weight))?;
     write_optional_cell(page, row.control)?;
     write_words_cell(page, mistake_words(&row.mistake))
 }

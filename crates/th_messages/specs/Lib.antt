@@ -7,6 +7,7 @@ pub mod Certificates
 pub mod Differences
 pub mod Networks
 pub mod Notes
+pub mod Remarks
 pub mod Helps
 pub mod Lines
 pub mod Errors

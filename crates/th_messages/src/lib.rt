@@ -28,6 +28,7 @@ mod refusals;
 // What a surveyor should know of a run that was not refused.
 mod notes;
 mod noting;
+mod remarks;
 
 pub use errors::{begin_line, end_line};
 pub use lines::Line;

@@ -5,15 +5,15 @@ ghost use Rattle.th_messages.specs.Notes.{no_sight_note};
 ghost use Rattle.th_messages.specs.Lines.{HasRoom, IsPut};
 ghost use Rattle.th_commands.specs.PlanLimits.{max_books};
 ghost use Rattle.th_files.specs.Outputs.{Holds};
-ghost use Rattle.th_messages.specs.Noted.{heights_line, notes_lines};
+ghost use Rattle.th_messages.specs.Noted.{notes_lines};
 ghost use Rattle.th_runs.specs.Noted.{AreNone};
 
 use crate::errors::{begin_line, end_line};
 use crate::lines::Line;
-use crate::notes::{put_many_heights, put_no_sight};
+use crate::notes::put_no_sight;
+use crate::remarks::put_remarks;
 use th_devices::{Failed, Folder, Sink};
 use th_entries::NoSight;
-use th_remarks::ManyHeights;
 use th_runs::Notes;
 
 /// Writes a line on standard error for each note, if there are notes. Whether standard error takes them,
@@ -25,7 +25,7 @@ pub fn tell_notes<F: Folder>(folder: &mut F, notes: &Notes)
         → Holds F.tells (F.held folder.new) errors (notes_lines notes.now) }
     ensures others { (spot : _) → spot ≢ errors → F.held folder.new spot ≡ F.held folder.old spot }
 {
-    if notes.books.is_empty() && notes.heights.is_none() {
+    if notes.books.is_empty() && notes.remarks.is_silent() {
         return;
     }
     let mut line = begin_line(folder);
@@ -37,11 +37,11 @@ pub fn tell_notes<F: Folder>(folder: &mut F, notes: &Notes)
 #[tactic(auto, using(crate::proofs::LineLemmas::appended))]
 fn put_notes<K: Sink>(line: &mut Line<K>, notes: &Notes) -> Result<(), Failed>
     requires few { length notes.now.books.items ≤ max_books }
-    requires room { HasRoom 1000 line.old }
-    ensures { IsPut 1000 (notes_lines notes.now) line.old line.new result }
+    requires room { HasRoom 200000 line.old }
+    ensures { IsPut 200000 (notes_lines notes.now) line.old line.new result }
 {
     put_books(line, notes.books.as_slice())?;
-    put_heights(line, &notes.heights)
+    put_remarks(line, &notes.remarks)
 }
 
 /// Puts the lines of books without a sight.
@@ -56,15 +56,4 @@ fn put_books<K: Sink>(line: &mut Line<K>, books: &[NoSight]) -> Result<(), Faile
     };
     put_no_sight(line, book)?;
     put_books(line, later)
-}
-
-/// Puts the line of heights that are not unique, if they are noted.
-fn put_heights<K: Sink>(line: &mut Line<K>, note: &Option<ManyHeights>) -> Result<(), Failed>
-    requires { HasRoom 8 line.old }
-    ensures { IsPut 8 (heights_line note.now) line.old line.new result }
-{
-    match note {
-        Some(note) => put_many_heights(line, note),
-        None => Ok(()),
-    }
 }

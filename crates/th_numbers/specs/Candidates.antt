@@ -76,12 +76,22 @@ abbrev pub since_kind : HeightKind → Kind
 since_kind height.Instrument = kind.InstrumentSince
 since_kind height.Reflector = kind.ReflectorSince
 
--- the columns that say which number it is: an entry's number has no target, and a benchmark has no book
-abbrev pub entry_label : Kind → Entry → ℕ → Label
-entry_label own entry line = record { kind = own; book = Some entry.book; line = Some line; from = Some entry.station; to = None }
+-- The columns that say which number it is. An entry has the last line whose word repeats it, and its number has no target; a benchmark has no book.
+abbrev pub entered_label : Entry → Label
+entered_label entry = record {
+  kind = entered_kind entry.kind;
+  book = Some entry.book;
+  line = Some entry.line;
+  last = Some entry.repeated;
+  from = Some entry.station;
+  to = None;
+}
+
+abbrev pub since_label : Entry → ℕ → Label
+since_label entry line = record { kind = since_kind entry.kind; book = Some entry.book; line = Some line; last = None; from = Some entry.station; to = None }
 
 abbrev pub label_of : Candidate → Label
-label_of (Entered entry) = entry_label (entered_kind entry.kind) entry entry.line
-label_of (Since entry line) = entry_label (since_kind entry.kind) entry line
-label_of (Sight o) = record { kind = kind.Sight; book = Some o.book; line = Some o.line; from = Some o.station; to = Some o.target }
-label_of (Benchmark place name) = record { kind = kind.Benchmark; book = None; line = Some place; from = Some name; to = None }
+label_of (Entered entry) = entered_label entry
+label_of (Since entry line) = since_label entry line
+label_of (Sight o) = record { kind = kind.Sight; book = Some o.book; line = Some o.line; last = None; from = Some o.station; to = Some o.target }
+label_of (Benchmark place name) = record { kind = kind.Benchmark; book = None; line = Some place; last = None; from = Some name; to = None }

@@ -2,7 +2,7 @@
 ghost use Rattle.std.specs.Prelude.{◌≡◌, ◌≤◌, length, unsigned_abs};
 ghost use Rattle.th_observations.specs.Observed.{largest_difference};
 ghost use Rattle.th_network.specs.Limits.{max_observations};
-ghost use Rattle.th_numbers.specs.Candidates.{count_in, entered_kind, entry_label, given_of, label_of, number_of, number_over, sight_count, sight_of, since_kind, sights_since, touches, whole_of};
+ghost use Rattle.th_numbers.specs.Candidates.{count_in, entered_kind, entered_label, given_of, label_of, number_of, number_over, sight_count, sight_of, since_kind, since_label, sights_since, touches, whole_of};
 ghost use Rattle.th_network.specs.Links.{base};
 
 use gsi_word::Name;
@@ -35,6 +35,7 @@ pub struct Label {
     pub kind: Kind,
     pub book: Option<u32>,
     pub line: Option<u32>,
+    pub last: Option<u32>,
     pub from: Option<Name>,
     pub to: Option<Name>,
 }
@@ -81,14 +82,15 @@ impl Candidate {
         ensures { result ≡ label_of self.now }
     {
         match self {
-            Candidate::Entered(entry) => entry_label(entered_kind(entry.kind), entry, entry.line),
-            Candidate::Since(entry, line) => entry_label(since_kind(entry.kind), entry, *line),
+            Candidate::Entered(entry) => entered_label(entry),
+            Candidate::Since(entry, line) => since_label(entry, *line),
             Candidate::Sight(o) => {
                 let (station, target) = o.ends();
                 Label {
                     kind: Kind::Sight,
                     book: Some(o.book),
                     line: Some(o.line),
+                    last: None,
                     from: Some(station),
                     to: Some(target),
                 }
@@ -97,6 +99,7 @@ impl Candidate {
                 kind: Kind::Benchmark,
                 book: None,
                 line: Some(*record),
+                last: None,
                 from: Some(*name),
                 to: None,
             },
@@ -104,14 +107,29 @@ impl Candidate {
     }
 }
 
-/// The columns of a number of an entry.
-fn entry_label(kind: Kind, entry: &Entry, line: u32) -> Label
-    ensures { result ≡ entry_label kind entry.now line }
+/// The columns of an entry.
+fn entered_label(entry: &Entry) -> Label
+    ensures { result ≡ entered_label entry.now }
 {
     Label {
-        kind,
+        kind: entered_kind(entry.kind),
+        book: Some(entry.book),
+        line: Some(entry.line),
+        last: Some(entry.repeated),
+        from: Some(entry.station),
+        to: None,
+    }
+}
+
+/// The columns of a change of an entry that was forgotten.
+fn since_label(entry: &Entry, line: u32) -> Label
+    ensures { result ≡ since_label entry.now line }
+{
+    Label {
+        kind: since_kind(entry.kind),
         book: Some(entry.book),
         line: Some(line),
+        last: None,
         from: Some(entry.station),
         to: None,
     }

@@ -9,7 +9,7 @@ use Rattle.th_html.specs.Texts.{escaped}
 use Rattle.th_html.specs.Cells.{height_cell, name_cell, number_cell, optional_height_cell, place_cell, words_cell}
 use Rattle.th_html.specs.Lengths.{height_text, signed_text}
 use Rattle.th_html.specs.Places.{place_text, ends_text, found_text}
-use Rattle.th_html.specs.Words.{entry_words, mistake_words, number_words}
+use Rattle.th_html.specs.Words.{entry_words, number_words, shared_mistake_words}
 use Rattle.th_html.specs.Tables.{above, benchmark_head, benchmark_row, benchmark_table, benchmark_words, break_at, ends_found, entry_cells, entry_head, entry_row, entry_table, explanation_head, explanation_row, explanation_table, found_cells, height_row, height_tables, heights_open, left_out, most_rows, number_cells, numbered_height, place_found, sight_cells, sight_head, sight_row, sight_table, strength_cell, table_close, table_open, value_cells}
 use Rattle.th_picture.specs.Groups.{group_count, groups, is_in, many, mistake_letter, undrawn_count, undrawn_in}
 use Rattle.th_picture.specs.Lines.{pair_text}
@@ -22,53 +22,53 @@ use Rattle.th_picture.specs.Pictures.{drawing, frame_of, open_text, picture_text
 use Rattle.th_picture.specs.Strips as strip
 use Rattle.th_page.specs.Figures.{picture_figure, strip_figure, undrawn_text}
 use Rattle.th_inputs.specs.Inputs.{NamedInput, input_text}
-use Rattle.th_page.specs.Fronts.{benchmark_lamp, count_items, entry_lamp, fact_item, facts_text, input_item, is_fixed, length_items, marked_lamp, weak_lamp, is_weak_benchmark, is_weak_entry, is_weak_sight, lamps_text, sum_text}
+use Rattle.th_page.specs.Fronts.{benchmark_lamp, count_items, entry_lamp, fact_item, facts_text, input_item, is_fixed, length_items, marked_lamp, weak_lamp, lamps_text, sum_text}
 use Rattle.th_page.specs.Fixed.{benchmark_start, body_text, entry_start, explanation_start, foot_text, head_text, height_start, legend_text, marked_start, note_start, picture_start, places_text, strip_start, style_text, weak_start}
-use Rattle.th_page.specs.Sections.{benchmark_section, entry_section, explanation_section, height_section, marked_section, note_item, note_section, number_sections, rows_of, section_end, sight_sections, weak_section}
+use Rattle.th_page.specs.Sections.{benchmark_section, entry_section, explanation_section, height_section, marked_section, note_item, note_section, number_sections, section_end, sight_sections, weak_section}
 use Rattle.th_page.specs.Pages.{ShownRows, front_part, head_part, page_text, table_part}
-use Rattle.th_page.specs.Laws.{Names, Piece, PagesAreOfPieces, benchmark_named, entry_named, explanation_named, filled, fixed, input_named, observed_named, outside, point_named, row_named, shown_named, sight_named}
-use Rattle.th_html.specs.declared.rows.BenchmarkRow.{BenchmarkRow}
-use Rattle.th_html.specs.declared.rows.EntryRow.{EntryRow}
+use Rattle.th_page.specs.Laws.{Given, Piece, PagesAreOfPieces, benchmark_named, entry_named, explanation_named, filled, fixed, input_named, observed_named, outside, point_named, shown_named, sight_named}
+use Rattle.th_review_rows.specs.Weak.{is_weak_benchmark, is_weak_entry, is_weak_observation}
+use Rattle.th_review_rows.specs.declared.rows.BenchmarkRow.{BenchmarkRow}
+use Rattle.th_review_rows.specs.declared.rows.EntryRow.{EntryRow}
+use Rattle.th_review_rows.specs.declared.rows.ObservationRow.{ObservationRow}
 use Rattle.th_observations.specs.Observed.{Observed}
-use Rattle.th_html.specs.declared.rows.PointRow.{PointRow}
+use Rattle.th_review_rows.specs.declared.rows.PointRow.{PointRow}
 use Rattle.th_explain_texts.specs.declared.rows.Row.{Row}
-use Rattle.th_picture.specs.declared.sights.Sight.{Sight}
-use Rattle.th_html.specs.declared.rows.SightRow.{SightRow}
 
 -- ---- texts that are made of pieces, whatever the names are
-abbrev Keeps : Names → Type 0
-Keeps given = (text : List ℕ) → length (given text) ≡ length text
+abbrev Keeps : Given → Type 0
+Keeps given = (text : List ℕ) → length (given.text text) ≡ length text
 
-record IsFilled (made : Names → List ℕ) : Type 0 where
+record IsFilled (made : Given → List ℕ) : Type 0 where
   pieces : List Piece
-  is : (given : Names) → Keeps given → made given ≡ flat_map (filled given) pieces
+  is : (given : Given) → Keeps given → made given ≡ flat_map (filled given.text) pieces
 
 still : (text : List ℕ) → IsFilled (λ given. text)
 still text = record { pieces = fixed text ∷ []; is = λ given keeps. sym (append-nil text) }
 
-name : (text : List ℕ) → IsFilled (λ given. escaped (given text))
-name text = record { pieces = outside text ∷ []; is = λ given keeps. sym (append-nil (escaped (given text))) }
+name : (text : List ℕ) → IsFilled (λ given. escaped (given.text text))
+name text = record { pieces = outside text ∷ []; is = λ given keeps. sym (append-nil (escaped (given.text text))) }
 
 infixl 70 ◌⊕◌
-◌⊕◌ : {made other : Names → List ℕ} → IsFilled made → IsFilled other → IsFilled (λ given. made given ++ other given)
+◌⊕◌ : {made other : Given → List ℕ} → IsFilled made → IsFilled other → IsFilled (λ given. made given ++ other given)
 ◌⊕◌ first second = record {
   pieces = first.pieces ++ second.pieces;
-  is = λ given keeps. ap₂ (λ a b. a ++ b) (first.is given keeps) (second.is given keeps) ∙ sym (flat_map-append (filled given) first.pieces second.pieces);
+  is = λ given keeps. ap₂ (λ a b. a ++ b) (first.is given keeps) (second.is given keeps) ∙ sym (flat_map-append (filled given.text) first.pieces second.pieces);
 }
 
-same : (made other : Names → List ℕ) → ((given : Names) → Keeps given → other given ≡ made given) → IsFilled made → IsFilled other
+same : (made other : Given → List ℕ) → ((given : Given) → Keeps given → other given ≡ made given) → IsFilled made → IsFilled other
 same made other alike filling = record { pieces = filling.pieces; is = λ given keeps. alike given keeps ∙ filling.is given keeps }
 
-chosen : {made other : Names → List ℕ} (test : Bool) → IsFilled made → IsFilled other → IsFilled (λ given. if test then made given else other given)
+chosen : {made other : Given → List ℕ} (test : Bool) → IsFilled made → IsFilled other → IsFilled (λ given. if test then made given else other given)
 chosen true first second = first
 chosen false first second = second
 
-each : {X : Type 0} (one : Names → X → List ℕ) (xs : List X) → ((x : X) → IsFilled (λ given. one given x)) → IsFilled (λ given. flat_map (one given) xs)
+each : {X : Type 0} (one : Given → X → List ℕ) (xs : List X) → ((x : X) → IsFilled (λ given. one given x)) → IsFilled (λ given. flat_map (one given) xs)
 each one [] all = record { pieces = []; is = λ given keeps. refl }
 each one (x ∷ xs) all = all x ⊕ each one xs all
 
 -- of rows that are changed
-changed : {X Y : Type 0} (one : Y → List ℕ) (change : Names → X → Y) (xs : List X) → ((x : X) → IsFilled (λ given. one (change given x))) → IsFilled (λ given. flat_map one (map (change given) xs))
+changed : {X Y : Type 0} (one : Y → List ℕ) (change : Given → X → Y) (xs : List X) → ((x : X) → IsFilled (λ given. one (change given x))) → IsFilled (λ given. flat_map one (map (change given) xs))
 changed one change xs all = same (λ given. flat_map (λ x. one (change given x)) xs) (λ given. flat_map one (map (change given) xs)) (λ given keeps. flat_map-map one (change given) xs) (each (λ given x. one (change given x)) xs all)
 
 numbered : {X : Type 0} (change : X → X) (n : ℕ) (xs : List X) → enumerate_from n (map change xs) ≡ map (λ (pair : ℕ × X). (pair.0, change pair.1)) (enumerate_from n xs)
@@ -76,7 +76,7 @@ numbered change n [] = refl
 numbered change n (x ∷ xs) = ap (λ rest. (n, change x) ∷ rest) (numbered change (n + 1) xs)
 
 -- of rows that are changed, with their places
-placed : {X : Type 0} (one : ℕ × X → List ℕ) (change : Names → X → X) (xs : List X) → ((k : ℕ) (x : X) → IsFilled (λ given. one (k, change given x))) → IsFilled (λ given. flat_map one (enumerate_from 0 (map (change given) xs)))
+placed : {X : Type 0} (one : ℕ × X → List ℕ) (change : Given → X → X) (xs : List X) → ((k : ℕ) (x : X) → IsFilled (λ given. one (k, change given x))) → IsFilled (λ given. flat_map one (enumerate_from 0 (map (change given) xs)))
 placed {X} one change xs all =
     same (λ given. flat_map one (map (λ (pair : ℕ × X). (pair.0, change given pair.1)) (enumerate_from 0 xs))) (λ given. flat_map one (enumerate_from 0 (map (change given) xs)))
     (λ given keeps. ap (flat_map one) (numbered (change given) 0 xs))
@@ -94,24 +94,20 @@ passing {X} test change (x ∷ xs) = by (test (change x)) (passing test change x
     by true rest = ap (λ rows. change x ∷ rows) rest
     by false rest = rest
 
-composed : {X Y Z : Type 0} (f : Y → Z) (g : X → Y) (xs : List X) → map f (map g xs) ≡ map (λ x. f (g x)) xs
-composed f g [] = refl
-composed f g (x ∷ xs) = ap (λ rest. f (g x) ∷ rest) (composed f g xs)
-
 -- ---- places and names
 ends : (o : Observed) → IsFilled (λ given. ends_text (observed_named given o))
 unfolding ends_text
 ends o = still (place_text o.book o.line ++ codes " ") ⊕ name o.station ⊕ still (codes " to ") ⊕ name o.target
 
-found : (row : SightRow) → IsFilled (λ given. found_text (row_named given row))
+found : (row : ObservationRow) → IsFilled (λ given. found_text (sight_named given row))
 unfolding found_text
 found row = ends row.observation ⊕ still (codes ", ") ⊕ still (signed_text row.residual)
 
-in_cell : (text : List ℕ) → IsFilled (λ given. name_cell (given text))
+in_cell : (text : List ℕ) → IsFilled (λ given. name_cell (given.text text))
 in_cell text = still (codes "<th>") ⊕ name text
 
 -- ---- rows of tables
-of_sight : (row : SightRow) → IsFilled (λ given. sight_row (row_named given row))
+of_sight : (row : ObservationRow) → IsFilled (λ given. sight_row (sight_named given row))
 unfolding sight_row sight_cells found_cells
 of_sight row = still (codes "<tr>") ⊕ (still (place_cell row.observation.book row.observation.line) ⊕ in_cell row.observation.station ⊕ in_cell row.observation.target) ⊕ still (found_cells row) ⊕ still (codes "\n")
 
@@ -119,7 +115,7 @@ of_entry : (row : EntryRow) → IsFilled (λ given. entry_row (entry_named given
 unfolding entry_row entry_cells
 of_entry row =
     still (codes "<tr>") ⊕ (still (place_cell row.entry.book row.entry.line ++ words_cell (entry_words row.entry.kind)) ⊕ in_cell row.entry.station) ⊕ still (height_cell row.entry.length)
-    ⊕ still (number_cell row.entry.sights) ⊕ still (number_cell row.weight) ⊕ still (words_cell (mistake_words row.mistake)) ⊕ still (codes "\n")
+    ⊕ still (number_cell row.entry.sights) ⊕ still (number_cell row.weight) ⊕ still (words_cell (shared_mistake_words row.mistake)) ⊕ still (codes "\n")
 
 of_benchmark : (row : BenchmarkRow) → IsFilled (λ given. benchmark_row (benchmark_named given row))
 unfolding benchmark_row
@@ -132,7 +128,7 @@ unfolding numbered_height height_row
 of_point k row =
     still (break_at k) ⊕ (still (codes "<tr>") ⊕ in_cell row.name ⊕ still (height_cell row.low) ⊕ still (optional_height_cell (above row)) ⊕ still (strength_cell row.strength) ⊕ still (codes "\n"))
 
-ends_of : (from to : Option (List ℕ)) → IsFilled (λ given. ends_found (option_map given from) (option_map given to))
+ends_of : (from to : Option (List ℕ)) → IsFilled (λ given. ends_found (option_map given.text from) (option_map given.text to))
 ends_of None to = still []
 ends_of (Some station) None = name station
 ends_of (Some station) (Some target) = name station ⊕ still (codes " to ") ⊕ name target
@@ -145,17 +141,17 @@ of_explanation row =
     ⊕ still (value_cells row) ⊕ still (codes "\n")
 
 -- ---- tables
-first_rows : {X : Type 0} (one : X → List ℕ) (change : Names → X → X) (rows : List X) → ((row : X) → IsFilled (λ given. one (change given row))) → IsFilled (λ given. flat_map one (take most_rows (map (change given) rows)))
+first_rows : {X : Type 0} (one : X → List ℕ) (change : Given → X → X) (rows : List X) → ((row : X) → IsFilled (λ given. one (change given row))) → IsFilled (λ given. flat_map one (take most_rows (map (change given) rows)))
 first_rows one change rows all =
     same (λ given. flat_map one (map (change given) (take most_rows rows))) (λ given. flat_map one (take most_rows (map (change given) rows)))
     (λ given keeps. ap (flat_map one) (take-map (change given) most_rows rows)) (changed one change (take most_rows rows) all)
 
-left : {X : Type 0} (change : Names → X → X) (rows : List X) → IsFilled (λ given. left_out (length (map (change given) rows)))
+left : {X : Type 0} (change : Given → X → X) (rows : List X) → IsFilled (λ given. left_out (length (map (change given) rows)))
 left change rows = same (λ given. left_out (length rows)) (λ given. left_out (length (map (change given) rows))) (λ given keeps. ap left_out (length-map rows (change given))) (still (left_out (length rows)))
 
-sights_are : (rows : List SightRow) → IsFilled (λ given. sight_table (map (row_named given) rows))
+sights_are : (rows : List ObservationRow) → IsFilled (λ given. sight_table (map (sight_named given) rows))
 unfolding sight_table
-sights_are rows = still (table_open sight_head) ⊕ first_rows sight_row row_named rows of_sight ⊕ still table_close ⊕ left row_named rows
+sights_are rows = still (table_open sight_head) ⊕ first_rows sight_row sight_named rows of_sight ⊕ still table_close ⊕ left sight_named rows
 
 entries_are : (rows : List EntryRow) → IsFilled (λ given. entry_table (map (entry_named given) rows))
 unfolding entry_table
@@ -179,12 +175,12 @@ unfolding explanation_section
 in_explanations [] = still []
 in_explanations (row ∷ rows) = still explanation_start ⊕ explanations_are (row ∷ rows) ⊕ still section_end
 
-in_marked : (rows : List SightRow) → IsFilled (λ given. marked_section (map (row_named given) rows))
+in_marked : (rows : List ObservationRow) → IsFilled (λ given. marked_section (map (sight_named given) rows))
 unfolding marked_section
 in_marked [] = still []
 in_marked (row ∷ rows) = still marked_start ⊕ sights_are (row ∷ rows) ⊕ still section_end
 
-in_weak : (rows : List SightRow) → IsFilled (λ given. weak_section (map (row_named given) rows))
+in_weak : (rows : List ObservationRow) → IsFilled (λ given. weak_section (map (sight_named given) rows))
 unfolding weak_section
 in_weak [] = still []
 in_weak (row ∷ rows) = still weak_start ⊕ sights_are (row ∷ rows) ⊕ still section_end
@@ -203,30 +199,23 @@ unfolding entry_section
 in_entries [] = still []
 in_entries (row ∷ rows) = still entry_start ⊕ entries_are (row ∷ rows) ⊕ still section_end
 
-of_note : (note : List ℕ) → IsFilled (λ given. note_item (given note))
+of_note : (note : List ℕ) → IsFilled (λ given. note_item (given.text note))
 unfolding note_item
 of_note note = still (codes "<li>") ⊕ name note ⊕ still (codes "\n")
 
-in_notes : (notes : List (List ℕ)) → IsFilled (λ given. note_section (map given notes))
+in_notes : (notes : List (List ℕ)) → IsFilled (λ given. note_section (map given.text notes))
 unfolding note_section
 in_notes [] = still []
-in_notes (note ∷ notes) = still note_start ⊕ changed note_item (λ given. given) (note ∷ notes) of_note ⊕ still (codes "</ul>\n") ⊕ still section_end
+in_notes (note ∷ notes) = still note_start ⊕ changed note_item (λ given. given.text) (note ∷ notes) of_note ⊕ still (codes "</ul>\n") ⊕ still section_end
 
--- rows of sights that pass a test, which no name decides
-rows_named : (test : Sight → Bool) (given : Names) (sights : List Sight) → rows_of test (map (sight_named given) sights) ≡ map (row_named given) (rows_of (λ sight. test (sight_named given sight)) sights)
-rows_named test given sights =
-    let passed = filter (λ sight. test (sight_named given sight)) sights in
-    ap (map (λ sight. sight.row)) (passing test (sight_named given) sights) ∙ composed (λ (sight : Sight). sight.row) (sight_named given) passed
-    ∙ sym (composed (row_named given) (λ (sight : Sight). sight.row) passed)
-
-in_sights : (points : List PointRow) (sights : List Sight) (limit : ℤ) → IsFilled (λ given. sight_sections (map (point_named given) points) (map (sight_named given) sights) limit)
+in_sights : (points : List PointRow) (sights : List ObservationRow) (limit : ℤ) → IsFilled (λ given. sight_sections (map (point_named given) points) (map (sight_named given) sights) limit)
 unfolding sight_sections
 in_sights points sights limit =
-    same (λ given. marked_section (map (row_named given) (rows_of (is_in limit marked) sights))) (λ given. marked_section (rows_of (is_in limit marked) (map (sight_named given) sights)))
-    (λ given keeps. ap marked_section (rows_named (is_in limit marked) given sights)) (in_marked (rows_of (is_in limit marked) sights))
+    same (λ given. marked_section (map (sight_named given) (filter (is_in limit marked) sights))) (λ given. marked_section (filter (is_in limit marked) (map (sight_named given) sights)))
+    (λ given keeps. ap marked_section (passing (is_in limit marked) (sight_named given) sights)) (in_marked (filter (is_in limit marked) sights))
     ⊕ in_heights points
-    ⊕ same (λ given. weak_section (map (row_named given) (rows_of is_weak_sight sights))) (λ given. weak_section (rows_of is_weak_sight (map (sight_named given) sights)))
-    (λ given keeps. ap weak_section (rows_named is_weak_sight given sights)) (in_weak (rows_of is_weak_sight sights))
+    ⊕ same (λ given. weak_section (map (sight_named given) (filter is_weak_observation sights))) (λ given. weak_section (filter is_weak_observation (map (sight_named given) sights)))
+    (λ given keeps. ap weak_section (passing is_weak_observation (sight_named given) sights)) (in_weak (filter is_weak_observation sights))
 
 in_numbers : (benchmarks : List BenchmarkRow) (entries : List EntryRow) → IsFilled (λ given. number_sections (map (benchmark_named given) benchmarks) (map (entry_named given) entries))
 unfolding number_sections
@@ -262,15 +251,15 @@ named_points frame turn points =
     ⊕ placed (name_of frame turn) point_named points (λ k row. chosen (is_written frame.points names k) (of_name turn (x_of k frame.points) (low_y frame.scale row.low) row) (still []))
     ⊕ still (codes "</g>\n")
 
-of_path : (frame : _) (sight : Sight) → IsFilled (λ given. sight_path frame (sight_named given sight))
+of_path : (frame : _) (sight : ObservationRow) → IsFilled (λ given. sight_path frame (sight_named given sight))
 unfolding sight_path
 of_path frame sight =
-    still (codes "<path class=\"" ++ mistake_letter sight.row.mistake ∷ [] ++ codes "\" d=\"" ++ sight_curve frame sight ++ codes "\"><title>") ⊕ found sight.row ⊕ still (codes "</title></path>\n")
+    still (codes "<path class=\"" ++ mistake_letter sight.mistake ∷ [] ++ codes "\" d=\"" ++ sight_curve frame sight ++ codes "\"><title>") ⊕ found sight ⊕ still (codes "</title></path>\n")
 
-as_many : (limit : ℤ) (group : ℕ) (given : Names) (sights : List Sight) → group_count limit group (map (sight_named given) sights) ≡ group_count limit group sights
+as_many : (limit : ℤ) (group : ℕ) (given : Given) (sights : List ObservationRow) → group_count limit group (map (sight_named given) sights) ≡ group_count limit group sights
 as_many limit group given sights = counted (is_in limit group) (sight_named given) sights
 
-of_group : (frame : _) (limit : ℤ) (sights : List Sight) (group : ℕ) → IsFilled (λ given. group_text frame limit (map (sight_named given) sights) group)
+of_group : (frame : _) (limit : ℤ) (sights : List ObservationRow) (group : ℕ) → IsFilled (λ given. group_text frame limit (map (sight_named given) sights) group)
 unfolding group_text
 of_group frame limit sights group =
     same (λ given. codes "<g class=\"g" ++ group ∷ [] ++ few_text (group_count limit group sights) ++ codes "\">\n") (λ given. codes "<g class=\"g" ++ group ∷ [] ++ few_text (group_count limit group (map (sight_named given) sights)) ++ codes "\">\n")
@@ -279,54 +268,54 @@ of_group frame limit sights group =
     ⊕ changed (path_in frame limit group) sight_named sights (λ sight. chosen (is_in limit group sight) (of_path frame sight) (still []))
     ⊕ still (codes "</g>\n")
 
-if_drawn : (frame : _) (limit : ℤ) (sights : List Sight) (group : ℕ) → IsFilled (λ given. drawn_group frame limit (map (sight_named given) sights) group)
+if_drawn : (frame : _) (limit : ℤ) (sights : List ObservationRow) (group : ℕ) → IsFilled (λ given. drawn_group frame limit (map (sight_named given) sights) group)
 if_drawn frame limit sights group =
     same (λ given. if nat_le (group_count limit group sights) many then group_text frame limit (map (sight_named given) sights) group else []) (λ given. drawn_group frame limit (map (sight_named given) sights) group)
     (λ given keeps. ap (λ n. if nat_le n many then group_text frame limit (map (sight_named given) sights) group else []) (as_many limit group given sights))
     (chosen (nat_le (group_count limit group sights) many) (of_group frame limit sights group) (still []))
 
-gap_group_is : (frame : _) (limit : ℤ) (count : ℕ) (sights : List Sight) → IsFilled (λ given. gap_group frame limit count (map (sight_named given) sights))
+gap_group_is : (frame : _) (limit : ℤ) (count : ℕ) (sights : List ObservationRow) → IsFilled (λ given. gap_group frame limit count (map (sight_named given) sights))
 unfolding gap_group gap_text gap_name
 gap_group_is frame limit count sights =
     still (codes "<g class=\"n gaps\">\n") ⊕ changed (gap_of frame limit count) sight_named sights (λ sight. still (gap_of frame limit count sight)) ⊕ still (codes "</g>\n")
 
-gaps : (frame : _) (limit : ℤ) (sights : List Sight) → IsFilled (λ given. gap_lines frame limit (map (sight_named given) sights))
+gaps : (frame : _) (limit : ℤ) (sights : List ObservationRow) → IsFilled (λ given. gap_lines frame limit (map (sight_named given) sights))
 gaps frame limit sights =
     same (λ given. gaps_of frame limit (group_count limit marked sights) (map (sight_named given) sights)) (λ given. gap_lines frame limit (map (sight_named given) sights))
     (λ given keeps. ap (λ n. gaps_of frame limit n (map (sight_named given) sights)) (as_many limit marked given sights))
     (chosen (nat_le (group_count limit marked sights) many) (gap_group_is frame limit (group_count limit marked sights) sights) (still []))
 
-drawn : (frame : _) (turn : _) (limit : ℤ) (points : List PointRow) (sights : List Sight) → IsFilled (λ given. drawing frame turn limit (map (point_named given) points) (map (sight_named given) sights))
+drawn : (frame : _) (turn : _) (limit : ℤ) (points : List PointRow) (sights : List ObservationRow) → IsFilled (λ given. drawing frame turn limit (map (point_named given) points) (map (sight_named given) sights))
 unfolding drawing
 drawn frame turn limit points sights =
     still (scale_lines frame.scale) ⊕ named_points frame turn points ⊕ each (λ given group. drawn_group frame limit (map (sight_named given) sights) group) groups (if_drawn frame limit sights)
     ⊕ shapes frame points ⊕ gaps frame limit sights ⊕ still (codes "</svg>\n")
 
 -- the frame and the room for names are those of the points without their names
-least_named : (given : Names) (points : List PointRow) → least_of (map (point_named given) points) ≡ least_of points
+least_named : (given : Given) (points : List PointRow) → least_of (map (point_named given) points) ≡ least_of points
 least_named given [] = refl
 least_named given (row ∷ rows) = fold-map lower (point_named given) (raised row.low) rows
 
-greatest_named : (given : Names) (points : List PointRow) → greatest_of (map (point_named given) points) ≡ greatest_of points
+greatest_named : (given : Given) (points : List PointRow) → greatest_of (map (point_named given) points) ≡ greatest_of points
 greatest_named given [] = refl
 greatest_named given (row ∷ rows) = fold-map higher (point_named given) (raised row.low) rows
 
-longest_named : (given : Names) → Keeps given → (most : ℕ) (points : List PointRow) → fold longer most (map (point_named given) points) ≡ fold longer most points
+longest_named : (given : Given) → Keeps given → (most : ℕ) (points : List PointRow) → fold longer most (map (point_named given) points) ≡ fold longer most points
 longest_named given keeps most [] = refl
 longest_named given keeps most (row ∷ rows) =
     longest_named given keeps (longer most (point_named given row)) rows ∙ ap (λ n. fold longer (max most n) rows) (keeps row.name)
 
-frame_named : (given : Names) (points : List PointRow) → frame_of (map (point_named given) points) ≡ frame_of points
+frame_named : (given : Given) (points : List PointRow) → frame_of (map (point_named given) points) ≡ frame_of points
 frame_named given points = λ i. record {
   scale = scale_between (least_named given points i) (greatest_named given points i) (step_of (greatest_named given points i - least_named given points i));
   points = length-map points (point_named given) i;
 }
 
-turned : (frame : _) (longest : ℕ) (turn : _) (limit : ℤ) (points : List PointRow) (sights : List Sight) → IsFilled (λ given. turned_picture frame longest turn limit (map (point_named given) points) (map (sight_named given) sights))
+turned : (frame : _) (longest : ℕ) (turn : _) (limit : ℤ) (points : List PointRow) (sights : List ObservationRow) → IsFilled (λ given. turned_picture frame longest turn limit (map (point_named given) points) (map (sight_named given) sights))
 unfolding turned_picture
 turned frame longest turn limit points sights = still (open_text (3360 + depth_of turn longest)) ⊕ drawn frame turn limit points sights
 
-pictured : (points : List PointRow) (sights : List Sight) (limit : ℤ) → IsFilled (λ given. picture_text (map (point_named given) points) (map (sight_named given) sights) limit)
+pictured : (points : List PointRow) (sights : List ObservationRow) (limit : ℤ) → IsFilled (λ given. picture_text (map (point_named given) points) (map (sight_named given) sights) limit)
 pictured points sights limit =
     same (λ given. turned_picture (frame_of points) (longest_of points) (turn_of (length points) (longest_of points)) limit (map (point_named given) points) (map (sight_named given) sights)) (λ given. picture_text (map (point_named given) points) (map (sight_named given) sights) limit)
     (λ given keeps.
@@ -336,20 +325,20 @@ pictured points sights limit =
     (turned (frame_of points) (longest_of points) (turn_of (length points) (longest_of points)) limit points sights)
 
 -- ---- the strip, in which are no names
-abbrev bar_text : ℕ → ℤ → ℕ → List Sight → ℕ → List ℕ
+abbrev bar_text : ℕ → ℤ → ℕ → List ObservationRow → ℕ → List ℕ
 bar_text reach limit count sights group = codes "<path class=\"" ++ group ∷ [] ++ codes "\" d=\"" ++ flat_map (strip.bar_in reach limit count group) sights ++ codes "\"/>\n"
 
-bars : (reach : ℕ) (limit : ℤ) (count : ℕ) (sights : List Sight) (group : ℕ) → IsFilled (λ given. bar_text reach limit count (map (sight_named given) sights) group)
+bars : (reach : ℕ) (limit : ℤ) (count : ℕ) (sights : List ObservationRow) (group : ℕ) → IsFilled (λ given. bar_text reach limit count (map (sight_named given) sights) group)
 bars reach limit count sights group =
     still (codes "<path class=\"" ++ group ∷ [] ++ codes "\" d=\"") ⊕ changed (strip.bar_in reach limit count group) sight_named sights (λ sight. still (strip.bar_in reach limit count group sight)) ⊕ still (codes "\"/>\n")
 
-bar_group_is : (reach : ℕ) (limit : ℤ) (sights : List Sight) (group : ℕ) → IsFilled (λ given. strip.bar_group reach limit (map (sight_named given) sights) group)
+bar_group_is : (reach : ℕ) (limit : ℤ) (sights : List ObservationRow) (group : ℕ) → IsFilled (λ given. strip.bar_group reach limit (map (sight_named given) sights) group)
 unfolding strip.bar_group
 bar_group_is reach limit sights group =
     same (λ given. bar_text reach limit (length sights) (map (sight_named given) sights) group) (λ given. bar_text reach limit (length (map (sight_named given) sights)) (map (sight_named given) sights) group)
     (λ given keeps. ap (λ n. bar_text reach limit n (map (sight_named given) sights) group) (length-map sights (sight_named given))) (bars reach limit (length sights) sights group)
 
-bars_are : (reach : ℕ) (limit : ℤ) (sights : List Sight) → IsFilled (λ given. strip.bar_lines reach limit (map (sight_named given) sights))
+bars_are : (reach : ℕ) (limit : ℤ) (sights : List ObservationRow) → IsFilled (λ given. strip.bar_lines reach limit (map (sight_named given) sights))
 unfolding strip.bar_lines
 bars_are reach limit sights =
     same (λ given. codes "<g class=\"bars\" stroke-width=\"" ++ decimal (strip.width_of (length sights)) ++ codes "\">\n") (λ given. codes "<g class=\"bars\" stroke-width=\"" ++ decimal (strip.width_of (length (map (sight_named given) sights))) ++ codes "\">\n")
@@ -357,7 +346,7 @@ bars_are reach limit sights =
     (still (codes "<g class=\"bars\" stroke-width=\"" ++ decimal (strip.width_of (length sights)) ++ codes "\">\n"))
     ⊕ each (λ given group. strip.bar_group reach limit (map (sight_named given) sights) group) groups (bar_group_is reach limit sights) ⊕ still (codes "</g>\n")
 
-labels_are : (reach : ℕ) (sights : List Sight) → IsFilled (λ given. strip.label_lines reach (map (sight_named given) sights))
+labels_are : (reach : ℕ) (sights : List ObservationRow) → IsFilled (λ given. strip.label_lines reach (map (sight_named given) sights))
 unfolding strip.label_lines strip.place_label
 labels_are reach sights =
     still (codes "<g class=\"n e\">\n")
@@ -366,12 +355,12 @@ labels_are reach sights =
     (changed (strip.label_of reach (length sights)) sight_named sights (λ sight. still (strip.label_of reach (length sights) sight)))
     ⊕ still (codes "</g>\n</svg>\n")
 
-strip_at_is : (reach : ℕ) (limit : ℤ) (sights : List Sight) → IsFilled (λ given. strip.strip_at reach limit (map (sight_named given) sights))
+strip_at_is : (reach : ℕ) (limit : ℤ) (sights : List ObservationRow) → IsFilled (λ given. strip.strip_at reach limit (map (sight_named given) sights))
 unfolding strip.strip_at
 strip_at_is reach limit sights =
     still (strip.open_text reach) ⊕ still (strip.range_text reach (strip.offset (unsigned_abs limit))) ⊕ still (strip.scale_lines reach) ⊕ bars_are reach limit sights ⊕ labels_are reach sights
 
-strip_is : (sights : List Sight) (limit : ℤ) → IsFilled (λ given. strip.strip_text (map (sight_named given) sights) limit)
+strip_is : (sights : List ObservationRow) (limit : ℤ) → IsFilled (λ given. strip.strip_text (map (sight_named given) sights) limit)
 strip_is sights limit =
     same (λ given. strip.strip_at (strip.reach_of limit sights) limit (map (sight_named given) sights)) (λ given. strip.strip_text (map (sight_named given) sights) limit)
     (λ given keeps. ap (λ reach. strip.strip_at reach limit (map (sight_named given) sights)) (fold-map strip.farther (sight_named given) (max (strip.offset (unsigned_abs limit)) 435) sights))
@@ -385,7 +374,7 @@ facts_in points benchmarks sights entries cost limit =
     ++ fact_item (codes "Loops") (decimal (sights - (points - benchmarks))) ++ fact_item (codes "Keyed-in heights") (decimal entries))
     ++ length_items cost limit ++ codes "</ul>\n"
 
-facts : (points : List PointRow) (sights : List Sight) (entries : List EntryRow) (cost : ℕ) (limit : ℤ)
+facts : (points : List PointRow) (sights : List ObservationRow) (entries : List EntryRow) (cost : ℕ) (limit : ℤ)
     → IsFilled (λ given. facts_text (map (point_named given) points) (length (map (sight_named given) sights)) (length (map (entry_named given) entries)) cost limit)
 unfolding facts_text count_items
 facts points sights entries cost limit =
@@ -396,24 +385,24 @@ facts points sights entries cost limit =
     ∙ ap₂ (λ n fixed. facts_in n fixed (length sights) (length entries) cost limit) (length-map points (point_named given)) (counted is_fixed (point_named given) points))
     (still (facts_text points (length sights) (length entries) cost limit))
 
-lamps : (sights : List Sight) (benchmarks : List BenchmarkRow) (entries : List EntryRow) (limit : ℤ)
+lamps : (sights : List ObservationRow) (benchmarks : List BenchmarkRow) (entries : List EntryRow) (limit : ℤ)
     → IsFilled (λ given. lamps_text (map (sight_named given) sights) (map (benchmark_named given) benchmarks) (map (entry_named given) entries) limit)
 unfolding lamps_text
 lamps sights benchmarks entries limit =
     same (λ given. lamps_text sights benchmarks entries limit) (λ given. lamps_text (map (sight_named given) sights) (map (benchmark_named given) benchmarks) (map (entry_named given) entries) limit)
     (λ given keeps.
     let first = ap₂ (λ n all. codes "<ul class=\"lamps\">\n" ++ marked_lamp n all) (as_many limit marked given sights) (length-map sights (sight_named given)) in
-    let second = ap₂ weak_lamp (counted is_weak_sight (sight_named given) sights) (length-map sights (sight_named given)) in
+    let second = ap₂ weak_lamp (counted is_weak_observation (sight_named given) sights) (length-map sights (sight_named given)) in
     let third = ap₂ benchmark_lamp (counted is_weak_benchmark (benchmark_named given) benchmarks) (length-map benchmarks (benchmark_named given)) in
     let fourth = ap₂ entry_lamp (counted is_weak_entry (entry_named given) entries) (length-map entries (entry_named given)) in
     ap (λ a. a ++ codes "</ul>\n") (ap₂ (λ a b. a ++ b) (ap₂ (λ a b. a ++ b) (ap₂ (λ a b. a ++ b) first second) third) fourth))
     (still (lamps_text sights benchmarks entries limit))
 
-undrawn_named : (limit : ℤ) (given : Names) (sights : List Sight) (group : ℕ) → undrawn_in limit (map (sight_named given) sights) group ≡ undrawn_in limit sights group
+undrawn_named : (limit : ℤ) (given : Given) (sights : List ObservationRow) (group : ℕ) → undrawn_in limit (map (sight_named given) sights) group ≡ undrawn_in limit sights group
 unfolding undrawn_in
 undrawn_named limit given sights group = ap (λ n. if nat_le n many then 0 else n) (as_many limit group given sights)
 
-picture_figure_is : (points : List PointRow) (sights : List Sight) (limit : ℤ) → IsFilled (λ given. picture_figure (map (point_named given) points) (map (sight_named given) sights) limit)
+picture_figure_is : (points : List PointRow) (sights : List ObservationRow) (limit : ℤ) → IsFilled (λ given. picture_figure (map (point_named given) points) (map (sight_named given) sights) limit)
 unfolding picture_figure
 picture_figure_is points sights limit =
     still picture_start ⊕ pictured points sights limit ⊕ still legend_text
@@ -421,7 +410,7 @@ picture_figure_is points sights limit =
     (λ given keeps. λ i. undrawn_text (sum_by (λ group. undrawn_named limit given sights group i) groups)) (still (undrawn_text (undrawn_count limit sights)))
     ⊕ still (codes "</figure>\n")
 
-strip_figure_is : (sights : List Sight) (limit : ℤ) → IsFilled (λ given. strip_figure (map (sight_named given) sights) limit)
+strip_figure_is : (sights : List ObservationRow) (limit : ℤ) → IsFilled (λ given. strip_figure (map (sight_named given) sights) limit)
 unfolding strip_figure
 strip_figure_is sights limit = still strip_start ⊕ strip_is sights limit ⊕ still (codes "</div>\n</figure>\n")
 

@@ -1,39 +1,16 @@
 -- The front of a page: the inputs, the facts and the lamps.
-use Rattle.std.specs.Prelude.{ℕ, ℤ, ◌-◌, ◌==◌, Bool, true, false, List, Option, None, Some, ◌++◌, codes, count_by, decimal, if◌then◌else◌, is_none, length, unsigned_abs}
+use Rattle.std.specs.Prelude.{ℕ, ℤ, ◌-◌, ◌==◌, Bool, false, List, ◌++◌, codes, count_by, decimal, if◌then◌else◌, is_none, length, unsigned_abs}
 use Rattle.th_html.specs.Lengths.{sized_text}
 use Rattle.th_html.specs.Texts.{escaped}
-use Rattle.th_html.specs.declared.rows.BenchmarkRow.{BenchmarkRow}
 use Rattle.th_inputs.specs.Inputs.{NamedInput, digest_text, input_text}
 use Rattle.th_inputs.specs.declared.sums.Sum.{Sum}
 use Rattle.th_picture.specs.Gaps.{marked}
 use Rattle.th_picture.specs.Groups.{group_count}
-use Rattle.th_picture.specs.declared.sights.Sight.{Sight}
-use Rattle.th_html.specs.declared.rows.Mistake.{Mistake}
-use Rattle.th_html.specs.declared.rows.Mistake.TheVariants as mistake
-use Rattle.th_html.specs.declared.rows.EntryRow.{EntryRow}
-use Rattle.th_html.specs.declared.rows.PointRow.{PointRow}
-
--- whether a mistake may stay hidden, or move points
-abbrev pub is_weak : Mistake → Bool
-is_weak mistake.Shows = false
-is_weak mistake.Ties = true
-is_weak mistake.Hides = true
-is_weak mistake.Drags = true
-is_weak mistake.Unchecked = true
-
--- the same of a benchmark; one that was never observed has no mistake
-abbrev pub may_be_weak : Option Mistake → Bool
-may_be_weak None = false
-may_be_weak (Some mistake) = is_weak mistake
-
-abbrev pub is_weak_sight : Sight → Bool
-is_weak_sight sight = is_weak sight.row.mistake
-
-abbrev pub is_weak_entry : EntryRow → Bool
-is_weak_entry row = is_weak row.mistake
-
-abbrev pub is_weak_benchmark : BenchmarkRow → Bool
-is_weak_benchmark row = may_be_weak row.mistake
+use Rattle.th_review_rows.specs.Weak.{is_weak_benchmark, is_weak_entry, is_weak_observation}
+use Rattle.th_review_rows.specs.declared.rows.BenchmarkRow.{BenchmarkRow}
+use Rattle.th_review_rows.specs.declared.rows.EntryRow.{EntryRow}
+use Rattle.th_review_rows.specs.declared.rows.ObservationRow.{ObservationRow}
+use Rattle.th_review_rows.specs.declared.rows.PointRow.{PointRow}
 
 -- the length and the digest of an input
 unfoldable pub sum_text : Sum → List ℕ
@@ -116,11 +93,11 @@ entry_lamp count total =
     (codes "A mistake in one of these may move points. See <a href=\"#entries\">weak keyed-in heights</a>.")
 
 -- the lamps
-unfoldable pub lamps_text : List Sight → List BenchmarkRow → List EntryRow → ℤ → List ℕ
+unfoldable pub lamps_text : List ObservationRow → List BenchmarkRow → List EntryRow → ℤ → List ℕ
 lamps_text sights benchmarks entries limit =
     codes "<ul class=\"lamps\">\n"
     ++ marked_lamp (group_count limit marked sights) (length sights)
-    ++ weak_lamp (count_by is_weak_sight sights) (length sights)
+    ++ weak_lamp (count_by is_weak_observation sights) (length sights)
     ++ benchmark_lamp (count_by is_weak_benchmark benchmarks) (length benchmarks)
     ++ entry_lamp (count_by is_weak_entry entries) (length entries)
     ++ codes "</ul>\n"

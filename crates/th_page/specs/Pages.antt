@@ -2,11 +2,11 @@
 use Rattle.std.specs.Prelude.{ℕ, ℤ, List, ◌++◌, length, map, zip}
 use Rattle.std.specs.List.{flat_map}
 use Rattle.th_explain_texts.specs.declared.rows.Row.{Row}
-use Rattle.th_html.specs.declared.rows.BenchmarkRow.{BenchmarkRow}
 use Rattle.th_inputs.specs.Inputs.{NamedInput}
-use Rattle.th_picture.specs.declared.sights.Sight.{Sight}
-use Rattle.th_html.specs.declared.rows.EntryRow.{EntryRow}
-use Rattle.th_html.specs.declared.rows.PointRow.{PointRow}
+use Rattle.th_review_rows.specs.declared.rows.BenchmarkRow.{BenchmarkRow}
+use Rattle.th_review_rows.specs.declared.rows.EntryRow.{EntryRow}
+use Rattle.th_review_rows.specs.declared.rows.ObservationRow.{ObservationRow}
+use Rattle.th_review_rows.specs.declared.rows.PointRow.{PointRow}
 use Rattle.th_page.specs.Figures.{picture_figure, strip_figure}
 use Rattle.th_page.specs.Fronts.{facts_text, input_item, lamps_text}
 use Rattle.th_page.specs.Sections.{explanation_section, note_section, number_sections, sight_sections}
@@ -18,7 +18,7 @@ use Rattle.th_page.specs.Fixed.{body_text, foot_text, head_text, places_text, st
 pub record ShownRows : Type 0 where
   pub inputs : List NamedInput
   pub points : List PointRow
-  pub sights : List Sight
+  pub sights : List ObservationRow
   pub entries : List EntryRow
   pub benchmarks : List BenchmarkRow
   pub explanations : List Row
@@ -33,10 +33,10 @@ shown_by shown = record {
   sights = shown.sights.now;
   entries = shown.entries.now;
   benchmarks = shown.benchmarks.now;
-  explanations = shown.explanations.now;
+  explanations = shown.explained.rows.now;
   notes = map (λ note. note.now) shown.notes.now;
-  cost = shown.cost;
-  limit = shown.limit;
+  cost = shown.explained.cost;
+  limit = shown.explained.limit;
 }
 
 -- the head, and the inputs

@@ -1,8 +1,18 @@
 //! All that a page shows, as rows and texts that it borrows.
 use th_explain_texts::Row;
-use th_html::{BenchmarkRow, EntryRow, PointRow};
 use th_inputs::Sum;
-use th_picture::Sight;
+use th_review_rows::{BenchmarkRow, EntryRow, ObservationRow, PointRow};
+
+/// What would explain the marks of a network.
+#[derive(Clone, Copy)]
+pub struct Explained<'a> {
+    /// The least cost, in units of 10 nm times weight.
+    pub cost: u128,
+    /// The limit of blunders, in units of 10 nm.
+    pub limit: i64,
+    /// The numbers that would explain most, each with its row.
+    pub rows: &'a [Row],
+}
 
 /// What a page shows.
 #[derive(Clone, Copy)]
@@ -14,17 +24,13 @@ pub struct Shown<'a> {
     /// The points, in point order.
     pub points: &'a [PointRow],
     /// The observations, in their order.
-    pub sights: &'a [Sight],
+    pub sights: &'a [ObservationRow],
     /// The entries of all books.
     pub entries: &'a [EntryRow],
     /// The rows of the table of benchmarks.
     pub benchmarks: &'a [BenchmarkRow],
-    /// What would explain the marks.
-    pub explanations: &'a [Row],
     /// The lines of notes.
     pub notes: &'a [&'a [u8]],
-    /// The least cost, in units of 10 nm times weight.
-    pub cost: u128,
-    /// The limit of blunders, in units of 10 nm.
-    pub limit: i64,
+    /// What would explain the marks.
+    pub explained: Explained<'a>,
 }

@@ -4,7 +4,8 @@ ghost use Rattle.th_page.specs.Fronts.{count_items, fact_item, facts_text, fixed
 
 use std::alloc::AllocError;
 use th_columns::Page;
-use th_html::{PointRow, write_number, write_sized};
+use th_html::{write_number, write_sized};
+use th_review_rows::PointRow;
 
 /// Writes the facts, given how many sights and entries there are.
 #[tactic(auto, unfolding(crate::specs::Fronts::facts_text))]

@@ -6,15 +6,15 @@ use crate::fixed::{write_legend_text, write_picture_start, write_strip_start};
 use itoa::Buffer;
 use std::alloc::AllocError;
 use th_columns::Page;
-use th_html::PointRow;
-use th_picture::{Sight, undrawn_count, write_picture, write_strip};
+use th_picture::{undrawn_count, write_picture, write_strip};
+use th_review_rows::{ObservationRow, PointRow};
 
 /// Writes the picture with its caption and its legend.
 #[tactic(auto, unfolding(crate::specs::Figures::picture_figure))]
 pub(crate) fn write_picture_figure(
     page: &mut Page,
     points: &[PointRow],
-    sights: &[Sight],
+    sights: &[ObservationRow],
     limit: i64,
 ) -> Result<(), AllocError>
     ensures { OnOk result (page.new
@@ -60,7 +60,7 @@ fn write_count(page: &mut Page, count: u128) -> Result<(), AllocError>
 #[tactic(auto, unfolding(crate::specs::Figures::strip_figure))]
 pub(crate) fn write_strip_figure(
     page: &mut Page,
-    sights: &[Sight],
+    sights: &[ObservationRow],
     limit: i64,
 ) -> Result<(), AllocError>
     ensures { OnOk result (page.new ≡ page.old ++ strip_figure sights.now limit) }

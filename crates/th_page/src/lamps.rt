@@ -2,17 +2,20 @@
 ghost use Rattle.std.specs.Prelude.{◌≡◌, ◌++◌, OnOk};
 ghost use Rattle.th_page.specs.Fronts.{benchmark_lamp, entry_lamp, lamp_class, lamp_counts, lamp_item, lamp_words, lamps_text, marked_lamp, weak_lamp};
 
-use crate::weak::{weak_benchmark_count, weak_entry_count, weak_sight_count};
 use std::alloc::AllocError;
 use th_columns::Page;
-use th_html::{BenchmarkRow, EntryRow, write_number};
-use th_picture::{MARKED, Sight, group_count};
+use th_html::write_number;
+use th_picture::{MARKED, group_count};
+use th_review_rows::{
+    BenchmarkRow, EntryRow, ObservationRow, weak_benchmark_count, weak_entry_count,
+    weak_observation_count,
+};
 
 /// Writes the lamps.
 #[tactic(auto, unfolding(crate::specs::Fronts::lamps_text))]
 pub(crate) fn write_lamps(
     page: &mut Page,
-    sights: &[Sight],
+    sights: &[ObservationRow],
     benchmarks: &[BenchmarkRow],
     entries: &[EntryRow],
     limit: i64,
@@ -26,13 +29,17 @@ pub(crate) fn write_lamps(
         group_count(limit, MARKED, sights),
         sights.len() as u64,
     )?;
-    write_weak(page, weak_sight_count(sights), sights.len() as u64)?;
+    write_weak(
+        page,
+        weak_observation_count(sights) as u64,
+        sights.len() as u64,
+    )?;
     write_benchmarks(
         page,
-        weak_benchmark_count(benchmarks),
+        weak_benchmark_count(benchmarks) as u64,
         benchmarks.len() as u64,
     )?;
-    write_entries(page, weak_entry_count(entries), entries.len() as u64)?;
+    write_entries(page, weak_entry_count(entries) as u64, entries.len() as u64)?;
     page.add(b"</ul>\n")
 }
 

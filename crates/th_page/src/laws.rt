@@ -6,7 +6,8 @@ ghost use Rattle.th_page.specs.Laws.{PagesAreOfPieces};
 ///
 /// The pieces stay the same if texts of the same lengths come in place of those from outside. So no byte of
 /// one decides what else is on the page; only how long names are decides how they are written.
-/// `th_html::laws::escaped_text_makes_no_markup` says that none has a byte of markup.
+/// `th_html::laws::escaped_text_makes_no_markup` says that none has a byte of markup. Nor does the page show
+/// what is blamed for a mistake, or the strength of a benchmark.
 pub fn no_name_is_markup()
     ensures { PagesAreOfPieces }
 {}

@@ -1,8 +1,7 @@
 //! One page to hand on: a text of HTML with pictures, which has no script and loads nothing.
 //!
-//! `page_text` makes it from what a review and explanations found. `specs/Pages.antt` defines it.
-//! `page_of` makes it of a network: what a review finds of it are rows of the page. Out of memory is the
-//! only failure.
+//! `page_text` makes it from rows and texts. `specs/Pages.antt` defines it. `page_of` makes it of what a
+//! review found, whose rows are those of the page, and of explanations. Out of memory is the only failure.
 #![tactic(auto)]
 
 // What a page shows, and the texts that every page has.
@@ -19,17 +18,13 @@ mod weak;
 // The whole.
 mod pages;
 
-// What a review found, as rows of a page.
-mod rows;
-mod sights;
-mod texts;
-
-// The page of a network.
+// The page of what was found: its names and notes, and the whole.
 mod network_pages;
+mod texts;
 
 // Laws of the definitions.
 pub mod laws;
 
-pub use contents::Shown;
+pub use contents::{Explained, Shown};
 pub use network_pages::page_of;
 pub use pages::page_text;

@@ -58,18 +58,18 @@ fn write_front(page: &mut Page, shown: &Shown<'_>) -> Result<(), AllocError>
         shown.points,
         shown.sights.len() as u64,
         shown.entries.len() as u64,
-        shown.cost,
-        shown.limit,
+        shown.explained.cost,
+        shown.explained.limit,
     )?;
     write_lamps(
         page,
         shown.sights,
         shown.benchmarks,
         shown.entries,
-        shown.limit,
+        shown.explained.limit,
     )?;
-    write_picture_figure(page, shown.points, shown.sights, shown.limit)?;
-    write_strip_figure(page, shown.sights, shown.limit)
+    write_picture_figure(page, shown.points, shown.sights, shown.explained.limit)?;
+    write_strip_figure(page, shown.sights, shown.explained.limit)
 }
 
 /// Writes the sections.
@@ -77,8 +77,14 @@ fn write_front(page: &mut Page, shown: &Shown<'_>) -> Result<(), AllocError>
 fn write_tables(alloc: Global, page: &mut Page, shown: &Shown<'_>) -> Result<(), AllocError>
     ensures { OnOk result (page.new ≡ page.old ++ table_part (shown_by shown.now)) }
 {
-    write_explanation_section(page, shown.explanations)?;
-    write_sight_sections(alloc, page, shown.points, shown.sights, shown.limit)?;
+    write_explanation_section(page, shown.explained.rows)?;
+    write_sight_sections(
+        alloc,
+        page,
+        shown.points,
+        shown.sights,
+        shown.explained.limit,
+    )?;
     write_number_sections(alloc, page, shown.benchmarks, shown.entries)?;
     write_note_section(page, shown.notes)
 }

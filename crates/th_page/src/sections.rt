@@ -7,15 +7,14 @@ use crate::fixed::{
     write_benchmark_start, write_entry_start, write_explanation_start, write_height_start,
     write_marked_start, write_note_start, write_weak_start,
 };
-use crate::weak::{marked_rows, weak_benchmarks, weak_entries, weak_rows};
+use crate::weak::{marked_sights, weak_benchmarks, weak_entries, weak_sights};
 use std::alloc::{AllocError, Global};
 use th_columns::Page;
 use th_explain_texts::Row;
 use th_html::{
-    BenchmarkRow, EntryRow, PointRow, SightRow, write_benchmarks, write_entries, write_escaped,
-    write_explanations, write_heights, write_sights,
+    write_benchmarks, write_entries, write_escaped, write_explanations, write_heights, write_sights,
 };
-use th_picture::Sight;
+use th_review_rows::{BenchmarkRow, EntryRow, ObservationRow, PointRow};
 
 /// Writes the sections of sights and points.
 #[tactic(auto, unfolding(crate::specs::Sections::sight_sections))]
@@ -23,14 +22,14 @@ pub(crate) fn write_sight_sections(
     alloc: Global,
     page: &mut Page,
     points: &[PointRow],
-    sights: &[Sight],
+    sights: &[ObservationRow],
     limit: i64,
 ) -> Result<(), AllocError>
     ensures { OnOk result (page.new
         ≡ page.old ++ sight_sections points.now sights.now limit) }
 {
-    let marked = marked_rows(alloc, sights, limit)?;
-    let weak = weak_rows(alloc, sights)?;
+    let marked = marked_sights(alloc, sights, limit)?;
+    let weak = weak_sights(alloc, sights)?;
     write_marked_section(page, &marked)?;
     write_height_section(page, points)?;
     write_weak_section(page, &weak)
@@ -76,7 +75,7 @@ pub(crate) fn write_explanation_section(page: &mut Page, rows: &[Row]) -> Result
 
 /// Writes the section of marked sights, if there are any.
 #[tactic(auto, unfolding(crate::specs::Sections::marked_section))]
-fn write_marked_section(page: &mut Page, rows: &[SightRow]) -> Result<(), AllocError>
+fn write_marked_section(page: &mut Page, rows: &[ObservationRow]) -> Result<(), AllocError>
     ensures { OnOk result (page.new ≡ page.old ++ marked_section rows.now) }
 {
     if rows.is_empty() {
@@ -99,7 +98,7 @@ fn write_height_section(page: &mut Page, rows: &[PointRow]) -> Result<(), AllocE
 
 /// Writes the section of weak sights, if there are any.
 #[tactic(auto, unfolding(crate::specs::Sections::weak_section))]
-fn write_weak_section(page: &mut Page, rows: &[SightRow]) -> Result<(), AllocError>
+fn write_weak_section(page: &mut Page, rows: &[ObservationRow]) -> Result<(), AllocError>
     ensures { OnOk result (page.new ≡ page.old ++ weak_section rows.now) }
 {
     if rows.is_empty() {

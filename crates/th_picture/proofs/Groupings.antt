@@ -2,8 +2,8 @@
 use Rattle.std.proofs.Common.{◌≡◌, ◌==◌, Bool, true, false, refl}
 use Rattle.std.specs.Prelude.{count_by, if◌then◌else◌}
 use Rattle.th_blunders.specs.Blunders.{is_blunder}
-use Rattle.th_html.specs.declared.rows.Mistake.{Mistake}
-use Rattle.th_html.specs.declared.rows.Mistake.TheVariants.{Shows, Ties, Hides, Drags, Unchecked}
+use Rattle.th_reliability.specs.declared.mistakes.Mistake.{Mistake}
+use Rattle.th_reliability.specs.declared.mistakes.Mistake.TheVariants.{Shows, Ties, Hides, Unchecked}
 use Rattle.th_picture.specs.Groups.{groups, mistake_letter}
 use Rattle.th_picture.specs.Laws.{EachSightOnce}
 
@@ -12,8 +12,7 @@ by_mark true mistake = refl
 by_mark false Shows = refl
 by_mark false Ties = refl
 by_mark false Hides = refl
-by_mark false Drags = refl
 by_mark false Unchecked = refl
 
 pub each_once : EachSightOnce
-each_once limit sight = by_mark (is_blunder limit sight.row.residual) sight.row.mistake
+each_once limit sight = by_mark (is_blunder limit sight.residual) sight.mistake

@@ -5,7 +5,7 @@ use Rattle.std.proofs.lemmas.Bool.{ltb-true}
 use Rattle.std.proofs.lemmas.List.Elements.{All-cons, All-nil}
 use Rattle.std.proofs.lemmas.Nat.{le-div}
 use Rattle.std.specs.Prelude.{find, if◌then◌else◌}
-use Rattle.th_html.specs.declared.rows.PointRow.{PointRow}
+use Rattle.th_review_rows.specs.declared.rows.PointRow.{PointRow}
 use Rattle.th_picture.specs.Laws.{IsInOrder, IsOnScale}
 use Rattle.th_picture.specs.Scales.{covers, greatest_of, high_of, higher, least_of, lower, raised, scale_between, scale_of, step_of, steps, y_of}
 use Rattle.th_picture.specs.declared.scales.Scale.{Scale}

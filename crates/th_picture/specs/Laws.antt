@@ -1,17 +1,17 @@
 -- Laws of the picture.
 use Rattle.std.specs.Prelude.{◌≡◌, ◌≤◌, ◌<◌, ◌+◌, ◌*◌, ◌/◌, ℕ, ℤ, true, All, List, count_by}
-use Rattle.th_html.specs.declared.rows.PointRow.{PointRow}
+use Rattle.th_review_rows.specs.declared.rows.PointRow.{PointRow}
 use Rattle.th_picture.specs.Curves.{bent, flatness}
 use Rattle.th_picture.specs.Groups.{groups, is_in}
 use Rattle.th_picture.specs.Names.{depth_of, is_written, turn_of}
 use Rattle.th_picture.specs.Scales.{greatest_of, high_of, least_of, raised, scale_of, x_of, y_of}
 use Rattle.th_picture.specs.declared.names.Turn.TheVariants.{Level}
 use Rattle.th_picture.specs.declared.scales.Scale.{Scale}
-use Rattle.th_picture.specs.declared.sights.Sight.{Sight}
+use Rattle.th_review_rows.specs.declared.rows.ObservationRow.{ObservationRow}
 
 -- each sight is in exactly one of the groups, whatever the limit
 abbrev pub EachSightOnce : Type 0
-EachSightOnce = (limit : ℤ) (sight : Sight) → count_by (λ group. is_in limit group sight) groups ≡ 1
+EachSightOnce = (limit : ℤ) (sight : ObservationRow) → count_by (λ group. is_in limit group sight) groups ≡ 1
 
 -- a raised height is between the lowest and the highest line of a scale
 pub record IsOnScale (scale : Scale) (at : ℕ) : Type 0 where

@@ -2,7 +2,7 @@
 use Rattle.std.specs.Prelude.{ℕ, ◌+◌, ◌*◌, ◌/◌, ◌%◌, ◌==◌, Bool, List, [], ◌++◌, codes, decimal, fold, if◌then◌else◌, length, max, min, nat_le}
 use Rattle.std.specs.List.{enumerate_from, flat_map}
 use Rattle.th_html.specs.Texts.{escaped}
-use Rattle.th_html.specs.declared.rows.PointRow.{PointRow}
+use Rattle.th_review_rows.specs.declared.rows.PointRow.{PointRow}
 use Rattle.th_picture.specs.Lines.{pair_text}
 use Rattle.th_picture.specs.Scales.{low_y, x_of}
 use Rattle.th_picture.specs.declared.names.Turn.{Turn}

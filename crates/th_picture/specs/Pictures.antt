@@ -3,7 +3,7 @@ use Rattle.std.specs.Prelude.{ℕ, ℤ, ◌+◌, List, [], ◌++◌, codes, deci
 use Rattle.std.specs.Int.{abs_diff}
 use Rattle.std.specs.List.{flat_map}
 use Rattle.th_html.specs.Lengths.{sized_text}
-use Rattle.th_html.specs.declared.rows.PointRow.{PointRow}
+use Rattle.th_review_rows.specs.declared.rows.PointRow.{PointRow}
 use Rattle.th_picture.specs.Curves.{group_lines}
 use Rattle.th_picture.specs.Gaps.{gap_lines}
 use Rattle.th_picture.specs.Lines.{label_end, line_open}
@@ -13,7 +13,7 @@ use Rattle.th_picture.specs.Scales.{high_of, lines_of, raise, scale_of, y_of}
 use Rattle.th_picture.specs.declared.names.Turn.{Turn}
 use Rattle.th_picture.specs.declared.scales.Frame.{Frame}
 use Rattle.th_picture.specs.declared.scales.Scale.{Scale}
-use Rattle.th_picture.specs.declared.sights.Sight.{Sight}
+use Rattle.th_review_rows.specs.declared.rows.ObservationRow.{ObservationRow}
 
 -- the beginning, with the signs that stand in the middle of lines
 unfoldable pub sign_text : List ℕ → List ℕ → List ℕ
@@ -43,7 +43,7 @@ unfoldable pub scale_lines : Scale → List ℕ
 scale_lines scale = codes "<g class=\"n e\">\n<text x=\"840\" y=\"160\">metres</text>\n" ++ flat_map (tick_at scale) (lines_of scale) ++ codes "</g>\n"
 
 -- what is drawn in a frame
-unfoldable pub drawing : Frame → Turn → ℤ → List PointRow → List Sight → List ℕ
+unfoldable pub drawing : Frame → Turn → ℤ → List PointRow → List ObservationRow → List ℕ
 drawing frame turn limit points sights =
     scale_lines frame.scale ++ name_lines frame turn points ++ group_lines frame limit sights ++ point_lines frame points
     ++ gap_lines frame limit sights ++ codes "</svg>\n"
@@ -51,10 +51,10 @@ drawing frame turn limit points sights =
 abbrev pub frame_of : List PointRow → Frame
 frame_of points = record { scale = scale_of points; points = length points }
 
-unfoldable pub turned_picture : Frame → ℕ → Turn → ℤ → List PointRow → List Sight → List ℕ
+unfoldable pub turned_picture : Frame → ℕ → Turn → ℤ → List PointRow → List ObservationRow → List ℕ
 turned_picture frame longest turn limit points sights = open_text (3360 + depth_of turn longest) ++ drawing frame turn limit points sights
 
 -- the picture of points and sights
-abbrev pub picture_text : List PointRow → List Sight → ℤ → List ℕ
+abbrev pub picture_text : List PointRow → List ObservationRow → ℤ → List ℕ
 picture_text points sights limit =
     turned_picture (frame_of points) (longest_of points) (turn_of (length points) (longest_of points)) limit points sights

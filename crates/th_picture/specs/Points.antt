@@ -3,7 +3,7 @@ use Rattle.std.specs.Prelude.{ℕ, ◌-◌, List, [], Option, None, Some, ◌++�
 use Rattle.std.specs.List.{enumerate_from, flat_map}
 use Rattle.th_html.specs.Lengths.{height_text}
 use Rattle.th_html.specs.Texts.{escaped}
-use Rattle.th_html.specs.declared.rows.PointRow.{PointRow}
+use Rattle.th_review_rows.specs.declared.rows.PointRow.{PointRow}
 use Rattle.th_picture.specs.Groups.{few}
 use Rattle.th_picture.specs.Lines.{pair_text}
 use Rattle.th_picture.specs.Scales.{low_y, x_of}

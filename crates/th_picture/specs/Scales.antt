@@ -1,7 +1,7 @@
 -- Where points and heights are in the picture, in tenths of a pixel.
 use Rattle.std.specs.Prelude.{ℕ, ℤ, ◌+◌, ◌-◌, ◌*◌, ◌/◌, ◌%◌, Bool, List, [], ◌∷◌, find, fold, if◌then◌else◌, max, min, nat_lt, unsigned_abs, unwrap_or}
 use Rattle.std.specs.Int.{is_negative}
-use Rattle.th_html.specs.declared.rows.PointRow.{PointRow}
+use Rattle.th_review_rows.specs.declared.rows.PointRow.{PointRow}
 use Rattle.th_picture.specs.declared.scales.Scale.{Scale}
 
 -- the middle of strip k of n, which stand from left to right; k counts from 0

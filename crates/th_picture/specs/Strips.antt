@@ -8,7 +8,7 @@ use Rattle.th_picture.specs.Groups.{groups, is_in}
 use Rattle.th_picture.specs.Lines.{label_end, line_open, pair_text}
 use Rattle.th_picture.specs.Names.{is_written}
 use Rattle.th_picture.specs.Scales.{x_of}
-use Rattle.th_picture.specs.declared.sights.Sight.{Sight}
+use Rattle.th_review_rows.specs.declared.rows.ObservationRow.{ObservationRow}
 
 -- the sizes at which the strip has lines, in units of 10 nm: 1 mm and its multiples by powers of ten
 abbrev pub powers : List ℕ
@@ -25,10 +25,10 @@ abbrev pub offset : ℕ → ℕ
 offset size = sum_by (ramp size) powers
 
 -- how far the strip reaches from its middle: 0.1 m at least, the limit, and all residuals
-abbrev pub farther : ℕ → Sight → ℕ
-farther most sight = max most (offset (unsigned_abs sight.row.residual))
+abbrev pub farther : ℕ → ObservationRow → ℕ
+farther most sight = max most (offset (unsigned_abs sight.residual))
 
-abbrev pub reach_of : ℤ → List Sight → ℕ
+abbrev pub reach_of : ℤ → List ObservationRow → ℕ
 reach_of limit sights = fold farther (max (offset (unsigned_abs limit)) 435) sights
 
 abbrev pub middle : ℕ → ℕ
@@ -66,14 +66,14 @@ bar_of x reach residual =
     if is_negative residual then bar_down x reach (offset (unsigned_abs residual)) else bar_up x reach (offset (unsigned_abs residual))
 
 -- the place of a sight, from left to right
-abbrev pub sight_x : ℕ → Sight → ℕ
-sight_x count sight = x_of (sight.row.number - 1) count
+abbrev pub sight_x : ℕ → ObservationRow → ℕ
+sight_x count sight = x_of (sight.number - 1) count
 
 -- the bar of a sight, if it is in a group
-abbrev pub bar_in : ℕ → ℤ → ℕ → ℕ → Sight → List ℕ
-bar_in reach limit count group sight = if is_in limit group sight then bar_of (sight_x count sight) reach sight.row.residual else []
+abbrev pub bar_in : ℕ → ℤ → ℕ → ℕ → ObservationRow → List ℕ
+bar_in reach limit count group sight = if is_in limit group sight then bar_of (sight_x count sight) reach sight.residual else []
 
-unfoldable pub bar_group : ℕ → ℤ → List Sight → ℕ → List ℕ
+unfoldable pub bar_group : ℕ → ℤ → List ObservationRow → ℕ → List ℕ
 bar_group reach limit sights group =
     codes "<path class=\"" ++ group ∷ [] ++ codes "\" d=\"" ++ flat_map (bar_in reach limit (length sights) group) sights ++ codes "\"/>\n"
 
@@ -81,7 +81,7 @@ bar_group reach limit sights group =
 abbrev pub width_of : ℕ → ℕ
 width_of count = max (min (3500 / max count 1) 80) 6
 
-unfoldable pub bar_lines : ℕ → ℤ → List Sight → List ℕ
+unfoldable pub bar_lines : ℕ → ℤ → List ObservationRow → List ℕ
 bar_lines reach limit sights =
     codes "<g class=\"bars\" stroke-width=\"" ++ decimal (width_of (length sights)) ++ codes "\">\n" ++ flat_map (bar_group reach limit sights) groups ++ codes "</g>\n"
 
@@ -89,21 +89,21 @@ bar_lines reach limit sights =
 abbrev pub places : ℕ
 places = 4
 
-unfoldable pub place_label : ℕ → ℕ → Sight → List ℕ
+unfoldable pub place_label : ℕ → ℕ → ObservationRow → List ℕ
 place_label reach count sight =
     codes "<text x=\"" ++ decimal (sight_x count sight) ++ codes "\" y=\"" ++ decimal (2 * reach + 250) ++ codes "\">"
-    ++ place_text sight.row.observation.book sight.row.observation.line ++ codes "</text>\n"
+    ++ place_text sight.observation.book sight.observation.line ++ codes "</text>\n"
 
-abbrev pub label_of : ℕ → ℕ → Sight → List ℕ
-label_of reach count sight = if is_written count places (sight.row.number - 1) then place_label reach count sight else []
+abbrev pub label_of : ℕ → ℕ → ObservationRow → List ℕ
+label_of reach count sight = if is_written count places (sight.number - 1) then place_label reach count sight else []
 
-unfoldable pub label_lines : ℕ → List Sight → List ℕ
+unfoldable pub label_lines : ℕ → List ObservationRow → List ℕ
 label_lines reach sights = codes "<g class=\"n e\">\n" ++ flat_map (label_of reach (length sights)) sights ++ codes "</g>\n</svg>\n"
 
-unfoldable pub strip_at : ℕ → ℤ → List Sight → List ℕ
+unfoldable pub strip_at : ℕ → ℤ → List ObservationRow → List ℕ
 strip_at reach limit sights =
     open_text reach ++ range_text reach (offset (unsigned_abs limit)) ++ scale_lines reach ++ bar_lines reach limit sights ++ label_lines reach sights
 
 -- the strip of the residuals of sights
-abbrev pub strip_text : List Sight → ℤ → List ℕ
+abbrev pub strip_text : List ObservationRow → ℤ → List ℕ
 strip_text sights limit = strip_at (reach_of limit sights) limit sights

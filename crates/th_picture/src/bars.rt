@@ -5,11 +5,11 @@ ghost use Rattle.th_picture.specs.Strips.{bar_down, bar_group, bar_in, bar_lines
 
 use crate::coordinates::write_pair;
 use crate::groups::{GROUPS, is_in};
-use crate::sights::Sight;
 use crate::strips::{middle, offset, sight_x};
 use std::alloc::AllocError;
 use th_columns::Page;
 use th_html::write_number;
+use th_review_rows::ObservationRow;
 
 /// Writes the bars of all groups.
 #[tactic(auto, unfolding(crate::specs::Strips::bar_lines))]
@@ -17,7 +17,7 @@ pub(crate) fn write_bars(
     page: &mut Page,
     reach: u32,
     limit: i64,
-    sights: &[Sight],
+    sights: &[ObservationRow],
 ) -> Result<(), AllocError>
     ensures { OnOk result (page.new ≡ page.old ++ bar_lines reach limit sights.now) }
 {
@@ -40,7 +40,7 @@ fn write_groups(
     page: &mut Page,
     reach: u32,
     limit: i64,
-    sights: &[Sight],
+    sights: &[ObservationRow],
     groups: &[u8],
 ) -> Result<(), AllocError>
     ensures { OnOk result (page.new
@@ -58,7 +58,7 @@ fn write_group(
     page: &mut Page,
     reach: u32,
     limit: i64,
-    sights: &[Sight],
+    sights: &[ObservationRow],
     group: u8,
 ) -> Result<(), AllocError>
     ensures { OnOk result (page.new ≡ page.old ++ bar_group reach limit sights.now group) }
@@ -77,7 +77,7 @@ fn write_each(
     limit: i64,
     count: u64,
     group: u8,
-    sights: &[Sight],
+    sights: &[ObservationRow],
 ) -> Result<(), AllocError>
     ensures { OnOk result (page.new
         ≡ page.old ++ flat_map (bar_in reach limit count group) sights.now) }
@@ -95,7 +95,7 @@ fn write_bar_in(
     limit: i64,
     count: u64,
     group: u8,
-    sight: &Sight,
+    sight: &ObservationRow,
 ) -> Result<(), AllocError>
     ensures { OnOk result (page.new ≡ page.old ++ bar_in reach limit count group sight.now) }
 {
@@ -107,11 +107,11 @@ fn write_bar_in(
 }
 
 /// Writes the bar of a sight's residual.
-fn write_bar(page: &mut Page, x: u32, reach: u32, sight: &Sight) -> Result<(), AllocError>
-    ensures { OnOk result (page.new ≡ page.old ++ bar_of x reach sight.now.row.residual) }
+fn write_bar(page: &mut Page, x: u32, reach: u32, sight: &ObservationRow) -> Result<(), AllocError>
+    ensures { OnOk result (page.new ≡ page.old ++ bar_of x reach sight.now.residual) }
 {
-    let away = offset(sight.row.residual.unsigned_abs());
-    if sight.row.residual < 0 {
+    let away = offset(sight.residual.unsigned_abs());
+    if sight.residual < 0 {
         write_down(page, x, reach, away)
     } else {
         write_up(page, x, reach, away)

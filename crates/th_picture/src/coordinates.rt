@@ -4,10 +4,10 @@ ghost use Rattle.th_picture.specs.Curves.{end_x, end_y, target_y};
 ghost use Rattle.th_picture.specs.Lines.{pair_text};
 
 use crate::scales::{Frame, moved, raised, x_of};
-use crate::sights::{End, Sight};
 use std::alloc::AllocError;
 use th_columns::Page;
 use th_html::write_number;
+use th_review_rows::{End, ObservationRow};
 
 /// Writes two coordinates behind a text.
 #[tactic(auto, unfolding(crate::specs::Lines::pair_text))]
@@ -36,10 +36,9 @@ impl Frame {
     }
 
     /// Where a sight puts its target, from above.
-    pub(crate) fn target_y(&self, sight: &Sight) -> u32
+    pub(crate) fn target_y(&self, sight: &ObservationRow) -> u32
         ensures { result ≡ target_y self.now sight.now }
     {
-        self.scale
-            .y_of(moved(raised(sight.to.low), sight.row.residual))
+        self.scale.y_of(moved(raised(sight.to.low), sight.residual))
     }
 }

@@ -6,17 +6,17 @@ ghost use Rattle.th_picture.specs.Curves.{bent, curve_text, drawn_group, few_tex
 use crate::coordinates::write_pair;
 use crate::groups::{FEW, GROUPS, MANY, group_count, is_in, mistake_letter};
 use crate::scales::Frame;
-use crate::sights::Sight;
 use std::alloc::AllocError;
 use th_columns::Page;
 use th_html::write_found;
+use th_review_rows::ObservationRow;
 
 /// Writes all groups of sights that are drawn.
 pub(crate) fn write_groups(
     page: &mut Page,
     frame: &Frame,
     limit: i64,
-    sights: &[Sight],
+    sights: &[ObservationRow],
 ) -> Result<(), AllocError>
     ensures { OnOk result (page.new ≡ page.old ++ group_lines frame.now limit sights.now) }
 {
@@ -28,7 +28,7 @@ fn write_each(
     page: &mut Page,
     frame: &Frame,
     limit: i64,
-    sights: &[Sight],
+    sights: &[ObservationRow],
     groups: &[u8],
 ) -> Result<(), AllocError>
     ensures { OnOk result (page.new
@@ -45,7 +45,7 @@ fn write_drawn(
     page: &mut Page,
     frame: &Frame,
     limit: i64,
-    sights: &[Sight],
+    sights: &[ObservationRow],
     group: u8,
 ) -> Result<(), AllocError>
     ensures { OnOk result (page.new ≡ page.old ++ drawn_group frame.now limit sights.now group) }
@@ -63,7 +63,7 @@ fn write_group(
     page: &mut Page,
     frame: &Frame,
     limit: i64,
-    sights: &[Sight],
+    sights: &[ObservationRow],
     group: u8,
 ) -> Result<(), AllocError>
     ensures { OnOk result (page.new ≡ page.old ++ group_text frame.now limit sights.now group) }
@@ -88,7 +88,7 @@ fn write_paths(
     page: &mut Page,
     frame: &Frame,
     limit: i64,
-    sights: &[Sight],
+    sights: &[ObservationRow],
     group: u8,
 ) -> Result<(), AllocError>
     ensures { OnOk result (page.new
@@ -105,7 +105,7 @@ fn write_path_in(
     page: &mut Page,
     frame: &Frame,
     limit: i64,
-    sight: &Sight,
+    sight: &ObservationRow,
     group: u8,
 ) -> Result<(), AllocError>
     ensures { OnOk result (page.new ≡ page.old ++ path_in frame.now limit group sight.now) }
@@ -119,25 +119,29 @@ fn write_path_in(
 
 /// Writes a sight, in the class of its mistake.
 #[tactic(auto, unfolding(crate::specs::Curves::sight_path))]
-fn write_path(page: &mut Page, frame: &Frame, sight: &Sight) -> Result<(), AllocError>
+fn write_path(page: &mut Page, frame: &Frame, sight: &ObservationRow) -> Result<(), AllocError>
     ensures { OnOk result (page.new ≡ page.old ++ sight_path frame.now sight.now) }
 {
     page.add(b"<path class=\"")?;
-    page.add(&[mistake_letter(&sight.row.mistake)])?;
+    page.add(&[mistake_letter(&sight.mistake)])?;
     page.add(b"\" d=\"")?;
     write_sight_curve(page, frame, sight)?;
     page.add(b"\"><title>")?;
-    write_found(page, &sight.row)?;
+    write_found(page, sight)?;
     page.add(b"</title></path>\n")
 }
 
 /// Writes the curve of a sight.
-fn write_sight_curve(page: &mut Page, frame: &Frame, sight: &Sight) -> Result<(), AllocError>
+fn write_sight_curve(
+    page: &mut Page,
+    frame: &Frame,
+    sight: &ObservationRow,
+) -> Result<(), AllocError>
     ensures { OnOk result (page.new ≡ page.old ++ sight_curve frame.now sight.now) }
 {
     write_curve(
         page,
-        flatness(sight.row.number),
+        flatness(sight.number),
         frame.end_x(&sight.from),
         frame.end_y(&sight.from),
         frame.end_x(&sight.to),
@@ -146,13 +150,13 @@ fn write_sight_curve(page: &mut Page, frame: &Frame, sight: &Sight) -> Result<()
 }
 
 /// The middle of a sight's curve, from left to right and from above.
-pub(crate) fn middle_of(frame: &Frame, sight: &Sight) -> (u64, u64)
+pub(crate) fn middle_of(frame: &Frame, sight: &ObservationRow) -> (u64, u64)
     ensures x { result.0 ≡ middle_x frame.now sight.now }
     ensures y { result.1 ≡ middle_y frame.now sight.now }
 {
     let (x, u) = (frame.end_x(&sight.from), frame.end_x(&sight.to));
     let half = (u64::from(frame.end_y(&sight.from)) + u64::from(frame.target_y(sight))) / 2;
-    let y = bent(half, x, u, flatness(sight.row.number));
+    let y = bent(half, x, u, flatness(sight.number));
     ((u64::from(x) + u64::from(u)) / 2, y)
 }
 

@@ -7,11 +7,11 @@ use crate::coordinates::write_pair;
 use crate::curves::middle_of;
 use crate::groups::{MANY, MARKED, group_count, is_in};
 use crate::scales::Frame;
-use crate::sights::Sight;
 use std::alloc::AllocError;
 use th_columns::Page;
 use th_html::{write_number, write_place};
 use th_observations::Observation;
+use th_review_rows::ObservationRow;
 
 /// Up to so many marked sights have their places in the picture.
 const MOST_NAMED: u64 = 20;
@@ -24,7 +24,7 @@ pub(crate) fn write_gaps(
     page: &mut Page,
     frame: &Frame,
     limit: i64,
-    sights: &[Sight],
+    sights: &[ObservationRow],
 ) -> Result<(), AllocError>
     ensures { OnOk result (page.new ≡ page.old ++ gap_lines frame.now limit sights.now) }
 {
@@ -43,7 +43,7 @@ fn write_group(
     frame: &Frame,
     limit: i64,
     count: u64,
-    sights: &[Sight],
+    sights: &[ObservationRow],
 ) -> Result<(), AllocError>
     ensures { OnOk result (page.new ≡ page.old ++ gap_group frame.now limit count sights.now) }
 {
@@ -58,7 +58,7 @@ fn write_each(
     frame: &Frame,
     limit: i64,
     count: u64,
-    sights: &[Sight],
+    sights: &[ObservationRow],
 ) -> Result<(), AllocError>
     ensures { OnOk result (page.new
         ≡ page.old ++ flat_map (gap_of frame.now limit count) sights.now) }
@@ -75,7 +75,7 @@ fn write_gap_of(
     frame: &Frame,
     limit: i64,
     count: u64,
-    sight: &Sight,
+    sight: &ObservationRow,
 ) -> Result<(), AllocError>
     ensures { OnOk result (page.new ≡ page.old ++ gap_of frame.now limit count sight.now) }
 {
@@ -88,7 +88,12 @@ fn write_gap_of(
 
 /// Writes the gap of a sight.
 #[tactic(auto, unfolding(crate::specs::Gaps::gap_text))]
-fn write_gap(page: &mut Page, frame: &Frame, count: u64, sight: &Sight) -> Result<(), AllocError>
+fn write_gap(
+    page: &mut Page,
+    frame: &Frame,
+    count: u64,
+    sight: &ObservationRow,
+) -> Result<(), AllocError>
     ensures { OnOk result (page.new ≡ page.old ++ gap_text frame.now count sight.now) }
 {
     let x = frame.end_x(&sight.to);
@@ -100,11 +105,16 @@ fn write_gap(page: &mut Page, frame: &Frame, count: u64, sight: &Sight) -> Resul
 }
 
 /// Writes the place of a sight in the middle of its curve, if few are marked.
-fn write_named(page: &mut Page, frame: &Frame, count: u64, sight: &Sight) -> Result<(), AllocError>
+fn write_named(
+    page: &mut Page,
+    frame: &Frame,
+    count: u64,
+    sight: &ObservationRow,
+) -> Result<(), AllocError>
     ensures { OnOk result (page.new ≡ page.old ++ named frame.now count sight.now) }
 {
     let (x, y) = middle_of(frame, sight);
-    write_name_if(page, count, x, (y + 40).min(LOWEST), &sight.row.observation)
+    write_name_if(page, count, x, (y + 40).min(LOWEST), &sight.observation)
 }
 
 /// Writes the line of a gap, and its cross.

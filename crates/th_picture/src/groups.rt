@@ -2,9 +2,9 @@
 ghost use Rattle.std.specs.Prelude.{◌≡◌, ◌≤◌, length};
 ghost use Rattle.th_picture.specs.Groups.{group_count, group_of, is_in, mistake_letter, undrawn_count, undrawn_in};
 
-use crate::sights::Sight;
 use th_blunders::is_blunder;
-use th_html::{Mistake, SightRow};
+use th_reliability::Mistake;
+use th_review_rows::ObservationRow;
 
 /// The letter of the marked sights.
 pub const MARKED: u8 = b'b';
@@ -26,13 +26,12 @@ pub(crate) fn mistake_letter(mistake: &Mistake) -> u8
         Mistake::Shows => b's',
         Mistake::Ties => b't',
         Mistake::Hides => b'h',
-        Mistake::Drags => b'h',
         Mistake::Unchecked => b'u',
     }
 }
 
 /// The group of a sight.
-fn group_of(limit: i64, row: &SightRow) -> u8
+fn group_of(limit: i64, row: &ObservationRow) -> u8
     ensures { result ≡ group_of limit row.now }
 {
     if is_blunder(row.residual, limit) {
@@ -43,14 +42,14 @@ fn group_of(limit: i64, row: &SightRow) -> u8
 }
 
 /// Whether a sight is in a group. The limit of blunders is in units of 10 nm.
-pub fn is_in(limit: i64, group: u8, sight: &Sight) -> bool
+pub fn is_in(limit: i64, group: u8, sight: &ObservationRow) -> bool
     ensures { result ≡ is_in limit group sight.now }
 {
-    group_of(limit, &sight.row) == group
+    group_of(limit, sight) == group
 }
 
 /// How many sights a group has.
-pub fn group_count(limit: i64, group: u8, sights: &[Sight]) -> u64
+pub fn group_count(limit: i64, group: u8, sights: &[ObservationRow]) -> u64
     ensures { result ≡ group_count limit group sights.now }
 {
     let mut count = 0;
@@ -64,7 +63,7 @@ pub fn group_count(limit: i64, group: u8, sights: &[Sight]) -> u64
 
 /// How many sights of a group are not drawn.
 #[tactic(auto, unfolding(crate::specs::Groups::undrawn_in))]
-fn undrawn_in(limit: i64, group: u8, sights: &[Sight]) -> u64
+fn undrawn_in(limit: i64, group: u8, sights: &[ObservationRow]) -> u64
     ensures { result ≡ undrawn_in limit sights.now group }
 {
     let count = group_count(limit, group, sights);
@@ -72,7 +71,7 @@ fn undrawn_in(limit: i64, group: u8, sights: &[Sight]) -> u64
 }
 
 /// How many sights are not drawn, because their groups have too many.
-pub fn undrawn_count(limit: i64, sights: &[Sight]) -> u128
+pub fn undrawn_count(limit: i64, sights: &[ObservationRow]) -> u128
     ensures { result ≡ undrawn_count limit sights.now }
 {
     u128::from(undrawn_in(limit, b's', sights))

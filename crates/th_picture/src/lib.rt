@@ -9,9 +9,8 @@
 // Where points and heights are.
 mod scales;
 
-// Sights with their ends, and their groups.
+// Groups of sights.
 mod groups;
-mod sights;
 
 // The parts of the picture, and the picture.
 mod coordinates;
@@ -30,5 +29,4 @@ pub mod laws;
 
 pub use groups::{MARKED, group_count, is_in, undrawn_count};
 pub use pictures::write_picture;
-pub use sights::{End, Sight};
 pub use strips::write_strip;

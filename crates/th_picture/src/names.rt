@@ -7,7 +7,8 @@ use crate::coordinates::write_pair;
 use crate::scales::{Frame, x_of};
 use std::alloc::AllocError;
 use th_columns::Page;
-use th_html::{PointRow, write_escaped, write_number};
+use th_html::{write_escaped, write_number};
+use th_review_rows::PointRow;
 
 /// Fewer than twice so many names are written.
 const NAMES: u64 = 30;

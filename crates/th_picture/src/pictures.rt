@@ -9,17 +9,17 @@ use crate::gaps::write_gaps;
 use crate::names::{Turn, depth_of, longest_of, turn_of, write_names};
 use crate::points::write_points;
 use crate::scales::{Frame, RAISE, Scale};
-use crate::sights::Sight;
 use std::alloc::AllocError;
 use th_columns::Page;
-use th_html::{PointRow, write_number, write_sized};
+use th_html::{write_number, write_sized};
+use th_review_rows::{ObservationRow, PointRow};
 
 /// Writes the picture of points, in point order, and of sights. The limit of blunders is in units of
 /// 10 nm.
 pub fn write_picture(
     page: &mut Page,
     points: &[PointRow],
-    sights: &[Sight],
+    sights: &[ObservationRow],
     limit: i64,
 ) -> Result<(), AllocError>
     ensures { OnOk result (page.new ≡ page.old ++ picture_text points.now sights.now limit) }
@@ -49,7 +49,7 @@ fn write_turned(
     turn: Turn,
     limit: i64,
     points: &[PointRow],
-    sights: &[Sight],
+    sights: &[ObservationRow],
 ) -> Result<(), AllocError>
     requires { longest ≤ 16 }
     ensures { OnOk result (page.new
@@ -67,7 +67,7 @@ fn write_drawing(
     turn: Turn,
     limit: i64,
     points: &[PointRow],
-    sights: &[Sight],
+    sights: &[ObservationRow],
 ) -> Result<(), AllocError>
     ensures { OnOk result (page.new
         ≡ page.old ++ drawing frame.now turn limit points.now sights.now) }

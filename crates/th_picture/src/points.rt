@@ -8,7 +8,8 @@ use crate::groups::FEW;
 use crate::scales::{Frame, x_of};
 use std::alloc::AllocError;
 use th_columns::Page;
-use th_html::{PointRow, write_escaped, write_height, write_number};
+use th_html::{write_escaped, write_height, write_number};
+use th_review_rows::PointRow;
 
 /// Writes all points, in point order.
 #[tactic(auto, unfolding(crate::specs::Points::point_lines))]

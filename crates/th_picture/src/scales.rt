@@ -2,7 +2,7 @@
 ghost use Rattle.std.specs.Prelude.{◌≡◌, ◌≤◌, ◌<◌, ◌^◌, IfSome, find, fold};
 ghost use Rattle.th_picture.specs.Scales.{covers, greatest_of, high_of, higher, least_of, lines_of, low_y, lower, moved, raise, raised, scale_between, scale_of, step_of, x_of, y_of};
 
-use th_html::PointRow;
+use th_review_rows::PointRow;
 
 /// What heights are raised by, so that none is below zero.
 pub(crate) const RAISE: u64 = 1_000_000_000_000_000_000;

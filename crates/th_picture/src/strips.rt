@@ -7,10 +7,10 @@ use crate::bars::write_bars;
 use crate::names::is_written;
 use crate::pictures::{write_label_end, write_line};
 use crate::scales::x_of;
-use crate::sights::Sight;
 use std::alloc::AllocError;
 use th_columns::Page;
 use th_html::{write_number, write_place, write_sized};
+use th_review_rows::ObservationRow;
 
 /// The sizes at which the strip has lines, in units of 10 nm: from 1 mm on.
 const POWERS: [u64; 13] = [
@@ -33,7 +33,7 @@ const POWERS: [u64; 13] = [
 const PLACES: u64 = 4;
 
 /// Writes the strip of the residuals of sights. The limit of blunders is in units of 10 nm.
-pub fn write_strip(page: &mut Page, sights: &[Sight], limit: i64) -> Result<(), AllocError>
+pub fn write_strip(page: &mut Page, sights: &[ObservationRow], limit: i64) -> Result<(), AllocError>
     ensures { OnOk result (page.new ≡ page.old ++ strip_text sights.now limit) }
 {
     write_strip_at(page, reach_of(limit, sights), limit, sights)
@@ -45,7 +45,7 @@ fn write_strip_at(
     page: &mut Page,
     reach: u32,
     limit: i64,
-    sights: &[Sight],
+    sights: &[ObservationRow],
 ) -> Result<(), AllocError>
     ensures { OnOk result (page.new ≡ page.old ++ strip_at reach limit sights.now) }
 {
@@ -57,19 +57,19 @@ fn write_strip_at(
 }
 
 /// How far the strip reaches from its middle.
-fn reach_of(limit: i64, sights: &[Sight]) -> u32
+fn reach_of(limit: i64, sights: &[ObservationRow]) -> u32
     ensures { result ≡ reach_of limit sights.now }
 {
     farthest(offset(limit.unsigned_abs()).max(435), sights)
 }
 
 /// The farthest of a reach and of the residuals of some sights.
-fn farthest(start: u32, sights: &[Sight]) -> u32
+fn farthest(start: u32, sights: &[ObservationRow]) -> u32
     ensures { result ≡ fold farther start sights.now }
 {
     let mut most = start;
     for sight in sights {
-        most = most.max(offset(sight.row.residual.unsigned_abs()));
+        most = most.max(offset(sight.residual.unsigned_abs()));
     }
     most
 }
@@ -102,10 +102,10 @@ pub(crate) fn middle(reach: u32) -> u64
 }
 
 /// Where a sight is, from left to right.
-pub(crate) fn sight_x(count: u64, sight: &Sight) -> u32
+pub(crate) fn sight_x(count: u64, sight: &ObservationRow) -> u32
     ensures { result ≡ sight_x count sight.now }
 {
-    x_of(u64::from(sight.row.number.saturating_sub(1)), count)
+    x_of(u64::from(sight.number.saturating_sub(1)), count)
 }
 
 /// Writes the beginning.
@@ -181,7 +181,7 @@ fn write_power(page: &mut Page, reach: u32, away: u32, power: u64) -> Result<(),
 
 /// Writes the places of sights.
 #[tactic(auto, unfolding(crate::specs::Strips::label_lines))]
-fn write_labels(page: &mut Page, reach: u32, sights: &[Sight]) -> Result<(), AllocError>
+fn write_labels(page: &mut Page, reach: u32, sights: &[ObservationRow]) -> Result<(), AllocError>
     ensures { OnOk result (page.new ≡ page.old ++ label_lines reach sights.now) }
 {
     page.add(b"<g class=\"n e\">\n")?;
@@ -190,7 +190,12 @@ fn write_labels(page: &mut Page, reach: u32, sights: &[Sight]) -> Result<(), All
 }
 
 /// Writes the place of each sight that has one.
-fn write_each(page: &mut Page, reach: u32, count: u64, sights: &[Sight]) -> Result<(), AllocError>
+fn write_each(
+    page: &mut Page,
+    reach: u32,
+    count: u64,
+    sights: &[ObservationRow],
+) -> Result<(), AllocError>
     ensures { OnOk result (page.new
         ≡ page.old ++ flat_map (label_of reach count) sights.now) }
 {
@@ -201,10 +206,15 @@ fn write_each(page: &mut Page, reach: u32, count: u64, sights: &[Sight]) -> Resu
 }
 
 /// Writes the place of a sight, if it is written.
-fn write_label_of(page: &mut Page, reach: u32, count: u64, sight: &Sight) -> Result<(), AllocError>
+fn write_label_of(
+    page: &mut Page,
+    reach: u32,
+    count: u64,
+    sight: &ObservationRow,
+) -> Result<(), AllocError>
     ensures { OnOk result (page.new ≡ page.old ++ label_of reach count sight.now) }
 {
-    let k = u64::from(sight.row.number.saturating_sub(1));
+    let k = u64::from(sight.number.saturating_sub(1));
     if is_written(count, PLACES, k) {
         write_label(page, reach, count, sight)
     } else {
@@ -214,7 +224,12 @@ fn write_label_of(page: &mut Page, reach: u32, count: u64, sight: &Sight) -> Res
 
 /// Writes the place of a sight.
 #[tactic(auto, unfolding(crate::specs::Strips::place_label))]
-fn write_label(page: &mut Page, reach: u32, count: u64, sight: &Sight) -> Result<(), AllocError>
+fn write_label(
+    page: &mut Page,
+    reach: u32,
+    count: u64,
+    sight: &ObservationRow,
+) -> Result<(), AllocError>
     ensures { OnOk result (page.new ≡ page.old ++ place_label reach count sight.now) }
 {
     page.add(b"<text x=\"")?;
@@ -222,6 +237,6 @@ fn write_label(page: &mut Page, reach: u32, count: u64, sight: &Sight) -> Result
     page.add(b"\" y=\"")?;
     write_number(page, 2 * u64::from(reach) + 250)?;
     page.add(b"\">")?;
-    write_place(page, sight.row.observation.book, sight.row.observation.line)?;
+    write_place(page, sight.observation.book, sight.observation.line)?;
     page.add(b"</text>\n")
 }

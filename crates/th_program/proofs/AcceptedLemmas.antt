@@ -23,9 +23,9 @@ use Rattle.th_files.proofs.OpenedLemmas.{owed-same}
 use Rattle.th_files.proofs.OutputLemmas.{spot_among}
 use Rattle.th_files.specs.Outputs.{Holds, spot_at, spots_of}
 use Rattle.th_files.specs.Owed.{Told, book_owed, converted_owed, given_by, given_by_books, given_from, survey_owed}
-use Rattle.th_run_explain.specs.Explained.{explaining}
-use Rattle.th_run_page.specs.Paged.{paging}
-use Rattle.th_run_review.specs.Reviewed.{reviewing}
+use Rattle.th_runs.specs.Explained.{explaining}
+use Rattle.th_runs.specs.Paged.{paging}
+use Rattle.th_runs.specs.Reviewed.{reviewing}
 use Rattle.th_program.specs.Accepted.{IsReadAt, OutputsSpare}
 use Rattle.th_program.specs.Done.{AreDone, IsBooked, IsCarriedOut, IsExplained, IsListed, IsPagedFile, IsRefusedBook, IsRefusedExplain, IsRefusedFor, IsRefusedList, IsRefusedPage, IsRefusedReview, IsReviewed, IsRun, IsUsage, WouldOverwrite, form_of}
 use Rattle.th_program.specs.Failing.{HasCause, IsInFiles, Origins}

@@ -10,12 +10,12 @@ use Rattle.th_program.specs.Done.{IsCutExplanation, IsExplained, IsWrite}
 use Rattle.th_files.specs.Owed.{Told, survey_owed}
 use Rattle.th_files.specs.Opened.{AreMade, IsTaken}
 use Rattle.th_files.proofs.OutputLemmas.{all_whole, part_left}
-use Rattle.th_run_explain.specs.Explained.{AreOfExplanation, text_in}
+use Rattle.th_runs.specs.Explained.{AreOfExplanation, text_in}
 use Rattle.th_run_parts.specs.Inputs.{Meets, Owed}
 use Rattle.th_run_parts.specs.Outcomes.{Accepted}
 use Rattle.th_run_parts.specs.Reads.{refused}
 use Rattle.th_run_parts.specs.Writes.{AreWritten, IsWritten, Texts}
-use Rattle.th_run_explain.specs.declared.explaining.Form.{Form}
+use Rattle.th_runs.specs.declared.explaining.Form.{Form}
 use Rattle.th_run_parts.specs.declared.outputs.Output.TheVariants as out
 use Rattle.th_run_parts.specs.declared.refusals.Refusal.{Refusal}
 use Rattle.th_run_parts.specs.declared.refusals.Refusal.TheVariants as refusal

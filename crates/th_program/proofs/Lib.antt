@@ -10,4 +10,5 @@ pub mod OverwriteLemmas
 pub mod HeadlineLemmas
 pub mod PlaceLemmas
 mod NoteLemmas
+mod RanLemmas
 mod AcceptedLemmas

@@ -1,7 +1,7 @@
 -- The notes of a run, once its outputs have their places.
 use Rattle.std.proofs.Common.{◌≡◌, ◌≤◌, ◌+◌, ◌∷◌, ℕ, ℤ, Bool, List, [], None, Some, Ok, Err, length, map, ap, subst, arith, length-append}
 use Rattle.std.specs.Prelude.{OnOk, Option, Result, option_to_list}
-use Rattle.th_devices.specs.Devices.{SinkState, SourceState}
+use Rattle.th_devices.specs.Devices.{SinkState}
 use Rattle.th_devices.specs.Spots.{Spot, file}
 use Rattle.th_devices.specs.Folders.{Failing}
 use Rattle.std.proofs.lemmas.List.{length-map}
@@ -15,11 +15,12 @@ use Rattle.th_commands.specs.Asked.{Files}
 use Rattle.th_commands.specs.PlanLimits.{max_books}
 use Rattle.th_files.specs.Opened.{AreGivenBack}
 use Rattle.th_program.specs.Noted.{AreNotesOfFiles}
-use Rattle.th_files.specs.Owed.{Told, survey_owed}
-use Rattle.th_run_parts.specs.Inputs.{Meets, Owed, told_by}
+use Rattle.th_files.specs.Owed.{Told, survey_owed, tolds_in}
+use Rattle.th_run_parts.specs.Inputs.{Owed}
 use Rattle.th_runs.specs.Noted.{AreNotesOfAdjustment, AreSightless, sightless}
 use Rattle.th_run_parts.specs.Outcomes.{Accepted}
 use Rattle.th_run_parts.specs.Reads.{refused}
+use Rattle.th_run_parts.specs.Summed.{Tolds}
 use Rattle.th_runs.specs.declared.notes.Notes.{Notes}
 use Rattle.th_run_parts.specs.declared.outputs.Output.{Output}
 use Rattle.th_run_parts.specs.declared.refusals.Refusal.{Refusal}
@@ -34,17 +35,23 @@ noted_given tells held has_failed failing sinks outputs (Err own) (Ok y) before 
 noted_given tells held has_failed failing sinks outputs (Err own) (Err other) before after P (same, kept) holds = tt
 
 -- what a run notes of its sources it notes of the named files
-pub noted_files : (told : Told) (from : Files) (limit : ℤ) (notes : Notes) (owed : Owed Survey) (tolds : List (Option (List ℕ))) (result : Result (Unit {0}) Refusal)
-    → owed ≡ survey_owed told (refused result) from → tolds ≡ map (λ name. told (file name)) from.books
-    → OnOk result ((survey : Survey) × Accepted (λ (survey : Survey). survey) owed survey × AreNotesOfAdjustment tolds limit survey notes)
+pub noted_opened : (told : Told) (from : Files) (HasNoted : Tolds → Survey → Type 0) (owed : Owed Survey) (tolds : Tolds) (result : Result (Unit {0}) Refusal)
+    → owed ≡ survey_owed told (refused result) from → tolds ≡ tolds_in told from
+    → OnOk result ((survey : Survey) × Accepted (λ (survey : Survey). survey) owed survey × HasNoted tolds survey)
+    → OnOk result ((survey : Survey) × Accepted (λ (survey : Survey). survey) (survey_owed told None from) survey × HasNoted (tolds_in told from) survey)
+noted_opened told from HasNoted owed tolds (Ok x) is are (survey, accepted, noted) = (
+  survey,
+  subst (λ (known : Owed Survey). Accepted (λ (survey : Survey). survey) known survey) is accepted,
+  subst (λ own. HasNoted own survey) are noted,
+)
+noted_opened told from HasNoted owed tolds (Err own) is are noted = tt
+
+-- as the notes of an adjustment
+pub noted_files : (told : Told) (from : Files) (limit : ℤ) (notes : Notes) (result : Result (Unit {0}) Refusal)
+    → OnOk result ((survey : Survey) × Accepted (λ (survey : Survey). survey) (survey_owed told None from) survey × AreNotesOfAdjustment (tolds_in told from).books limit survey notes)
     → OnOk result (AreNotesOfFiles told from limit notes)
-noted_files told from limit notes owed tolds (Ok x) is books (survey, accepted, noted) = record {
-  survey = survey;
-  given = subst (λ (known : Owed Survey). Meets known (Ok survey)) is accepted.given;
-  network = accepted.network;
-  noted = subst (λ own. AreNotesOfAdjustment own limit survey notes) books noted;
-}
-noted_files told from limit notes owed tolds (Err own) is books noted = tt
+noted_files told from limit notes (Ok x) (survey, accepted, noted) = record { survey = survey; given = accepted.given; network = accepted.network; noted = noted }
+noted_files told from limit notes (Err own) noted = tt
 
 -- no more books are noted than there are
 few_sightless : (number : ℕ) (texts : List (List ℕ)) → length (sightless (numbered number texts)) ≤ length texts
@@ -62,10 +69,9 @@ pub few_of : (number : ℕ) (tolds : List (Option (List ℕ))) (notes : List NoS
 few_of number tolds notes noted =
     omega (arith, ap length noted.noted, few_sightless number noted.texts, AllZip-long _ tolds noted.texts noted.told)
 
-pub few_noted : {S : Type 0} (state_of : S → SourceState) (books : List S) (limit : ℤ) (notes : Notes) (owed : Owed Survey) (result : Result (Unit {0}) Refusal)
-    → length books ≤ max_books
-    → OnOk result ((survey : Survey) × Accepted (λ (survey : Survey). survey) owed survey × AreNotesOfAdjustment (told_by state_of books) limit survey notes)
+pub few_noted : (told : Told) (from : Files) (limit : ℤ) (notes : Notes) (result : Result (Unit {0}) Refusal) → OnOk result (length from.books ≤ max_books)
+    → OnOk result ((survey : Survey) × Accepted (λ (survey : Survey). survey) (survey_owed told None from) survey × AreNotesOfAdjustment (tolds_in told from).books limit survey notes)
     → OnOk result (length notes.books.items ≤ max_books)
-few_noted state_of books limit notes owed (Ok x) few (survey, accepted, noted) =
-    omega (arith, few, few_of 1 (told_by state_of books) notes.books.items noted.books, length-map books (λ source. (state_of source).left))
-few_noted state_of books limit notes owed (Err own) few noted = tt
+few_noted told from limit notes (Ok x) few (survey, accepted, noted) =
+    omega (arith, few, few_of 1 (tolds_in told from).books notes.books.items noted.books, length-map from.books (λ name. told (file name)))
+few_noted told from limit notes (Err own) few noted = tt

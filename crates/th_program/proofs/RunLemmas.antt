@@ -6,7 +6,7 @@ use Rattle.th_run_book.specs.declared.conversions.Conversion.{Conversion}
 use Rattle.th_run_book.specs.declared.conversions.Conversion.TheVariants.{Differences, Heights}
 use Rattle.th_devices.specs.Spots.{Spot, errors, file, input, is_file, output}
 use Rattle.th_devices.specs.Folders.{Failing}
-use Rattle.th_run_page.specs.Paged.{paging}
+use Rattle.th_runs.specs.Paged.{paging}
 use Rattle.th_commands.specs.Plans.{files}
 use Rattle.th_commands.specs.declared.plans.Plan.{Plan}
 use Rattle.th_commands.specs.declared.plans.Plan.TheVariants as plan
@@ -16,7 +16,7 @@ use Rattle.th_program.specs.Done.{IsBooked, IsCut, IsDone, IsListed, IsOutputOf,
 use Rattle.th_files.specs.Owed.{Told, survey_owed}
 use Rattle.th_files.specs.Outputs.{spots_of, AreLeftAs, HoldsPart}
 use Rattle.th_runs.specs.Adjusted.{adjusting}
-use Rattle.th_run_review.specs.Reviewed.{reviewing}
+use Rattle.th_runs.specs.Reviewed.{reviewing}
 use Rattle.th_run_parts.specs.declared.refusals.Refusal.{Refusal}
 use Rattle.std.specs.Prelude.{Option}
 use Rattle.th_network.specs.Networks.{Survey}

@@ -9,7 +9,7 @@ use Rattle.th_observations.specs.Observed.{Observed}
 use Rattle.th_devices.specs.Spots.{Spot, errors, file, input, output}
 use Rattle.th_devices.specs.Folders.{Failing}
 use Rattle.th_network.specs.Networks.{Survey}
-use Rattle.th_run_page.specs.Paged.{AreOfPage, paging}
+use Rattle.th_runs.specs.Paged.{AreOfPage, paging}
 use Rattle.th_commands.specs.Asked.{Files}
 use Rattle.th_commands.specs.Plans.{IsFaultOf, IsPlanOf, files}
 use Rattle.th_commands.specs.declared.faults.PlanFault.{PlanFault}
@@ -22,21 +22,21 @@ use Rattle.th_run_book.specs.declared.conversions.Conversion.{Conversion}
 use Rattle.th_run_book.specs.declared.conversions.Conversion.TheVariants.{Differences, Heights}
 use Rattle.th_runs.specs.Adjusted.{AreOfAdjustment, adjusting}
 use Rattle.th_runs.specs.Checked.{IsRight, check_text, checking, verdict_line, verdict_on}
-use Rattle.th_run_explain.specs.Explained.{AreOfExplanation, explaining}
+use Rattle.th_runs.specs.Explained.{AreOfExplanation, explaining}
 use Rattle.th_run_parts.specs.Inputs.{Claim, IsOwed, MakesNetwork, Meets, MeetsRefusal, Owed}
 use Rattle.th_runs.specs.Listed.{IsOfList}
 use Rattle.th_runs.specs.Noted.{AreNone}
 use Rattle.th_run_parts.specs.Reads.{IsNamed, Run}
 use Rattle.th_run_parts.specs.Refusals.{status_of, status_of_verdict}
 use Rattle.th_run_parts.specs.Summed.{AreClaimSummed}
-use Rattle.th_run_review.specs.Reviewed.{AreOfReview, reviewing}
+use Rattle.th_runs.specs.Reviewed.{AreOfReview, reviewing}
 use Rattle.th_run_parts.specs.Writes.{Texts, UnlessWrite}
 use Rattle.th_runs.specs.declared.notes.Notes.{Notes}
 use Rattle.th_inputs.specs.declared.inputs.Input.{Input}
 use Rattle.th_inputs.specs.declared.inputs.Input.TheVariants as source
 use Rattle.th_inputs.specs.declared.sums.Sum.{Sum}
-use Rattle.th_run_explain.specs.declared.explaining.Form.{Form}
-use Rattle.th_run_explain.specs.declared.explaining.Form.TheVariants as form
+use Rattle.th_runs.specs.declared.explaining.Form.{Form}
+use Rattle.th_runs.specs.declared.explaining.Form.TheVariants as form
 use Rattle.th_run_parts.specs.declared.outputs.Output.{Output}
 use Rattle.th_run_parts.specs.declared.outputs.Output.TheVariants as out
 use Rattle.th_run_parts.specs.declared.refusals.Refusal.{Refusal}

@@ -16,12 +16,12 @@ ghost use Rattle.th_run_parts.specs.Inputs.{Claim, Meets};
 ghost use Rattle.th_inputs.specs.declared.inputs.Input.{Input};
 ghost use Rattle.th_run_book.specs.Booked.{booking};
 ghost use Rattle.th_run_book.specs.declared.conversions.Conversion.TheVariants.{Differences, Heights};
-ghost use Rattle.th_run_explain.specs.Explained.{explaining};
+ghost use Rattle.th_runs.specs.Explained.{explaining};
 ghost use Rattle.th_observations.specs.Observed.{Observed};
-ghost use Rattle.th_run_page.specs.Paged.{paging};
+ghost use Rattle.th_runs.specs.Paged.{paging};
 ghost use Rattle.th_program.specs.Accepted.{IsReadAt, OutputsSpare};
 ghost use Rattle.th_report.specs.Lists.{list_text};
-ghost use Rattle.th_run_review.specs.Reviewed.{reviewing};
+ghost use Rattle.th_runs.specs.Reviewed.{reviewing};
 ghost use Rattle.th_runs.specs.Listed.{listing};
 
 use th_devices::Folder;

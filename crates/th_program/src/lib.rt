@@ -7,13 +7,10 @@
 #![tactic(auto)]
 
 // The commands.
-mod adjusting;
 mod booking;
 mod checking;
-mod explaining;
 mod listing;
-mod paging;
-mod reviewing;
+mod surveying;
 
 // The program: a refusal is reported, a plan that overwrites no input is run, arguments become a plan.
 mod arguments;

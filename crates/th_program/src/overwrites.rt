@@ -7,9 +7,7 @@ use std::alloc::Global;
 use th_commands::Plan;
 use th_devices::Folder;
 use th_files::{Stop, keep_all};
-use th_run_page::PAGED;
-use th_run_review::REVIEWED;
-use th_runs::ADJUSTED;
+use th_runs::{ADJUSTED, PAGED, REVIEWED};
 
 /// Answers that a plan writes no file that it reads, or why it is not begun.
 pub(crate) fn keep_inputs<'a, F: Folder>(

@@ -6,15 +6,12 @@ ghost use Rattle.th_program.specs.Noted.{AreNotesOf};
 ghost use Rattle.th_runs.specs.Noted.{AreNone};
 ghost use Rattle.th_run_parts.specs.Writes.{UnlessWrite};
 
-use crate::adjusting::adjust;
 use crate::booking::make_book;
 use crate::checking::check;
-use crate::explaining::{explain, form_of};
 use crate::listing::list;
 use crate::overwrites::keep_inputs;
-use crate::paging::page;
 use crate::refusals::refuse;
-use crate::reviewing::review;
+use crate::surveying::{adjust, explain, form_of, page, review};
 use std::alloc::Global;
 use th_commands::Plan;
 use th_devices::{Folder, Origin};

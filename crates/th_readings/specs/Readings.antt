@@ -54,6 +54,7 @@ row_of_book cost book left blunders = record {
   kind = kind.Book;
   book = Some book.number;
   line = None;
+  last = None;
   from = None;
   to = None;
   sights = book.sights;

@@ -98,6 +98,7 @@ fn row_of_book(cost: u128, book: &SightedBook, left: u128, blunders: u32) -> Row
         kind: Kind::Book,
         book: Some(book.number),
         line: None,
+        last: None,
         from: None,
         to: None,
         sights: book.sights,

@@ -1,2 +1,9 @@
 mod BelowLemmas
 mod GapLemmas
+mod MedianLemmas
+mod SightLemmas
+mod LargestLemmas
+mod RepeatLemmas
+mod FewLemmas
+mod FarLemmas
+mod SaidLemmas

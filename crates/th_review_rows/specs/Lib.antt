@@ -1,3 +1,5 @@
 pub mod Words
 pub mod Entries
 pub mod Rows
+pub mod Weak
+pub mod Found

@@ -3,7 +3,6 @@ use Rattle.std.specs.Prelude.{ℕ, Bool, true, false, List, [], Option, None, So
 use Rattle.th_entries.specs.declared.entries.HeightKind.{HeightKind}
 use Rattle.th_entries.specs.declared.entries.HeightKind.TheVariants.{Reflector, Instrument}
 use Rattle.th_reliability.specs.declared.blames.Blame.{Blame}
-use Rattle.th_reliability.specs.declared.effects.Effect.{Effect}
 use Rattle.th_reliability.specs.declared.mistakes.Mistake.{Mistake}
 use Rattle.th_reliability.specs.declared.mistakes.Mistake.TheVariants as mistake
 use Rattle.th_reliability.specs.declared.mistakes.SharedMistake.{SharedMistake}
@@ -43,19 +42,14 @@ shared_mistake_mark shared.Drags = codes "  <"
 shared_mistake_mark shared.Unchecked = codes "  0"
 
 -- the word for what a wrong height of a benchmark would do; nothing if no observation has an end there
-abbrev pub effect_word : Option Effect → List ℕ
-effect_word None = []
-effect_word (Some effect) = shared_mistake_word effect.mistake
+abbrev pub benchmark_word : Option SharedMistake → List ℕ
+benchmark_word None = []
+benchmark_word (Some mistake) = shared_mistake_word mistake
 
 -- the mark of a benchmark
-abbrev pub effect_mark : Option Effect → List ℕ
-effect_mark None = []
-effect_mark (Some effect) = shared_mistake_mark effect.mistake
-
--- what a wrong height of a benchmark would move and what would be blamed for it; none if it shows, or does nothing
-abbrev pub blame_in : Option Effect → Option Blame
-blame_in None = None
-blame_in (Some effect) = effect.blame
+abbrev pub benchmark_mark : Option SharedMistake → List ℕ
+benchmark_mark None = []
+benchmark_mark (Some mistake) = shared_mistake_mark mistake
 
 -- the mark of a point, given whether one observation alone holds it and whether its best heights differ
 abbrev pub point_mark : Bool → Bool → List ℕ

@@ -14,7 +14,7 @@ use th_reliability::{Effect, Runs};
 ///
 /// If the observations are in the order of books and lines, as in a survey, it takes one pass over
 /// them, and one over the sights of each entry.
-pub fn entry_rows(
+pub(crate) fn entry_rows(
     alloc: Global,
     network: &Network,
     reviews: &[BookReview],
@@ -44,7 +44,8 @@ fn rows_of(
         rows.push(EntryRow {
             entry: *entry,
             weight: entry_weight(network, &runs, entry),
-            effect: effects[k],
+            mistake: effects[k].mistake,
+            blame: effects[k].blame,
         })?;
     }
     Ok(rows)

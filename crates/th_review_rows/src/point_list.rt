@@ -12,7 +12,7 @@ use th_network::Network;
 
 /// The rows of a network's points, with the lowest and the highest best heights, the strengths, and
 /// the strengths where all weights are 1, each listed in point order.
-pub fn point_rows(
+pub(crate) fn point_rows(
     alloc: Global,
     network: &Network,
     low: &[i64],

@@ -2,7 +2,7 @@
 use gsi_word::Name;
 use th_entries::Entry;
 use th_observations::Observation;
-use th_reliability::{BenchmarkEffect, Blame, Effect, Mistake};
+use th_reliability::{Blame, Mistake, SharedMistake};
 
 /// A point of a network, and what was found of it. Heights are in units of 10 nm.
 #[derive(Clone, Copy, Debug)]
@@ -20,6 +20,15 @@ pub struct PointRow {
     pub alone: bool,
 }
 
+/// An end of an observation.
+#[derive(Clone, Copy, Debug)]
+pub struct End {
+    /// The place of the point in point order, from 0.
+    pub place: u64,
+    /// The lowest of its best heights, in units of 10 nm.
+    pub low: i64,
+}
+
 /// An observation of a network, and what was found of it.
 #[derive(Clone, Copy, Debug)]
 pub struct ObservationRow {
@@ -35,6 +44,10 @@ pub struct ObservationRow {
     pub mistake: Mistake,
     /// What that would move, and what would be blamed for it; `None` where it shows.
     pub blame: Option<Blame>,
+    /// The station.
+    pub from: End,
+    /// The target.
+    pub to: End,
 }
 
 /// An entry of a book, and what was found of it.
@@ -44,7 +57,9 @@ pub struct EntryRow {
     /// The sum of the weights of its sights.
     pub weight: u32,
     /// What a mistake in it would do.
-    pub effect: Effect,
+    pub mistake: SharedMistake,
+    /// What that would move, and what would be blamed for it; `None` where it shows.
+    pub blame: Option<Blame>,
 }
 
 /// A benchmark, and what was found of it.
@@ -53,6 +68,14 @@ pub struct BenchmarkRow {
     pub name: Name,
     /// Its height in the table, in units of 10 nm.
     pub height: i64,
-    /// What a wrong height would do.
-    pub found: BenchmarkEffect,
+    /// How many observations have an end there.
+    pub sights: usize,
+    /// What they weigh together.
+    pub weight: u32,
+    /// The strength; `None` if there is no other benchmark.
+    pub strength: Option<u32>,
+    /// What a wrong height would do; `None` if no observation has an end there.
+    pub mistake: Option<SharedMistake>,
+    /// What that would move, and what would be blamed for it; `None` where it shows, or does nothing.
+    pub blame: Option<Blame>,
 }

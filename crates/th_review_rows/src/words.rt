@@ -1,10 +1,10 @@
 //! The words and marks of a review.
 ghost use Rattle.std.specs.Prelude.{◌≡◌};
-ghost use Rattle.th_review_rows.specs.Words.{blame_in, blamed_of, blames_of, effect_mark, effect_word, kind_word, mistake_mark, mistake_word, moves_of, number_or_dash, point_mark, shared_mistake_mark, shared_mistake_word};
+ghost use Rattle.th_review_rows.specs.Words.{benchmark_mark, benchmark_word, blamed_of, blames_of, kind_word, mistake_mark, mistake_word, moves_of, number_or_dash, point_mark, shared_mistake_mark, shared_mistake_word};
 
 use itoa::Buffer;
 use th_entries::HeightKind;
-use th_reliability::{Blame, Effect, Mistake, SharedMistake};
+use th_reliability::{Blame, Mistake, SharedMistake};
 
 /// The word for what a mistake in an observation would do.
 pub fn mistake_word(mistake: &Mistake) -> &[u8]
@@ -65,32 +65,22 @@ pub fn shared_mistake_mark(mistake: &SharedMistake) -> &[u8]
 }
 
 /// The word for what a wrong height of a benchmark would do; nothing if no observation has an end there.
-pub fn effect_word(effect: &Option<Effect>) -> &[u8]
-    ensures { result.now ≡ effect_word effect.now }
+pub fn benchmark_word(mistake: &Option<SharedMistake>) -> &[u8]
+    ensures { result.now ≡ benchmark_word mistake.now }
 {
-    match effect {
-        Some(effect) => shared_mistake_word(&effect.mistake),
+    match mistake {
+        Some(mistake) => shared_mistake_word(mistake),
         None => b"",
     }
 }
 
 /// The mark of a benchmark.
-pub fn effect_mark(effect: &Option<Effect>) -> &[u8]
-    ensures { result.now ≡ effect_mark effect.now }
+pub fn benchmark_mark(mistake: &Option<SharedMistake>) -> &[u8]
+    ensures { result.now ≡ benchmark_mark mistake.now }
 {
-    match effect {
-        Some(effect) => shared_mistake_mark(&effect.mistake),
+    match mistake {
+        Some(mistake) => shared_mistake_mark(mistake),
         None => b"",
-    }
-}
-
-/// What a wrong height of a benchmark would move and what would be blamed for it.
-pub fn blame_in(effect: Option<Effect>) -> Option<Blame>
-    ensures { result ≡ blame_in effect }
-{
-    match effect {
-        Some(effect) => effect.blame,
-        None => None,
     }
 }
 

@@ -4,12 +4,11 @@ use Rattle.th_network.specs.Networks.{Survey, points_of}
 use Rattle.th_columns.specs.Columns.{line_end}
 use Rattle.th_report.specs.Reports.{benchmark_count}
 use Rattle.th_columns.specs.Labels.{label_line}
+use Rattle.th_review_rows.specs.Found.{FoundRows}
+use Rattle.th_review_rows.specs.Weak.{is_weak_benchmark, is_weak_entry}
 use Rattle.th_review_rows.specs.Words.{number_or_dash}
-use Rattle.th_reliability.specs.declared.effects.Effect.{Effect}
 use Rattle.th_reliability.specs.declared.mistakes.Mistake.{Mistake}
 use Rattle.th_reliability.specs.declared.mistakes.Mistake.TheVariants as mistake
-use Rattle.th_reliability.specs.declared.mistakes.SharedMistake.{SharedMistake}
-use Rattle.th_reliability.specs.declared.mistakes.SharedMistake.TheVariants as shared
 use Rattle.th_review_rows.specs.declared.rows.PointRow.{PointRow}
 use Rattle.th_review_rows.specs.declared.rows.ObservationRow.{ObservationRow}
 use Rattle.th_review_rows.specs.declared.rows.EntryRow.{EntryRow}
@@ -53,18 +52,6 @@ is_tie mistake.Hides = false
 is_tie mistake.Ties = true
 is_tie mistake.Shows = false
 
--- whether a mistake in an entry may not show
-abbrev pub is_weak : SharedMistake → Bool
-is_weak shared.Shows = false
-is_weak shared.Ties = true
-is_weak shared.Drags = true
-is_weak shared.Unchecked = true
-
--- whether a wrong height of a benchmark may not show; one without observations has no mistake
-abbrev pub is_weak_effect : Option Effect → Bool
-is_weak_effect None = false
-is_weak_effect (Some effect) = is_weak effect.mistake
-
 -- the counts of observations whose mistake is unchecked, hides or ties
 unfoldable pub mistake_lines : List ObservationRow → List ℕ
 mistake_lines observations =
@@ -76,11 +63,11 @@ mistake_lines observations =
 unfoldable pub entry_count_lines : List EntryRow → List ℕ
 entry_count_lines entries =
     label_line (codes "entries") (decimal (length entries))
-    ++ label_line (codes "weak entries") (decimal (count_by (λ row. is_weak row.effect.mistake) entries))
+    ++ label_line (codes "weak entries") (decimal (count_by is_weak_entry entries))
 
 -- the count of benchmarks whose wrong height may not show
 unfoldable pub weak_benchmark_line : List BenchmarkRow → List ℕ
-weak_benchmark_line benchmarks = label_line (codes "weak benchmark") (decimal (count_by (λ row. is_weak_effect row.found.effect) benchmarks))
+weak_benchmark_line benchmarks = label_line (codes "weak benchmark") (decimal (count_by is_weak_benchmark benchmarks))
 
 -- the lesser of two strengths, of which one may be missing
 abbrev pub lesser : Option ℕ → Option ℕ → Option ℕ
@@ -93,8 +80,8 @@ abbrev pub weakest : List PointRow → Option ℕ
 weakest points = fold (λ least row. lesser least row.strength) None points
 
 -- the title, and the numbers of the review
-unfoldable pub head_lines : Survey → List PointRow → List ObservationRow → List EntryRow → List BenchmarkRow → List ℕ
-head_lines survey points observations entries benchmarks =
-    title_line ++ survey_lines survey ++ mistake_lines observations ++ entry_count_lines entries
-    ++ weak_benchmark_line benchmarks
-    ++ label_line (codes "weakest point") (number_or_dash (weakest points))
+unfoldable pub head_lines : FoundRows → List ℕ
+head_lines found =
+    title_line ++ survey_lines found.survey ++ mistake_lines found.observations ++ entry_count_lines found.entries
+    ++ weak_benchmark_line found.benchmarks
+    ++ label_line (codes "weakest point") (number_or_dash (weakest found.points))

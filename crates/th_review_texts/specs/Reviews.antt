@@ -11,10 +11,11 @@ use Rattle.th_columns.specs.Labels.{label_line, limit_line}
 use Rattle.th_inputs.specs.Inputs.{NamedInput, input_lines}
 use Rattle.th_review_texts.specs.Heads.{head_lines}
 use Rattle.th_review_texts.specs.Largest.{largest}
+use Rattle.th_notes.specs.Books.{counts_of_books}
 use Rattle.th_notes.specs.Notes.{note_lines}
-use Rattle.th_review_rows.specs.Words.{blame_in, blames_of, effect_mark, kind_word, mistake_mark, moves_of, number_or_dash, point_mark, shared_mistake_mark}
+use Rattle.th_review_rows.specs.Found.{FoundRows}
+use Rattle.th_review_rows.specs.Words.{benchmark_mark, blames_of, kind_word, mistake_mark, moves_of, number_or_dash, point_mark, shared_mistake_mark}
 use Rattle.th_entries.specs.declared.counts.BookCount.{BookCount}
-use Rattle.th_notes.specs.declared.notes.Note.{Note}
 use Rattle.th_review_rows.specs.declared.rows.PointRow.{PointRow}
 use Rattle.th_review_rows.specs.declared.rows.ObservationRow.{ObservationRow}
 use Rattle.th_review_rows.specs.declared.rows.EntryRow.{EntryRow}
@@ -111,7 +112,7 @@ unfoldable pub entry_line : EntryRow → List ℕ
 entry_line row =
     entry_places (decimal row.entry.book) (decimal row.entry.line) (kind_word row.entry.kind) row.entry.station
     ++ entry_values (metres row.entry.length) (decimal row.entry.sights) (decimal row.weight)
-    ++ moved_columns (number_or_dash (moves_of row.effect.blame)) (number_or_dash (blames_of row.effect.blame)) (shared_mistake_mark row.effect.mistake)
+    ++ moved_columns (number_or_dash (moves_of row.blame)) (number_or_dash (blames_of row.blame)) (shared_mistake_mark row.mistake)
 
 -- the table of entries
 unfoldable pub entry_lines : List EntryRow → List ℕ
@@ -129,8 +130,8 @@ benchmark_columns name height sights weight strength =
 -- the line of a benchmark
 unfoldable pub benchmark_line : BenchmarkRow → List ℕ
 benchmark_line row =
-    benchmark_columns row.name (metres row.height) (decimal row.found.sights) (decimal row.found.weight) (number_or_dash row.found.strength)
-    ++ moved_columns (number_or_dash (moves_of (blame_in row.found.effect))) (number_or_dash (blames_of (blame_in row.found.effect))) (effect_mark row.found.effect)
+    benchmark_columns row.name (metres row.height) (decimal row.sights) (decimal row.weight) (number_or_dash row.strength)
+    ++ moved_columns (number_or_dash (moves_of row.blame)) (number_or_dash (blames_of row.blame)) (benchmark_mark row.mistake)
 
 -- the table of benchmarks
 unfoldable pub benchmark_lines : List BenchmarkRow → List ℕ
@@ -140,22 +141,21 @@ benchmark_lines benchmarks =
     ++ flat_map benchmark_line benchmarks
 
 -- the part before the table of points: the head, the books, the inputs and the largest residuals, with an empty line after each
-unfoldable pub front_part : Survey → List PointRow → List ObservationRow → List EntryRow → List BenchmarkRow → List BookCount → List NamedInput → ℤ → List ℕ
-front_part survey points observations entries benchmarks books inputs limit =
-    head_lines survey points observations entries benchmarks ++ line_end
-    ++ book_lines books ++ line_end
+unfoldable pub front_part : FoundRows → List NamedInput → ℤ → List ℕ
+front_part found inputs limit =
+    head_lines found ++ line_end
+    ++ book_lines (counts_of_books found.books) ++ line_end
     ++ input_lines inputs ++ line_end
-    ++ largest_lines limit observations ++ line_end
+    ++ largest_lines limit found.observations ++ line_end
 
 -- the tables of all points, observations, entries and benchmarks, with an empty line after each
-unfoldable pub table_part : Survey → List PointRow → List ObservationRow → List EntryRow → List BenchmarkRow → List ℕ
-table_part survey points observations entries benchmarks =
-    point_lines (largest_weight survey) points ++ line_end
-    ++ observation_lines observations ++ line_end
-    ++ entry_lines entries ++ line_end
-    ++ benchmark_lines benchmarks ++ line_end
+unfoldable pub table_part : FoundRows → List ℕ
+table_part found =
+    point_lines (largest_weight found.survey) found.points ++ line_end
+    ++ observation_lines found.observations ++ line_end
+    ++ entry_lines found.entries ++ line_end
+    ++ benchmark_lines found.benchmarks ++ line_end
 
 -- the text of the review
-unfoldable pub review_text : Survey → List PointRow → List ObservationRow → List EntryRow → List BenchmarkRow → List BookCount → List NamedInput → List Note → ℤ → List ℕ
-review_text survey points observations entries benchmarks books inputs notes limit =
-    front_part survey points observations entries benchmarks books inputs limit ++ table_part survey points observations entries benchmarks ++ note_lines notes
+unfoldable pub review_text : FoundRows → List NamedInput → ℤ → List ℕ
+review_text found inputs limit = front_part found inputs limit ++ table_part found ++ note_lines found.notes

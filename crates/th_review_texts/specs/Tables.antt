@@ -3,7 +3,7 @@ use Rattle.std.specs.Prelude.{ℕ, List, [], ◌∷◌, Option, None, Some, code
 use Rattle.th_units.specs.Metres.{metres}
 use Rattle.th_csv.specs.Records.{Fields}
 use Rattle.th_csv.specs.Texts.{csv_text}
-use Rattle.th_review_rows.specs.Words.{blame_in, blamed_of, blames_of, effect_word, kind_word, mistake_word, moves_of, shared_mistake_word}
+use Rattle.th_review_rows.specs.Words.{benchmark_word, blamed_of, blames_of, kind_word, mistake_word, moves_of, shared_mistake_word}
 use Rattle.th_review_rows.specs.declared.rows.PointRow.{PointRow}
 use Rattle.th_review_rows.specs.declared.rows.ObservationRow.{ObservationRow}
 use Rattle.th_review_rows.specs.declared.rows.EntryRow.{EntryRow}
@@ -46,8 +46,8 @@ entries_header = codes "book" ∷ codes "line" ∷ codes "word" ∷ codes "stati
 unfoldable pub entry_record : EntryRow → Fields
 entry_record row =
     decimal row.entry.book ∷ decimal row.entry.line ∷ kind_word row.entry.kind ∷ row.entry.station ∷ metres row.entry.length
-    ∷ decimal row.entry.sights ∷ decimal row.weight ∷ shared_mistake_word row.effect.mistake
-    ∷ number_field (moves_of row.effect.blame) ∷ number_field (blames_of row.effect.blame) ∷ number_field (blamed_of row.effect.blame) ∷ []
+    ∷ decimal row.entry.sights ∷ decimal row.weight ∷ shared_mistake_word row.mistake
+    ∷ number_field (moves_of row.blame) ∷ number_field (blames_of row.blame) ∷ number_field (blamed_of row.blame) ∷ []
 
 -- the text of the table of entries
 abbrev pub entries_text : List EntryRow → List ℕ
@@ -59,8 +59,8 @@ benchmarks_header = codes "point" ∷ codes "height" ∷ codes "sights" ∷ code
 -- the fields of a benchmark
 unfoldable pub benchmark_record : BenchmarkRow → Fields
 benchmark_record row =
-    row.name ∷ metres row.height ∷ decimal row.found.sights ∷ decimal row.found.weight ∷ number_field row.found.strength ∷ effect_word row.found.effect
-    ∷ number_field (moves_of (blame_in row.found.effect)) ∷ number_field (blames_of (blame_in row.found.effect)) ∷ number_field (blamed_of (blame_in row.found.effect)) ∷ []
+    row.name ∷ metres row.height ∷ decimal row.sights ∷ decimal row.weight ∷ number_field row.strength ∷ benchmark_word row.mistake
+    ∷ number_field (moves_of row.blame) ∷ number_field (blames_of row.blame) ∷ number_field (blamed_of row.blame) ∷ []
 
 -- the text of the table of benchmarks
 abbrev pub benchmarks_text : List BenchmarkRow → List ℕ

@@ -9,7 +9,7 @@ use crate::moves::{write_moved, write_moved_columns};
 use itoa::Buffer;
 use std::alloc::AllocError;
 use th_columns::Page;
-use th_review_rows::{BenchmarkRow, blame_in, effect_mark, number_or_dash};
+use th_review_rows::{BenchmarkRow, benchmark_mark, number_or_dash};
 use th_units::metre_text;
 
 /// Writes the table of benchmarks.
@@ -41,18 +41,14 @@ fn write_benchmark(page: &mut Page, row: &BenchmarkRow) -> Result<(), AllocError
     ensures { OnOk result (page.new ≡ page.old ++ benchmark_line row.now) }
 {
     write_numbers(page, row)?;
-    write_moved(
-        page,
-        blame_in(row.found.effect),
-        effect_mark(&row.found.effect),
-    )
+    write_moved(page, row.blame, benchmark_mark(&row.mistake))
 }
 
 /// Writes a benchmark's name and height, and the numbers of its observations.
 fn write_numbers(page: &mut Page, row: &BenchmarkRow) -> Result<(), AllocError>
     ensures { OnOk result (page.new ≡ page.old ++ benchmark_columns row.now.name (metres row.now.height)
-        (decimal row.now.found.sights) (decimal row.now.found.weight)
-        (number_or_dash row.now.found.strength)) }
+        (decimal row.now.sights) (decimal row.now.weight)
+        (number_or_dash row.now.strength)) }
 {
     let height = metre_text(row.height);
     let mut sights = Buffer::new();
@@ -62,9 +58,9 @@ fn write_numbers(page: &mut Page, row: &BenchmarkRow) -> Result<(), AllocError>
         page,
         row.name.as_bytes(),
         height.as_bytes(),
-        sights.format(row.found.sights).as_bytes(),
-        weight.format(row.found.weight).as_bytes(),
-        number_or_dash(&mut strength, row.found.strength),
+        sights.format(row.sights).as_bytes(),
+        weight.format(row.weight).as_bytes(),
+        number_or_dash(&mut strength, row.strength),
     )
 }
 

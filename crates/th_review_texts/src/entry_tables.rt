@@ -41,11 +41,7 @@ fn write_entry(page: &mut Page, row: &EntryRow) -> Result<(), AllocError>
 {
     write_place(page, &row.entry)?;
     write_values(page, row)?;
-    write_moved(
-        page,
-        row.effect.blame,
-        shared_mistake_mark(&row.effect.mistake),
-    )
+    write_moved(page, row.blame, shared_mistake_mark(&row.mistake))
 }
 
 /// Writes which entry it is.

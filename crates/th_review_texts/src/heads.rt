@@ -1,36 +1,32 @@
 //! The first lines of a review.
 ghost use Rattle.std.specs.Prelude.{◌≡◌, ◌++◌, OnOk, codes, count_by};
 ghost use Rattle.th_columns.specs.Labels.{label_line};
-ghost use Rattle.th_review_texts.specs.Heads.{entry_count_lines, head_lines, is_hidden, is_tie, is_unchecked, is_weak, is_weak_effect, lesser, loop_count, mistake_lines, survey_lines, title_line, weak_benchmark_line, weakest};
+ghost use Rattle.th_review_rows.specs.Found.{rows_in};
+ghost use Rattle.th_review_texts.specs.Heads.{entry_count_lines, head_lines, is_hidden, is_tie, is_unchecked, lesser, loop_count, mistake_lines, survey_lines, title_line, weak_benchmark_line, weakest};
 ghost use Rattle.th_review_rows.specs.Words.{number_or_dash};
 
 use itoa::Buffer;
 use std::alloc::AllocError;
 use th_columns::{Page, write_count, write_label};
 use th_network::Network;
-use th_reliability::{Effect, Mistake, SharedMistake};
+use th_reliability::Mistake;
 use th_report::benchmark_count;
-use th_review_rows::{BenchmarkRow, EntryRow, ObservationRow, PointRow, number_or_dash};
+use th_review_rows::{
+    BenchmarkRow, EntryRow, Found, ObservationRow, PointRow, number_or_dash, weak_benchmark_count,
+    weak_entry_count,
+};
 
 /// Writes the title and the counts.
 #[tactic(auto, unfolding(crate::specs::Heads::head_lines))]
-pub(crate) fn write_head(
-    page: &mut Page,
-    network: &Network,
-    points: &[PointRow],
-    observations: &[ObservationRow],
-    entries: &[EntryRow],
-    benchmarks: &[BenchmarkRow],
-) -> Result<(), AllocError>
-    ensures { OnOk result (page.new ≡ page.old ++ head_lines network.now points.now
-        observations.now entries.now benchmarks.now) }
+pub(crate) fn write_head(page: &mut Page, found: &Found<'_>) -> Result<(), AllocError>
+    ensures { OnOk result (page.new ≡ page.old ++ head_lines (rows_in found.now)) }
 {
     write_title(page)?;
-    write_survey(page, network)?;
-    write_mistakes(page, observations)?;
-    write_entry_counts(page, entries)?;
-    write_weak_benchmarks(page, benchmarks)?;
-    write_weakest(page, points)
+    write_survey(page, found.network)?;
+    write_mistakes(page, &found.observations)?;
+    write_entry_counts(page, &found.entries)?;
+    write_weak_benchmarks(page, &found.benchmarks)?;
+    write_weakest(page, &found.points)
 }
 
 /// Writes the title.
@@ -118,20 +114,7 @@ fn write_entry_counts(page: &mut Page, entries: &[EntryRow]) -> Result<(), Alloc
     ensures { OnOk result (page.new ≡ page.old ++ entry_count_lines entries.now) }
 {
     write_count(page, b"entries", entries.len())?;
-    write_count(page, b"weak entries", weak_count(entries))
-}
-
-/// How many entries have a mistake that may not show.
-fn weak_count(entries: &[EntryRow]) -> usize
-    ensures { result ≡ count_by (λ row. is_weak row.effect.mistake) entries.now }
-{
-    let mut count = 0;
-    for row in entries {
-        if !matches!(row.effect.mistake, SharedMistake::Shows) {
-            count += 1;
-        }
-    }
-    count
+    write_count(page, b"weak entries", weak_entry_count(entries))
 }
 
 /// Writes how many benchmarks are weak.
@@ -140,29 +123,6 @@ fn write_weak_benchmarks(page: &mut Page, benchmarks: &[BenchmarkRow]) -> Result
     ensures { OnOk result (page.new ≡ page.old ++ weak_benchmark_line benchmarks.now) }
 {
     write_count(page, b"weak benchmark", weak_benchmark_count(benchmarks))
-}
-
-/// How many benchmarks have a mistake that may not show.
-fn weak_benchmark_count(benchmarks: &[BenchmarkRow]) -> usize
-    ensures { result ≡ count_by (λ row. is_weak_effect row.found.effect) benchmarks.now }
-{
-    let mut count = 0;
-    for row in benchmarks {
-        if is_weak_effect(row.found.effect) {
-            count += 1;
-        }
-    }
-    count
-}
-
-/// Whether a wrong height of a benchmark may not show.
-fn is_weak_effect(effect: Option<Effect>) -> bool
-    ensures { result ≡ is_weak_effect effect }
-{
-    match effect {
-        Some(effect) => !matches!(effect.mistake, SharedMistake::Shows),
-        None => false,
-    }
 }
 
 /// Writes the least strength.

@@ -1,7 +1,7 @@
 //! The texts that a review of a network writes: the tables of points, of observations, of entries and of
 //! benchmarks as comma-separated values, and the review for people.
 //!
-//! `review_texts` makes them from the rows of `th_review_rows`. Out of memory is the only failure.
+//! `review_texts` makes them from what `th_review_rows` says was found. Out of memory is the only failure.
 #![tactic(auto)]
 
 // The tables.
@@ -22,4 +22,4 @@ mod reviews;
 // All of them.
 mod texts;
 
-pub use texts::{Findings, ReviewTexts, review_texts};
+pub use texts::{ReviewTexts, review_texts};

@@ -7,7 +7,7 @@ use itoa::Buffer;
 use std::alloc::{AllocError, Global};
 use th_csv::RowWriter;
 use th_review_rows::{
-    BenchmarkRow, EntryRow, ObservationRow, PointRow, blame_in, blamed_of, blames_of, effect_word,
+    BenchmarkRow, EntryRow, ObservationRow, PointRow, benchmark_word, blamed_of, blames_of,
     kind_word, mistake_word, moves_of, shared_mistake_word,
 };
 use th_units::metre_text;
@@ -153,10 +153,10 @@ fn write_entry(rows: &mut RowWriter, row: &EntryRow) -> Result<(), AllocError>
         length.as_bytes(),
         sights.format(row.entry.sights).as_bytes(),
         weight.format(row.weight).as_bytes(),
-        shared_mistake_word(&row.effect.mistake),
-        count_field(&mut moves, moves_of(row.effect.blame)),
-        count_field(&mut blames, blames_of(row.effect.blame)),
-        count_field(&mut blamed, blamed_of(row.effect.blame)),
+        shared_mistake_word(&row.mistake),
+        count_field(&mut moves, moves_of(row.blame)),
+        count_field(&mut blames, blames_of(row.blame)),
+        count_field(&mut blamed, blamed_of(row.blame)),
     ])
 }
 
@@ -205,17 +205,16 @@ fn write_benchmark(rows: &mut RowWriter, row: &BenchmarkRow) -> Result<(), Alloc
     let mut blames = Buffer::new();
     let mut blamed = Buffer::new();
     let height = metre_text(row.height);
-    let blame = blame_in(row.found.effect);
     rows.write(&[
         row.name.as_bytes(),
         height.as_bytes(),
-        sights.format(row.found.sights).as_bytes(),
-        weight.format(row.found.weight).as_bytes(),
-        number_field(&mut strength, row.found.strength),
-        effect_word(&row.found.effect),
-        count_field(&mut moves, moves_of(blame)),
-        count_field(&mut blames, blames_of(blame)),
-        count_field(&mut blamed, blamed_of(blame)),
+        sights.format(row.sights).as_bytes(),
+        weight.format(row.weight).as_bytes(),
+        number_field(&mut strength, row.strength),
+        benchmark_word(&row.mistake),
+        count_field(&mut moves, moves_of(row.blame)),
+        count_field(&mut blames, blames_of(row.blame)),
+        count_field(&mut blamed, blamed_of(row.blame)),
     ])
 }
 

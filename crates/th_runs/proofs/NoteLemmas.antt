@@ -1,5 +1,5 @@
 -- What is noted of books that were read one after the other.
-use Rattle.std.proofs.Common.{◌≡◌, ◌∙◌, ◌+◌, ℕ, List, [], ◌∷◌, ◌++◌, Ok, Err, ap, append-nil, append_assoc, sym}
+use Rattle.std.proofs.Common.{◌≡◌, ◌∙◌, ◌+◌, ℕ, ℤ, Global, List, [], ◌∷◌, ◌++◌, Ok, Err, Vec, ap, append-nil, append_assoc, subst, sym}
 use Rattle.std.specs.Prelude.{OnOk, Option, Result, option_to_list}
 use Rattle.th_observations.specs.Observed.{Observed}
 use Rattle.th_entries.specs.Reviews.{parsed_of}
@@ -8,7 +8,19 @@ use Rattle.th_entries.specs.Sights.{no_sight_in}
 use Rattle.th_entries.specs.declared.sights.NoSight.{NoSight}
 use Rattle.th_run_parts.specs.Readers.{HasReadBooks}
 use Rattle.th_runs.specs.Inside.Readers.{IsNotedNext}
-use Rattle.th_runs.specs.Noted.{AreNone, AreNotesOfList, AreSightless, sightless}
+use Rattle.th_network.specs.Networks.{Survey, at_points_of}
+use Rattle.th_blunders.specs.Residuals.{residuals}
+use Rattle.th_circulation.specs.Best.{Best, IsBest}
+use Rattle.th_remarks.specs.Heights.{IsHeightsNote}
+use Rattle.th_remarks.specs.Marks.{IsMarksNote}
+use Rattle.th_remarks.specs.Outliers.{IsOutlierNote}
+use Rattle.th_remarks.specs.Remarks.{AreOfResiduals, AreOfSurvey, IsSilent}
+use Rattle.th_remarks.specs.Repeats.{AreRepeatNotes}
+use Rattle.th_remarks.specs.declared.cases.Alike.{Alike}
+use Rattle.th_remarks.specs.declared.collected.Remarks.{Remarks}
+use Rattle.th_remarks.specs.declared.heights.ManyHeights.{ManyHeights}
+use Rattle.th_remarks.specs.declared.repeats.Repeat.{Repeat}
+use Rattle.th_runs.specs.Noted.{AreNone, AreNotesOfList, AreRemarks, AreSightless, sightless}
 use Rattle.th_run_parts.specs.Inputs.{AreTold}
 use Rattle.th_runs.specs.declared.notes.Notes.{Notes}
 
@@ -58,5 +70,25 @@ list_noted told old new none next = record {
     noted = next.noted ∙ ap (λ (own : List NoSight). own ++ option_to_list (no_sight_in 1 (parsed_of next.text))) none.books
         ∙ sym (append-nil (option_to_list (no_sight_in 1 (parsed_of next.text))));
   };
-  heights = next.heights ∙ none.heights;
+  remarks = subst IsSilent (sym next.remarks) none.remarks;
+}
+
+-- remarks with one on heights are all remarks on a survey
+pub remarks_with : (survey : Survey) (best : Best) (limit : ℤ) (left : List ℤ) (own later : Remarks) (heights : Option ManyHeights)
+    → AreOfSurvey survey own → AreOfResiduals survey left limit own
+    → later.repeats ≡ own.repeats → later.alike ≡ own.alike → later.marks ≡ own.marks → later.outlier ≡ own.outlier
+    → IsBest survey best → IsHeightsNote survey best.low best.high limit heights → later.heights ≡ heights
+    → left ≡ residuals survey.observations (at_points_of survey best.low) → AreRemarks survey limit later
+remarks_with survey best limit left own later heights books residual repeats alike marks outlier is_best note same is = record {
+  books = record {
+    repeats = subst (λ (repeats : Vec Repeat Global). AreRepeatNotes survey.observations repeats.items) (sym repeats) books.repeats;
+    alike = ap (λ (alike : Vec Alike Global). alike.items) alike ∙ books.alike;
+  };
+  best = best;
+  is_best = is_best;
+  heights = subst (IsHeightsNote survey best.low best.high limit) (sym same) note;
+  residuals = subst (λ left. AreOfResiduals survey left limit later) is (record {
+    marks = subst (IsMarksNote limit left) (sym marks) residual.marks;
+    outlier = subst (IsOutlierNote survey left limit) (sym outlier) residual.outlier;
+  });
 }

@@ -7,7 +7,7 @@ use th_book::BookFeed;
 use th_devices::Source;
 use th_entries::{NoSight, SightWatch};
 use th_observations::Observation;
-use th_remarks::ManyHeights;
+use th_remarks::Remarks;
 use th_run_parts::{BookReader, Refusal, SeenFeed, feed_from, refusal_of};
 
 /// What a surveyor should know of a run that was not refused, though no output shows it.
@@ -15,8 +15,8 @@ use th_run_parts::{BookReader, Refusal, SeenFeed, feed_from, refusal_of};
 pub struct Notes {
     /// The books that have blocks and no sight, in their order.
     pub books: Vec<NoSight>,
-    /// If best heights are not unique by more than the limit of blunders.
-    pub heights: Option<ManyHeights>,
+    /// What is remarked on the survey.
+    pub remarks: Remarks,
 }
 
 impl Notes {
@@ -26,14 +26,14 @@ impl Notes {
     {
         Notes {
             books: Vec::new(alloc),
-            heights: None,
+            remarks: Remarks::none(alloc),
         }
     }
 
     /// Notes the next book, if it has no sight.
     fn add(&mut self, note: Option<NoSight>) -> Result<(), AllocError>
         ensures books { OnOk result (self.new.books.items ≡ self.old.books.items ++ option_to_list note) }
-        ensures heights { self.new.heights ≡ self.old.heights }
+        ensures remarks { self.new.remarks ≡ self.old.remarks }
     {
         if let Some(note) = note {
             self.books.push(note)?;

@@ -1,8 +1,12 @@
 -- How the entries of a book are found line by line.
 use Rattle.std.specs.Prelude.{ℕ, ℤ, ◌+◌, ◌-◌, ◌^◌, ◌++◌, min, Bool, false, List, Option, Some, None, if◌then◌else◌, is_some, length, option_to_list, slice_get, slice_set}
 use Rattle.std.specs.Ordering.{int_eq}
+use Rattle.gsi_word.specs.Indexes.{reflector_height, instrument_height}
+use Rattle.gsi_word.specs.Words.{Parts}
+use Rattle.th_units.specs.declared.units.Unit.{Unit}
 use Rattle.th_book.specs.declared.entries.Entered.{Entered}
 use Rattle.th_book.specs.declared.setups.Setup.{Setup}
+use Rattle.th_entries.specs.Entries.{unit_in}
 use Rattle.th_entries.specs.declared.entries.Entry.{Entry}
 use Rattle.th_entries.specs.declared.entries.HeightKind.{HeightKind}
 use Rattle.th_entries.specs.declared.entries.HeightKind.TheVariants.{Reflector, Instrument}
@@ -30,17 +34,19 @@ is_same (Some last) length = int_eq last length
 abbrev pub is_repeated : HeightKind → ℤ → Setup → Bool
 is_repeated kind length setup = is_same (height_of kind setup) length
 
--- the entry that a length begins in a setup, which no sight uses yet; none without a setup or a length, or if the length
+-- the entry that a length in a unit begins in a setup, which no sight uses yet; none without a setup or a length, or if the length
 -- repeats the last one
-abbrev pub entry_in : Option Setup → ℕ → ℕ → HeightKind → Option ℤ → Option Entry
-entry_in None book line kind length = None
-entry_in (Some setup) book line kind None = None
-entry_in (Some setup) book line kind (Some length) = if is_repeated kind length setup then None else Some (record {
+abbrev pub entry_in : Option Setup → ℕ → ℕ → HeightKind → Unit → Option ℤ → Option Entry
+entry_in None book line kind unit length = None
+entry_in (Some setup) book line kind unit None = None
+entry_in (Some setup) book line kind unit (Some length) = if is_repeated kind length setup then None else Some (record {
   book = book;
   line = line;
   kind = kind;
   station = setup.station;
   length = length;
+  unit = unit;
+  repeated = line;
   sights = 0;
   last = 0;
 })
@@ -53,14 +59,27 @@ place_of entry entries before = if is_some entry then Some (length entries) else
 abbrev pub with_sight : ℕ → Entry → Entry
 with_sight line entry = record entry { sights = min (entry.sights + 1) (2 ^ 32 - 1); last = line }
 
--- the entries after one more sight has used the one at a place
-abbrev pub served_there : Option Entry → ℕ → ℕ → List Entry → List Entry
-served_there None place line entries = entries
-served_there (Some entry) place line entries = slice_set entries place (with_sight line entry)
+-- an entry whose height this line writes
+abbrev pub with_word : ℕ → Entry → Entry
+with_word line entry = record entry { repeated = line }
 
+-- the entries with a change of the one at a place, if it is there
+abbrev pub amended_there : (Entry → Entry) → Option Entry → ℕ → List Entry → List Entry
+amended_there change None place entries = entries
+amended_there change (Some entry) place entries = slice_set entries place (change entry)
+
+abbrev pub amended : (Entry → Entry) → Option ℕ → List Entry → List Entry
+amended change None entries = entries
+amended change (Some place) entries = amended_there change (slice_get entries place) place entries
+
+-- the entries after one more sight on a line has used the one at a place
 abbrev pub served : Option ℕ → ℕ → List Entry → List Entry
-served None line entries = entries
-served (Some place) line entries = served_there (slice_get entries place) place line entries
+served place line entries = amended (with_sight line) place entries
+
+-- the entries after a line has written the one at a place, if it writes a length
+abbrev pub written : Option ℤ → Option ℕ → ℕ → List Entry → List Entry
+written None place line entries = entries
+written (Some length) place line entries = amended (with_word line) place entries
 
 -- where the latest entries are, and the entries so far
 pub record Entering : Type 0 where
@@ -68,34 +87,42 @@ pub record Entering : Type 0 where
   pub entries : List Entry
 
 -- the state after the reflector height that a line enters in a setup, if it enters one
-abbrev pub with_reflector : ℕ → ℕ → Option Setup → Option ℤ → Entering → Entering
-with_reflector book line setup length state =
-    let entry = entry_in setup book line Reflector length in
+abbrev pub with_reflector : ℕ → ℕ → Option Setup → Unit → Option ℤ → Entering → Entering
+with_reflector book line setup unit length state =
+    let entry = entry_in setup book line Reflector unit length in
     record {
       latest = record state.latest { reflector = place_of entry state.entries state.latest.reflector };
       entries = state.entries ++ option_to_list entry;
     }
 
 -- the state after the instrument height that a line enters in a setup, if it enters one
-abbrev pub with_instrument : ℕ → ℕ → Option Setup → Option ℤ → Entering → Entering
-with_instrument book line setup length state =
-    let entry = entry_in setup book line Instrument length in
+abbrev pub with_instrument : ℕ → ℕ → Option Setup → Unit → Option ℤ → Entering → Entering
+with_instrument book line setup unit length state =
+    let entry = entry_in setup book line Instrument unit length in
     record {
       latest = record state.latest { instrument = place_of entry state.entries state.latest.instrument };
       entries = state.entries ++ option_to_list entry;
     }
 
 -- the state after both heights, in the setup that the line begins or else in the running one
-abbrev pub with_heights : ℕ → ℕ → Option Setup → Entered → Entering → Entering
-with_heights book line running entered state =
+abbrev pub with_heights : ℕ → ℕ → Option Setup → List Parts → Entered → Entering → Entering
+with_heights book line running words entered state =
     let setup = setup_on running entered.station in
-    with_instrument book line setup entered.instrument (with_reflector book line setup entered.reflector (record state { latest = begun_by entered state.latest }))
+    with_instrument book line setup (unit_in instrument_height words) entered.instrument
+    (with_reflector book line setup (unit_in reflector_height words) entered.reflector (record state { latest = begun_by entered state.latest }))
+
+-- the state after the words of both heights, which begin the latest entries or repeat them
+abbrev pub with_words : ℕ → Entered → Entering → Entering
+with_words line entered state = record state {
+  entries = written entered.instrument state.latest.instrument line (written entered.reflector state.latest.reflector line state.entries);
+}
 
 -- the state after a sight, which uses the latest reflector and instrument heights
 abbrev pub sighted : ℕ → Entering → Entering
 sighted line state = record state { entries = served state.latest.instrument line (served state.latest.reflector line state.entries) }
 
 -- the state after everything that a line enters
-abbrev pub entering_after : ℕ → ℕ → Option Setup → Entered → Entering → Entering
-entering_after book line running entered state =
-    if is_some entered.target then sighted line (with_heights book line running entered state) else with_heights book line running entered state
+abbrev pub entering_after : ℕ → ℕ → Option Setup → List Parts → Entered → Entering → Entering
+entering_after book line running words entered state =
+    let after = with_words line entered (with_heights book line running words entered state) in
+    if is_some entered.target then sighted line after else after

@@ -13,7 +13,7 @@ use Rattle.th_book.specs.declared.entries.Entered.{Entered}
 use Rattle.th_book.specs.declared.setups.Setup.{Setup}
 use Rattle.th_entries.specs.Below.{all_below, count_below}
 use Rattle.th_entries.specs.Counts.{counts_below}
-use Rattle.th_entries.specs.Entries.{begins, begins_from, index_of, length_at, uses}
+use Rattle.th_entries.specs.Entries.{begins, begins_from, index_of, length_at, repeated_below, unit_in, uses}
 use Rattle.th_entries.specs.Listed.{IsListed}
 use Rattle.th_entries.specs.Reviews.{is_lookalike, is_measured}
 use Rattle.th_entries.specs.Spellings.{Mention, mentions_at}
@@ -57,7 +57,7 @@ pub record HasBlock (running : Option Setup) (words : List Parts) (old new : Tal
   pub book : new.book ≡ old.book
   pub counts : new.counts ≡ old.counts
   pub watch : new.watch ≡ old.watch
-  pub entered : entering new ≡ entering_after old.book old.counts.lines running (entered_by words) (entering old)
+  pub entered : entering new ≡ entering_after old.book old.counts.lines running words (entered_by words) (entering old)
   pub lookalikes : (before : List ℕ) → IsListed before old.lookalikes
       → IsListed (before ++ line_if (looks words (entered_by words) (option_map (λ own. own.station) running)) old.counts.lines) new.lookalikes
   pub directions : (before : List ℕ) → IsListed before old.directions → IsListed (before ++ line_if (points (entered_by words) words) old.counts.lines) new.directions
@@ -71,39 +71,49 @@ open_at index parsed n = option_and_then (λ setup. last_below (begins_from pars
 abbrev pub opens : List ParsedLine → HeightKind → ℕ → Bool
 opens parsed kind line = begins (index_of kind) parsed line && is_some (setup_of parsed (suc line))
 
--- the entry of a line, counting only sights before a bound; `last` is 0 if none of them uses it
-abbrev pub candidate : ℕ → List ParsedLine → HeightKind → ℕ → ℕ → Entry
+-- how many lines were seen: for the sights that use an entry, and for the words that repeat it
+pub record Bounds : Type 0 where
+  pub sights : ℕ
+  pub words : ℕ
+
+abbrev pub upto : ℕ → ℕ → Bounds
+upto sights words = record { sights = sights; words = words }
+
+-- the entry of a line, with only the sights and words of lines that were seen; `last` is 0 if no sight uses it
+abbrev pub candidate : ℕ → List ParsedLine → HeightKind → Bounds → ℕ → Entry
 candidate book parsed kind bound line = record {
   book = book;
   line = line + 1;
   kind = kind;
   station = known_name (station_at parsed (suc line));
   length = length_at (index_of kind) parsed line;
-  sights = count_below (uses (index_of kind) parsed line) bound;
-  last = option_map_or (λ last. last + 1) (last_below (uses (index_of kind) parsed line) bound) 0;
+  unit = unit_in (index_of kind) (words_at parsed line);
+  repeated = repeated_below (index_of kind) parsed bound.words line;
+  sights = count_below (uses (index_of kind) parsed line) bound.sights;
+  last = option_map_or (λ last. last + 1) (last_below (uses (index_of kind) parsed line) bound.sights) 0;
 }
 
-abbrev pub candidate_at : ℕ → List ParsedLine → HeightKind → ℕ → ℕ → List Entry
+abbrev pub candidate_at : ℕ → List ParsedLine → HeightKind → Bounds → ℕ → List Entry
 candidate_at book parsed kind bound line = if opens parsed kind line then candidate book parsed kind bound line ∷ [] else []
 
--- the entries of a line, each kind with its own bound on the sights
-abbrev pub both_at : ℕ → List ParsedLine → ℕ → ℕ → ℕ → List Entry
+-- the entries of a line, each kind with its own bounds
+abbrev pub both_at : ℕ → List ParsedLine → Bounds → Bounds → ℕ → List Entry
 both_at book parsed reflector instrument line =
     candidate_at book parsed Reflector reflector line ++ candidate_at book parsed Instrument instrument line
 
 -- the entries that come before that of a kind in its line; only their number matters
 abbrev pub ahead : List ParsedLine → HeightKind → ℕ → List Entry
 ahead parsed Reflector line = []
-ahead parsed Instrument line = candidate_at 0 parsed Reflector 0 line
+ahead parsed Instrument line = candidate_at 0 parsed Reflector (upto 0 0) line
 
 abbrev pub place_in : List ParsedLine → HeightKind → ℕ → ℕ
-place_in parsed kind line = length (all_below (both_at 0 parsed 0 0) line ++ ahead parsed kind line)
+place_in parsed kind line = length (all_below (both_at 0 parsed (upto 0 0) (upto 0 0)) line ++ ahead parsed kind line)
 
 -- the entries are those after the lines before place `n`, and the latest are those of the setup that runs there
 pub record IsEntering (book : ℕ) (parsed : List ParsedLine) (n : ℕ) (state : Entering) : Type 0 where
   pub reflector : state.latest.reflector ≡ option_map (place_in parsed Reflector) (open_at reflector_height parsed n)
   pub instrument : state.latest.instrument ≡ option_map (place_in parsed Instrument) (open_at instrument_height parsed n)
-  pub entries : state.entries ≡ all_below (both_at book parsed n n) n
+  pub entries : state.entries ≡ all_below (both_at book parsed (upto n n) (upto n n)) n
 
 -- the lines before place `n` that look like setups, counted from 1
 abbrev pub lookalikes_below : List ParsedLine → ℕ → List ℕ

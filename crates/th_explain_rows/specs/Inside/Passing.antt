@@ -1,5 +1,5 @@
 -- Numbers that pass, of which some may be missing.
-use Rattle.std.specs.Prelude.{◌≡◌, ℕ, ◌<◌, ◌≤◌, ℤ, List, Option, Some, None, option_to_list}
+use Rattle.std.specs.Prelude.{◌≡◌, ℕ, ◌<◌, ◌≤◌, ℤ, List, Option, Some, None, length, option_to_list}
 use Rattle.th_explain.specs.Explained.{IsAtLeast}
 use Rattle.std.specs.List.{AllZip, enumerate_from, flat_map}
 use Rattle.th_explain.specs.declared.freed.Freed.{Freed}
@@ -9,24 +9,25 @@ use Rattle.th_network.specs.Networks.{Survey}
 use Rattle.th_numbers.specs.Candidates.{whole_of}
 use Rattle.th_numbers.specs.declared.candidates.Candidate.{Candidate}
 use Rattle.th_explain_rows.specs.Explanations.{IsEnough}
-use Rattle.th_explain_rows.specs.Rows.{IsBehind, IsRow, IsRowOrBehind, LeavesNoMore, Passes}
+use Rattle.th_explain_rows.specs.Rows.{IsBehind, IsBestBeyond, IsRow, IsRowOrBehind, LeavesNoMore, Passes, beyond, sifting}
 use Rattle.th_explain_rows.specs.declared.finder.Finding.{Finding}
 use Rattle.th_explain_rows.specs.declared.finder.Finding.TheVariants.{Exactly, More, AtLeast}
 use Rattle.th_explain_rows.specs.declared.rows.Cutoff.{Cutoff}
+use Rattle.th_explain_rows.specs.declared.rows.Filter.{Filter}
 
 -- more is left than this, if anything is given
 abbrev pub IsMore : Option ℕ → ℕ → Type 0
 IsMore None left = ⊥
 IsMore (Some most) left = most < left
 
--- the number passes, and what is then left; or it does not, or leaves what may be missing
+-- the number passes beyond a limit, and what is then left; or it does not, or leaves what may be missing
 abbrev pub IsPassedOr : Survey → ℤ → (ℕ → Type 0) → Candidate → Option Freed → Type 0
-IsPassedOr survey limit MayMiss candidate None = (freed : Freed) → Passes survey limit candidate freed → MayMiss freed.left
-IsPassedOr survey limit MayMiss candidate (Some freed) = Passes survey limit candidate freed
+IsPassedOr survey limit MayMiss candidate None = (freed : Freed) → Passes survey (beyond limit) candidate freed → MayMiss freed.left
+IsPassedOr survey limit MayMiss candidate (Some freed) = Passes survey (beyond limit) candidate freed
 
 -- the number passes, and what is then left; or it does not, or leaves more than this amount, or at least as much
 abbrev pub IsFinding : Survey → ℤ → Option ℕ → Candidate → Finding → Type 0
-IsFinding survey limit least candidate (Exactly freed) = Passes survey limit candidate freed
+IsFinding survey limit least candidate (Exactly freed) = Passes survey (beyond limit) candidate freed
 IsFinding survey limit least candidate More = IsPassedOr survey limit (IsMore least) candidate None
 IsFinding survey limit least candidate AtLeast = IsPassedOr survey limit (IsAtLeast least) candidate None
 
@@ -62,15 +63,17 @@ IsAheadOrNone cutoff place (Some freed) None = IsBehind cutoff place freed.left
 IsAheadOrNone cutoff place (Some freed) (Some own) = (own ≡ freed) × ¬ IsBehind cutoff place freed.left
 
 -- the row of what was found of a number
-abbrev pub IsRowOfFound : Survey → ℕ → ℤ → Candidate → Option Freed → Option Row → Type 0
-IsRowOfFound survey cost limit candidate None row = row ≡ None
-IsRowOfFound survey cost limit candidate (Some freed) None = ⊥
-IsRowOfFound survey cost limit candidate (Some freed) (Some row) = IsRow survey cost limit candidate row × (row.left ≡ freed.left)
+abbrev pub IsRowOfFound : Survey → ℕ → Filter → Candidate → Option Freed → Option Row → Type 0
+IsRowOfFound survey cost filter candidate None row = row ≡ None
+IsRowOfFound survey cost filter candidate (Some freed) None = ⊥
+IsRowOfFound survey cost filter candidate (Some freed) (Some row) = IsRow survey cost filter candidate row × (row.left ≡ freed.left)
 
 -- the rows of these numbers, but for some behind a cutoff with enough rows ahead of it
 pub record AreOwnRows (survey : Survey) (cost : ℕ) (limit : ℤ) (candidates : List Candidate) (rows : List Row) : Type 0 where
+  pub best : Option ℕ
+  pub is_best : IsBestBeyond survey limit candidates best
   pub cutoff : Option Cutoff
   pub own : List (Option Row)
-  pub numbers : AllZip (IsRowOrBehind survey cost limit cutoff) (enumerate_from 0 candidates) own
-  pub enough : IsEnough cutoff own
+  pub numbers : AllZip (IsRowOrBehind survey cost (sifting limit best) cutoff) (enumerate_from 0 candidates) own
+  pub enough : IsEnough cutoff (length rows)
   pub all : rows ≡ flat_map option_to_list own

@@ -1,4 +1,4 @@
-use Rattle.std.proofs.Common.{◌≡◌, ◌∙◌, ℕ, ℤ, List, Option, ap, length, of_z, subst, sym, to_z, w64}
+use Rattle.std.proofs.Common.{◌≡◌, ◌∙◌, ℕ, ℤ, Err, IfOk, List, Option, ap, length, of_z, rules, subst, sym, to_z, w64}
 use Rattle.std.proofs.lemmas.Int.{to_z-of_z}
 use Rattle.std.proofs.lemmas.List.{length-map}
 use Rattle.std.specs.List.{AllZip, count_by}
@@ -14,8 +14,9 @@ use Rattle.th_blunders.specs.Blunders.{blunders_at}
 use Rattle.th_explain_texts.specs.declared.rows.Row.{Row}
 use Rattle.th_network.specs.Heights.{residual}
 use Rattle.th_network.specs.Networks.{at_points_of}
-use Rattle.th_explain_rows.specs.Explanations.{summary_with}
+use Rattle.th_explain_rows.specs.Explanations.{AreExplained, summary_with}
 use Rattle.th_explain_rows.specs.Inside.Passing.{AreOwnRows}
+use Rattle.th_named.specs.Meant.{AreNamedIn}
 use Rattle.th_numbers.specs.Lists.{listed_in, listed_of}
 use Rattle.th_readings.specs.Readings.{IsBookRowOrNone}
 use Rattle.th_explain_rows.proofs.FindLemmas.{explained_of}
@@ -53,7 +54,7 @@ returns g c =
     (subst (λ (survey : Survey). AreOwnRows survey case.cost misfit.limit candidates found) network c.in_ok-found.ensures.rows)) in
     record {
       explained =
-          explained_of survey c.args.reviews.now c.args.limit (record { summary = c.summary_with-summary.result; rows = c.in_ok-rows.rows }) heights tied entries all c.args.fit.now.cost
+          explained_of survey c.args.reviews.now c.args.limit (record { summary = c.summary_with-summary.result; rows = c.in_ok-rows.rows; named = c.in_ok-named.named }) heights tied entries all c.args.fit.now.cost
           candidates books found read c.requires.best.low are
           (c.as_slice-entries.ensures.value ∙ c.in_ok-all_entries.ensures) (listed ∙ ap (λ (own : List Entry). listed_of survey own tied) c.in_ok-kinds.ensures) cost (c.as_slice-candidates.ensures.value ∙ c.in_ok-all.ensures) (c.as_slice-books.ensures.value ∙ c.in_ok-all_books.ensures)
           rows
@@ -63,5 +64,12 @@ returns g c =
           (c.summary_with-summary.ensures ∙ ap (λ (own : ℤ). summary_with c.args.fit.now.cost c.blunder_count-marked.result all (length books) own) limit
           ∙ ap (λ (own : ℕ). summary_with own c.blunder_count-marked.result all (length books) c.args.limit) cost
           ∙ ap (λ (own : ℕ). summary_with (cost_of survey heights) own all (length books) c.args.limit) marked)
-          (c.in_ok-rows.ensures ∙ ap ranked (c.as_slice-2.ensures.value ∙ c.in_ok-add_rows.ensures));
+          (c.in_ok-rows.ensures ∙ ap ranked (c.as_slice-2.ensures.value ∙ c.in_ok-add_rows.ensures))
+          (subst (λ (own : List Row). AreNamedIn entries c.args.limit own c.in_ok-named.named.items) c.as_slice-3.ensures.value
+          (subst (λ (own : ℤ). AreNamedIn entries own c.as_slice-3.result.now c.in_ok-named.named.items) limit c.in_ok-named.ensures));
     }
+
+pub returns-in_err-add_rows : goal.returns-in_err-add_rows
+returns-in_err-add_rows g c =
+    let is : c.from_residual-in_err-add_rows.result ≡ Err c.in_err-add_rows.field-0.0 = search rules in
+    record { explained = subst (λ own. IfOk own (AreExplained c.args.network.now c.args.reviews.now c.args.limit)) (sym is) tt }

@@ -4,12 +4,12 @@ use Rattle.std.proofs.lemmas.Slice.Zip.{AllZip-long}
 use Rattle.std.specs.List.{AllZip}
 use Rattle.th_numbers.specs.declared.candidates.Candidate.{Candidate}
 use Rattle.th_reliability.proofs.ZipLemmas.{zip_next}
-use Rattle.th_explain_rows.specs.Inside.Growing.{IsNoMore, lowered}
+use Rattle.th_explain_rows.specs.Inside.Growing.{lowered}
 use Rattle.th_explain_rows.specs.Inside.Passing.{IsFinding, IsNoChangeOr}
 use Rattle.th_explain_rows.specs.declared.finder.Finding.{Finding}
 use Rattle.th_explain_rows.specs.declared.finder.Misfit.{Misfit}
 use Rattle.th_explain_rows.specs.declared.growing.Findings.{Findings}
-use Rattle.th_explain_rows.proofs.GrowLemmas.{all_grown, lowered_is, no_more_of, no_more_same, no_more_then, other_lowered}
+use Rattle.th_explain_rows.proofs.GrowLemmas.{all_grown, lowered_is, no_more_of, no_more_then, other_lowered}
 use Rattle.th_explain_rows.proofs.PassLemmas.{zip_at}
 use Rattle.th_explain_rows.proofs.passing.with_changes.Goals as goal
 

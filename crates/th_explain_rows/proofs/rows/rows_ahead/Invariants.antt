@@ -4,4 +4,4 @@ use Rattle.th_explain_rows.specs.Rows.{IsRowOrBehind}
 use Rattle.th_explain_rows.proofs.rows.rows_ahead.Given as goal
 
 abbrev pub invariant-loop-k : goal.invariant-loop-k
-invariant-loop-k l = AllZip (IsRowOrBehind l.misfit.case.now.network.now l.misfit.case.now.cost l.misfit.limit l.cutoff) (take l.k (enumerate_from 0 l.candidates)) l.rows.items
+invariant-loop-k l = AllZip (IsRowOrBehind l.case.network.now l.case.cost l.found.filter l.found.cutoff) (take l.k (enumerate_from 0 l.candidates)) l.rows.items

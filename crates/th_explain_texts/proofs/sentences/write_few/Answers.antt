@@ -1,6 +1,7 @@
 use Rattle.std.proofs.Common.{codes}
 use Rattle.th_columns.specs.Columns.{line_end}
-use Rattle.th_explain_texts.specs.Sentences.{few_line, joined}
+use Rattle.th_explain_texts.specs.Called.{joined}
+use Rattle.th_explain_texts.specs.Sentences.{few_line}
 use Rattle.th_explain_texts.proofs.TextLemmas.{on_ok, three_parts_and_end}
 use Rattle.th_explain_texts.proofs.sentences.write_few.Goals as goal
 

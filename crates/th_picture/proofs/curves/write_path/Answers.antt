@@ -10,11 +10,11 @@ unfolding sight_path
 returns c =
     let p = c.args.page.now in
     let part1 = codes "<path class=\"" in
-    let part2 = mistake_letter c.args.sight.now.row.mistake ∷ [] in
+    let part2 = mistake_letter c.args.sight.now.mistake ∷ [] in
     let part3 = codes "\" d=\"" in
     let part4 = sight_curve c.args.frame.now c.args.sight.now in
     let part5 = codes "\"><title>" in
-    let part6 = found_text c.args.sight.now.row in
+    let part6 = found_text c.args.sight.now in
     let part7 = codes "</title></path>\n" in
     let front2 = part1 ++ part2 in
     let front3 = front2 ++ part3 in

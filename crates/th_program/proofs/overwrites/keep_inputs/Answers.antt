@@ -1,6 +1,6 @@
 use Rattle.std.proofs.Common.{◌≡◌, IfErr, IfOk, subst, sym, true}
 use Rattle.std.proofs.lemmas.Result.{IfErr-weaker}
-use Rattle.th_run_page.specs.Paged.{paging}
+use Rattle.th_runs.specs.Paged.{paging}
 use Rattle.th_commands.specs.Plans.{files}
 use Rattle.th_commands.specs.declared.plans.Plan.{Plan}
 use Rattle.th_commands.specs.declared.plans.Plan.TheVariants as plan
@@ -10,7 +10,7 @@ use Rattle.th_files.specs.Outputs.{spots_of}
 use Rattle.th_program.proofs.OverwriteLemmas.{stop_of}
 use Rattle.th_program.proofs.overwrites.keep_inputs.Goals as goal
 use Rattle.th_runs.specs.Adjusted.{adjusting}
-use Rattle.th_run_review.specs.Reviewed.{reviewing}
+use Rattle.th_runs.specs.Reviewed.{reviewing}
 
 pub returns-in-Adjust-clause-apart : goal.returns-in-Adjust-clause-apart
 returns-in-Adjust-clause-apart g c =

@@ -12,10 +12,6 @@ use Rattle.th_columns.proofs.RowLemmas.{zipped-first}
 use Rattle.th_review_rows.proofs.RowLemmas.{pushed}
 use Rattle.th_review_rows.proofs.benchmark_list.benchmark_rows.Goals as goal
 
--- the row of a benchmark with this name and height
-abbrev row_of : List ℕ → ℤ → BenchmarkEffect → BenchmarkRow
-row_of name height found = record { name = name; height = height; found = found }
-
 -- behind the last row there is nothing
 none_left : (rows : BenchmarkRows) (k : ℕ) → None ≡ slice_get rows k → drop k rows ≡ []
 none_left rows k none = by (slice_get_cases rows k).1
@@ -51,7 +47,7 @@ rows-preserved c =
       within = omega (arith, within);
       made = pushed benchmark_row (row, found) (zip (drop k rows) (drop k effects)) (zip (drop (k + 1) rows) (drop (k + 1) effects))
           c.rows.rows.items c.push.new.self.items (map benchmark_row (zip rows effects)) first
-          (c.in_ok-push.ensures.items ∙ ap (λ (height : ℤ). c.rows.rows.items ++ row_of row.0 height found ∷ []) same) c.rows.invariant.made;
+          (c.in_ok-push.ensures.items ∙ ap (λ (own : BenchmarkRow). c.rows.rows.items ++ own ∷ []) (c.benchmark_row.ensures ∙ ap (λ (height : ℤ). benchmark_row ((row.0, height), found)) same)) c.rows.invariant.made;
     }
 
 pub returns : goal.returns

@@ -12,7 +12,7 @@ use Rattle.th_review_rows.proofs.entry_list.rows_of.Goals as goal
 
 -- the row with this weight
 abbrev row_of : Entry → Effect → ℕ → EntryRow
-row_of entry effect weight = record { entry = entry; weight = weight; effect = effect }
+row_of entry effect weight = record { entry = entry; weight = weight; mistake = effect.mistake; blame = effect.blame }
 
 pub loop-k-preserved : goal.loop-k-preserved
 loop-k-preserved c =

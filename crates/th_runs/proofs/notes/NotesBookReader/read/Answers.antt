@@ -25,7 +25,7 @@ returns-in_ok-add-in-Ok-clause-read g c =
       text = fed.0;
       is_told = front_told c.args.number ((g.S.Source.state c.args.book.now).left) fed.0 c.in-Ok.observations.items answered fed.2;
       noted = c.in_ok-add-in-Ok.ensures.books ∙ ap (λ note. c.args.self.now.books.items ++ option_to_list note) (c.note.ensures (parsed_of fed.0) (c.in-Ok.ensures.seen tt c.args.number fed.0 took));
-      heights = c.in_ok-add-in-Ok.ensures.heights;
+      remarks = c.in_ok-add-in-Ok.ensures.remarks;
     }
 
 pub returns-in-Err-clause-refused : goal.returns-in-Err-clause-refused

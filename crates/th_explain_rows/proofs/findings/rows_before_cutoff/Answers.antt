@@ -1,0 +1,21 @@
+use Rattle.std.proofs.Common.{◌≡◌, ◌∙◌, ap, subst}
+use Rattle.th_explain_rows.specs.Explanations.{IsEnough}
+use Rattle.th_explain_rows.specs.Rows.{IsBestBeyond}
+use Rattle.th_explain_rows.specs.declared.finder.Misfit.{Misfit}
+use Rattle.th_explain_rows.proofs.FindLemmas.{own_rows}
+use Rattle.th_explain_rows.proofs.findings.rows_before_cutoff.Goals as goal
+
+pub returns-then-is_enough-clause-rows : goal.returns-then-is_enough-clause-rows
+returns-then-is_enough-clause-rows g c =
+    let misfit : Misfit = c.args.finder.now.misfit in
+    let survey = misfit.case.now.network.now in
+    let candidates = c.args.candidates.now in
+    let filter = c.in_ok-own.own.filter in
+    let cutoff = c.in_ok-own.own.cutoff in
+    let (own, numbers, all) = c.in_ok-rows.ensures in
+    let same : c.passed_before_cutoff.new.finder.misfit ≡ misfit = c.in_ok-found.ensures.misfit in
+    own_rows survey misfit.case.now.cost misfit.limit candidates c.in_ok-rows.rows.items filter cutoff own
+    (c.in_ok-own.ensures.limit ∙ ap (λ (own : Misfit). own.limit) same)
+    (subst (λ (own : Misfit). IsBestBeyond own.case.now.network.now own.limit candidates filter.best) same c.in_ok-own.ensures.best)
+    numbers all
+    (subst (IsEnough cutoff) c.in_ok-rows.rows.ok.0 (subst (IsEnough cutoff) c.len.ensures (c.is_enough.ensures c.if-is_enough.true)))

@@ -1,0 +1,9 @@
+mod OrderLemmas
+mod MemberLemmas
+mod PlacedLemmas
+mod PutLemmas
+mod OfferLemmas
+mod SlipLemmas
+mod NamedLemmas
+mod LawLemmas
+mod PlainLemmas

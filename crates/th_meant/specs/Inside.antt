@@ -1,0 +1,3 @@
+-- what private functions promise each other
+pub mod Slips
+pub mod Nearest

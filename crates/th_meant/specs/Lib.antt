@@ -1,0 +1,5 @@
+pub mod Limits
+pub mod Slips
+pub mod Ranges
+pub mod Meant
+pub mod Inside

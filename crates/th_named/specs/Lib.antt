@@ -1,0 +1,4 @@
+pub mod Keyed
+pub mod Meant
+pub mod Doubted
+pub mod Inside

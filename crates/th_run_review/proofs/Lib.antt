@@ -1,2 +1,0 @@
-pub mod ReviewLemmas
-pub mod EntryLemmas

@@ -1,2 +1,0 @@
-pub mod Reviewed
-pub mod Inside

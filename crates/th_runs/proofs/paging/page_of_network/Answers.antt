@@ -1,0 +1,37 @@
+use Rattle.std.proofs.Common.{◌≡◌, ◌∙◌, ℕ, ℤ, List, ap₂, rules, subst, w64}
+use Rattle.std.proofs.lemmas.Int.{to_z-of_z}
+use Rattle.th_blunders.specs.Fits.{IsFit}
+use Rattle.th_circulation.specs.Best.{Best}
+use Rattle.th_entries.specs.declared.reviews.BookReview.{BookReview}
+use Rattle.th_explain_rows.specs.Explanations.{AreExplained}
+use Rattle.th_explain_texts.specs.declared.rows.Row.{Row}
+use Rattle.th_inputs.specs.Inputs.{inputs_of}
+use Rattle.th_network.specs.Networks.{Survey, at_points_of}
+use Rattle.th_page.specs.Pages.{page_text}
+use Rattle.th_page.specs.Shown.{shown_of}
+use Rattle.th_review_rows.specs.Found.{FoundRows, found_rows, numbers_in, rows_in}
+use Rattle.th_runs.proofs.paging.page_of_network.Goals as goal
+
+pub explained_by-requires-clause-fit : goal.explained_by-requires-clause-fit
+explained_by-requires-clause-fit g c =
+    let survey = c.args.network.now in
+    subst (λ (low : List ℤ). IsFit survey (at_points_of survey low) c.in_ok-fit.fit) c.low.ensures c.in_ok-fit.ensures
+
+pub returns-clause-page : goal.returns-clause-page
+returns-clause-page g c =
+    let best : Best = c.in_ok-best.best in
+    let findings = c.in_ok-findings.findings in
+    let explained = c.in_ok-explained.explained in
+    let rows : c.deref.result.now ≡ explained.rows.items = search rules in
+    let text_of : FoundRows → List Row → ℤ → List ℕ = λ found rows limit. page_text (shown_of found (inputs_of c.args.inputs) explained.summary.cost rows limit) in
+    let found_in : Survey → List BookReview → FoundRows = λ survey books. found_rows survey (at_points_of survey best.low) (at_points_of survey best.high) (numbers_in findings) books c.args.spellings.now in
+    let same : rows_in c.in_ok-found.found ≡ found_in c.args.network.now c.args.reviews.now = c.in_ok-found.ensures ∙ ap₂ found_in c.in_ok-findings.ensures.network c.in_ok-findings.ensures.reviews in
+    record {
+      answer = best;
+      answers = c.in_ok-best.ensures;
+      found = numbers_in findings;
+      finds = c.in_ok-findings.ensures.found;
+      explained = explained;
+      explains = subst (λ (limit : ℤ). AreExplained c.args.network.now c.args.reviews.now limit explained) (to_z-of_z w64 c.args.limit c.ranges.limit) c.in_ok-explained.ensures.explained;
+      printed = c.in_ok-page.ensures ∙ (λ i. text_of (same i) (rows i) (to_z-of_z w64 c.args.limit c.ranges.limit i));
+    }

@@ -1,0 +1,123 @@
+//! The command that makes a page of the height network of books.
+ghost use Rattle.std.specs.Prelude.{◌≡◌, ◌≤◌, ◌∷◌, [], All, IfErr, IfOk, length};
+ghost use Rattle.th_entries.specs.Stations.{HasOneStation};
+ghost use Rattle.th_inputs.specs.Inputs.{inputs_of};
+ghost use Rattle.th_limits.specs.Limits.{max_books};
+ghost use Rattle.th_review_rows.specs.Entries.{entries_of};
+ghost use Rattle.th_run_parts.specs.Inputs.{MakesNetwork};
+ghost use Rattle.th_runs.specs.Paged.{IsPaged};
+ghost use Rattle.th_tables.specs.Rows.{AreWeights};
+
+use crate::commands::SurveyCommand;
+use crate::findings::findings_of;
+use crate::reviews::{ReviewReader, all_sums};
+use std::alloc::{AllocError, Global};
+use th_blunders::Fit;
+use th_circulation::best_heights;
+use th_entries::laws::entry_of_several_books_has_one_station;
+use th_entries::{BookReview, Listed, Spelling};
+use th_explain_rows::explained_by;
+use th_inputs::{NamedInputs, Sum};
+use th_network::Network;
+use th_page::{Explained, page_of};
+use th_progress::Progress;
+use th_review_rows::found_of;
+use th_run_parts::{Output, OutputText, Refusal};
+
+/// What a run that makes a page writes.
+pub const PAGED: [Output; 1] = [Output::Page];
+
+/// A page of a height network. It shows what an adjustment, a review and an explanation find, and the inputs.
+#[derive(Debug, Drop)]
+pub struct MakePage<'a> {
+    /// Residuals above this size are marked as blunders, in units of 10 nm.
+    pub limit: i64,
+    /// The names of the books, of the benchmarks, and of the weights if there are any.
+    pub names: &'a [&'a str],
+}
+
+impl SurveyCommand for MakePage<'_> {
+    ghost use Rattle.std.proofs.Common.{ap, refl};
+    ghost use Rattle.std.specs.Prelude.{⊤, map};
+    ghost use Rattle.th_runs.specs.Paged.{AreOfPage, paging};
+    ghost use Rattle.th_runs.specs.Reviewed.{IsNewReader};
+
+    type Reader = ReviewReader;
+
+    ghost run = { paging };
+
+    ghost is_new = { IsNewReader };
+
+    ghost are_of = { λ own tolds. AreOfPage (map (λ name. name.now) own.names.now) tolds own.limit };
+
+    ghost has_noted = { λ own tolds survey reader. ⊤ };
+
+    fn outputs(&self) -> &'static [Output] {
+        &PAGED
+    }
+
+    fn texts<P: Progress>(
+        &self,
+        alloc: Global,
+        network: &Network,
+        reader: &mut ReviewReader,
+        of_tables: &[Sum],
+        progress: &mut P,
+    ) -> Result<Vec<OutputText>, Refusal> {
+        entry_of_several_books_has_one_station();
+        let sums = all_sums(alloc, reader.sums.as_slice(), of_tables)?;
+        let inputs = NamedInputs {
+            names: self.names,
+            sums: &sums,
+        };
+        let reviews = reader.reviews.as_slice();
+        let spellings = reader.names.found();
+        let page = page_of_network(
+            alloc, network, inputs, reviews, spellings, self.limit, progress,
+        )?;
+        Ok(only(alloc, page)?)
+    }
+
+    ghost in_order = { λ own tolds survey texts are. ap (λ all. map (λ text. text.0) all) are.4.2 };
+
+    ghost no_certificate = { refl };
+}
+
+/// The one output of a page.
+fn only(alloc: Global, page: Vec<u8>) -> Result<Vec<OutputText>, AllocError>
+    ensures { IfOk result (λ texts. texts.items ≡ (Output.Page, page.items) ∷ []) }
+{
+    Ok(Vec::from_array(alloc, [OutputText::new(Output::Page, page)])?)
+}
+
+/// The page of a network.
+fn page_of_network<P: Progress>(
+    alloc: Global,
+    network: &Network,
+    inputs: NamedInputs<'_>,
+    reviews: &[BookReview],
+    spellings: &Listed<Spelling>,
+    limit: i64,
+    progress: &mut P,
+) -> Result<Vec<u8>, Refusal>
+    requires network { MakesNetwork network.now }
+    requires weights { AreWeights network.now.weights }
+    requires few { length reviews.now ≤ max_books }
+    requires stations { All (HasOneStation network.now.observations) (entries_of reviews.now) }
+    ensures page { IfOk result (λ page. IsPaged network.now (inputs_of inputs.entry)
+        reviews.now spellings.now limit page.items) }
+    ensures refused { IfErr result (λ own. own ≡ Refusal.NoMemory) }
+{
+    let best = best_heights(alloc, network)?;
+    let fit = Fit::of(alloc, network, best.low())?;
+    let explained = explained_by(alloc, network, reviews, &best, &fit, limit, progress)?;
+    let findings = findings_of(alloc, network, reviews, progress)?;
+    let found = found_of(alloc, &findings, &best, spellings)?;
+    let explained = Explained {
+        cost: explained.summary.cost,
+        limit,
+        rows: &explained.rows,
+    };
+    let page = page_of(alloc, &found, inputs, explained)?;
+    Ok(page)
+}
