@@ -58,6 +58,7 @@ def rows_text(page: Page, books: List[bytes]) -> str:
     lines += [f"explanation {own.number} {own.kind.replace(' ', '_')} {optional(own.book)} {optional(own.line)} {optional(own.station)} "
               f"{optional(own.target)} {optional(own.given)} {optional(own.low)} {optional(own.high)} {own.left} {own.blunders}"
               for own in page.explanations]
+    lines += [f"says {sentence.hex()}" for sentence in page.says]
     return "\n".join(lines) + "\n"
 
 
@@ -69,6 +70,7 @@ def write_case(folder: Path, seed: int, number: int) -> bool:
     if reviewed.review is None or explained.explanation is None or not all(project.inputs.books):
         return False
     page = page_of(reviewed.review, explained.explanation, named([rng.choice(HOSTILE) for _ in project.inputs.books]))
+    page.says.extend(rng.sample(HOSTILE, rng.randrange(3)))
     page.notes.extend(rng.sample(HOSTILE, rng.randrange(3)))
     (folder / f"project_{number}").write_text(rows_text(page, project.inputs.books))
     (folder / f"project_{number}.stdout").write_bytes(page_text(page))
@@ -104,7 +106,7 @@ def large_page(rng: Random, count: int, sights: int) -> Tuple[Page, List[bytes]]
     entries = [Entry(1, line, rng.choice(("reflector", "instrument")), points[0].name, rng.randrange(-2_000, 2_000) * MILLIMETRE, 3, line,
                      rng.choice(("shows", "drags", "ties"))) for line in range(1, count + 1)]
     benchmarks = [Benchmark(own.name, own.low, 2, 9, rng.choice(("shows", "drags", None))) for own in points if own.strength is None]
-    return Page(named(HOSTILE[:2]), points, rows, entries, benchmarks, [], HOSTILE, 10**12 + 1, rng.choice((0, 10**6, 10**9))), [writer.text()]
+    return Page(named(HOSTILE[:2]), points, rows, entries, benchmarks, [], HOSTILE[:3], HOSTILE, 10**12 + 1, rng.choice((0, 10**6, 10**9))), [writer.text()]
 
 
 def write_large(folder: Path, seed: int) -> int:

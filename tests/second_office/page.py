@@ -89,6 +89,7 @@ class Page(NamedTuple):
     entries: List[Entry]
     benchmarks: List[Benchmark]
     explanations: List[Explanation]
+    says: List[bytes]
     notes: List[bytes]
     cost: int
     limit: int
@@ -406,34 +407,67 @@ FIXED = Path(__file__).resolve().parents[2] / "docs" / "page"
 STYLE, LEGEND, FOOT = ((FIXED / name).read_bytes() for name in ("style.css", "legend.html", "foot.html"))
 
 
-def lamp(count: int, total: int, what: bytes, good: bytes, bad: bytes) -> bytes:
-    return b'<li class="%s"><b>%d of %d %s.</b> %s\n' % (b"no" if count else b"ok", count, total, what, bad if count else good)
+HEADINGS = {
+    "unchecked": (b"care", b"Nothing checks these heights."),
+    "fits": (b"good", b"All sights fit."),
+    "doubted": (b"care", b"All sights are within the limit, but one number may be wrong."),
+    "unexplained": (b"bad", b"Sights do not fit, and no one number explains it."),
+    "in part": (b"bad", b"Sights do not fit, and no one number explains all of it."),
+    "explained": (b"bad", b"One wrong number explains all that does not fit."),
+    "undecided": (b"bad", b"One wrong number explains all that does not fit, but the books do not say which."),
+}
 
 
-ALL_SHOW = b"A mistake in any single one with sights shows in their residuals."
+def loops(page: Page) -> int:
+    fixed = sum(point.strength is None for point in page.points)
+    return max(0, len(page.sights) - (len(page.points) - fixed))
 
 
-def lamps(page: Page) -> bytes:
-    weak = sum(sight.mistake != "shows" for sight in page.sights)
-    benchmarks = sum(row.mistake not in ("shows", None) for row in page.benchmarks)
-    entries = sum(row.mistake != "shows" for row in page.entries)
-    return (lamp(len(in_group(page, "b")), len(page.sights), b"sights marked", b"No residual is above the limit.",
-                 b'Their residuals are above the limit. See <a href="#marked">marked sights</a>.')
-            + lamp(weak, len(page.sights), b"sights weak", b"A mistake in any single sight shows in its own residual.",
-                   b'A mistake in one of these may stay hidden. See <a href="#weak">weak sights</a>.')
-            + lamp(benchmarks, len(page.benchmarks), b"benchmarks weak", ALL_SHOW,
-                   b'A mistake in one of these may move points. See <a href="#benchmarks">weak benchmarks</a>.')
-            + lamp(entries, len(page.entries), b"keyed-in heights weak", ALL_SHOW,
-                   b'A mistake in one of these may move points. See <a href="#entries">weak keyed-in heights</a>.'))
+def verdict_on(page: Page) -> str:
+    """Which row of the table of verdicts applies first."""
+    if not in_group(page, "b"):
+        return "doubted" if page.explanations else "fits" if loops(page) else "unchecked"
+    if not page.explanations:
+        return "unexplained"
+    explaining = sum(row.number == 1 and row.blunders == 0 for row in page.explanations)
+    return "in part" if explaining == 0 else "explained" if explaining == 1 else "undecided"
+
+
+def paragraph(text: bytes) -> bytes:
+    return b"<p>%s</p>\n" % text
+
+
+def verdict(page: Page) -> bytes:
+    marked = len(in_group(page, "b"))
+    alone = sum(sight.mistake == "unchecked" for sight in page.sights)
+    meaning = b'Their residuals are above the limit: see <a href="#marked">marked sights</a>. Do not use these heights yet.'
+    out = b'<div class="verdict %s">\n<h2>%s</h2>\n' % HEADINGS[verdict_on(page)]
+    out += paragraph(b"<b>%d of %d sights marked.</b> %s" % (marked, len(page.sights), meaning if marked else b"No residual is above the limit."))
+    out += b"".join(paragraph(escaped(sentence)) for sentence in page.says)
+    if alone:
+        out += paragraph(b"Sights that no other checks: %d. A mistake there would not show." % alone)
+    if sum(point.strength is None for point in page.points) == 1:
+        out += paragraph(b"All heights rest on one benchmark: nothing checks its height.")
+    return out + b"</div>\n"
+
+
+def fact(what: bytes, value: bytes) -> bytes:
+    return b"<li>%s <b>%s</b>\n" % (what, value)
+
+
+def hiding(page: Page) -> bytes:
+    """How many sights, benchmarks and entries are weak."""
+    return (fact(b"Weak sights", number(sum(sight.mistake != "shows" for sight in page.sights)))
+            + fact(b"Weak benchmarks", number(sum(row.mistake not in ("shows", None) for row in page.benchmarks)))
+            + fact(b"Weak keyed-in heights", number(sum(row.mistake != "shows" for row in page.entries))))
 
 
 def facts(page: Page) -> bytes:
     fixed = sum(point.strength is None for point in page.points)
-    loops = max(0, len(page.sights) - (len(page.points) - fixed))
     values = ((b"Points", number(len(page.points))), (b"Benchmarks", number(fixed)), (b"Sights", number(len(page.sights))),
-              (b"Loops", number(loops)), (b"Keyed-in heights", number(len(page.entries))), (b"Cost", height(page.cost) + b" m"),
+              (b"Loops", number(loops(page))), (b"Keyed-in heights", number(len(page.entries))), (b"Cost", height(page.cost) + b" m"),
               (b"Limit", height(page.limit) + b" m"))
-    return b"".join(b"<li>%s <b>%s</b>\n" % value for value in values)
+    return b"".join(fact(*value) for value in values)
 
 
 def sections(page: Page) -> bytes:
@@ -481,8 +515,8 @@ def page_text(page: Page) -> bytes:
             + b'</style>\n</head>\n<body>\n<h1>Height network</h1>\n<ul class="inputs">\n'
             + b"".join(b"<li>%s: <bdi>%s</bdi> <small>%d B, SHA-256 %s</small>\n" % (own.label.encode(), escaped(own.last_part), len(own.text), own.digest.encode())
                        for own in page.inputs)
-            + b'</ul>\n<p>A place such as 2:14 is line 14 of book 2.</p>\n<ul class="facts">\n' + facts(page) + b'</ul>\n<ul class="lamps">\n'
-            + lamps(page) + b"</ul>\n<figure>\n<figcaption><b>Heights.</b> Each sight is drawn from its station to where it puts its target. It bends up if it "
+            + b"</ul>\n<p>A place such as 2:14 is line 14 of book 2.</p>\n" + verdict(page) + b'<ul class="facts">\n' + facts(page)
+            + b'</ul>\n<ul class="facts">\n' + hiding(page) + b"</ul>\n<figure>\n<figcaption><b>Heights.</b> Each sight is drawn from its station to where it puts its target. It bends up if it "
             b'runs to the right, and down if to the left.</figcaption>\n<div class="w">\n' + picture(page) + b"</div>\n" + LEGEND + left_out
             + b"</figure>\n<figure>\n<figcaption><b>Residuals</b> in metres, in the order of the books. Linear up to a millimetre, then a step for each "
             b'factor of ten. Grey: within the limit.</figcaption>\n<div class="w">\n' + strip(page)

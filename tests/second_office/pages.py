@@ -3,6 +3,7 @@
 from typing import List
 
 from explain import Explanation as Explained
+from explain import sentences
 from inputs import Input
 from network import cost_of
 from page import Benchmark, Entry, Explanation, Page, Point, Sight
@@ -27,4 +28,5 @@ def page_of(review: Review, found: Explained, inputs: List[Input]) -> Page:
     rows = [Explanation(number, row.number.kind, row.number.book, row.number.line, row.number.station or None, row.number.target or None,
                         row.number.given, row.low, row.high, row.left, row.blunders) for number, row in found.rows]
     notes = [note.encode("ascii") for note in review.notes]
-    return Page(inputs, points, sights, entries, benchmarks, rows, notes, cost_of(network, review.low), review.limit)
+    says = [sentence.encode("ascii") for sentence in sentences(found)]
+    return Page(inputs, points, sights, entries, benchmarks, rows, says, notes, cost_of(network, review.low), review.limit)

@@ -59,7 +59,7 @@ def named(name: bytes) -> Input:
 
 def page(points: List[Point], rows: List[Sight], **others) -> Page:
     usual = Page([named(b"monday.gsi")], points, rows, [], [Benchmark(own.name, own.low, 3, 3, "shows") for own in points if own.strength is None],
-                 [], [], sum(abs(own.residual) for own in rows), LIMIT)
+                 [], [], [], sum(abs(own.residual) for own in rows), LIMIT)
     return usual._replace(**others)
 
 

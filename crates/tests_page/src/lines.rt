@@ -7,7 +7,8 @@
 //!   with places among the points from 0;
 //! - `entry BOOK LINE WORD HEX SIGN DIGITS UNIT SIGHTS WEIGHT MISTAKE`;
 //! - `benchmark HEX HEIGHT SIGHTS WEIGHT MISTAKE`;
-//! - `explanation NUMBER KIND BOOK LINE HEX HEX GIVEN LOW HIGH LEFT BLUNDERS`.
+//! - `explanation NUMBER KIND BOOK LINE HEX HEX GIVEN LOW HIGH LEFT BLUNDERS`;
+//! - `says HEX`, a sentence of the explanations.
 //!
 //! `-` is a value that is missing. Lengths are in units of 10 nm.
 use crate::words::{
@@ -33,6 +34,7 @@ pub struct Rows {
     pub entries: Vec<EntryRow>,
     pub benchmarks: Vec<BenchmarkRow>,
     pub explanations: Vec<Row>,
+    pub says: Vec<Vec<u8>>,
     pub notes: Vec<Vec<u8>>,
     pub cost: u128,
     pub limit: i64,
@@ -50,6 +52,7 @@ impl Rows {
             entries: Vec::new(alloc),
             benchmarks: Vec::new(alloc),
             explanations: Vec::new(alloc),
+            says: Vec::new(alloc),
             notes: Vec::new(alloc),
             cost: 0,
             limit: 0,
@@ -74,6 +77,7 @@ impl Rows {
             ["entry", rest @ ..] => self.add_entry(alloc, rest),
             ["benchmark", rest @ ..] => self.add_benchmark(alloc, rest),
             ["explanation", rest @ ..] => add_explanation(alloc, &mut self.explanations, rest),
+            ["says", text] => self.add_sentence(alloc, text),
             _ => bail!("an unknown row"),
         }
     }
@@ -101,6 +105,13 @@ impl Rows {
     fn add_note(&mut self, alloc: Global, text: &str) -> Result<()> {
         let note = bytes_of(alloc, text)?;
         self.notes.push(note)?;
+        Ok(())
+    }
+
+    /// Adds a sentence of the explanations.
+    fn add_sentence(&mut self, alloc: Global, text: &str) -> Result<()> {
+        let sentence = bytes_of(alloc, text)?;
+        self.says.push(sentence)?;
         Ok(())
     }
 

@@ -24,6 +24,7 @@ fn main(rt: HostRuntime) -> Result<()> {
 fn page_of(alloc: Global, rows: &Rows) -> Result<Vec<u8>> {
     let names = lent(alloc, &rows.books)?;
     let sums = sums_of(alloc, &names)?;
+    let says = lent(alloc, &rows.says)?;
     let notes = lent(alloc, &rows.notes)?;
     let page = page_text(
         alloc,
@@ -34,11 +35,13 @@ fn page_of(alloc: Global, rows: &Rows) -> Result<Vec<u8>> {
             sights: &rows.sights,
             entries: &rows.entries,
             benchmarks: &rows.benchmarks,
+            says: &says,
             notes: &notes,
             explained: Explained {
                 cost: rows.cost,
                 limit: rows.limit,
                 rows: &rows.explanations,
+                sentences: b"",
             },
         },
     )?;

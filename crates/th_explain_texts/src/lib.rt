@@ -2,7 +2,7 @@
 //!
 //! `rows` has what they consist of: a row for each number that explains, the heights that may have been meant, and what was
 //! looked at in numbers. `ranked` puts rows in order. `explanations_csv` makes the table as comma-separated values, and `explanations_text` the
-//! text for people. Out of memory is the only failure.
+//! text for people, whose sentences alone `sentences_text` makes. Out of memory is the only failure.
 #![tactic(auto)]
 
 // The rows, their order and their numbers.
@@ -30,5 +30,5 @@ pub mod laws;
 pub use ranks::{MOST_ROWS, ranked};
 pub use rows::{Kind, Named, Row, Summary, Values};
 pub use tables::explanations_csv;
-pub use texts::explanations_text;
+pub use texts::{explanations_text, sentences_text};
 pub use words::{is_pole, is_sight};

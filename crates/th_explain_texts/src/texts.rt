@@ -1,5 +1,6 @@
 //! The text for people.
 ghost use Rattle.std.specs.Prelude.{◌≡◌, IfOk};
+ghost use Rattle.th_explain_texts.specs.Sentences.{sentences};
 ghost use Rattle.th_explain_texts.specs.Texts.{explanation_text};
 
 use crate::columns::{write_costs, write_counts, write_table};
@@ -24,6 +25,20 @@ pub fn explanations_text(
     write_counts(&mut page, summary)?;
     write_table(alloc, &mut page, rows)?;
     page.end_line()?;
+    write_sentences(alloc, &mut page, summary, rows, named)?;
+    Ok(page.into_bytes())
+}
+
+/// What the rows say alone: the sentences of the text for people, each on a line.
+pub fn sentences_text(
+    alloc: Global,
+    summary: &Summary,
+    rows: &[Row],
+    named: &[Named],
+) -> Result<Vec<u8>, AllocError>
+    ensures { IfOk result (λ text. text.items ≡ sentences summary.now rows.now named.now) }
+{
+    let mut page = Page::new(alloc);
     write_sentences(alloc, &mut page, summary, rows, named)?;
     Ok(page.into_bytes())
 }

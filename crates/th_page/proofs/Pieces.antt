@@ -22,7 +22,8 @@ use Rattle.th_picture.specs.Pictures.{drawing, frame_of, open_text, picture_text
 use Rattle.th_picture.specs.Strips as strip
 use Rattle.th_page.specs.Figures.{picture_figure, strip_figure, undrawn_text}
 use Rattle.th_inputs.specs.Inputs.{NamedInput, input_text}
-use Rattle.th_page.specs.Fronts.{benchmark_lamp, count_items, entry_lamp, fact_item, facts_text, input_item, is_fixed, length_items, marked_lamp, weak_lamp, lamps_text, sum_text}
+use Rattle.th_page.specs.Fronts.{count_items, fact_item, facts_text, hiding_text, input_item, is_fixed, length_items, loop_count, sum_text}
+use Rattle.th_page.specs.Verdicts.{alone_paragraph, explains_all, is_alone, lone_paragraph, marks_paragraph, said_paragraph, unchecked_paragraphs, verdict_of, verdict_start, verdict_text}
 use Rattle.th_page.specs.Fixed.{benchmark_start, body_text, entry_start, explanation_start, foot_text, head_text, height_start, legend_text, marked_start, note_start, picture_start, places_text, strip_start, style_text, weak_start}
 use Rattle.th_page.specs.Sections.{benchmark_section, entry_section, explanation_section, height_section, marked_section, note_item, note_section, number_sections, section_end, sight_sections, weak_section}
 use Rattle.th_page.specs.Pages.{ShownRows, front_part, head_part, page_text, table_part}
@@ -385,18 +386,54 @@ facts points sights entries cost limit =
     ∙ ap₂ (λ n fixed. facts_in n fixed (length sights) (length entries) cost limit) (length-map points (point_named given)) (counted is_fixed (point_named given) points))
     (still (facts_text points (length sights) (length entries) cost limit))
 
-lamps : (sights : List ObservationRow) (benchmarks : List BenchmarkRow) (entries : List EntryRow) (limit : ℤ)
-    → IsFilled (λ given. lamps_text (map (sight_named given) sights) (map (benchmark_named given) benchmarks) (map (entry_named given) entries) limit)
-unfolding lamps_text
-lamps sights benchmarks entries limit =
-    same (λ given. lamps_text sights benchmarks entries limit) (λ given. lamps_text (map (sight_named given) sights) (map (benchmark_named given) benchmarks) (map (entry_named given) entries) limit)
+hiding : (sights : List ObservationRow) (benchmarks : List BenchmarkRow) (entries : List EntryRow)
+    → IsFilled (λ given. hiding_text (map (sight_named given) sights) (map (benchmark_named given) benchmarks) (map (entry_named given) entries))
+unfolding hiding_text
+hiding sights benchmarks entries =
+    same (λ given. hiding_text sights benchmarks entries) (λ given. hiding_text (map (sight_named given) sights) (map (benchmark_named given) benchmarks) (map (entry_named given) entries))
     (λ given keeps.
-    let first = ap₂ (λ n all. codes "<ul class=\"lamps\">\n" ++ marked_lamp n all) (as_many limit marked given sights) (length-map sights (sight_named given)) in
-    let second = ap₂ weak_lamp (counted is_weak_observation (sight_named given) sights) (length-map sights (sight_named given)) in
-    let third = ap₂ benchmark_lamp (counted is_weak_benchmark (benchmark_named given) benchmarks) (length-map benchmarks (benchmark_named given)) in
-    let fourth = ap₂ entry_lamp (counted is_weak_entry (entry_named given) entries) (length-map entries (entry_named given)) in
-    ap (λ a. a ++ codes "</ul>\n") (ap₂ (λ a b. a ++ b) (ap₂ (λ a b. a ++ b) (ap₂ (λ a b. a ++ b) first second) third) fourth))
-    (still (lamps_text sights benchmarks entries limit))
+    let first = ap (λ n. codes "<ul class=\"facts\">\n" ++ fact_item (codes "Weak sights") (decimal n)) (counted is_weak_observation (sight_named given) sights) in
+    let second = ap (λ n. fact_item (codes "Weak benchmarks") (decimal n)) (counted is_weak_benchmark (benchmark_named given) benchmarks) in
+    let third = ap (λ n. fact_item (codes "Weak keyed-in heights") (decimal n)) (counted is_weak_entry (entry_named given) entries) in
+    ap (λ a. a ++ codes "</ul>\n") (ap₂ (λ a b. a ++ b) (ap₂ (λ a b. a ++ b) first second) third))
+    (still (hiding_text sights benchmarks entries))
+
+-- ---- the verdict: its counts are those without the names
+loops_named : (given : Given) (points : List PointRow) (sights : List ObservationRow) → loop_count (map (point_named given) points) (length (map (sight_named given) sights)) ≡ loop_count points (length sights)
+loops_named given points sights =
+    ap (λ n. loop_count (map (point_named given) points) n) (length-map sights (sight_named given))
+    ∙ ap₂ (λ all fixed. length sights - (all - fixed)) (length-map points (point_named given)) (counted is_fixed (point_named given) points)
+
+verdict_started : (points : List PointRow) (sights : List ObservationRow) (rows : List Row) (limit : ℤ)
+    → IsFilled (λ given. verdict_start (verdict_of (group_count limit marked (map (sight_named given) sights)) (loop_count (map (point_named given) points) (length (map (sight_named given) sights))) (length (map (explanation_named given) rows)) (count_by explains_all (map (explanation_named given) rows))))
+verdict_started points sights rows limit =
+    same (λ given. verdict_start (verdict_of (group_count limit marked sights) (loop_count points (length sights)) (length rows) (count_by explains_all rows)))
+    (λ given. verdict_start (verdict_of (group_count limit marked (map (sight_named given) sights)) (loop_count (map (point_named given) points) (length (map (sight_named given) sights))) (length (map (explanation_named given) rows)) (count_by explains_all (map (explanation_named given) rows))))
+    (λ given keeps. λ i. verdict_start (verdict_of (as_many limit marked given sights i) (loops_named given points sights i) (length-map rows (explanation_named given) i) (counted explains_all (explanation_named given) rows i)))
+    (still (verdict_start (verdict_of (group_count limit marked sights) (loop_count points (length sights)) (length rows) (count_by explains_all rows))))
+
+marks_are : (sights : List ObservationRow) (limit : ℤ) → IsFilled (λ given. marks_paragraph (group_count limit marked (map (sight_named given) sights)) (length (map (sight_named given) sights)))
+marks_are sights limit =
+    same (λ given. marks_paragraph (group_count limit marked sights) (length sights)) (λ given. marks_paragraph (group_count limit marked (map (sight_named given) sights)) (length (map (sight_named given) sights)))
+    (λ given keeps. ap₂ marks_paragraph (as_many limit marked given sights) (length-map sights (sight_named given)))
+    (still (marks_paragraph (group_count limit marked sights) (length sights)))
+
+said : (sentence : List ℕ) → IsFilled (λ given. said_paragraph (given.text sentence))
+unfolding said_paragraph
+said sentence = still (codes "<p>") ⊕ name sentence ⊕ still (codes "</p>\n")
+
+unchecked : (points : List PointRow) (sights : List ObservationRow) → IsFilled (λ given. unchecked_paragraphs (map (point_named given) points) (map (sight_named given) sights))
+unfolding unchecked_paragraphs
+unchecked points sights =
+    same (λ given. unchecked_paragraphs points sights) (λ given. unchecked_paragraphs (map (point_named given) points) (map (sight_named given) sights))
+    (λ given keeps. ap₂ (λ alone fixed. alone_paragraph alone ++ lone_paragraph fixed) (counted is_alone (sight_named given) sights) (counted is_fixed (point_named given) points))
+    (still (unchecked_paragraphs points sights))
+
+verdict : (points : List PointRow) (sights : List ObservationRow) (rows : List Row) (says : List (List ℕ)) (limit : ℤ)
+    → IsFilled (λ given. verdict_text (map (point_named given) points) (map (sight_named given) sights) (map (explanation_named given) rows) (map given.text says) limit)
+unfolding verdict_text
+verdict points sights rows says limit =
+    verdict_started points sights rows limit ⊕ marks_are sights limit ⊕ changed said_paragraph (λ given. given.text) says said ⊕ unchecked points sights ⊕ still (codes "</div>\n")
 
 undrawn_named : (limit : ℤ) (given : Given) (sights : List ObservationRow) (group : ℕ) → undrawn_in limit (map (sight_named given) sights) group ≡ undrawn_in limit sights group
 unfolding undrawn_in
@@ -426,7 +463,8 @@ headed inputs = still (head_text ++ style_text ++ body_text) ⊕ changed input_i
 fronted : (shown : ShownRows) → IsFilled (λ given. front_part (shown_named given shown))
 unfolding front_part
 fronted shown =
-    facts shown.points shown.sights shown.entries shown.cost shown.limit ⊕ lamps shown.sights shown.benchmarks shown.entries shown.limit
+    verdict shown.points shown.sights shown.explanations shown.says shown.limit
+    ⊕ facts shown.points shown.sights shown.entries shown.cost shown.limit ⊕ hiding shown.sights shown.benchmarks shown.entries
     ⊕ picture_figure_is shown.points shown.sights shown.limit ⊕ strip_figure_is shown.sights shown.limit
 
 tabled : (shown : ShownRows) → IsFilled (λ given. table_part (shown_named given shown))

@@ -1,11 +1,9 @@
--- The front of a page: the inputs, the facts and the lamps.
-use Rattle.std.specs.Prelude.{ℕ, ℤ, ◌-◌, ◌==◌, Bool, false, List, ◌++◌, codes, count_by, decimal, if◌then◌else◌, is_none, length, unsigned_abs}
+-- The front of a page: the inputs, the facts, and where a mistake may hide.
+use Rattle.std.specs.Prelude.{ℕ, ℤ, ◌-◌, Bool, false, List, ◌++◌, codes, count_by, decimal, is_none, length, unsigned_abs}
 use Rattle.th_html.specs.Lengths.{sized_text}
 use Rattle.th_html.specs.Texts.{escaped}
 use Rattle.th_inputs.specs.Inputs.{NamedInput, digest_text, input_text}
 use Rattle.th_inputs.specs.declared.sums.Sum.{Sum}
-use Rattle.th_picture.specs.Gaps.{marked}
-use Rattle.th_picture.specs.Groups.{group_count}
 use Rattle.th_review_rows.specs.Weak.{is_weak_benchmark, is_weak_entry, is_weak_observation}
 use Rattle.th_review_rows.specs.declared.rows.BenchmarkRow.{BenchmarkRow}
 use Rattle.th_review_rows.specs.declared.rows.EntryRow.{EntryRow}
@@ -57,47 +55,11 @@ unfoldable pub facts_text : List PointRow → ℕ → ℕ → ℕ → ℤ → Li
 facts_text points sights entries cost limit =
     codes "<ul class=\"facts\">\n" ++ count_items points sights entries ++ length_items cost limit ++ codes "</ul>\n"
 
--- how many of them are weak or marked: a lamp is red if there are any, else green
-abbrev pub lamp_class : ℕ → List ℕ
-lamp_class count = if count == 0 then codes "ok" else codes "no"
-
-abbrev pub lamp_words : ℕ → List ℕ → List ℕ → List ℕ
-lamp_words count good bad = if count == 0 then good else bad
-
--- the counts of a lamp
-unfoldable pub lamp_counts : ℕ → ℕ → List ℕ → List ℕ
-lamp_counts count total what = codes "<b>" ++ decimal count ++ codes " of " ++ decimal total ++ codes " " ++ what ++ codes ".</b> "
-
-unfoldable pub lamp_item : ℕ → ℕ → List ℕ → List ℕ → List ℕ → List ℕ
-lamp_item count total what good bad =
-    codes "<li class=\"" ++ lamp_class count ++ codes "\">" ++ lamp_counts count total what ++ lamp_words count good bad ++ codes "\n"
-
-unfoldable pub marked_lamp : ℕ → ℕ → List ℕ
-marked_lamp count total =
-    lamp_item count total (codes "sights marked") (codes "No residual is above the limit.")
-    (codes "Their residuals are above the limit. See <a href=\"#marked\">marked sights</a>.")
-
-unfoldable pub weak_lamp : ℕ → ℕ → List ℕ
-weak_lamp count total =
-    lamp_item count total (codes "sights weak") (codes "A mistake in any single sight shows in its own residual.")
-    (codes "A mistake in one of these may stay hidden. See <a href=\"#weak\">weak sights</a>.")
-
-unfoldable pub benchmark_lamp : ℕ → ℕ → List ℕ
-benchmark_lamp count total =
-    lamp_item count total (codes "benchmarks weak") (codes "A mistake in any single one with sights shows in their residuals.")
-    (codes "A mistake in one of these may move points. See <a href=\"#benchmarks\">weak benchmarks</a>.")
-
-unfoldable pub entry_lamp : ℕ → ℕ → List ℕ
-entry_lamp count total =
-    lamp_item count total (codes "keyed-in heights weak") (codes "A mistake in any single one with sights shows in their residuals.")
-    (codes "A mistake in one of these may move points. See <a href=\"#entries\">weak keyed-in heights</a>.")
-
--- the lamps
-unfoldable pub lamps_text : List ObservationRow → List BenchmarkRow → List EntryRow → ℤ → List ℕ
-lamps_text sights benchmarks entries limit =
-    codes "<ul class=\"lamps\">\n"
-    ++ marked_lamp (group_count limit marked sights) (length sights)
-    ++ weak_lamp (count_by is_weak_observation sights) (length sights)
-    ++ benchmark_lamp (count_by is_weak_benchmark benchmarks) (length benchmarks)
-    ++ entry_lamp (count_by is_weak_entry entries) (length entries)
+-- where a mistake may hide: how many sights, benchmarks and entries are weak
+unfoldable pub hiding_text : List ObservationRow → List BenchmarkRow → List EntryRow → List ℕ
+hiding_text sights benchmarks entries =
+    codes "<ul class=\"facts\">\n"
+    ++ fact_item (codes "Weak sights") (decimal (count_by is_weak_observation sights))
+    ++ fact_item (codes "Weak benchmarks") (decimal (count_by is_weak_benchmark benchmarks))
+    ++ fact_item (codes "Weak keyed-in heights") (decimal (count_by is_weak_entry entries))
     ++ codes "</ul>\n"

@@ -1,4 +1,4 @@
--- Laws of the page. Its texts from outside are the names of inputs and points, and notes.
+-- Laws of the page. Its texts from outside are the names of inputs and points, the sentences of the explanations, and notes.
 use Rattle.std.specs.Prelude.{◌≡◌, ℕ, List, Option, map, length, option_map}
 use Rattle.std.specs.List.{flat_map}
 use Rattle.th_html.specs.Texts.{escaped}
@@ -63,6 +63,7 @@ shown_named given shown = record {
   entries = map (entry_named given) shown.entries;
   benchmarks = map (benchmark_named given) shown.benchmarks;
   explanations = map (explanation_named given) shown.explanations;
+  says = map given.text shown.says;
   notes = map given.text shown.notes;
   cost = shown.cost;
   limit = shown.limit;

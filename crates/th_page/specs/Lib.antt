@@ -1,5 +1,6 @@
 pub mod Fixed
 pub mod Fronts
+pub mod Verdicts
 pub mod Figures
 pub mod Sections
 pub mod Pages

@@ -8,13 +8,14 @@ use Rattle.th_review_rows.specs.declared.rows.EntryRow.{EntryRow}
 use Rattle.th_review_rows.specs.declared.rows.ObservationRow.{ObservationRow}
 use Rattle.th_review_rows.specs.declared.rows.PointRow.{PointRow}
 use Rattle.th_page.specs.Figures.{picture_figure, strip_figure}
-use Rattle.th_page.specs.Fronts.{facts_text, input_item, lamps_text}
+use Rattle.th_page.specs.Fronts.{facts_text, hiding_text, input_item}
 use Rattle.th_page.specs.Sections.{explanation_section, note_section, number_sections, sight_sections}
+use Rattle.th_page.specs.Verdicts.{verdict_text}
 use Rattle.th_page.specs.declared.contents.Shown.{Shown}
 use Rattle.th_page.specs.Fixed.{body_text, foot_text, head_text, places_text, style_text}
 
--- what a page shows, as lists: the inputs, whose names have no folders, a row for each point, sight, entry, benchmark and explanation, notes,
--- the least cost, and the limit of blunders
+-- what a page shows, as lists: the inputs, whose names have no folders, a row for each point, sight, entry, benchmark and explanation, the
+-- sentences of the explanations, notes, the least cost, and the limit of blunders
 pub record ShownRows : Type 0 where
   pub inputs : List NamedInput
   pub points : List PointRow
@@ -22,6 +23,7 @@ pub record ShownRows : Type 0 where
   pub entries : List EntryRow
   pub benchmarks : List BenchmarkRow
   pub explanations : List Row
+  pub says : List (List ℕ)
   pub notes : List (List ℕ)
   pub cost : ℕ
   pub limit : ℤ
@@ -34,6 +36,7 @@ shown_by shown = record {
   entries = shown.entries.now;
   benchmarks = shown.benchmarks.now;
   explanations = shown.explained.rows.now;
+  says = map (λ line. line.now) shown.says.now;
   notes = map (λ note. note.now) shown.notes.now;
   cost = shown.explained.cost;
   limit = shown.explained.limit;
@@ -43,11 +46,12 @@ shown_by shown = record {
 unfoldable pub head_part : List NamedInput → List ℕ
 head_part inputs = head_text ++ style_text ++ body_text ++ flat_map input_item inputs ++ places_text
 
--- the facts, the lamps and the figures
+-- the verdict, the facts and the figures
 unfoldable pub front_part : ShownRows → List ℕ
 front_part shown =
-    facts_text shown.points (length shown.sights) (length shown.entries) shown.cost shown.limit
-    ++ lamps_text shown.sights shown.benchmarks shown.entries shown.limit
+    verdict_text shown.points shown.sights shown.explanations shown.says shown.limit
+    ++ facts_text shown.points (length shown.sights) (length shown.entries) shown.cost shown.limit
+    ++ hiding_text shown.sights shown.benchmarks shown.entries
     ++ picture_figure shown.points shown.sights shown.limit
     ++ strip_figure shown.sights shown.limit
 

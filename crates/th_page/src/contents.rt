@@ -12,6 +12,8 @@ pub struct Explained<'a> {
     pub limit: i64,
     /// The numbers that would explain most, each with its row.
     pub rows: &'a [Row],
+    /// What the rows say: sentences, each on a line.
+    pub sentences: &'a [u8],
 }
 
 /// What a page shows.
@@ -29,6 +31,8 @@ pub struct Shown<'a> {
     pub entries: &'a [EntryRow],
     /// The rows of the table of benchmarks.
     pub benchmarks: &'a [BenchmarkRow],
+    /// The sentences of the explanations.
+    pub says: &'a [&'a [u8]],
     /// The lines of notes.
     pub notes: &'a [&'a [u8]],
     /// What would explain the marks.

@@ -44,7 +44,7 @@ fn write_counts(
 }
 
 /// How many points are benchmarks.
-fn fixed_count(points: &[PointRow]) -> u64
+pub(crate) fn fixed_count(points: &[PointRow]) -> u64
     ensures { result ≡ fixed_count points.now }
 {
     let mut count = 0;
@@ -57,7 +57,7 @@ fn fixed_count(points: &[PointRow]) -> u64
 }
 
 /// How many loops close.
-fn loop_count(points: &[PointRow], sights: u64) -> u64
+pub(crate) fn loop_count(points: &[PointRow], sights: u64) -> u64
     ensures { result ≡ loop_count points.now sights }
 {
     let free = (points.len() as u64).saturating_sub(fixed_count(points));
@@ -66,7 +66,7 @@ fn loop_count(points: &[PointRow], sights: u64) -> u64
 
 /// Writes a fact that is a count.
 #[tactic(auto, unfolding(crate::specs::Fronts::fact_item))]
-fn write_count(page: &mut Page, what: &[u8], count: u64) -> Result<(), AllocError>
+pub(crate) fn write_count(page: &mut Page, what: &[u8], count: u64) -> Result<(), AllocError>
     ensures { OnOk result (page.new ≡ page.old ++ fact_item what.now (decimal count)) }
 {
     page.add(b"<li>")?;

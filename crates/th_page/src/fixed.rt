@@ -24,13 +24,15 @@ h1{margin:0;font-size:1.6em}\n\
 h2{margin:1.6em 0 .3em;font-size:1.15em}\n\
 p{margin:.3em 0}\n\
 figure{margin:1.4em 0 0}\n\
-.inputs,.facts,.lamps,.legend{margin:.4em 0;padding:0}\n\
+.inputs,.facts,.legend{margin:.4em 0;padding:0}\n\
 .inputs{list-style:none}\n\
 .facts{display:flex;flex-wrap:wrap;gap:.2em 1.6em;list-style:none;color:#555}\n\
 .facts b{color:#111}\n\
 li,bdi,th{overflow-wrap:anywhere}\n\
-.lamps li{list-style:none;margin:.5em 0;padding:.3em 0 .3em .8em;border-left:.4em solid #d0021b}\n\
-.lamps .ok{border-left:.4em double #2a7d4f}\n\
+.verdict{margin:.8em 0;padding:.1em 0 .3em .8em;border-left:.4em solid #d0021b}\n\
+.verdict h2{margin:0}\n\
+.good{border-left:.4em double #2a7d4f}\n\
+.care{border-left:.4em dashed #c46200}\n\
 .w,.col{overflow-x:auto}\n\
 table{border-collapse:collapse;font-variant-numeric:tabular-nums}\n\
 th,td{padding:.15em .7em .15em 0;text-align:right;white-space:nowrap;border-bottom:1px solid #ddd}\n\

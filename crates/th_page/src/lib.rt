@@ -11,9 +11,10 @@ mod fixed;
 // The parts of a page, from the first to the last.
 mod facts;
 mod figures;
+mod hiding;
 mod inputs;
-mod lamps;
 mod sections;
+mod verdicts;
 mod weak;
 // The whole.
 mod pages;

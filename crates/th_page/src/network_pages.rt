@@ -7,7 +7,7 @@ ghost use Rattle.th_review_rows.specs.Found.{rows_in};
 
 use crate::contents::{Explained, Shown};
 use crate::pages::page_text;
-use crate::texts::{lent_texts, names_shown, note_texts};
+use crate::texts::{lent_lines, lent_texts, names_shown, note_texts};
 use std::alloc::{AllocError, Global};
 use th_inputs::NamedInputs;
 use th_review_rows::Found;
@@ -20,9 +20,11 @@ pub fn page_of(
     explained: Explained<'_>,
 ) -> Result<Vec<u8>, AllocError>
     ensures { IfOk result (λ text. text.items ≡ page_text (shown_of (rows_in found.now)
-        (inputs_of inputs.entry) explained.entry.cost explained.entry.rows.now explained.entry.limit)) }
+        (inputs_of inputs.entry) explained.entry.cost explained.entry.rows.now
+        explained.entry.sentences.now explained.entry.limit)) }
 {
     let names = names_shown(alloc, inputs)?;
+    let says = lent_lines(alloc, explained.sentences)?;
     let texts = note_texts(alloc, &found.notes)?;
     let notes = lent_texts(alloc, &texts)?;
     page_text(
@@ -34,6 +36,7 @@ pub fn page_of(
             sights: &found.observations,
             entries: &found.entries,
             benchmarks: &found.benchmarks,
+            says: &says,
             notes: &notes,
             explained,
         },

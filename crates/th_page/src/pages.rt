@@ -8,11 +8,12 @@ use crate::figures::{write_picture_figure, write_strip_figure};
 use crate::fixed::{
     write_body_text, write_foot_text, write_head_text, write_places_text, write_style_text,
 };
+use crate::hiding::write_hiding;
 use crate::inputs::write_inputs;
-use crate::lamps::write_lamps;
 use crate::sections::{
     write_explanation_section, write_note_section, write_number_sections, write_sight_sections,
 };
+use crate::verdicts::write_verdict;
 use std::alloc::{AllocError, Global};
 use th_columns::Page;
 use th_inputs::Sum;
@@ -48,11 +49,19 @@ fn write_head(
     write_places_text(page)
 }
 
-/// Writes the facts, the lamps and the figures.
+/// Writes the verdict, the facts and the figures.
 #[tactic(auto, unfolding(crate::specs::Pages::front_part))]
 fn write_front(page: &mut Page, shown: &Shown<'_>) -> Result<(), AllocError>
     ensures { OnOk result (page.new ≡ page.old ++ front_part (shown_by shown.now)) }
 {
+    write_verdict(
+        page,
+        shown.points,
+        shown.sights,
+        shown.explained.rows,
+        shown.says,
+        shown.explained.limit,
+    )?;
     write_facts(
         page,
         shown.points,
@@ -61,13 +70,7 @@ fn write_front(page: &mut Page, shown: &Shown<'_>) -> Result<(), AllocError>
         shown.explained.cost,
         shown.explained.limit,
     )?;
-    write_lamps(
-        page,
-        shown.sights,
-        shown.benchmarks,
-        shown.entries,
-        shown.explained.limit,
-    )?;
+    write_hiding(page, shown.sights, shown.benchmarks, shown.entries)?;
     write_picture_figure(page, shown.points, shown.sights, shown.explained.limit)?;
     write_strip_figure(page, shown.sights, shown.explained.limit)
 }

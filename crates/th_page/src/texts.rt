@@ -1,9 +1,9 @@
-//! The texts of notes, and the names of inputs without their folders.
+//! The texts of notes, the lines of sentences, and the names of inputs without their folders.
 ghost use Rattle.std.specs.Prelude.{◌≡◌, IfOk, map, zip};
 ghost use Rattle.th_columns.specs.FileNames.{last_part};
 ghost use Rattle.th_inputs.specs.Inputs.{inputs_of};
 ghost use Rattle.th_notes.specs.Notes.{note_text};
-ghost use Rattle.th_page.specs.Shown.{without_folder};
+ghost use Rattle.th_page.specs.Shown.{lines_in, without_folder};
 
 use std::alloc::{AllocError, Global};
 use th_columns::last_part;
@@ -34,6 +34,21 @@ pub(crate) fn lent_texts<'a>(
         lent.push(text.as_slice())?;
     }
     Ok(lent)
+}
+
+/// The lines of a text of which each ends with LF, without their ends.
+pub(crate) fn lent_lines<'a>(alloc: Global, text: &'a [u8]) -> Result<Vec<&'a [u8]>, AllocError>
+    ensures { IfOk result (λ lines. map (λ line. line.now) lines.items ≡ lines_in text.now) }
+{
+    let mut lines = Vec::new(alloc);
+    let mut start = 0;
+    for (place, byte) in text.iter().enumerate() {
+        if *byte == b'\n' {
+            lines.push(&text[start..place])?;
+            start = place + 1;
+        }
+    }
+    Ok(lines)
 }
 
 /// The names of inputs, without their folders.

@@ -39,7 +39,7 @@ use Rattle.th_review_rows.specs.declared.rows.BenchmarkRow.{BenchmarkRow}
 use Rattle.th_page.specs.Laws.{Given, PagesAreOfPieces, benchmark_named, entry_named, explanation_named, input_named, point_named, shown_named, sight_named}
 use Rattle.th_page.specs.Pages.{ShownRows, page_text}
 use Rattle.th_page.specs.Shown.{shown_of}
-use Rattle.th_runs.specs.Paged.{IsPaged}
+use Rattle.th_runs.specs.Paged.{IsPaged, said}
 use Rattle.th_runs.specs.Reviewed.{AreFound}
 
 -- what laws of points, of best heights, of mistakes and of pages say
@@ -209,11 +209,11 @@ benchmarks_shown laws survey (row ∷ rows) (a ∷ as') (b ∷ bs) one other =
     (benchmarks_shown laws survey rows as' bs one.1 other.1)
 
 -- ---- a page
-one_page : Laws → (survey : Survey) (inputs : List NamedInput) (books : List BookReview) (spellings : Listed Spelling) (limit : ℤ) (cost : ℕ) (rows : List Row) (best answer : Best) (first second : FoundNumbers)
+one_page : Laws → (survey : Survey) (inputs : List NamedInput) (books : List BookReview) (spellings : Listed Spelling) (limit : ℤ) (cost : ℕ) (rows : List Row) (says : List ℕ) (best answer : Best) (first second : FoundNumbers)
     → IsBest survey best → IsBest survey answer → AreFound survey books first → AreFound survey books second
-    → shown_named bare (shown_of (found_rows survey (at_points_of survey best.low) (at_points_of survey best.high) first books spellings) inputs cost rows limit)
-    ≡ shown_named bare (shown_of (found_rows survey (at_points_of survey answer.low) (at_points_of survey answer.high) second books spellings) inputs cost rows limit)
-one_page laws survey inputs books spellings limit cost rows best answer first second is other_is finds other_finds =
+    → shown_named bare (shown_of (found_rows survey (at_points_of survey best.low) (at_points_of survey best.high) first books spellings) inputs cost rows says limit)
+    ≡ shown_named bare (shown_of (found_rows survey (at_points_of survey answer.low) (at_points_of survey answer.high) second books spellings) inputs cost rows says limit)
+one_page laws survey inputs books spellings limit cost rows says best answer first second is other_is finds other_finds =
     ap₂ (λ low high. page low high first) (one_low laws survey best answer is other_is) (one_high laws survey best answer is other_is)
     ∙ ap₂ (λ strengths units. page answer.low answer.high (record first { strengths = strengths; unit_strengths = units }))
     (one_strengths survey first.strengths second.strengths finds.strengths other_finds.strengths) (one_strengths (record survey { weights = [] }) first.unit_strengths second.unit_strengths finds.unit_strengths other_finds.unit_strengths)
@@ -227,12 +227,12 @@ one_page laws survey inputs books spellings limit cost rows best answer first se
     (benchmarks_shown laws survey survey.benchmarks first.benchmarks second.benchmarks finds.benchmarks other_finds.benchmarks)
   where
     page : List ℤ → List ℤ → FoundNumbers → ShownRows
-    page low high found = shown_named bare (shown_of (found_rows survey (at_points_of survey low) (at_points_of survey high) found books spellings) inputs cost rows limit)
+    page low high found = shown_named bare (shown_of (found_rows survey (at_points_of survey low) (at_points_of survey high) found books spellings) inputs cost rows says limit)
 
 pub shown_is_one : Laws → (survey : Survey) (inputs : List NamedInput) (books : List BookReview) (spellings : Listed Spelling) (limit : ℤ) (text : List ℕ) (page : IsPaged survey inputs books spellings limit text)
     (answer : Best) (found : FoundNumbers) → IsBest survey answer → AreFound survey books found
-    → text ≡ page_text (shown_of (found_rows survey (at_points_of survey answer.low) (at_points_of survey answer.high) found books spellings) inputs page.explained.summary.cost page.explained.rows.items limit)
+    → text ≡ page_text (shown_of (found_rows survey (at_points_of survey answer.low) (at_points_of survey answer.high) found books spellings) inputs page.explained.summary.cost page.explained.rows.items (said page.explained) limit)
 shown_is_one laws survey inputs books spellings limit text page answer found is finds =
     page.printed ∙ bare_text laws.pages _
-    ∙ ap page_text (one_page laws survey inputs books spellings limit page.explained.summary.cost page.explained.rows.items page.answer answer page.found found page.answers is page.finds finds)
+    ∙ ap page_text (one_page laws survey inputs books spellings limit page.explained.summary.cost page.explained.rows.items (said page.explained) page.answer answer page.found found page.answers is page.finds finds)
     ∙ sym (bare_text laws.pages _)

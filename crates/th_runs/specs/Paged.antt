@@ -9,6 +9,7 @@ use Rattle.th_inputs.specs.declared.sums.Sum.{Sum}
 use Rattle.th_network.specs.Networks.{Survey, at_points_of}
 use Rattle.th_explain_rows.specs.Explanations.{AreExplained}
 use Rattle.th_explain_rows.specs.declared.findings.Explanations.{Explanations}
+use Rattle.th_explain_texts.specs.Sentences.{sentences}
 use Rattle.th_page.specs.Pages.{page_text}
 use Rattle.th_review_rows.specs.Found.{FoundNumbers, found_rows}
 use Rattle.th_run_parts.specs.Reads.{Run}
@@ -22,8 +23,12 @@ use Rattle.th_page.specs.Shown.{shown_of}
 abbrev pub paging : Run
 paging = record { has_certificate = false; outputs = output.Page ∷ [] }
 
+-- what explanations say, in sentences of a line each
+abbrev pub said : Explanations → List ℕ
+said explained = sentences explained.summary explained.rows.items explained.named.items
+
 -- The text is a page of a survey, of its books and of these inputs, for this limit of blunders in units of 10 nm. The heights in it are
--- best, and the rest is what was found and what would explain the marks.
+-- best, and the rest is what was found and what would explain the marks, in rows and in the sentences of explain.
 pub record IsPaged (survey : Survey) (inputs : List NamedInput) (books : List BookReview) (spellings : Listed Spelling) (limit : ℤ) (text : List ℕ) : Type 0 where
   pub answer : Best
   pub answers : IsBest survey answer
@@ -31,7 +36,7 @@ pub record IsPaged (survey : Survey) (inputs : List NamedInput) (books : List Bo
   pub finds : AreFound survey books found
   pub explained : Explanations
   pub explains : AreExplained survey books limit explained
-  pub printed : text ≡ page_text (shown_of (found_rows survey (at_points_of survey answer.low) (at_points_of survey answer.high) found books spellings) inputs explained.summary.cost explained.rows.items limit)
+  pub printed : text ≡ page_text (shown_of (found_rows survey (at_points_of survey answer.low) (at_points_of survey answer.high) found books spellings) inputs explained.summary.cost explained.rows.items (said explained) limit)
 
 -- the text of the output of a run over these inputs, whose books have these reviews
 abbrev pub ArePrintedOf : List NamedInput → List BookReview → Listed Spelling → ℤ → Survey → Texts → Type 0

@@ -10,7 +10,7 @@ ghost use Rattle.th_network.specs.Networks.{Survey, at_points_of};
 ghost use Rattle.th_page.specs.Pages.{page_text};
 ghost use Rattle.th_page.specs.Shown.{shown_of};
 ghost use Rattle.th_review_rows.specs.Found.{FoundNumbers, found_rows};
-ghost use Rattle.th_runs.specs.Paged.{IsPaged};
+ghost use Rattle.th_runs.specs.Paged.{IsPaged, said};
 ghost use Rattle.th_runs.specs.Reviewed.{AreFound};
 
 use th_circulation::laws::lowest_and_highest_are_one;
@@ -31,7 +31,7 @@ pub fn page_shows_what_others_print()
         → AreFound survey books found
         → text ≡ page_text (shown_of (found_rows survey (at_points_of survey answer.low)
         (at_points_of survey answer.high) found books spellings) inputs
-        page.explained.summary.cost page.explained.rows.items limit) }
+        page.explained.summary.cost page.explained.rows.items (said page.explained) limit) }
 {
     points_are_ends_and_benchmarks();
     lowest_and_highest_are_one();

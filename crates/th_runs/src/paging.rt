@@ -5,7 +5,7 @@ ghost use Rattle.th_inputs.specs.Inputs.{inputs_of};
 ghost use Rattle.th_limits.specs.Limits.{max_books};
 ghost use Rattle.th_review_rows.specs.Entries.{entries_of};
 ghost use Rattle.th_run_parts.specs.Inputs.{MakesNetwork};
-ghost use Rattle.th_runs.specs.Paged.{IsPaged};
+ghost use Rattle.th_runs.specs.Paged.{IsPaged, said};
 ghost use Rattle.th_tables.specs.Rows.{AreWeights};
 
 use crate::commands::SurveyCommand;
@@ -16,7 +16,8 @@ use th_blunders::Fit;
 use th_circulation::best_heights;
 use th_entries::laws::entry_of_several_books_has_one_station;
 use th_entries::{BookReview, Listed, Spelling};
-use th_explain_rows::explained_by;
+use th_explain_rows::{Explanations, explained_by};
+use th_explain_texts::sentences_text;
 use th_inputs::{NamedInputs, Sum};
 use th_network::Network;
 use th_page::{Explained, page_of};
@@ -111,13 +112,22 @@ fn page_of_network<P: Progress>(
     let best = best_heights(alloc, network)?;
     let fit = Fit::of(alloc, network, best.low())?;
     let explained = explained_by(alloc, network, reviews, &best, &fit, limit, progress)?;
+    let sentences = sentences_of(alloc, &explained)?;
     let findings = findings_of(alloc, network, reviews, progress)?;
     let found = found_of(alloc, &findings, &best, spellings)?;
     let explained = Explained {
         cost: explained.summary.cost,
         limit,
         rows: &explained.rows,
+        sentences: &sentences,
     };
     let page = page_of(alloc, &found, inputs, explained)?;
     Ok(page)
+}
+
+/// What explanations say, in sentences of a line each.
+fn sentences_of(alloc: Global, own: &Explanations) -> Result<Vec<u8>, AllocError>
+    ensures { IfOk result (λ text. text.items ≡ said own.now) }
+{
+    sentences_text(alloc, &own.summary, &own.rows, &own.named)
 }

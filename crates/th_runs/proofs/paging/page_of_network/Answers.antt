@@ -10,6 +10,7 @@ use Rattle.th_network.specs.Networks.{Survey, at_points_of}
 use Rattle.th_page.specs.Pages.{page_text}
 use Rattle.th_page.specs.Shown.{shown_of}
 use Rattle.th_review_rows.specs.Found.{FoundRows, found_rows, numbers_in, rows_in}
+use Rattle.th_runs.specs.Paged.{said}
 use Rattle.th_runs.proofs.paging.page_of_network.Goals as goal
 
 pub explained_by-requires-clause-fit : goal.explained_by-requires-clause-fit
@@ -23,7 +24,8 @@ returns-clause-page g c =
     let findings = c.in_ok-findings.findings in
     let explained = c.in_ok-explained.explained in
     let rows : c.deref.result.now ≡ explained.rows.items = search rules in
-    let text_of : FoundRows → List Row → ℤ → List ℕ = λ found rows limit. page_text (shown_of found (inputs_of c.args.inputs) explained.summary.cost rows limit) in
+    let says : c.deref-2.result.now ≡ said explained = search rules in
+    let text_of : FoundRows → List Row → List ℕ → ℤ → List ℕ = λ found rows says limit. page_text (shown_of found (inputs_of c.args.inputs) explained.summary.cost rows says limit) in
     let found_in : Survey → List BookReview → FoundRows = λ survey books. found_rows survey (at_points_of survey best.low) (at_points_of survey best.high) (numbers_in findings) books c.args.spellings.now in
     let same : rows_in c.in_ok-found.found ≡ found_in c.args.network.now c.args.reviews.now = c.in_ok-found.ensures ∙ ap₂ found_in c.in_ok-findings.ensures.network c.in_ok-findings.ensures.reviews in
     record {
@@ -33,5 +35,5 @@ returns-clause-page g c =
       finds = c.in_ok-findings.ensures.found;
       explained = explained;
       explains = subst (λ (limit : ℤ). AreExplained c.args.network.now c.args.reviews.now limit explained) (to_z-of_z w64 c.args.limit c.ranges.limit) c.in_ok-explained.ensures.explained;
-      printed = c.in_ok-page.ensures ∙ (λ i. text_of (same i) (rows i) (to_z-of_z w64 c.args.limit c.ranges.limit i));
+      printed = c.in_ok-page.ensures ∙ (λ i. text_of (same i) (rows i) (says i) (to_z-of_z w64 c.args.limit c.ranges.limit i));
     }
