@@ -88,6 +88,31 @@ pub fn shown(sieve: &mut Sieve<'_>, number: &Number, limit: u64, least: Option<u
     ensures shown { result ≡ true → IsExplainedOrMore sieve.old.case.now.network.now limit least number.now None }
     ensures case { sieve.new.case.now ≡ sieve.old.case.now }
 {
+    if shown_by_kept(sieve, number, limit, least) {
+        return true;
+    }
+    shown_by_ways(sieve, number, limit, least)
+}
+
+/// The same, by circulations that are kept.
+fn shown_by_kept(sieve: &mut Sieve<'_>, number: &Number, limit: u64, least: Option<u128>) -> bool
+    ensures shown { result ≡ true → IsExplainedOrMore sieve.old.case.now.network.now limit least number.now None }
+    ensures case { sieve.new.case.now ≡ sieve.old.case.now }
+{
+    if sieve.is_kept_costly_beyond(number, limit) {
+        return true;
+    }
+    match least {
+        Some(least) => sieve.is_kept_at_least(number, least),
+        None => false,
+    }
+}
+
+/// The same, by other ways for what flows through the number.
+fn shown_by_ways(sieve: &mut Sieve<'_>, number: &Number, limit: u64, least: Option<u128>) -> bool
+    ensures shown { result ≡ true → IsExplainedOrMore sieve.old.case.now.network.now limit least number.now None }
+    ensures case { sieve.new.case.now ≡ sieve.old.case.now }
+{
     if sieve.is_costly_beyond(number, limit) {
         return true;
     }

@@ -9,6 +9,7 @@
 // What shows without solving a network that a number explains nothing: circulations that are kept, and flows
 // that are sent other ways.
 mod detours;
+mod gains;
 mod groups;
 mod pairs;
 mod sieve;

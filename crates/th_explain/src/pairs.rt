@@ -50,6 +50,27 @@ pub(crate) fn nearest_line(lines: &[Line], given: &Line) -> Option<usize> {
     Some(place)
 }
 
+/// Whether less flows through a number by the line that is nearest to nothing than by the one of the best flows.
+pub(crate) fn is_nearer(lines: &[Line], given: &Line) -> bool {
+    match nearest_line(lines, given) {
+        Some(place) => lines
+            .get(place)
+            .is_some_and(|own| own.net.unsigned_abs() < given.net.unsigned_abs()),
+        None => false,
+    }
+}
+
+/// The place of a line that shows, with the one of the best flows, that no change beyond a limit makes the network cost
+/// less.
+pub(crate) fn costly_line(lines: &[Line], given: &Line, limit: u64) -> Option<usize> {
+    for (place, line) in lines.iter().enumerate() {
+        if line.are_costly_beyond(given, limit) {
+            return Some(place);
+        }
+    }
+    None
+}
+
 /// A line, and what its level mean with another one loses.
 #[derive(Clone, Copy)]
 struct Mean {

@@ -1,14 +1,16 @@
 //! Numbers that explain nothing, and what is left if one is freed, without solving a network for each.
 ghost use Rattle.std.specs.Prelude.{◌≡◌, All, IfOk, IfSome, true};
 ghost use Rattle.th_changes.specs.Lines.{IsCostlyBeyond, IsLine, LeavesAtLeast};
+ghost use Rattle.th_changes.specs.Rerouted.{HoldsNumber};
 
 use crate::detours::{Detours, Worth};
+use crate::gains::Gains;
 use crate::groups::link_at;
-use crate::pairs::{Pair, best_pair, nearest_line};
+use crate::pairs::{Pair, best_pair, costly_line, is_nearer, nearest_line};
 use crate::unshown::Unshown;
 use std::alloc::{AllocError, Global};
 use th_blunders::Fit;
-use th_changes::{Case, KeptFlows, Line, Number, Rerouted, run_of};
+use th_changes::{Case, KeptFlows, Line, Number, Rerouted, Run, run_of};
 use th_freeing::{Seed, Simplex};
 use th_reliability::Runs;
 
@@ -35,9 +37,12 @@ pub struct Sieve<'a> {
     turned: Vec<KeptFlows<'a>>,
     pub(crate) runs: Runs<'a>,
     pub(crate) simplex: Simplex,
-    /// What the kept circulations say of the number that was asked for last. Nothing is promised of it.
+    /// What the kept circulations say of one number. Nothing is promised of it.
     lines: Vec<Line>,
-    /// What was not shown of it. Nothing is promised of that either: it only spares the same search.
+    lines_of: Option<Number>,
+    /// What numbers gain if all heights stay. Nothing is promised of that either.
+    gains: Gains,
+    /// What was not shown of the number that was asked for last. It only spares the same search.
     unshown: Unshown,
     ghost same: { runs.observations.now ≡ case.now.network.now.observations },
     ghost same_best: { best.rerouted.case.now ≡ case.now },
@@ -64,40 +69,72 @@ impl<'a> Sieve<'a> {
             runs: Runs::of(case.network.observations()),
             simplex: simplex_of(alloc, case, fit)?,
             lines: Vec::with_capacity(alloc, MOST_KEPT + MOST_TURNED)?,
+            lines_of: None,
+            gains: Gains::of(alloc, fit)?,
             unshown: Unshown::new(),
         })
     }
 
-    /// Whether it is shown that no change of a number beyond a limit makes the network cost less. If not, it
-    /// may be so all the same.
+    /// Whether circulations that are kept show that no change of a number beyond a limit makes the network cost less.
+    /// If not, it may be so all the same.
+    pub(crate) fn is_kept_costly_beyond(&mut self, number: &Number, limit: u64) -> bool
+        ensures case { self.new.case.now ≡ self.old.case.now }
+        ensures costly { result ≡ true
+            → IsCostlyBeyond self.old.case.now.network.now number.now self.old.case.now.cost limit }
+    {
+        match self.line(number) {
+            Some(given) => self.is_kept_costly(number, &given, limit),
+            None => false,
+        }
+    }
+
+    /// Whether circulations that are kept show that at least so much is left, whatever a number is changed by. If not,
+    /// it may be so all the same.
+    pub(crate) fn is_kept_at_least(&mut self, number: &Number, least: u128) -> bool
+        ensures case { self.new.case.now ≡ self.old.case.now }
+        ensures left { result ≡ true → LeavesAtLeast self.old.case.now.network.now number.now least }
+    {
+        if self.unshown.is_own_less(number, least) {
+            return false;
+        }
+        match self.line(number) {
+            Some(given) => self.is_kept_left(number, &given, least),
+            None => false,
+        }
+    }
+
+    /// Whether other ways for what flows through a number in the best flows show that no change of it beyond a limit
+    /// makes the network cost less. If not, it may be so all the same.
     pub(crate) fn is_costly_beyond(&mut self, number: &Number, limit: u64) -> bool
         ensures case { self.new.case.now ≡ self.old.case.now }
         ensures costly { result ≡ true
             → IsCostlyBeyond self.old.case.now.network.now number.now self.old.case.now.cost limit }
     {
-        if self.unshown.is_mild(number, limit) {
+        let run = run_of(number, &self.runs);
+        if self.unshown.is_mild(number, run, limit) {
             return false;
         }
         let is_shown = self.search_costly(number, limit);
         if !is_shown {
-            self.unshown.note_mild(number, limit);
+            self.unshown.note_mild(number, run, limit);
         }
         is_shown
     }
 
-    /// The same, if nothing is known yet.
+    /// The same, if nothing is known yet. Where the number gains by such a change though all heights stay, nothing is
+    /// searched for.
     fn search_costly(&mut self, number: &Number, limit: u64) -> bool
         ensures case { self.new.case.now ≡ self.old.case.now }
         ensures costly { result ≡ true
             → IsCostlyBeyond self.old.case.now.network.now number.now self.old.case.now.cost limit }
     {
+        let run = run_of(number, &self.runs);
+        if self.gains.are_some_beyond(self.case.network, run, limit) {
+            return false;
+        }
         let Some(given) = self.line(number) else {
             return false;
         };
-        if self.is_kept_costly(number, &given, limit) {
-            return true;
-        }
-        let run = run_of(number, &self.runs);
         let _ = self.best.propose(number, run, given.net, limit);
         match self.turned(number) {
             Some(turned) if turned.are_costly_beyond(&given, limit) => {
@@ -109,52 +146,85 @@ impl<'a> Sieve<'a> {
     }
 
     /// The same, by a line of the best flows, and by that of circulations that are kept.
-    fn is_kept_costly(&self, number: &Number, given: &Line, limit: u64) -> bool
-        requires { IsLine self.now.case.now.network.now number.now self.now.case.now.cost given.now }
-        ensures { result ≡ true
-            → IsCostlyBeyond self.now.case.now.network.now number.now self.now.case.now.cost limit }
+    fn is_kept_costly(&mut self, number: &Number, given: &Line, limit: u64) -> bool
+        requires { IsLine self.old.case.now.network.now number.now self.old.case.now.cost given.now }
+        ensures case { self.new.case.now ≡ self.old.case.now }
+        ensures costly { result ≡ true
+            → IsCostlyBeyond self.old.case.now.network.now number.now self.old.case.now.cost limit }
     {
-        for place in 0..self.count() {
-            if let Some(line) = self.kept_line(place, number)
-                && line.are_costly_beyond(given, limit)
-            {
-                return true;
-            }
+        if given.are_costly_beyond(given, limit) {
+            return true;
         }
-        given.are_costly_beyond(given, limit)
+        let _ = self.list_lines(number);
+        let Some(place) = costly_line(&self.lines, given, limit) else {
+            return false;
+        };
+        let run = run_of(number, &self.runs);
+        match self.kept_line(place, number, run) {
+            Some(line) => line.are_costly_beyond(given, limit),
+            None => false,
+        }
     }
 
-    /// Whether it is shown that at least so much is left, whatever a number is changed by. If not, it may be so
-    /// all the same. Other ways are good ones up to the limit.
+    /// Whether it is shown by other ways that at least so much is left, whatever a number is changed by. If not, it may
+    /// be so all the same. Other ways are good ones up to the limit.
     pub(crate) fn leaves_at_least(&mut self, number: &Number, limit: u64, least: u128) -> bool
         ensures case { self.new.case.now ≡ self.old.case.now }
         ensures left { result ≡ true → LeavesAtLeast self.old.case.now.network.now number.now least }
     {
-        if self.unshown.is_less(number, least) {
+        let run = run_of(number, &self.runs);
+        if self.unshown.is_less(number, run, least) {
             return false;
         }
         let is_shown = self.search_left(number, limit, least);
         if !is_shown {
-            self.unshown.note_less(number, least);
+            self.unshown.note_less(number, run, least);
         }
         is_shown
     }
 
-    /// The same, if nothing is known yet.
+    /// The same, if nothing is known yet. Where the number gains more though all heights stay, nothing is searched for.
     fn search_left(&mut self, number: &Number, limit: u64, least: u128) -> bool
         ensures case { self.new.case.now ≡ self.old.case.now }
         ensures left { result ≡ true → LeavesAtLeast self.old.case.now.network.now number.now least }
     {
+        let run = run_of(number, &self.runs);
+        let worth = worth_above(self.case.cost, least);
+        if self.gains.are_above(self.case.network, run, worth) {
+            return false;
+        }
         let Some(given) = self.line(number) else {
             return false;
         };
-        if self.is_kept_left(number, &given, least) {
+        let _ = self.list_lines(number);
+        if is_nearer(&self.lines, &given) {
+            return self.is_near_or_best_left(number, &given, limit, least);
+        }
+        self.is_best_or_near_left(number, &given, limit, least)
+    }
+
+    /// The same, by other ways for a circulation that is kept, and then for the best flows.
+    fn is_near_or_best_left(&mut self, number: &Number, given: &Line, limit: u64, least: u128) -> bool
+        requires { IsLine self.old.case.now.network.now number.now self.old.case.now.cost given.now }
+        ensures case { self.new.case.now ≡ self.old.case.now }
+        ensures left { result ≡ true → LeavesAtLeast self.old.case.now.network.now number.now least }
+    {
+        if self.is_near_left(number, given, limit, least) {
             return true;
         }
-        if self.is_best_left(number, &given, least) {
+        self.is_best_left(number, given, least)
+    }
+
+    /// The same, the other way round.
+    fn is_best_or_near_left(&mut self, number: &Number, given: &Line, limit: u64, least: u128) -> bool
+        requires { IsLine self.old.case.now.network.now number.now self.old.case.now.cost given.now }
+        ensures case { self.new.case.now ≡ self.old.case.now }
+        ensures left { result ≡ true → LeavesAtLeast self.old.case.now.network.now number.now least }
+    {
+        if self.is_best_left(number, given, least) {
             return true;
         }
-        self.is_near_left(number, &given, limit, least)
+        self.is_near_left(number, given, limit, least)
     }
 
     /// The same, by other ways for what flows through it in the best flows.
@@ -209,7 +279,7 @@ impl<'a> Sieve<'a> {
             return false;
         };
         let first = self.line_at(pair.first, number, given);
-        let second = self.kept_line(pair.second, number);
+        let second = self.kept_line(pair.second, number, run_of(number, &self.runs));
         match (first, second) {
             (Some(first), Some(second)) => first.leave_at_least(&second, self.case.cost, least),
             _ => false,
@@ -222,7 +292,7 @@ impl<'a> Sieve<'a> {
         ensures { IfSome result (IsLine self.now.case.now.network.now number.now self.now.case.now.cost) }
     {
         match place {
-            Some(place) => self.kept_line(place, number),
+            Some(place) => self.kept_line(place, number, run_of(number, &self.runs)),
             None => Some(*given),
         }
     }
@@ -231,12 +301,26 @@ impl<'a> Sieve<'a> {
     fn pair(&mut self, number: &Number, given: &Line) -> Option<Pair>
         ensures { self.new.case.now ≡ self.old.case.now }
     {
+        self.list_lines(number)?;
+        best_pair(&self.lines, given)
+    }
+
+    /// Lists what the kept circulations say of a number, unless that is listed. Nothing is promised.
+    fn list_lines(&mut self, number: &Number) -> Option<()>
+        ensures { self.new.case.now ≡ self.old.case.now }
+    {
+        if self.lines_of == Some(*number) {
+            return Some(());
+        }
+        self.lines_of = None;
         self.lines.clear();
+        let run = run_of(number, &self.runs);
         for place in 0..self.count() {
-            let line = self.kept_line(place, number)?;
+            let line = self.kept_line(place, number, run)?;
             self.lines.push(line).ok()?;
         }
-        best_pair(&self.lines, given)
+        self.lines_of = Some(*number);
+        Some(())
     }
 
     /// A line of the best flows.
@@ -252,23 +336,25 @@ impl<'a> Sieve<'a> {
     }
 
     /// A line of one of the circulations that are kept: of those that went other ways behind the others.
-    pub(crate) fn kept_line(&self, place: usize, number: &Number) -> Option<Line>
+    pub(crate) fn kept_line(&self, place: usize, number: &Number, run: Run) -> Option<Line>
+        requires { HoldsNumber self.now.runs.observations.now number.now run }
         ensures { IfSome result (IsLine self.now.case.now.network.now number.now self.now.case.now.cost) }
     {
         if place >= self.kept.len() {
-            return self.turned_line(place - self.kept.len(), number);
+            return self.turned_line(place - self.kept.len(), number, run);
         }
-        Some(self.kept[place].line(number, run_of(number, &self.runs)))
+        Some(self.kept[place].line(number, run))
     }
 
     /// A line of one of those that went other ways.
-    fn turned_line(&self, place: usize, number: &Number) -> Option<Line>
+    fn turned_line(&self, place: usize, number: &Number, run: Run) -> Option<Line>
+        requires { HoldsNumber self.now.runs.observations.now number.now run }
         ensures { IfSome result (IsLine self.now.case.now.network.now number.now self.now.case.now.cost) }
     {
         if place >= self.turned.len() {
             return None;
         }
-        Some(self.turned[place].line(number, run_of(number, &self.runs)))
+        Some(self.turned[place].line(number, run))
     }
 
     /// A line of the best flows where they go round all walks that were proposed.
@@ -338,6 +424,7 @@ impl<'a> Sieve<'a> {
         ensures case { self.new.case.now ≡ self.old.case.now }
         ensures same { IfSome result (λ own. own.case.now ≡ self.old.case.now) }
     {
+        self.lines_of = None;
         if self.turned.is_empty() {
             return None;
         }
@@ -358,6 +445,7 @@ impl<'a> Sieve<'a> {
         requires { own.case.now ≡ self.old.case.now }
         ensures { self.new.case.now ≡ self.old.case.now }
     {
+        self.lines_of = None;
         if self.kept.len() >= MOST_KEPT {
             self.drop_first();
         }

@@ -97,9 +97,10 @@ impl<'a> Sieve<'a> {
 
     /// The place of the kept flows of which nothing flows through a number and that lose least, if there are any.
     fn level(&self, number: &Number) -> Option<usize> {
+        let run = run_of(number, &self.runs);
         let mut best: Option<(i64, usize)> = None;
         for place in 0..self.kept.len() {
-            let line = self.kept_line(place, number)?;
+            let line = self.kept_line(place, number, run)?;
             if line.net == 0 && best.is_none_or(|(lost, _)| line.lost < lost) {
                 best = Some((line.lost, place));
             }
