@@ -97,9 +97,6 @@ impl Gains {
 
     /// The residual and the weight at a place.
     fn at(&self, network: &Network, place: usize) -> Option<(i64, u32)> {
-        Some((
-            *self.residuals.get(place)?,
-            *network.weights().get(place)?,
-        ))
+        Some((*self.residuals.get(place)?, *network.weights().get(place)?))
     }
 }

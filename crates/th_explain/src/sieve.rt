@@ -204,7 +204,13 @@ impl<'a> Sieve<'a> {
     }
 
     /// The same, by other ways for a circulation that is kept, and then for the best flows.
-    fn is_near_or_best_left(&mut self, number: &Number, given: &Line, limit: u64, least: u128) -> bool
+    fn is_near_or_best_left(
+        &mut self,
+        number: &Number,
+        given: &Line,
+        limit: u64,
+        least: u128,
+    ) -> bool
         requires { IsLine self.old.case.now.network.now number.now self.old.case.now.cost given.now }
         ensures case { self.new.case.now ≡ self.old.case.now }
         ensures left { result ≡ true → LeavesAtLeast self.old.case.now.network.now number.now least }
@@ -216,7 +222,13 @@ impl<'a> Sieve<'a> {
     }
 
     /// The same, the other way round.
-    fn is_best_or_near_left(&mut self, number: &Number, given: &Line, limit: u64, least: u128) -> bool
+    fn is_best_or_near_left(
+        &mut self,
+        number: &Number,
+        given: &Line,
+        limit: u64,
+        least: u128,
+    ) -> bool
         requires { IsLine self.old.case.now.network.now number.now self.old.case.now.cost given.now }
         ensures case { self.new.case.now ≡ self.old.case.now }
         ensures left { result ≡ true → LeavesAtLeast self.old.case.now.network.now number.now least }

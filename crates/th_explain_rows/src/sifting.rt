@@ -192,4 +192,3 @@ fn lesser(least: Option<u128>, own: &Option<Freed>) -> Option<u128>
         (Some(least), Some(freed)) => Some(least.min(freed.left)),
     }
 }
-

@@ -9,4 +9,4 @@ returns-in-Some-kept_line-clause-costly c holds =
     let own : Case = c.list_lines.new.self.case.now in
     let given = subst (λ (case : Case). IsLine case.network.now number case.cost c.args.given.now) (sym c.list_lines.ensures) c.requires in
     subst (λ (case : Case). IsCostlyBeyond case.network.now number case.cost c.args.limit) c.list_lines.ensures
-    (c.are_costly_beyond-2.ensures holds own.network.now number own.cost c.in-Some-kept_line.ensures given)
+    (c.are_costly_beyond-in-Some-kept_line.ensures holds own.network.now number own.cost c.in-Some-kept_line.ensures given)

@@ -5,5 +5,5 @@ use Rattle.th_explain.proofs.sieve.Sieve.list_lines.Given as goal
 abbrev pub invariant-loop-place : goal.invariant-loop-place
 invariant-loop-place l = record {
   case : l.self.case.now ≡ l.fn.self.case.now;
-  run : HoldsNumber l.self.runs.observations.now l.number.now l.run;
+  run : HoldsNumber l.self.runs.observations.now l.number l.run;
 }
