@@ -197,42 +197,22 @@ impl<'a> Sieve<'a> {
             return false;
         };
         let _ = self.list_lines(number);
-        if is_nearer(&self.lines, &given) {
-            return self.is_near_or_best_left(number, &given, limit, least);
-        }
-        self.is_best_or_near_left(number, &given, limit, least)
+        self.is_left_by_ways(number, &given, limit, least)
     }
 
-    /// The same, by other ways for a circulation that is kept, and then for the best flows.
-    fn is_near_or_best_left(
-        &mut self,
-        number: &Number,
-        given: &Line,
-        limit: u64,
-        least: u128,
-    ) -> bool
+    /// The same, by other ways for the best flows and for a circulation that is kept. The one that more may be hoped of
+    /// comes first.
+    fn is_left_by_ways(&mut self, number: &Number, given: &Line, limit: u64, least: u128) -> bool
         requires { IsLine self.old.case.now.network.now number.now self.old.case.now.cost given.now }
         ensures case { self.new.case.now ≡ self.old.case.now }
         ensures left { result ≡ true → LeavesAtLeast self.old.case.now.network.now number.now least }
     {
-        if self.is_near_left(number, given, limit, least) {
-            return true;
+        if is_nearer(&self.lines, given) {
+            if self.is_near_left(number, given, limit, least) {
+                return true;
+            }
+            return self.is_best_left(number, given, least);
         }
-        self.is_best_left(number, given, least)
-    }
-
-    /// The same, the other way round.
-    fn is_best_or_near_left(
-        &mut self,
-        number: &Number,
-        given: &Line,
-        limit: u64,
-        least: u128,
-    ) -> bool
-        requires { IsLine self.old.case.now.network.now number.now self.old.case.now.cost given.now }
-        ensures case { self.new.case.now ≡ self.old.case.now }
-        ensures left { result ≡ true → LeavesAtLeast self.old.case.now.network.now number.now least }
-    {
         if self.is_best_left(number, given, least) {
             return true;
         }
