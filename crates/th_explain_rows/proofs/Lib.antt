@@ -3,4 +3,3 @@ pub mod SiftLemmas
 mod RowLemmas
 mod FindLemmas
 mod GrowLemmas
-mod HalfLemmas

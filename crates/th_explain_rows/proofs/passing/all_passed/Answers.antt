@@ -6,7 +6,7 @@ use Rattle.th_numbers.specs.declared.candidates.Candidate.{Candidate}
 use Rattle.th_reliability.proofs.ZipLemmas.{zip_next}
 use Rattle.th_explain_rows.specs.Inside.Passing.{IsPassedOr}
 use Rattle.th_explain_rows.specs.declared.finder.Misfit.{Misfit}
-use Rattle.th_explain_rows.proofs.PassLemmas.{none_mild, placed}
+use Rattle.th_explain_rows.proofs.PassLemmas.{placed}
 use Rattle.th_explain_rows.proofs.passing.all_passed.Goals as goal
 
 pub loop-candidate-preserved : goal.loop-candidate-preserved
@@ -26,8 +26,3 @@ returns-clause-found g c =
     let candidates = c.args.candidates.now in
     placed survey misfit.limit None (IsAtLeast None) 0 candidates c.loop-candidate.freed.items (λ k left later none. none)
     (subst (λ (own : List Candidate). AllZip (IsPassedOr survey misfit.limit (IsAtLeast None)) own c.loop-candidate.freed.items) (take_all c.loop-candidate.candidate-index candidates (omega (arith, c.loop-candidate-test.false))) c.loop-candidate.invariant.freed)
-
-pub returns-clause-mild : goal.returns-clause-mild
-returns-clause-mild g c =
-    let misfit : Misfit = c.args.finder.now.misfit in
-    none_mild misfit.case.now.network.now misfit.limit None 0 c.args.candidates.now
