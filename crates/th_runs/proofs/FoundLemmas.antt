@@ -153,6 +153,7 @@ same_shown shown = λ i. record {
   entries = kept (entry_named as_is) (λ row. refl) shown.entries i;
   benchmarks = kept (benchmark_named as_is) (λ row. refl) shown.benchmarks i;
   explanations = kept (explanation_named as_is) (λ row. ap₂ (λ (from to : Option (List ℕ)). record row { from = from; to = to }) (same_name row.from) (same_name row.to)) shown.explanations i;
+  says = kept (λ text. text) (λ text. refl) shown.says i;
   notes = kept (λ text. text) (λ text. refl) shown.notes i;
   cost = shown.cost;
   limit = shown.limit;
