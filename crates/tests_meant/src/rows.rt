@@ -246,9 +246,7 @@ const ROWS: [Row; 35] = [
 /// Names what was meant in a row, and compares it with what is wanted.
 fn compare(rt: &impl Abort, row: &Row) {
     let ((negative, digits, unit), others, (low, high, tolerance), wanted) = row;
-    let given = to_len(*negative, digits, *unit)
-        .ok()
-        .expect(rt, "a length");
+    let given = to_len(*negative, digits, *unit).ok().expect(rt, "a length");
     let typed = Typed { given, unit: *unit };
     let proposed = Proposed {
         low: *low,
