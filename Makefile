@@ -161,10 +161,12 @@ compare: built
 
 PROJECTS ?= 1000
 NETWORKS ?= 1000
+TABLES ?= 2000
 office: built
 	@python3 tests/second_office/self_test.py
 	@python3 tests/second_office/try_laws.py --networks $(NETWORKS)
 	@python3 tests/second_office/compare.py --program $(PROGRAM) --projects $(PROJECTS) --seed $(SEED)
+	@python3 tests/second_office/mend.py --random $(TABLES) $(SEED) --program $(PROGRAM)
 
 INPUTS ?= 1000
 mutated: built

@@ -3,7 +3,7 @@ _height_office() {
     local word=${COMP_WORDS[COMP_CWORD]} before=${COMP_WORDS[COMP_CWORD - 1]} options=
     COMPREPLY=()
     if [ "$COMP_CWORD" = 1 ]; then
-        mapfile -t COMPREPLY < <(compgen -W 'list adjust review explain page check book help --help --version' -- "$word")
+        mapfile -t COMPREPLY < <(compgen -W 'list adjust review explain page check book mend help --help --version' -- "$word")
         return
     fi
     case $before in
@@ -24,7 +24,8 @@ _height_office() {
         page) options='--benchmarks --weights --blunder --out --help' ;;
         check) options='--benchmarks --weights --certificate --inputs --help' ;;
         book) options='--heights --help' ;;
-        help) options='list adjust review explain page check book' ;;
+        mend) options='--help' ;;
+        help) options='list adjust review explain page check book mend' ;;
     esac
     if [[ $word == -* || ${COMP_WORDS[1]} == help ]]; then
         mapfile -t COMPREPLY < <(compgen -W "$options" -- "$word")

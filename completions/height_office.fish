@@ -1,5 +1,5 @@
 # Completion of height_office for fish. Made by tools/command_pages.
-set -l commands list adjust review explain page check book help
+set -l commands list adjust review explain page check book mend help
 complete -c height_office -f -n "not __fish_seen_subcommand_from $commands" -a list -d 'Prints the height differences of a book as CSV'
 complete -c height_office -f -n "not __fish_seen_subcommand_from $commands" -a adjust -d 'Adjusts the network of the books: writes heights, certificate, report and GSI file'
 complete -c height_office -f -n "not __fish_seen_subcommand_from $commands" -a review -d 'Reports what a mistake would do in the network of the books: show, hide or move points'
@@ -7,8 +7,9 @@ complete -c height_office -f -n "not __fish_seen_subcommand_from $commands" -a e
 complete -c height_office -f -n "not __fish_seen_subcommand_from $commands" -a page -d 'Shows the network of the books on one page: writes an HTML file'
 complete -c height_office -f -n "not __fish_seen_subcommand_from $commands" -a check -d 'Checks a certificate against books and tables: yes, or the first reason why not'
 complete -c height_office -f -n "not __fish_seen_subcommand_from $commands" -a book -d 'Makes a book of a table of height differences, or of a book with heights'
+complete -c height_office -f -n "not __fish_seen_subcommand_from $commands" -a mend -d 'Prints a book with the changes of a table, line for line'
 complete -c height_office -f -n "not __fish_seen_subcommand_from $commands" -a help -d 'Print the help of a command'
-complete -c height_office -f -n '__fish_seen_subcommand_from help' -a 'list adjust review explain page check book'
+complete -c height_office -f -n '__fish_seen_subcommand_from help' -a 'list adjust review explain page check book mend'
 complete -c height_office -s h -l help -d 'Print help'
 complete -c height_office -s V -l version -n "not __fish_seen_subcommand_from $commands" -d 'Print version'
 complete -c height_office -l benchmarks -r -F -n '__fish_seen_subcommand_from adjust review explain page check' -d 'The table of benchmarks: the header \'point,height\' and a row for each'

@@ -3,7 +3,7 @@
 
     run.py [--program PATH] [--calls PATH]
 
-The program lists, adjusts, reviews, explains and checks two projects, writes the page of one, and makes a book of a table; of each run
+The program lists, adjusts, reviews, explains and checks two projects, writes the page of one, makes a book of a table, and mends one; of each run
 request 1 is refused, then request 2, and so on until a run asks for less: once that request alone, and once it and all behind it. A run
 that wants memory has to say `out of memory` and nothing else, to end with status 4 and to begin no file. Where the library makes up for
 a refusal, as of room that it only asks for ahead, the answer has to be the right one, all of it. The program `tests_memory` makes calls
@@ -88,6 +88,10 @@ HEIGHTS = (b"110001+0000000A 86..40+00250112 88..10+00001545\n"
            b"110002+0000000B 31..00+00027472 83..00+00251384\n")
 HEIGHTS_BOOK = (b"110001+0000000A 86..40+00250112 88..10+00001545\r\n"
                 b"110002+0000000B 31..00+00027472 83..00+00251384 87..48+00000000 33..48-00027300 \r\n")
+# A table of changes for that book, and the book with them.
+CHANGES = b"line,word,value\n2,88 since,1.6\n1,from,C\n"
+MENDED = (b"110001+0000000C 86..40+00250112 88..10+00001545\n"
+          b"110002+0000000B 31..00+00027472 83..00+00251384 88..48+00160000\n")
 INPUTS = {
     "misread.gsi": MISREAD,
     "triangle.gsi": TRIANGLE,
@@ -97,6 +101,7 @@ INPUTS = {
     "triangle.csv": TRIANGLE_CERTIFICATE,
     "differences.csv": b"from,to,difference\nA,B,1.5\nA,C,-0.00001\n",
     "heights.gsi": HEIGHTS,
+    "changes.csv": CHANGES,
 }
 # The calls that are refused memory in turn.
 CALLS = {f"{call} wants memory\n".encode("ascii")
@@ -164,6 +169,7 @@ SERIES = (
            None),
     Series("book of a table", ["book", "differences.csv"], DIFFERENCES_BOOK, None),
     Series("book of a book with heights", ["book", "--heights", "heights.gsi"], HEIGHTS_BOOK, None),
+    Series("mended book", ["mend", "changes.csv", "heights.gsi"], MENDED, None),
 )
 
 

@@ -23,6 +23,8 @@ LINES = [
     (LACKS, f"page {MARKS} cellar.gsi"),
     (LACKS, "book"),
     (LACKS, "book --heights"),
+    (LACKS, "mend changes.csv"),
+    ("error: unexpected argument 'c' found", "mend a b c"),
     ("error: unexpected argument 'b' found", "book a b"),
     ("error: unexpected argument 'b' found", "book --heights a b"),
     ("error: unexpected argument '--out' found", f"explain {MARKS} --out own cellar.gsi"),

@@ -31,6 +31,10 @@ READ_FAILED = [
     ("book 1", "book --heights folder"),
     ("differences", "book missing.csv"),
     ("differences", "book folder"),
+    ("changes", "mend missing.csv cellar.gsi"),
+    ("changes", "mend folder missing.gsi"),
+    ("book 1", "mend changes.csv missing.gsi"),
+    ("book 1", "mend changes.csv folder"),
 ]
 
 WRITE_FAILED = [
@@ -106,6 +110,52 @@ HEIGHTS = [
     ("line 0: B12 book too long", lambda: f"{STATION}\n".encode() + f"{SIGHT}\n".encode() * 1_100_000),
 ]
 
+# The book of a setup and of two sights, of which the second repeats its heights.
+SETUP = "110001+0000000A 84..10+00000000 87..10+00000000 88..10+00001545 "
+TARGETS = "110002+0000000B 33..10-00000100 \n\n110003+0000000C 33..10+00000200 87..10+00000000 88..10+00001545"
+SMALL = f"{SETUP}\r\n{TARGETS}"
+COORDINATES = f"{SETUP}\n110002+0000000B 33..10-00000100 84..10+00000000\n"
+CHANGES = "line,word,value\n"
+MENDED = {"changes.csv": f"{CHANGES}1,88,1.5\n2,33,-0.2\n2,to,C1\n4,87 since,1.30001\n3,sign,\n", "two.gsi": f"{SETUP}\r\n110002+0000000B 33..10-00000100 \n"
+          "110003+0000000C 33..10+00000200 88..10+00001545\n110004+0000000D 33..10+00000300"}
+BOOK_OF_CHANGES = (f"{SETUP.replace('1545', '1500')}\r\n110002+000000C1 33..10-00000200 \n"
+                   "110003+0000000C 33..10-00000200 88..10+00001500\n110004+0000000D 33..10+00000300 87..48+00130001")
+
+# A table of changes for SMALL, or for another book.
+UNFIT = [
+    ("changes record 1: E1 bad header", "", SMALL),
+    ("changes record 1: E1 bad header", "line;word;value\n2;33;1\n", SMALL),
+    ("changes record 2: E2 field count", f"{CHANGES}2,33,1,5\n", SMALL),
+    ("changes record 2: E8 bad line", f"{CHANGES}0,33,1\n", SMALL),
+    ("changes record 3: E8 bad line", f"{CHANGES}2,33,1\n1234567890,33,1\n", SMALL),
+    ("changes record 2: E9 bad word", f"{CHANGES}2,34,1\n", SMALL),
+    ("changes record 2: E9 bad word", f"{CHANGES}2,88since,1\n", SMALL),
+    ("changes record 2: E4 bad length", f"{CHANGES}1,88,\n", SMALL),
+    ("changes record 2: E4 bad length", f"{CHANGES}1,88,10000.00000001\n", SMALL),
+    ("changes record 2: E10 value not empty", f"{CHANGES}2,sign,-\n", SMALL),
+    ("changes record 2: E3 bad name", f"{CHANGES}2,to,\n", SMALL),
+    ("changes record 0: E7 table too long", lambda: CHANGES.encode() + b"2,33,1\n" * 9_361, SMALL),
+    # The table comes before the book, and the book before the first change that does not fit it.
+    ("changes record 2: E9 bad word", f"{CHANGES}2,34,1\n", "x\n"),
+    ("book 1 line 1: B1 word 1: short", f"{CHANGES}9,33,1\n", "x\n"),
+    ("book 1 line 2: B10 no reflector height", f"{CHANGES}9,33,1\n", "110001+0000000A 84..10+00000000 88..10+00001545\n110002+0000000B 33..10-00000100\n"),
+    ("changes record 2: M1 no such line", f"{CHANGES}5,33,1\n", SMALL),
+    ("changes record 2: M2 no sight in this line", f"{CHANGES}1,33,1\n", SMALL),
+    ("changes record 2: M2 no sight in this line", f"{CHANGES}3,33,\n", SMALL),
+    ("changes record 3: M2 no sight in this line", f"{CHANGES}2,to,X\n1,sign,\n", SMALL),
+    ("changes record 2: M3 no setup in this line", f"{CHANGES}2,from,X\n", SMALL),
+    ("changes record 2: M4 no such height in force", f"{CHANGES}3,88,1\n", SMALL),
+    ("changes record 2: M4 no such height in force", f"{CHANGES}1,88,1\n", "410001+0000000A\n"),
+    ("changes record 2: M5 the line would be a setup", f"{CHANGES}2,33,\n", COORDINATES),
+    ("changes record 3: M6 changed by an earlier record", f"{CHANGES}1,88,1\n4,88,1\n", SMALL),
+    ("changes record 3: M6 changed by an earlier record", f"{CHANGES}2,33,1\n2,sign,\n", SMALL),
+    ("changes record 2: M8 no whole number of the unit", f"{CHANGES}1,88,1.0005\n", SMALL),
+    ("changes record 2: M8 no whole number of the unit", f"{CHANGES}2,88 since,0.00000001\n", SMALL),
+    ("changes record 3: M9 too many digits", f"{CHANGES}1,88,1\n2,87 since,1000\n", SMALL),
+    ("changes record 2: M10 name too long", f"{CHANGES}2,to,NINEBYTES\n", SMALL),
+    ("mended line 2: B11 sight to itself", f"{CHANGES}2,to,A\n", SMALL),
+]
+
 # A book has blocks and no sight, heights are not unique, a sight is marked, or a book is given twice.
 NO_SIGHT = "has no sight in 2 blocks (no word 33; it has words 31 and 83)"
 NOTES = [
@@ -138,6 +188,8 @@ DONE = [
     Row(0, "", "book differences.csv", BOOK_OF_DIFFERENCES),
     Row(0, "", "book --heights with_heights.gsi", BOOK_OF_HEIGHTS, WITH_HEIGHTS),
     Row(0, "", "book with_heights.gsi --heights", BOOK_OF_HEIGHTS, WITH_HEIGHTS),
+    Row(0, "", "mend changes.csv two.gsi", BOOK_OF_CHANGES, MENDED),
+    Row(0, "", "mend none.csv two.gsi", MENDED["two.gsi"], {**MENDED, "none.csv": CHANGES}),
     Row(0, "", f"explain {MARKS} --csv cellar.gsi", ROWS_OF_EXPLANATIONS),
     Row(0, "", f"check {MARKS} --certificate cellar.certificate.csv cellar.gsi", "yes"),
     Row(1, "", f"check {MARKS} --certificate wrong.certificate.csv cellar.gsi", "no: wrong cost"),
@@ -214,6 +266,7 @@ def rows() -> Iterator[Row]:
     yield from (Row(2, line, words) for line, words in REFUSED)
     yield from (Row(2, f"differences {line}", "book table.csv", files={"table.csv": table}) for line, table in DIFFERENCES)
     yield from (Row(2, f"book 1 {line}", "book --heights refused.gsi", files={"refused.gsi": book}) for line, book in HEIGHTS)
+    yield from (Row(2, line, "mend changes.csv small.gsi", files={"changes.csv": table, "small.gsi": book}) for line, table, book in UNFIT)
     yield from NOTES
 
 

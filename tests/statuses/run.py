@@ -32,6 +32,7 @@ def make_folder(folder: Path) -> None:
     (folder / "other.csv").write_text(re.sub("^G1,", "G9,", (folder / "marks.csv").read_text(), flags=re.MULTILINE))
     (folder / "differences.csv").write_text("from,to,difference\nA,B,1.5\nA,C,-0.00001\n")
     (folder / "factors.csv").write_text("from,to,weight\nG1,G2,2\n")
+    (folder / "changes.csv").write_text("line,word,value\n")
 
 
 def cases() -> Iterator[Case]:

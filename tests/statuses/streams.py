@@ -149,7 +149,7 @@ def closed_cases() -> Iterator[Closed]:
             yield Closed(0, stream, f"{command} {MARKS}{weights} --out closed/own cellar.gsi")
             yield Closed(5, stream, f"{command} {MARKS}{weights} --out closed/none/own cellar.gsi")
             yield Closed(2, stream, f"{command} {MARKS} --out closed/own marks.csv")
-    for words in ("list cellar.gsi", f"explain {MARKS} cellar.gsi", "book differences.csv"):
+    for words in ("list cellar.gsi", f"explain {MARKS} cellar.gsi", "book differences.csv", "mend changes.csv cellar.gsi"):
         for stream, status in (("0", 0), ("1", 5), ("2", 0)):
             yield Closed(status, stream, words)
     yield Closed(5, "0", "")
@@ -162,7 +162,7 @@ def watched_cases() -> Iterator[Watched]:
 
 
 def cases() -> Iterator[Case]:
-    read: Sequence[str] = ["list cellar.gsi", "book differences.csv", f"explain {MARKS} cellar.gsi",
+    read: Sequence[str] = ["list cellar.gsi", "book differences.csv", "mend changes.csv cellar.gsi", f"explain {MARKS} cellar.gsi",
                            f"check {MARKS} --certificate cellar.certificate.csv cellar.gsi"]
     single: List[Case] = [Full(), Typed()]
     return itertools.chain(map(ReadByNobody, read), single, closed_cases(), watched_cases())

@@ -59,7 +59,7 @@ fn names_no_files(rt: &(impl AllocGlobal + Abort), words: &str) {
 }
 
 /// Words that are no plan, and the kind of the error that `clap` answers.
-const WRONG_WORDS: [(&str, ErrorKind); 67] = [
+const WRONG_WORDS: [(&str, ErrorKind); 74] = [
     ("height_office list", ErrorKind::MissingRequiredArgument),
     ("height_office list a b", ErrorKind::UnknownArgument),
     ("height_office lisst a", ErrorKind::InvalidSubcommand),
@@ -96,6 +96,13 @@ const WRONG_WORDS: [(&str, ErrorKind); 67] = [
         "height_office book --heights a --heights",
         ErrorKind::ArgumentConflict,
     ),
+    ("height_office mend", ErrorKind::MissingRequiredArgument),
+    ("height_office mend a", ErrorKind::MissingRequiredArgument),
+    ("height_office mend a b c", ErrorKind::UnknownArgument),
+    ("height_office mend --out p a b", ErrorKind::UnknownArgument),
+    ("height_office mends a b", ErrorKind::InvalidSubcommand),
+    ("height_office mend --help", ErrorKind::DisplayHelp),
+    ("height_office help mend", ErrorKind::DisplayHelp),
     // Each that must be there is missing.
     (
         "height_office adjust --out p a",

@@ -4,7 +4,7 @@ use std::test::Fail;
 use th_commands::{Inputs, Limit, Plan, plan};
 
 /// Command lines, and the plans that they name.
-const PLANS: [(&str, &str); 46] = [
+const PLANS: [(&str, &str); 50] = [
     ("height_office", "standard"),
     ("height_office list k.gsi", "list k.gsi"),
     ("height_office list -", "list -"),
@@ -167,6 +167,10 @@ const PLANS: [(&str, &str); 46] = [
         "book of heights --heights",
     ),
     ("height_office book -- --heights", "book --heights"),
+    ("height_office mend c.csv k.gsi", "mend k.gsi by c.csv"),
+    ("height_office mend k.gsi c.csv", "mend c.csv by k.gsi"),
+    ("height_office mend mend book", "mend book by mend"),
+    ("height_office mend c.csv -- --out", "mend --out by c.csv"),
 ];
 
 #[test]
@@ -302,6 +306,9 @@ fn text_of(rt: &(impl AllocGlobal + Abort), plan: &Plan<'_>) -> String {
         Plan::Book { table } => format!(in rt.alloc(); "book {table}").expect(rt, "memory"),
         Plan::BookOfHeights { book } => {
             format!(in rt.alloc(); "book of heights {book}").expect(rt, "memory")
+        }
+        Plan::Mend { changes, book } => {
+            format!(in rt.alloc(); "mend {book} by {changes}").expect(rt, "memory")
         }
     }
 }

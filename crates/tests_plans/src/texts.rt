@@ -16,7 +16,7 @@ const OPTION_DOUBLED: &str =
     "error: the argument '--out <PREFIX>' cannot be used multiple times\n\nUsage: height_office adjust [OPTIONS] --benchmarks <FILE> --out <PREFIX> <BOOK>...\n\nFor more information, try '--help'.\n";
 
 const NO_COMMAND: &str =
-    "error: unrecognized subcommand 'k.gsi'\n\nUsage: height_office list <BOOK>\n       height_office adjust [OPTIONS] --benchmarks <FILE> --out <PREFIX> <BOOK>...\n       height_office review [OPTIONS] --benchmarks <FILE> --out <PREFIX> <BOOK>...\n       height_office explain [OPTIONS] --benchmarks <FILE> <BOOK>...\n       height_office page [OPTIONS] --benchmarks <FILE> --out <PREFIX> <BOOK>...\n       height_office check [OPTIONS] --benchmarks <FILE> --certificate <FILE> <BOOK>...\n       height_office book <TABLE>\n       height_office book --heights <BOOK>\n       height_office < BOOK        (lists the book on standard input)\n\nFor more information, try '--help'.\n\n  tip: to list the book in a file, write 'height_office list FILE'\n";
+    "error: unrecognized subcommand 'k.gsi'\n\nUsage: height_office list <BOOK>\n       height_office adjust [OPTIONS] --benchmarks <FILE> --out <PREFIX> <BOOK>...\n       height_office review [OPTIONS] --benchmarks <FILE> --out <PREFIX> <BOOK>...\n       height_office explain [OPTIONS] --benchmarks <FILE> <BOOK>...\n       height_office page [OPTIONS] --benchmarks <FILE> --out <PREFIX> <BOOK>...\n       height_office check [OPTIONS] --benchmarks <FILE> --certificate <FILE> <BOOK>...\n       height_office book <TABLE>\n       height_office book --heights <BOOK>\n       height_office mend <CHANGES> <BOOK>\n       height_office < BOOK        (lists the book on standard input)\n\nFor more information, try '--help'.\n\n  tip: to list the book in a file, write 'height_office list FILE'\n";
 
 const LIMIT_BELOW_ZERO: &str =
     "error: unexpected argument '-5' found\n\n  tip: write '--' before a book whose name begins with '-'\n\nUsage: height_office adjust [OPTIONS] --benchmarks <FILE> --out <PREFIX> <BOOK>...\n\nFor more information, try '--help'.\n";
@@ -91,7 +91,7 @@ fn a_fault_shows_its_text(rt: HostRuntime) {
 }
 
 /// Requests for help, and a part of its text.
-const HELPS: [(&str, &str); 13] = [
+const HELPS: [(&str, &str); 14] = [
     (
         "height_office --help",
         "height_office adjust --benchmarks marks.csv --out dam monday.gsi tuesday.gsi",
@@ -125,6 +125,10 @@ const HELPS: [(&str, &str); 13] = [
     (
         "height_office book --help",
         "height_office book --heights monday.gsi > with33.gsi",
+    ),
+    (
+        "height_office mend --help",
+        "height_office mend changes.csv monday.gsi > mended.gsi",
     ),
 ];
 

@@ -7,12 +7,14 @@ use th_book::{BookFault, BookKind};
 use th_certificate::{CertFault, CertKind};
 use th_checker::{Reason, Verdict};
 use th_conversions::{DifferenceFault, DifferenceKind};
+use th_mend::{MendKind, RowFault};
+use th_mend_table::{ChangeFault, ChangeKind};
 use th_network::NetFault;
 use th_runs::{Input, Output, Refusal, status_of, status_of_verdict};
 use th_tables::{TableFault, TableKind};
 
 /// Refusals, their lines, and their statuses.
-const ROWS: [(Refusal, &[u8], u8); 22] = [
+const ROWS: [(Refusal, &[u8], u8); 26] = [
     (
         Refusal::Book(
             1,
@@ -74,6 +76,30 @@ const ROWS: [(Refusal, &[u8], u8); 22] = [
         b"differences record 3: E4 bad difference",
         2,
     ),
+    (
+        Refusal::Changes(ChangeFault {
+            row: 2,
+            kind: ChangeKind::GivenValue,
+        }),
+        b"changes record 2: E10 value not empty",
+        2,
+    ),
+    (
+        Refusal::Unfit(RowFault {
+            row: 3,
+            kind: MendKind::LongName,
+        }),
+        b"changes record 3: M10 name too long",
+        2,
+    ),
+    (
+        Refusal::Mended(BookFault {
+            line: 4,
+            kind: BookKind::SightToItself,
+        }),
+        b"mended line 4: B11 sight to itself",
+        2,
+    ),
     (Refusal::Read(Input::Book(1)), b"read failed: book 1", 5),
     (
         Refusal::Read(Input::Benchmarks),
@@ -91,6 +117,7 @@ const ROWS: [(Refusal, &[u8], u8); 22] = [
         b"read failed: differences",
         5,
     ),
+    (Refusal::Read(Input::Changes), b"read failed: changes", 5),
     (Refusal::Write(Output::List), b"write failed: list", 5),
     (Refusal::Write(Output::Heights), b"write failed: heights", 5),
     (

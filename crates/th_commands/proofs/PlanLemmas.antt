@@ -84,6 +84,7 @@ is_plan words own found more taken met e = go own (said_is_asked (said_by own) (
     go (plan.Check inputs certificate false) h = (more, taken, ap asked_by (sym met) ∙ h.0)
     go (plan.Book table) h = (more, taken, ap asked_by (sym met) ∙ h.0)
     go (plan.BookOfHeights book) h = (more, taken, ap asked_by (sym met) ∙ h.0)
+    go (plan.Mend changes book) h = (more, taken, ap asked_by (sym met) ∙ h.0)
 
 -- where no plan says what was found, nothing was asked for
 pub nothing_asked : (words : List Text) (found : Option (Text × List Row)) → found ≡ subcommand_of command_line words

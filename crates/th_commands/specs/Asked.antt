@@ -15,7 +15,7 @@ pub record Files : Type 0 where
 
 -- what a command line requests: to list a book; to adjust, to review or to make a page, with a limit of blunders
 -- in units of 10 nm and the prefix of the outputs; to explain, with a limit and whether a table is printed; to check a certificate,
--- and maybe to list what was read; or to make a book of a table of differences, or of a book with heights
+-- and maybe to list what was read; to make a book of a table of differences, or of a book with heights; or to mend by a table of changes a book
 pub data Asked : Type 0 where
   list : Text → Asked
   adjust : Files → ℤ → Text → Asked
@@ -26,6 +26,7 @@ pub data Asked : Type 0 where
   check_with_inputs : Files → Text → Asked
   book : Text → Asked
   book_of_heights : Text → Asked
+  mend : Text → Text → Asked
 
 -- the names of the books, if there is one at least, and no more than a command takes
 abbrev pub books_of : List Text → Option (List Text)
@@ -108,6 +109,9 @@ check_asked rows =
 abbrev pub book_asked : List Row → Option Asked
 book_asked rows = option_map (λ file. if heights_in rows then book_of_heights file else book file) (first_of (codes "table") rows)
 
+abbrev pub mend_asked : List Row → Option Asked
+mend_asked rows = option_and_then (λ changes. option_map (mend changes) (first_of (codes "book") rows)) (first_of (codes "changes") rows)
+
 -- what the command of this name requests
 abbrev pub command_asked : Text → List Row → Option Asked
 command_asked name rows =
@@ -118,6 +122,7 @@ command_asked name rows =
     else if bytes_eq name (codes "page") then page_asked rows
     else if bytes_eq name (codes "check") then check_asked rows
     else if bytes_eq name (codes "book") then book_asked rows
+    else if bytes_eq name (codes "mend") then mend_asked rows
     else None
 
 -- what a command requests, given what `clap` found for its arguments

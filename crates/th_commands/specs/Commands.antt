@@ -26,6 +26,13 @@ table_rule = record (new_rule (codes "table")) {
   value_names = 1;
 }
 
+-- the table of `mend`
+abbrev pub changes_rule : Rule
+changes_rule = record (new_rule (codes "changes")) {
+  required = true;
+  value_names = 1;
+}
+
 -- an option `--NAME VALUE`, and one that is required
 abbrev pub option_rule : Text → Rule
 option_rule name = record (new_rule name) {
@@ -86,14 +93,18 @@ check_command =
 abbrev pub book_command : App
 book_command = with_rule (with_rule (new_app (codes "book")) (flag_rule (codes "heights"))) table_rule
 
+-- `mend CHANGES BOOK`
+abbrev pub mend_command : App
+mend_command = with_rule (with_rule (new_app (codes "mend")) changes_rule) book_rule
+
 -- the program, with a version and a required command
 abbrev pub bare_program : App
 bare_program =
     let bare = new_app (codes "height_office") in
     record bare { top = record bare.top { has_version = true; subcommand_required = true } }
 
--- the command line, as `clap` describes one: `list`, `adjust`, `review`, `explain`, `page`, `check` or `book` is required
+-- the command line, as `clap` describes one: `list`, `adjust`, `review`, `explain`, `page`, `check`, `book` or `mend` is required
 abbrev pub command_line : App
 command_line =
-    with_subcommand (with_subcommand (with_subcommand (with_subcommand (with_subcommand (with_subcommand (with_subcommand bare_program list_command.top) adjust_command.top)
-    review_command.top) explain_command.top) page_command.top) check_command.top) book_command.top
+    with_subcommand (with_subcommand (with_subcommand (with_subcommand (with_subcommand (with_subcommand (with_subcommand (with_subcommand bare_program list_command.top)
+    adjust_command.top) review_command.top) explain_command.top) page_command.top) check_command.top) book_command.top) mend_command.top

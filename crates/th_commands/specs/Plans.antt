@@ -3,7 +3,7 @@ use Rattle.std.specs.Option.{option_map_or}
 use Rattle.clap.specs.Words.{IsAmong, Text, fault_of, kind_of, subcommand_of}
 use Rattle.clap.specs.declared.error.kind.ErrorKind.TheVariants.{OutOfMemory}
 use Rattle.th_commands.specs.Commands.{command_line}
-use Rattle.th_commands.specs.Asked.{Asked, Files, adjust, asked_by, book, book_count, book_of_heights, check, check_with_inputs, explain, has_bad_prefix, list, page, review}
+use Rattle.th_commands.specs.Asked.{Asked, Files, adjust, asked_by, book, book_count, book_of_heights, check, check_with_inputs, explain, has_bad_prefix, list, mend, page, review}
 use Rattle.th_commands.specs.Books.{names_in}
 use Rattle.th_commands.specs.PlanLimits.{max_books}
 use Rattle.th_commands.specs.declared.plans.Inputs.{Inputs}
@@ -48,6 +48,7 @@ said_by (plan.Check inputs certificate false) = Some (check (files inputs) certi
 said_by (plan.Check inputs certificate true) = Some (check_with_inputs (files inputs) certificate.now)
 said_by (plan.Book table) = Some (book table.now)
 said_by (plan.BookOfHeights name) = Some (book_of_heights name.now)
+said_by (plan.Mend changes name) = Some (mend changes.now name.now)
 
 -- The plan is what the arguments request. With no argument after the program's name, or without even that name, it is to
 -- list standard input. `-` is a file's name like any other, and so is the empty name, which no file has.

@@ -2,7 +2,7 @@
 ghost use Rattle.std.specs.Prelude.{◌≡◌, ◌<◌, ◌≤◌, ◌↔◌, IfErr, IfOk, IsTrue, Ok, Some, false, length, map, option_map};
 ghost use Rattle.std.specs.Option.{option_map_or};
 ghost use Rattle.clap.specs.Words.{all_of, first_of, found_of, rows_of, subcommand_rows_of};
-ghost use Rattle.th_commands.specs.Asked.{adjust_asked, asked_by, book_asked, book_count, check_asked, explain_asked, files_in, flag_in, has_bad_prefix, heights_in, limit_in, list_asked, options_in, page_asked, prefix_in, review_asked, table_in};
+ghost use Rattle.th_commands.specs.Asked.{adjust_asked, asked_by, book_asked, book_count, check_asked, explain_asked, files_in, flag_in, has_bad_prefix, heights_in, limit_in, list_asked, mend_asked, options_in, page_asked, prefix_in, review_asked, table_in};
 ghost use Rattle.th_commands.specs.PlanLimits.{max_books};
 ghost use Rattle.th_commands.specs.Plans.{IsFaultOf, IsPlanOf, files, said_by};
 
@@ -61,6 +61,8 @@ fn plan_of<'a>(matches: &ArgMatches<'a>) -> Option<Plan<'a>>
         check_of(found)
     } else if name == "book" {
         book_of(found)
+    } else if name == "mend" {
+        mend_of(found)
     } else {
         None
     }
@@ -178,6 +180,17 @@ fn book_of<'a>(found: &ArgMatches<'a>) -> Option<Plan<'a>>
     } else {
         Some(Plan::Book { table: file })
     }
+}
+
+/// What follows `mend`.
+fn mend_of<'a>(found: &ArgMatches<'a>) -> Option<Plan<'a>>
+    ensures { option_map said_by result
+        ≡ option_map Some (mend_asked (rows_of (found_of found.now))) }
+{
+    Some(Plan::Mend {
+        changes: value_of(found, "changes")?,
+        book: value_of(found, "book")?,
+    })
 }
 
 /// The options of `adjust`, `review` and `page`: the inputs, the limit of blunders, and the prefix of the

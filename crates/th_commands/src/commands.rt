@@ -4,7 +4,7 @@
 ghost use Rattle.std.specs.Prelude.{◌≡◌, IfOk, codes};
 ghost use Rattle.clap.specs.Words.{App, app_of};
 ghost use Rattle.th_commands.specs.Inside.Arguments.{IsArgument, IsCommand};
-ghost use Rattle.th_commands.specs.Commands.{adjust_command, blunder_rule, book_command, book_rule, books_rule, check_command, command_line, explain_command, flag_rule, list_command, needed_rule, option_rule, page_command, review_command, table_rule, with_options};
+ghost use Rattle.th_commands.specs.Commands.{adjust_command, blunder_rule, book_command, book_rule, books_rule, changes_rule, check_command, command_line, explain_command, flag_rule, list_command, mend_command, needed_rule, option_rule, page_command, review_command, table_rule, with_options};
 
 use crate::limits::MAX_BLUNDER;
 use clap::{Arg, ArgAction, Command};
@@ -22,13 +22,14 @@ const USAGE: &str = "height_office list <BOOK>
        height_office check [OPTIONS] --benchmarks <FILE> --certificate <FILE> <BOOK>...
        height_office book <TABLE>
        height_office book --heights <BOOK>
+       height_office mend <CHANGES> <BOOK>
        height_office < BOOK        (lists the book on standard input)";
 
 /// What the help of the program ends with.
 const AFTER_HELP: &str =
     "'adjust' finds the heights. 'explain' answers which one number, if it were wrong, would explain what
 does not fit. 'review' answers what a mistake would do in this network: whether it would show, and
-whether points would move. 'page' shows all of this on one page.
+whether points would move. 'page' shows all of this on one page. 'mend' prints a book with changes.
 
 Examples:
   height_office adjust --benchmarks marks.csv --out dam monday.gsi tuesday.gsi
@@ -36,6 +37,7 @@ Examples:
   height_office explain --benchmarks marks.csv monday.gsi tuesday.gsi
   height_office page --benchmarks marks.csv --out dam monday.gsi tuesday.gsi
   height_office check --benchmarks marks.csv --certificate dam.certificate.csv monday.gsi tuesday.gsi
+  height_office mend changes.csv monday.gsi > mended.gsi
 
 Exit status:
   0  done; for 'check', the checker says yes
@@ -152,7 +154,25 @@ Examples:
 Exit status: 0 the book was printed, 2 the table or the book was refused, 3 a bad command line or
 help, 4 out of memory, 5 the file could not be read or the book not written";
 
-/// The program's command line: `list`, `adjust`, `review`, `explain`, `page`, `check` or `book`.
+/// What the help of `mend` ends with.
+const AFTER_MEND: &str =
+    "The table is CSV: the header 'line,word,value' and a row for each change of a line of the book:
+  88, 87              a length: the keyed-in height in force in the line, in all words that repeat it
+  88 since, 87 since  a length: the same, from the line on
+  33                  a length, or no value: then the sight is left out
+  sign                no value: the other sign of the word 33
+  to, from            a name: the target of the sight, the station of the setup
+
+Lengths are in metres. All other lines are printed as they are, byte for byte. Nothing is printed
+where the table does not fit the book, or where the mended book has a fault.
+
+Example:
+  height_office mend changes.csv monday.gsi > mended.gsi
+
+Exit status: 0 the book was printed, 2 the table or a book was refused, 3 a bad command line or help,
+4 out of memory, 5 a file could not be read or the book not written";
+
+/// The program's command line: `list`, `adjust`, `review`, `explain`, `page`, `check`, `book` or `mend`.
 pub fn command_line<'a>(alloc: Global) -> Result<Command<'a>, AllocError>
     ensures { IfOk result (λ command. app_of command ≡ command_line) }
 {
@@ -170,7 +190,8 @@ pub fn command_line<'a>(alloc: Global) -> Result<Command<'a>, AllocError>
         .subcommand(explain_command(alloc)?)?
         .subcommand(page_command(alloc)?)?
         .subcommand(check_command(alloc)?)?
-        .subcommand(book_command(alloc)?)
+        .subcommand(book_command(alloc)?)?
+        .subcommand(mend_command(alloc)?)
 }
 
 /// `list BOOK`.
@@ -266,7 +287,18 @@ fn book_command<'a>(alloc: Global) -> Result<Command<'a>, AllocError>
         .arg(table(alloc))
 }
 
-/// The one book of `list`.
+/// `mend CHANGES BOOK`.
+fn mend_command<'a>(alloc: Global) -> Result<Command<'a>, AllocError>
+    ensures { IfOk result (IsCommand mend_command) }
+{
+    Command::new(alloc, "mend")
+        .about("Prints a book with the changes of a table, line for line")
+        .after_help(AFTER_MEND)
+        .arg(changes(alloc))?
+        .arg(book(alloc))
+}
+
+/// The one book of `list` and of `mend`.
 fn book<'a>(alloc: Global) -> Arg<'a>
     ensures { IsArgument book_rule result }
 {
@@ -286,6 +318,16 @@ fn books<'a>(alloc: Global) -> Arg<'a>
         .num_args(1..)
         .value_name("BOOK")
         .help("The files of 1 to 16 books, in GSI-8 or GSI-16 blocks")
+}
+
+/// The table of `mend`.
+fn changes<'a>(alloc: Global) -> Arg<'a>
+    ensures { IsArgument changes_rule result }
+{
+    Arg::new(alloc, "changes")
+        .required(true)
+        .value_name("CHANGES")
+        .help("The file of the table of changes, with the columns 'line,word,value'")
 }
 
 /// The file of `book`.

@@ -68,4 +68,9 @@ pub enum Plan<'a> {
     BookOfHeights {
         book: &'a str,
     },
+    /// `mend CHANGES BOOK`: print the book in one file with the changes of the table in the other.
+    Mend {
+        changes: &'a str,
+        book: &'a str,
+    },
 }

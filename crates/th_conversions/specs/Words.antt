@@ -1,5 +1,5 @@
 -- The words that a height sight gets.
-use Rattle.std.specs.Prelude.{ℕ, ℤ, ◌/◌, ◌%◌, ◌^◌, ◌==◌, ◌||◌, List, [], ◌∷◌, Option, Some, None, Result, Ok, Err, codes, if◌then◌else◌, nat_le, nat_lt, pos, unsigned_abs}
+use Rattle.std.specs.Prelude.{ℕ, ℤ, ◌/◌, ◌%◌, ◌^◌, ◌==◌, ◌||◌, List, [], ◌∷◌, Option, Some, None, Result, Ok, Err, if◌then◌else◌, nat_le, nat_lt, pos, unsigned_abs}
 use Rattle.std.specs.Int.{is_negative}
 use Rattle.th_units.specs.Limits.{max_len}
 use Rattle.th_units.specs.Metres.{last_digits}
@@ -8,6 +8,7 @@ use Rattle.th_units.specs.declared.units.Unit.{Unit}
 use Rattle.th_units.specs.declared.units.Unit.TheVariants.{HundredthMm, TenMilliFoot}
 use Rattle.gsi_word.specs.Words.{Parts, data_len, parts}
 use Rattle.gsi_word.specs.declared.words.Width.{Width}
+use Rattle.th_new_words.specs.NewWords.{info_of}
 use Rattle.th_conversions.specs.declared.height_faults.HeightKind.{HeightKind}
 use Rattle.th_conversions.specs.declared.height_faults.HeightKind.TheVariants.{FarTarget, NoUnit}
 
@@ -15,11 +16,6 @@ use Rattle.th_conversions.specs.declared.height_faults.HeightKind.TheVariants.{F
 pub record Written : Type 0 where
   pub unit : Unit
   pub length : ℤ
-
--- the information of a word of a length in a unit: calculated (mode 4), and the code of the unit; other units are not written
-abbrev pub info_of : Unit → List ℕ
-info_of TenMilliFoot = codes "..47"
-info_of other = codes "..48"
 
 -- the number of a length in its unit
 abbrev pub number_of : Written → ℕ

@@ -1,13 +1,13 @@
 //! The words that a height sight gets.
-ghost use Rattle.std.specs.Prelude.{◌≡◌, ◌<◌, ◌^◌};
+ghost use Rattle.std.specs.Prelude.{◌≡◌, ◌<◌};
 ghost use Rattle.gsi_word.specs.Words.{data_len, parts_of};
-ghost use Rattle.th_units.specs.Units.{step};
 
 use crate::height_faults::HeightKind;
 use gsi_word::{Width, Word};
 use std::marker::Model;
 use th_columns::last_digits;
-use th_units::{MAX_LEN, Unit, step};
+use th_new_words::{info_of, numbers_of, units_in};
+use th_units::{MAX_LEN, Unit};
 
 /// A length as a word writes it: its sign, and its number in a unit, in the data of each width.
 #[derive(Drop)]
@@ -35,7 +35,7 @@ impl Model for Written {
 impl Written {
     ghost use Rattle.std.specs.Int.{is_negative};
     ghost use Rattle.th_units.specs.Metres.{last_digits};
-    ghost use Rattle.th_conversions.specs.Words.{if_room, info_of, number_of, word_of, written_of, zero_height};
+    ghost use Rattle.th_conversions.specs.Words.{if_room, number_of, word_of, written_of, zero_height};
 
     /// A length of zero, in 1/100 mm.
     pub(crate) fn zero() -> Written
@@ -89,19 +89,14 @@ impl Written {
         requires { index < 100 }
         ensures { parts_of result ≡ word_of width index self.now }
     {
-        match Word::new(index, self.info(), self.is_negative(), self.digits(width)) {
+        match Word::new(
+            index,
+            info_of(self.unit),
+            self.is_negative(),
+            self.digits(width),
+        ) {
             Some(word) => word,
             None => unreachable!(),
-        }
-    }
-
-    /// The information of a word in the unit.
-    fn info(&self) -> [u8; 4]
-        ensures { result ≡ info_of self.now.unit }
-    {
-        match self.unit {
-            Unit::TenMilliFoot => *b"..47",
-            _ => *b"..48",
         }
     }
 
@@ -120,23 +115,5 @@ impl Written {
             Width::Eight => &self.narrow,
             Width::Sixteen => &self.wide,
         }
-    }
-}
-
-/// How many units of 10 nm a unit has.
-fn units_in(unit: Unit) -> u64
-    ensures value { result ≡ step unit }
-    ensures some { 0 < result }
-{
-    step(unit).unsigned_abs()
-}
-
-/// How many numbers the data of a word can write.
-fn numbers_of(width: Width) -> u64
-    ensures { result ≡ 10 ^ data_len width }
-{
-    match width {
-        Width::Eight => 100_000_000,
-        Width::Sixteen => 10_000_000_000_000_000,
     }
 }

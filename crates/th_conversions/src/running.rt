@@ -3,8 +3,9 @@ ghost use Rattle.std.specs.Prelude.{◌≡◌, map};
 ghost use Rattle.gsi_word.specs.Words.{parts_of};
 ghost use Rattle.th_book.specs.Due.{latest};
 
-use crate::sights::{holds, is_setup, length_in};
+use crate::sights::{is_setup, length_in};
 use gsi_word::{INSTRUMENT_HEIGHT, REFLECTOR_HEIGHT, STATION_HEIGHT, Word};
+use th_new_words::holds;
 use th_units::Len;
 
 /// The heights of the running setup: of its station, and the last ones of instrument and reflector.

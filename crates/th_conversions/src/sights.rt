@@ -3,37 +3,18 @@ ghost use Rattle.std.specs.Prelude.{◌≡◌, map};
 ghost use Rattle.gsi_word.specs.Words.{parts_of};
 ghost use Rattle.gsi_word.specs.Values.{length_of as length_of_parts};
 ghost use Rattle.th_book.specs.Faults.{is_refused};
-ghost use Rattle.th_book.specs.Lines.{counts_for, holds, is_setup, is_sight, length_in};
+ghost use Rattle.th_book.specs.Lines.{is_setup, is_sight, length_in};
 ghost use Rattle.th_conversions.specs.Sights.{height_fault, is_height, is_height_sight, is_measured, repeats, some_height};
 
 use crate::height_faults::HeightKind;
 use gsi_word::{
     HEIGHT_DIFFERENCE, HORIZONTAL_ANGLE, HORIZONTAL_DISTANCE, INSTRUMENT_HEIGHT, LengthFault,
     REFLECTOR_HEIGHT, SLOPE_DISTANCE, STATION_EASTING, STATION_HEIGHT, STATION_NORTHING,
-    TARGET_HEIGHT, VERTICAL_ANGLE, Word, length_of, two_digit,
+    TARGET_HEIGHT, VERTICAL_ANGLE, Word, length_of,
 };
 use th_book::BookKind;
+use th_new_words::{counts_for, holds};
 use th_units::Len;
-
-/// Whether a word counts for an index.
-fn counts_for(index: u8, word: &Word<'_>) -> bool
-    ensures { result ≡ counts_for index (parts_of word.now) }
-{
-    match two_digit(word) {
-        Some(own) => own == index,
-        None => false,
-    }
-}
-
-/// Whether some word counts for an index.
-pub(crate) fn holds(index: u8, words: &[Word<'_>]) -> bool
-    ensures { result ≡ holds index (map parts_of words.now) }
-{
-    let Some((word, later)) = words.split_first() else {
-        return false;
-    };
-    counts_for(index, word) || holds(index, later)
-}
 
 /// Whether two words count for an index.
 fn repeats(index: u8, words: &[Word<'_>]) -> bool

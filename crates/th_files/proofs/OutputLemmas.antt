@@ -201,6 +201,9 @@ after_run Owes IsGiven HasWritten (Err (refusal.Weights fault)) old new P outcom
 after_run Owes IsGiven HasWritten (Err (refusal.Certificate fault)) old new P outcome written same = same outcome.untouched
 after_run Owes IsGiven HasWritten (Err (refusal.Differences fault)) old new P outcome written same = same outcome.untouched
 after_run Owes IsGiven HasWritten (Err (refusal.Heights fault)) old new P outcome written same = same outcome.untouched
+after_run Owes IsGiven HasWritten (Err (refusal.Changes fault)) old new P outcome written same = same outcome.untouched
+after_run Owes IsGiven HasWritten (Err (refusal.Unfit fault)) old new P outcome written same = same outcome.untouched
+after_run Owes IsGiven HasWritten (Err (refusal.Mended fault)) old new P outcome written same = same outcome.untouched
 after_run Owes IsGiven HasWritten (Err (refusal.Network fault)) old new P outcome written same = same outcome.untouched
 after_run Owes IsGiven HasWritten (Err (refusal.Read which)) old new P outcome written same = same outcome.untouched
 after_run Owes IsGiven HasWritten (Err refusal.NoMemory) old new P outcome written same = same outcome.untouched

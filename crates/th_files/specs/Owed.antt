@@ -2,6 +2,7 @@
 use Rattle.std.specs.Prelude.{◌≡◌, ◌+◌, ◌++◌, ℕ, List, [], ◌∷◌, Option, Some, map, option_map, option_to_list, slice_get}
 use Rattle.th_observations.specs.Observed.{Observed}
 use Rattle.th_run_book.specs.Booked.{converted, input_of}
+use Rattle.th_run_book.specs.Mended.{owed_for_mended}
 use Rattle.th_run_book.specs.declared.conversions.Conversion.{Conversion}
 use Rattle.th_devices.specs.Spots.{Spot, file}
 use Rattle.th_network.specs.Networks.{Survey}
@@ -45,13 +46,14 @@ given_by told answer which name = given_from told answer which (file name)
 abbrev pub IsBook : List (List ℕ) → ℕ → List ℕ → Type 0
 IsBook names number name = (place : ℕ) × (number ≡ place + 1) × (slice_get names place ≡ Some name)
 
--- the files have this name for an input of a run; neither the certificate nor a table of differences is among them
+-- the files have this name for an input of a run; neither the certificate nor a table of differences or of changes is among them
 abbrev pub HasName : Files → Input → List ℕ → Type 0
 HasName from (input.Book number) name = IsBook from.books number name
 HasName from input.Benchmarks name = name ≡ from.benchmarks
 HasName from input.Weights name = from.weights ≡ Some name
 HasName from input.Certificate name = ⊥
 HasName from input.Differences name = ⊥
+HasName from input.Changes name = ⊥
 
 -- what the files of books gave, the first of them having this number
 abbrev pub given_by_books : Told → Option Refusal → ℕ → List (List ℕ) → List Given
@@ -65,6 +67,10 @@ book_owed told answer spot = owed_for_book 1 (given_from told answer (input.Book
 -- what must be returned for the file of this name that becomes a book: that book, or its first fault
 abbrev pub converted_owed : Told → Option Refusal → Conversion → List ℕ → Owed (List ℕ)
 converted_owed told answer conversion name = converted conversion (given_by told answer (input_of conversion) name)
+
+-- what must be returned for the files of these names that have a table of changes and a book: the mended book, or the first fault
+abbrev pub mended_owed : Told → Option Refusal → List ℕ → List ℕ → Owed (List ℕ)
+mended_owed told answer changes book = owed_for_mended (given_by told answer input.Changes changes) (given_by told answer (input.Book 1) book)
 
 -- what a run that reads these files must return: their survey, or their first fault
 abbrev pub survey_owed : Told → Option Refusal → Files → Owed Survey

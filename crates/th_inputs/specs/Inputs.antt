@@ -17,6 +17,7 @@ input_text input.Benchmarks = codes "benchmarks"
 input_text input.Weights = codes "weights"
 input_text input.Certificate = codes "certificate"
 input_text input.Differences = codes "differences"
+input_text input.Changes = codes "changes"
 
 -- the digest of an input in base 16
 abbrev pub digest_text : Sum → List ℕ

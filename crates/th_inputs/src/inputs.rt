@@ -23,6 +23,8 @@ pub enum Input {
     Certificate,
     /// The table of differences that becomes a book. It is read alone.
     Differences,
+    /// The table of the changes of a book. It is read before the book.
+    Changes,
 }
 
 impl fmt::Display for Input {
@@ -38,6 +40,7 @@ impl fmt::Display for Input {
             Input::Weights => f.write_str("weights"),
             Input::Certificate => f.write_str("certificate"),
             Input::Differences => f.write_str("differences"),
+            Input::Changes => f.write_str("changes"),
         }
     }
 }

@@ -3,6 +3,7 @@ use Rattle.std.specs.Prelude.{◌++◌, ◌-◌, ◌∷◌, [], ℕ, List, Optio
 use Rattle.th_devices.specs.declared.reasons.Reason.{Reason}
 use Rattle.th_messages.specs.Books.{book_help, heights_help}
 use Rattle.th_messages.specs.Certificates.{certificate_help}
+use Rattle.th_messages.specs.Changes.{changes_help, unfit_help}
 use Rattle.th_messages.specs.Differences.{differences_help}
 use Rattle.th_messages.specs.Helps.{help_line, read_reason, reason_line, write_reason}
 use Rattle.th_messages.specs.Networks.{network_help}
@@ -28,6 +29,7 @@ name_in from source.Benchmarks = Some from.benchmarks
 name_in from source.Weights = from.weights
 name_in from source.Certificate = None
 name_in from source.Differences = None
+name_in from source.Changes = None
 
 -- the name of an input of a plan; standard input has none
 abbrev pub name_of_input : Plan → Input → Option (List ℕ)
@@ -41,6 +43,8 @@ name_of_input (plan.Check inputs certificate with_inputs) source.Certificate = S
 name_of_input (plan.Check inputs certificate with_inputs) other = name_in (files inputs) other
 name_of_input (plan.Book table) which = Some table.now
 name_of_input (plan.BookOfHeights book) which = Some book.now
+name_of_input (plan.Mend changes book) source.Changes = Some changes.now
+name_of_input (plan.Mend changes book) other = Some book.now
 
 -- the name of an output of a plan; standard output has none
 abbrev pub name_of_output : Plan → Output → Option (List ℕ)
@@ -62,6 +66,9 @@ second_line asked (refusal.Weights fault) reason = help_line (name_of_input aske
 second_line asked (refusal.Certificate fault) reason = help_line (name_of_input asked source.Certificate) (certificate_help fault.kind)
 second_line asked (refusal.Differences fault) reason = help_line (name_of_input asked source.Differences) (differences_help fault.kind)
 second_line asked (refusal.Heights fault) reason = help_line (name_of_input asked (source.Book 1)) (heights_help fault.kind)
+second_line asked (refusal.Changes fault) reason = help_line (name_of_input asked source.Changes) (changes_help fault.kind)
+second_line asked (refusal.Unfit fault) reason = help_line (name_of_input asked source.Changes) (unfit_help fault.kind)
+second_line asked (refusal.Mended fault) reason = help_line (name_of_input asked (source.Book 1)) (book_help fault.kind)
 second_line asked (refusal.Network fault) reason = network_line asked fault
 second_line asked (refusal.Read which) reason = reason_line (name_of_input asked which) (option_map read_reason reason)
 second_line asked (refusal.Write which) reason = reason_line (name_of_output asked which) (option_map write_reason reason)

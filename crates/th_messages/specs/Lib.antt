@@ -5,6 +5,7 @@ pub mod Books
 pub mod Tables
 pub mod Certificates
 pub mod Differences
+pub mod Changes
 pub mod Networks
 pub mod Notes
 pub mod Remarks

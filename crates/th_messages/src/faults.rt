@@ -5,6 +5,8 @@ ghost use Rattle.th_certificate.specs.Faults.{fault_text as certificate_text};
 ghost use Rattle.th_conversions.specs.HeightFaults.{fault_text as height_text, kind_text as height_kind_text};
 ghost use Rattle.th_conversions.specs.Texts.{fault_text as difference_text};
 ghost use Rattle.th_messages.specs.Lines.{HasRoom, IsPut};
+ghost use Rattle.th_mend.specs.Faults.{row_text};
+ghost use Rattle.th_mend_table.specs.Texts.{fault_text as change_text};
 ghost use Rattle.th_network.specs.Texts.{fault_text as network_text};
 ghost use Rattle.th_tables.specs.Texts.{fault_text as table_text};
 
@@ -14,6 +16,8 @@ use th_book::{BookFault, BookKind};
 use th_certificate::CertFault;
 use th_conversions::{DifferenceFault, HeightFault, HeightKind};
 use th_devices::{Failed, Sink};
+use th_mend::RowFault;
+use th_mend_table::ChangeFault;
 use th_network::NetFault;
 use th_tables::TableFault;
 
@@ -105,6 +109,30 @@ pub fn put_table_fault<K: Sink>(line: &mut Line<K>, fault: &TableFault) -> Resul
 pub fn put_certificate_fault<K: Sink>(line: &mut Line<K>, fault: &CertFault) -> Result<(), Failed>
     requires { HasRoom 4 line.old }
     ensures { IsPut 4 (certificate_text fault.now) line.old line.new result }
+{
+    line.put("record ")?;
+    line.put_number(fault.row)?;
+    line.put(": ")?;
+    line.put(fault.kind.text())
+}
+
+/// Puts the text of a fault of a table of changes.
+#[tactic(auto, using(crate::proofs::LineLemmas::appended))]
+pub fn put_change_fault<K: Sink>(line: &mut Line<K>, fault: &ChangeFault) -> Result<(), Failed>
+    requires { HasRoom 4 line.old }
+    ensures { IsPut 4 (change_text fault.now) line.old line.new result }
+{
+    line.put("record ")?;
+    line.put_number(fault.row)?;
+    line.put(": ")?;
+    line.put(fault.kind.text())
+}
+
+/// Puts the text of a change that has no place in a book.
+#[tactic(auto, using(crate::proofs::LineLemmas::appended))]
+pub fn put_row_fault<K: Sink>(line: &mut Line<K>, fault: &RowFault) -> Result<(), Failed>
+    requires { HasRoom 4 line.old }
+    ensures { IsPut 4 (row_text fault.now) line.old line.new result }
 {
     line.put("record ")?;
     line.put_number(fault.row)?;

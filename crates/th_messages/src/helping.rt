@@ -7,6 +7,7 @@ ghost use Rattle.th_messages.specs.Helped.{name_in, name_of_input, name_of_outpu
 
 use crate::books::{book_help, heights_help};
 use crate::certificates::certificate_help;
+use crate::changes::{changes_help, unfit_help};
 use crate::differences::differences_help;
 use crate::helps::{FileName, put_help_line, put_reason_line, read_reason, write_reason};
 use crate::lines::Line;
@@ -51,6 +52,18 @@ pub(crate) fn put_second_line<K: Sink>(
         Refusal::Heights(fault) => {
             let name = name_of_input(plan, Input::Book(1));
             put_help_line(line, name, heights_help(fault.kind))
+        }
+        Refusal::Changes(fault) => {
+            let name = name_of_input(plan, Input::Changes);
+            put_help_line(line, name, changes_help(fault.kind))
+        }
+        Refusal::Unfit(fault) => {
+            let name = name_of_input(plan, Input::Changes);
+            put_help_line(line, name, unfit_help(fault.kind))
+        }
+        Refusal::Mended(fault) => {
+            let name = name_of_input(plan, Input::Book(1));
+            put_help_line(line, name, book_help(fault.kind))
         }
         Refusal::Network(fault) => put_network_line(line, plan, *fault),
         Refusal::Read(input) => {
@@ -102,6 +115,10 @@ fn name_of_input<'a>(plan: &Plan<'a>, input: Input) -> Option<FileName<'a>>
         Plan::List { book } => Some(given(*book)),
         Plan::Book { table } => Some(given(*table)),
         Plan::BookOfHeights { book } => Some(given(*book)),
+        Plan::Mend { changes, book } => match input {
+            Input::Changes => Some(given(*changes)),
+            _ => Some(given(*book)),
+        },
         Plan::Adjust { inputs, .. }
         | Plan::Review { inputs, .. }
         | Plan::Explain { inputs, .. }
@@ -128,7 +145,7 @@ fn name_in<'a>(inputs: &Inputs<'a>, input: Input) -> Option<FileName<'a>>
         }
         Input::Benchmarks => inputs.benchmarks,
         Input::Weights => inputs.weights?,
-        Input::Certificate | Input::Differences => return None,
+        Input::Certificate | Input::Differences | Input::Changes => return None,
     };
     Some(given(name))
 }
@@ -148,7 +165,8 @@ fn name_of_output<'a>(plan: &Plan<'a>, output: Output) -> Option<FileName<'a>>
         | Plan::Explain { .. }
         | Plan::Check { .. }
         | Plan::Book { .. }
-        | Plan::BookOfHeights { .. } => None,
+        | Plan::BookOfHeights { .. }
+        | Plan::Mend { .. } => None,
     }
 }
 

@@ -13,6 +13,7 @@ mod lines;
 // What helps against a fault of one input, and of the network.
 mod books;
 mod certificates;
+mod changes;
 mod differences;
 mod networks;
 mod tables;

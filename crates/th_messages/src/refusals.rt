@@ -12,8 +12,8 @@ ghost use Rattle.th_run_parts.specs.Refusals.{refusal_text};
 
 use crate::errors::{begin_line, end_line};
 use crate::faults::{
-    put_book_fault, put_certificate_fault, put_difference_fault, put_height_fault,
-    put_network_fault, put_table_fault,
+    put_book_fault, put_certificate_fault, put_change_fault, put_difference_fault,
+    put_height_fault, put_network_fault, put_row_fault, put_table_fault,
 };
 use crate::helping::put_second_line;
 use crate::lines::Line;
@@ -23,6 +23,8 @@ use th_commands::Plan;
 use th_conversions::{DifferenceFault, HeightFault};
 use th_devices::{Failed, Folder, Reason, Sink};
 use th_files::Overwrite;
+use th_mend::RowFault;
+use th_mend_table::ChangeFault;
 use th_network::NetFault;
 use th_run_parts::{Input, NO_MEMORY, Output, Refusal, USAGE};
 use th_tables::TableFault;
@@ -102,6 +104,9 @@ fn put_refusal_text<K: Sink>(line: &mut Line<K>, refusal: &Refusal) -> Result<()
         Refusal::Certificate(fault) => put_certificate(line, fault),
         Refusal::Differences(fault) => put_differences(line, fault),
         Refusal::Heights(fault) => put_heights(line, fault),
+        Refusal::Changes(fault) => put_changes(line, fault),
+        Refusal::Unfit(fault) => put_unfit(line, fault),
+        Refusal::Mended(fault) => put_mended(line, fault),
         Refusal::Network(fault) => put_network(line, fault),
         Refusal::Read(input) => put_failed_read(line, *input),
         Refusal::Write(output) => put_failed_write(line, *output),
@@ -157,6 +162,33 @@ fn put_heights<K: Sink>(line: &mut Line<K>, fault: &HeightFault) -> Result<(), F
 {
     line.put("book 1 ")?;
     put_height_fault(line, fault)
+}
+
+/// Puts the text of a refused table of changes.
+fn put_changes<K: Sink>(line: &mut Line<K>, fault: &ChangeFault) -> Result<(), Failed>
+    requires { HasRoom 12 line.old }
+    ensures { IsPut 12 (refusal_text (Refusal.Changes fault.now)) line.old line.new result }
+{
+    line.put("changes ")?;
+    put_change_fault(line, fault)
+}
+
+/// Puts the text of a change that has no place in the book.
+fn put_unfit<K: Sink>(line: &mut Line<K>, fault: &RowFault) -> Result<(), Failed>
+    requires { HasRoom 12 line.old }
+    ensures { IsPut 12 (refusal_text (Refusal.Unfit fault.now)) line.old line.new result }
+{
+    line.put("changes ")?;
+    put_row_fault(line, fault)
+}
+
+/// Puts the text of a refused mended book.
+fn put_mended<K: Sink>(line: &mut Line<K>, fault: &BookFault) -> Result<(), Failed>
+    requires { HasRoom 12 line.old }
+    ensures { IsPut 12 (refusal_text (Refusal.Mended fault.now)) line.old line.new result }
+{
+    line.put("mended ")?;
+    put_book_fault(line, fault)
 }
 
 /// Puts the text of a refused network.
@@ -236,6 +268,7 @@ fn put_input<K: Sink>(line: &mut Line<K>, input: Input) -> Result<(), Failed>
         Input::Weights => line.put("weights"),
         Input::Certificate => line.put("certificate"),
         Input::Differences => line.put("differences"),
+        Input::Changes => line.put("changes"),
     }
 }
 

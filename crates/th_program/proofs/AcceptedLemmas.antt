@@ -4,6 +4,7 @@ use Rattle.std.specs.Prelude.{◌≢◌, Result, is_some, length, option_map}
 use Rattle.std.specs.List.{Contains}
 use Rattle.clap.specs.Words.{IsAmong, fault_of, kind_of}
 use Rattle.th_run_book.specs.Booked.{IsOfBooking, booking, converted, input_of}
+use Rattle.th_run_book.specs.Mended.{IsOfMending, owed_for_mended}
 use Rattle.th_run_book.specs.declared.conversions.Conversion.{Conversion}
 use Rattle.th_run_book.specs.declared.conversions.Conversion.TheVariants.{Differences, Heights}
 use Rattle.th_devices.specs.Spots.{Spot, file, output}
@@ -11,7 +12,7 @@ use Rattle.th_devices.specs.Folders.{Failing}
 use Rattle.th_network.specs.Networks.{Survey}
 use Rattle.th_observations.specs.Observed.{Observed}
 use Rattle.th_report.specs.Lists.{list_text}
-use Rattle.th_commands.specs.Asked.{Asked, Files, adjust, book, book_of_heights, check, check_with_inputs, explain, list, page, review}
+use Rattle.th_commands.specs.Asked.{Asked, Files, adjust, book, book_of_heights, check, check_with_inputs, explain, list, mend, page, review}
 use Rattle.th_commands.specs.PlanLimits.{max_books}
 use Rattle.th_commands.specs.Plans.{AreTaken, IsFaultOf, IsPlanOf, asked, books_named, name_no_files, said_by}
 use Rattle.th_commands.specs.Commands.{command_line}
@@ -22,13 +23,13 @@ use Rattle.th_commands.specs.declared.plans.Plan.TheVariants as plan
 use Rattle.th_files.proofs.OpenedLemmas.{owed-same}
 use Rattle.th_files.proofs.OutputLemmas.{spot_among}
 use Rattle.th_files.specs.Outputs.{Holds, spot_at, spots_of}
-use Rattle.th_files.specs.Owed.{Told, book_owed, converted_owed, given_by, given_by_books, given_from, survey_owed}
+use Rattle.th_files.specs.Owed.{Told, book_owed, converted_owed, given_by, given_by_books, given_from, mended_owed, survey_owed}
 use Rattle.th_runs.specs.Explained.{explaining}
 use Rattle.th_runs.specs.Paged.{paging}
 use Rattle.th_runs.specs.Reviewed.{reviewing}
 use Rattle.th_program.specs.Accepted.{IsReadAt, OutputsSpare}
-use Rattle.th_program.specs.Done.{AreDone, IsBooked, IsCarriedOut, IsExplained, IsListed, IsPagedFile, IsRefusedBook, IsRefusedExplain, IsRefusedFor, IsRefusedList, IsRefusedPage, IsRefusedReview, IsReviewed, IsRun, IsUsage, WouldOverwrite, form_of}
-use Rattle.th_program.specs.Failing.{HasCause, IsInFiles, Origins}
+use Rattle.th_program.specs.Done.{AreDone, HoldsBook, IsBooked, IsCarriedOut, IsExplained, IsListed, IsMended, IsPagedFile, IsRefusedBook, IsRefusedBooking, IsRefusedExplain, IsRefusedFor, IsRefusedList, IsRefusedMend, IsRefusedPage, IsRefusedReview, IsReviewed, IsRun, IsUsage, WouldOverwrite, form_of}
+use Rattle.th_program.specs.Failing.{HasCause, IsInFiles, IsInMending, Origins}
 use Rattle.th_program.specs.Headline.{AskFor, IsAccepted, NoneMayFail, SomeMayFail}
 use Rattle.th_runs.specs.Listed.{IsOfList, listing}
 use Rattle.th_run_parts.specs.Inputs.{Given, IsOwed, MakesNetwork, Meets, MeetsRefusal, Owed, Untold, given_at, owed_for_book, owed_for_survey}
@@ -54,6 +55,7 @@ DoneAs tells old new status (Some (check from certificate)) = Unit {0}
 DoneAs tells old new status (Some (check_with_inputs from certificate)) = Unit {0}
 DoneAs tells old new status (Some (book table)) = (status ≡ 0) × IsBooked tells old new Differences table
 DoneAs tells old new status (Some (book_of_heights name)) = (status ≡ 0) × IsBooked tells old new Heights name
+DoneAs tells old new status (Some (mend changes name)) = (status ≡ 0) × IsMended tells old new changes name
 
 abbrev RefusedAs : Bool → Failing → Told → Told → Refusal → Option Asked → Type 0
 RefusedAs tells failing old new own None = Unit {0}
@@ -66,6 +68,7 @@ RefusedAs tells failing old new own (Some (check from certificate)) = Unit {0}
 RefusedAs tells failing old new own (Some (check_with_inputs from certificate)) = Unit {0}
 RefusedAs tells failing old new own (Some (book table)) = IsRefusedBook failing old Differences table own
 RefusedAs tells failing old new own (Some (book_of_heights name)) = IsRefusedBook failing old Heights name own
+RefusedAs tells failing old new own (Some (mend changes name)) = IsRefusedMend failing old changes name own
 
 abbrev StoppedAs : Bool → Option Asked → Type 0
 StoppedAs tells None = Unit {0}
@@ -78,6 +81,7 @@ StoppedAs tells (Some (check from certificate)) = Unit {0}
 StoppedAs tells (Some (check_with_inputs from certificate)) = Unit {0}
 StoppedAs tells (Some (book table)) = ⊥
 StoppedAs tells (Some (book_of_heights name)) = ⊥
+StoppedAs tells (Some (mend changes name)) = ⊥
 
 abbrev BecameAs : Bool → Failing → Told → Told → ℕ → Option Asked → Type 0
 BecameAs tells failing old new status wanted =
@@ -107,6 +111,8 @@ module _ {F : Type 0} (tells : Bool) (held : F → Told) (has_failed : F → Spo
   carried (plan.Book table) (inr (own, run)) = inr (inl (own, run.status_is, run.refused))
   carried (plan.BookOfHeights name) (inl run) = inl run.done
   carried (plan.BookOfHeights name) (inr (own, run)) = inr (inl (own, run.status_is, run.refused))
+  carried (plan.Mend changes name) (inl run) = inl run.done
+  carried (plan.Mend changes name) (inr (own, run)) = inr (inl (own, run.status_is, run.refused))
 
   stopped : (own : Plan) (written : List ℕ) (which : Input) (name : List ℕ) → WouldOverwrite tells own written which name → StoppedAs tells (said_by own)
   stopped plan.Standard written which name would = tt
@@ -121,6 +127,7 @@ module _ {F : Type 0} (tells : Bool) (held : F → Told) (has_failed : F → Spo
   stopped (plan.Check inputs certificate false) written which name would = tt
   stopped (plan.Book table) written which name would = no_file written would.is_written
   stopped (plan.BookOfHeights name') written which name would = no_file written would.is_written
+  stopped (plan.Mend changes name') written which name would = no_file written would.is_written
 
   became : (own : Plan) → IsRun tells held has_failed failing old new own status → Became (said_by own)
   became own (inl (keeps, run)) = carried own run
@@ -137,6 +144,7 @@ module _ {F : Type 0} (tells : Bool) (held : F → Told) (has_failed : F → Spo
   said_is words (plan.Check inputs certificate with_inputs) wanted is asks = sym is.2 ∙ asks.2
   said_is words (plan.Book table) wanted is asks = sym is.2 ∙ asks.2
   said_is words (plan.BookOfHeights name) wanted is asks = sym is.2 ∙ asks.2
+  said_is words (plan.Mend changes name) wanted is asks = sym is.2 ∙ asks.2
 
   no_plan : (words : List (List ℕ)) (own : PlanFault) (wanted : Asked) → IsFaultOf words own → AskFor words wanted → IsUsage held old new own status → status ≡ 4
   no_plan words (fault.Line error) wanted is asks usage = absurd (by is.2)
@@ -195,6 +203,9 @@ only_memory Named Owes failing origins prefix outputs (refusal.Weights fault) st
 only_memory Named Owes failing origins prefix outputs (refusal.Certificate fault) status of_write named cause none owes nothing is = absurd (nothing (λ which. refl) (λ e. cc) owes)
 only_memory Named Owes failing origins prefix outputs (refusal.Differences fault) status of_write named cause none owes nothing is = absurd (nothing (λ which. refl) (λ e. cc) owes)
 only_memory Named Owes failing origins prefix outputs (refusal.Heights fault) status of_write named cause none owes nothing is = absurd (nothing (λ which. refl) (λ e. cc) owes)
+only_memory Named Owes failing origins prefix outputs (refusal.Changes fault) status of_write named cause none owes nothing is = absurd (nothing (λ which. refl) (λ e. cc) owes)
+only_memory Named Owes failing origins prefix outputs (refusal.Unfit fault) status of_write named cause none owes nothing is = absurd (nothing (λ which. refl) (λ e. cc) owes)
+only_memory Named Owes failing origins prefix outputs (refusal.Mended fault) status of_write named cause none owes nothing is = absurd (nothing (λ which. refl) (λ e. cc) owes)
 only_memory Named Owes failing origins prefix outputs (refusal.Network fault) status of_write named cause none owes nothing is = absurd (nothing (λ which. refl) (λ e. cc) owes)
 
 abbrev RefusesForMemory : Type 0
@@ -300,29 +311,35 @@ module _ {F : Type 0} (tells : Bool) (held : F → Told) (has_failed : F → Spo
       by (inr (inr (inl stopped))) = absurd (spared from survey (OutputsSpare paging.outputs from prefix) accepted spare stopped)
       by (inr (inr (inr memory))) = inr memory
 
-  booked_as : (conversion : Conversion) (name text : List ℕ)
-      → converted_owed (held old) None conversion name ≡ Some (Ok text) → NoneMayFail (failing old) (IsReadAt (file name)) (spots_of [] booking)
-      → ((status ≡ 0) × IsBooked tells (held old) (held new) conversion name) ⊎ ((own : Refusal) × (status ≡ status_of own) × IsRefusedBook (failing old) (held old) conversion name own) ⊎ ⊥ ⊎ (status ≡ 4)
+  made_as : (Named : Refusal → Type 0) (owed_of : Option Refusal → Owed (List ℕ)) (origins : Origins) (text : List ℕ)
+      → ((which : Output) → Named (refusal.Write which) → Contains booking which) → ((own : Refusal) → NoneFailed own → owed_of (Some own) ≡ owed_of None)
+      → owed_of None ≡ Some (Ok text) → NoneMayFail (failing old) origins (spots_of [] booking)
+      → ((status ≡ 0) × HoldsBook tells (held new) (owed_of None)) ⊎ ((own : Refusal) × (status ≡ status_of own) × IsRefusedBooking Named (owed_of (Some own)) (failing old) origins own) ⊎ ⊥ ⊎ (status ≡ 4)
       → ((status ≡ 0) × Holds tells (held new) output text) ⊎ (status ≡ 4)
-  booked_as conversion name text accepted none = by
+  made_as Named owed_of origins text of_write unfailed accepted none = by
     where
-      of_write : (conversion : Conversion) (which : Output) → IsOfBooking conversion (refusal.Write which) → Contains booking which
-      of_write conversion which named = named
-
-      refused : (own : Refusal) → IsRefusedBook (failing old) (held old) conversion name own → status ≡ status_of own → status ≡ 4
+      refused : (own : Refusal) → IsRefusedBooking Named (owed_of (Some own)) (failing old) origins own → status ≡ status_of own → status ≡ 4
       refused own is same =
-          only_memory (IsOfBooking conversion) (MeetsRefusal (converted_owed (held old) (Some own) conversion name) own) (failing old) (IsReadAt (file name)) [] booking own status
-          (of_write conversion) is.named is.cause none is.owes (λ failed differs owes. not_refused _ text own (ap (converted conversion) (from_same (held old) own failed (input_of conversion) (file name)) ∙ accepted) differs owes) same
+          only_memory Named (MeetsRefusal (owed_of (Some own)) own) (failing old) origins [] booking own status
+          of_write is.named is.cause none is.owes (λ failed differs owes. not_refused _ text own (unfailed own failed ∙ accepted) differs owes) same
 
-      is_it : (found : List ℕ) → Meets (converted_owed (held old) None conversion name) (Ok found) → found ≡ text
+      is_it : (found : List ℕ) → Meets (owed_of None) (Ok found) → found ≡ text
       is_it found meets = same_ok text found (subst (λ (known : Owed (List ℕ)). Meets known (Ok found)) accepted meets)
 
-      by : ((status ≡ 0) × IsBooked tells (held old) (held new) conversion name) ⊎ ((own : Refusal) × (status ≡ status_of own) × IsRefusedBook (failing old) (held old) conversion name own) ⊎ ⊥ ⊎ (status ≡ 4)
+      by : ((status ≡ 0) × HoldsBook tells (held new) (owed_of None)) ⊎ ((own : Refusal) × (status ≡ status_of own) × IsRefusedBooking Named (owed_of (Some own)) (failing old) origins own) ⊎ ⊥ ⊎ (status ≡ 4)
           → ((status ≡ 0) × Holds tells (held new) output text) ⊎ (status ≡ 4)
       by (inl (is, done)) = inl (is, subst (λ (found : List ℕ). Holds tells (held new) output found) (is_it done.book done.given) done.booked)
       by (inr (inl (own, is, gone))) = inr (refused own gone is)
       by (inr (inr (inl never))) = absurd never
       by (inr (inr (inr memory))) = inr memory
+
+  booked_as : (conversion : Conversion) (name text : List ℕ)
+      → converted_owed (held old) None conversion name ≡ Some (Ok text) → NoneMayFail (failing old) (IsReadAt (file name)) (spots_of [] booking)
+      → ((status ≡ 0) × IsBooked tells (held old) (held new) conversion name) ⊎ ((own : Refusal) × (status ≡ status_of own) × IsRefusedBook (failing old) (held old) conversion name own) ⊎ ⊥ ⊎ (status ≡ 4)
+      → ((status ≡ 0) × Holds tells (held new) output text) ⊎ (status ≡ 4)
+  booked_as conversion name text =
+      made_as (IsOfBooking conversion) (λ answer. converted_owed (held old) answer conversion name) (IsReadAt (file name)) text (λ which named. named)
+      (λ own failed. ap (converted conversion) (from_same (held old) own failed (input_of conversion) (file name)))
 
   pub booked : (name text : List ℕ) → AreDone tells held has_failed failing old new words status → AskFor words (book name)
       → converted_owed (held old) None Differences name ≡ Some (Ok text) → NoneMayFail (failing old) (IsReadAt (file name)) (spots_of [] booking) → ((status ≡ 0) × Holds tells (held new) output text) ⊎ (status ≡ 4)
@@ -331,3 +348,10 @@ module _ {F : Type 0} (tells : Bool) (held : F → Told) (has_failed : F → Spo
   pub booked_of_heights : (name text : List ℕ) → AreDone tells held has_failed failing old new words status → AskFor words (book_of_heights name)
       → converted_owed (held old) None Heights name ≡ Some (Ok text) → NoneMayFail (failing old) (IsReadAt (file name)) (spots_of [] booking) → ((status ≡ 0) × Holds tells (held new) output text) ⊎ (status ≡ 4)
   booked_of_heights name text done asks accepted none = booked_as Heights name text accepted none (ran tells held has_failed failing old new status words (book_of_heights name) done asks)
+
+  pub mended : (changes name text : List ℕ) → AreDone tells held has_failed failing old new words status → AskFor words (mend changes name)
+      → mended_owed (held old) None changes name ≡ Some (Ok text) → NoneMayFail (failing old) (IsInMending changes name) (spots_of [] booking) → ((status ≡ 0) × Holds tells (held new) output text) ⊎ (status ≡ 4)
+  mended changes name text done asks accepted none =
+      made_as IsOfMending (λ answer. mended_owed (held old) answer changes name) (IsInMending changes name) text (λ which named. named)
+      (λ own failed. ap₂ owed_for_mended (from_same (held old) own failed input.Changes (file changes)) (from_same (held old) own failed (input.Book 1) (file name)))
+      accepted none (ran tells held has_failed failing old new status words (mend changes name) done asks)

@@ -1,8 +1,9 @@
 -- What a refusal that blames a device shows of the folder.
-use Rattle.std.proofs.Common.{◌≡◌, ◌<◌, ◌+◌, ◌∙◌, ℕ, Bool, true, List, [], ◌∷◌, Some, None, Ok, Err, IfErr, ap, arith, inl, inr, is_some, length, map, refl, subst, suc, sym, zero}
+use Rattle.std.proofs.Common.{◌≡◌, ◌⊎◌, ◌<◌, ◌+◌, ◌∙◌, ℕ, Bool, true, List, [], ◌∷◌, Some, None, Ok, Err, IfErr, ap, arith, inl, inr, is_some, length, map, refl, subst, suc, sym, zero}
 use Rattle.std.specs.Prelude.{Option, Result, if◌then◌else◌, nat_eq, option_map, slice_get}
 use Rattle.std.proofs.lemmas.Option.{slice_get-map}
 use Rattle.th_run_book.specs.Booked.{IsOfBooking, input_of}
+use Rattle.th_run_book.specs.Mended.{IsOfMending}
 use Rattle.th_run_book.specs.declared.conversions.Conversion.{Conversion}
 use Rattle.th_run_book.specs.declared.conversions.Conversion.TheVariants.{Differences, Heights}
 use Rattle.th_devices.specs.Devices.{IsOpened, SinkState, SourceState}
@@ -10,7 +11,7 @@ use Rattle.th_devices.specs.Spots.{Spot, file}
 use Rattle.th_devices.specs.Folders.{Failing, IsStopped}
 use Rattle.th_commands.specs.Asked.{Files}
 use Rattle.th_files.proofs.OpenedLemmas.{named-opened}
-use Rattle.th_program.specs.Failing.{HasCause, IsInClaim, IsInFiles, Origins}
+use Rattle.th_program.specs.Failing.{HasCause, IsInClaim, IsInFiles, IsInMending, Origins}
 use Rattle.th_files.specs.Opened.{AreGivenBack, AreMade, AreOpened, EachIsOpened, IsOpenedIfAny}
 use Rattle.th_files.specs.Outputs.{spot_at, spots_of}
 use Rattle.th_files.specs.Owed.{Told}
@@ -38,6 +39,7 @@ one_read input.Benchmarks = refl
 one_read input.Weights = refl
 one_read input.Certificate = refl
 one_read input.Differences = refl
+one_read input.Changes = refl
 
 -- so its source may fail
 blamed : {S : Type 0} (state_of : S → SourceState) (reading : Spot → Bool) (told : Told) (which : Input) (spot : Spot) (old new : S)
@@ -97,6 +99,7 @@ files_blamed state_of reading told from run origins input.Weights books books' b
     (file name, widen input.Weights (file name) is, may)
 files_blamed state_of reading told from run origins input.Certificate books books' benchmarks benchmarks' weights weights' widen opened read named stated = stated refl named
 files_blamed state_of reading told from run origins input.Differences books books' benchmarks benchmarks' weights weights' widen opened read named stated = absurd named
+files_blamed state_of reading told from run origins input.Changes books books' benchmarks benchmarks' weights weights' widen opened read named stated = absurd named
 
 -- so is one that the refusal of a run over these files blames
 pub files_caused : {S X : Type 0} (state_of : S → SourceState) (reading : Spot → Bool) (told : Told) (from : Files) (run : Run) (origins : Origins) (result : Result X Refusal)
@@ -159,6 +162,34 @@ input_caused state_of reading told conversion name (Err own) old new opened read
           (is ∙ ap (λ (input : Input). Some (refusal.Read input)) first) read),
     )
 
+-- so is an input of a run that mends
+pub mending_caused : {C S X : Type 0} (of_table : C → SourceState) (of_book : S → SourceState) (reading : Spot → Bool) (told : Told) (changes book : List ℕ) (result : Result X Refusal)
+    (old_table new_table : C) (old_book new_book : S) → IsOpened (reading (file changes)) (told (file changes)) (of_table old_table) → IsOpened (reading (file book)) (told (file book)) (of_book old_book)
+    → IsReadFor of_table input.Changes (refused result) old_table new_table → IsReadFor of_book (input.Book 1) (refused result) old_book new_book → IfErr result IsOfMending
+    → (which : Input) → refused result ≡ Some (refusal.Read which) → ReadCause reading (IsInMending changes book) which
+mending_caused of_table of_book reading told changes book (Ok x) old_table new_table old_book new_book at_table at_book table read named which is = absurd (cc is)
+mending_caused of_table of_book reading told changes book (Err own) old_table new_table old_book new_book at_table at_book table read named which is =
+    by (subst IsOfMending same named)
+  where
+    same : own ≡ refusal.Read which
+    same = cc is
+
+    by : (which ≡ input.Changes) ⊎ (which ≡ input.Book 1) → ReadCause reading (IsInMending changes book) which
+    by (inl first) = subst (ReadCause reading (IsInMending changes book)) (sym first) (
+      file changes,
+      refl,
+      blamed of_table reading told input.Changes (file changes) old_table new_table at_table
+          (subst (λ (answer : Option Refusal). IsReadFor of_table input.Changes answer old_table new_table)
+          (is ∙ ap (λ (input : Input). Some (refusal.Read input)) first) table),
+    )
+    by (inr second) = subst (ReadCause reading (IsInMending changes book)) (sym second) (
+      file book,
+      refl,
+      blamed of_book reading told (input.Book 1) (file book) old_book new_book at_book
+          (subst (λ (answer : Option Refusal). IsReadFor of_book (input.Book 1) answer old_book new_book)
+          (is ∙ ap (λ (input : Input). Some (refusal.Read input)) second) read),
+    )
+
 -- an output that is blamed is where writing may fail
 output_blamed : {K : Type 0} (state_of : K → SinkState) (tells : Bool) (writing : Spot → Bool) (prefix : List ℕ) (which : Output) (texts : Texts) (olds news : List K)
     → AreMade state_of tells writing (spots_of prefix (map (λ own. own.0) texts)) olds → EachOut (IsAt state_of) (UpTo which) texts olds news
@@ -201,6 +232,9 @@ run_caused failing origins prefix (Err (refusal.Weights fault)) read written = t
 run_caused failing origins prefix (Err (refusal.Certificate fault)) read written = tt
 run_caused failing origins prefix (Err (refusal.Differences fault)) read written = tt
 run_caused failing origins prefix (Err (refusal.Heights fault)) read written = tt
+run_caused failing origins prefix (Err (refusal.Changes fault)) read written = tt
+run_caused failing origins prefix (Err (refusal.Unfit fault)) read written = tt
+run_caused failing origins prefix (Err (refusal.Mended fault)) read written = tt
 run_caused failing origins prefix (Err (refusal.Network fault)) read written = tt
 run_caused failing origins prefix (Err refusal.NoMemory) read written = tt
 
@@ -243,3 +277,4 @@ widened from certificate input.Weights spot is = is
 widened from certificate input.Certificate (file name) is = absurd is
 widened from certificate input.Certificate other is = absurd is
 widened from certificate input.Differences spot is = is
+widened from certificate input.Changes spot is = is

@@ -47,6 +47,7 @@ said_is words (plan.Page inputs limit prefix) wanted is asks = sym is.2 ∙ asks
 said_is words (plan.Check inputs certificate with_inputs) wanted is asks = sym is.2 ∙ asks.2
 said_is words (plan.Book table) wanted is asks = sym is.2 ∙ asks.2
 said_is words (plan.BookOfHeights book) wanted is asks = sym is.2 ∙ asks.2
+said_is words (plan.Mend changes book) wanted is asks = sym is.2 ∙ asks.2
 
 -- words that ask for something have no fault but that there is no memory
 only_memory : {F : Type 0} (held : F → Told) (old new : F) (words : List (List ℕ)) (own : PlanFault) (status : ℕ) (wanted : Asked)
@@ -150,6 +151,12 @@ unlucky law tells failing old new from limit prefix survey (refusal.Differences 
     by_status (AdjustMayFail failing from prefix) (refusal.Differences fault) status is (law (survey_owed old (Some (refusal.Differences fault)) from) survey (refusal.Differences fault) (survey_same old (refusal.Differences fault) (λ which. refl) from ∙ accepted.given) accepted.network refused.owes)
 unlucky law tells failing old new from limit prefix survey (refusal.Heights fault) status accepted is refused =
     by_status (AdjustMayFail failing from prefix) (refusal.Heights fault) status is (law (survey_owed old (Some (refusal.Heights fault)) from) survey (refusal.Heights fault) (survey_same old (refusal.Heights fault) (λ which. refl) from ∙ accepted.given) accepted.network refused.owes)
+unlucky law tells failing old new from limit prefix survey (refusal.Changes fault) status accepted is refused =
+    by_status (AdjustMayFail failing from prefix) (refusal.Changes fault) status is (law (survey_owed old (Some (refusal.Changes fault)) from) survey (refusal.Changes fault) (survey_same old (refusal.Changes fault) (λ which. refl) from ∙ accepted.given) accepted.network refused.owes)
+unlucky law tells failing old new from limit prefix survey (refusal.Unfit fault) status accepted is refused =
+    by_status (AdjustMayFail failing from prefix) (refusal.Unfit fault) status is (law (survey_owed old (Some (refusal.Unfit fault)) from) survey (refusal.Unfit fault) (survey_same old (refusal.Unfit fault) (λ which. refl) from ∙ accepted.given) accepted.network refused.owes)
+unlucky law tells failing old new from limit prefix survey (refusal.Mended fault) status accepted is refused =
+    by_status (AdjustMayFail failing from prefix) (refusal.Mended fault) status is (law (survey_owed old (Some (refusal.Mended fault)) from) survey (refusal.Mended fault) (survey_same old (refusal.Mended fault) (λ which. refl) from ∙ accepted.given) accepted.network refused.owes)
 unlucky law tells failing old new from limit prefix survey (refusal.Network fault) status accepted is refused =
     by_status (AdjustMayFail failing from prefix) (refusal.Network fault) status is (law (survey_owed old (Some (refusal.Network fault)) from) survey (refusal.Network fault) (survey_same old (refusal.Network fault) (λ which. refl) from ∙ accepted.given) accepted.network refused.owes)
 
@@ -182,6 +189,7 @@ ended_plan tells held has_failed failing old new (plan.Check inputs certificate 
 ended_plan tells held has_failed failing old new (plan.Check inputs certificate true) status run = tt
 ended_plan tells held has_failed failing old new (plan.Book table) status run = tt
 ended_plan tells held has_failed failing old new (plan.BookOfHeights book) status run = tt
+ended_plan tells held has_failed failing old new (plan.Mend changes book) status run = tt
 
 -- a run of arguments that ask for an adjustment, and of those that ask for a check
 pub adjust_ended : {F : Type 0} (tells : Bool) (held : F → Told) (has_failed : F → Spot → Bool) (failing : F → Failing) (old new : F) (words : List (List ℕ)) (status : ℕ) (from : Files) (limit : ℤ) (prefix : List ℕ)
@@ -247,6 +255,9 @@ believed tells held failing old new from certificate ended = by ended
     never (refusal.Certificate fault) e = omega (arith, e)
     never (refusal.Differences fault) e = omega (arith, e)
     never (refusal.Heights fault) e = omega (arith, e)
+    never (refusal.Changes fault) e = omega (arith, e)
+    never (refusal.Unfit fault) e = omega (arith, e)
+    never (refusal.Mended fault) e = omega (arith, e)
     never (refusal.Network fault) e = omega (arith, e)
     never (refusal.Read which) e = omega (arith, e)
     never (refusal.Write which) e = omega (arith, e)
@@ -328,6 +339,9 @@ confirmed tells held failing law owed answered old new status from certificate s
     refused (refusal.Certificate fault) is owes = confirmed_refused (CheckMayFail (failing old) from certificate) law owed (held old) from certificate survey limit texts (refusal.Certificate fault) status accepted outputs there is (λ which. refl) owes.owes
     refused (refusal.Differences fault) is owes = confirmed_refused (CheckMayFail (failing old) from certificate) law owed (held old) from certificate survey limit texts (refusal.Differences fault) status accepted outputs there is (λ which. refl) owes.owes
     refused (refusal.Heights fault) is owes = confirmed_refused (CheckMayFail (failing old) from certificate) law owed (held old) from certificate survey limit texts (refusal.Heights fault) status accepted outputs there is (λ which. refl) owes.owes
+    refused (refusal.Changes fault) is owes = confirmed_refused (CheckMayFail (failing old) from certificate) law owed (held old) from certificate survey limit texts (refusal.Changes fault) status accepted outputs there is (λ which. refl) owes.owes
+    refused (refusal.Unfit fault) is owes = confirmed_refused (CheckMayFail (failing old) from certificate) law owed (held old) from certificate survey limit texts (refusal.Unfit fault) status accepted outputs there is (λ which. refl) owes.owes
+    refused (refusal.Mended fault) is owes = confirmed_refused (CheckMayFail (failing old) from certificate) law owed (held old) from certificate survey limit texts (refusal.Mended fault) status accepted outputs there is (λ which. refl) owes.owes
     refused (refusal.Network fault) is owes = confirmed_refused (CheckMayFail (failing old) from certificate) law owed (held old) from certificate survey limit texts (refusal.Network fault) status accepted outputs there is (λ which. refl) owes.owes
 
     by : IsEndedCheck tells (failing old) (held old) (held new) from certificate status → (status ≡ 0) ⊎ IsUnlucky (CheckMayFail (failing old) from certificate) status

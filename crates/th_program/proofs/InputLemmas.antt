@@ -14,7 +14,7 @@ kept_told tells held has_failed failing old new asked status telling (inl (keeps
     run.others (file name) (file-apart name) (keeps telling which name read)
 kept_told tells held has_failed failing old new asked status telling (inl (keeps, inr (own, run))) which name read =
     run.others (file name) (file-apart name) (keeps telling which name read)
-kept_told tells held has_failed failing old new asked status telling (inr (inl (is, (written, changed, other, would, begun)))) which name read =
+kept_told tells held has_failed failing old new asked status telling (inr (inl (is, (written, overwritten, other, would, begun)))) which name read =
     begun.untouched (file name) (file-apart name)
 kept_told tells held has_failed failing old new asked status telling (inr (inr (is, begun))) which name read = begun.untouched (file name) (file-apart name)
 

@@ -2,8 +2,6 @@
 use Rattle.std.proofs.Common.{◌≡◌, ◌≢◌, ◌∙◌, ℕ, Bool, true, false, List, None, Some, get_or, map, refl, [], ◌∷◌, ap₂, subst, sym}
 use Rattle.std.proofs.lemmas.List.Elements.{All-from_recursion}
 use Rattle.std.specs.List.{AllByRecursion, Contains}
-use Rattle.th_run_book.specs.declared.conversions.Conversion.{Conversion}
-use Rattle.th_run_book.specs.declared.conversions.Conversion.TheVariants.{Differences, Heights}
 use Rattle.th_devices.specs.Spots.{Spot, errors, file, input, is_file, output}
 use Rattle.th_devices.specs.Folders.{Failing}
 use Rattle.th_runs.specs.Paged.{paging}
@@ -12,9 +10,10 @@ use Rattle.th_commands.specs.declared.plans.Plan.{Plan}
 use Rattle.th_commands.specs.declared.plans.Plan.TheVariants as plan
 use Rattle.th_files.proofs.OutputLemmas.{all_files, no_errors}
 use Rattle.th_program.proofs.RefusalLemmas.{refused-for-map}
-use Rattle.th_program.specs.Done.{IsBooked, IsCut, IsDone, IsListed, IsOutputOf, IsRefused, IsPrinted}
+use Rattle.th_program.specs.Done.{HoldsBook, IsCut, IsDone, IsListed, IsOutputOf, IsRefused, IsPrinted}
 use Rattle.th_files.specs.Owed.{Told, survey_owed}
 use Rattle.th_files.specs.Outputs.{spots_of, AreLeftAs, HoldsPart}
+use Rattle.th_run_parts.specs.Inputs.{Owed}
 use Rattle.th_runs.specs.Adjusted.{adjusting}
 use Rattle.th_runs.specs.Reviewed.{reviewing}
 use Rattle.th_run_parts.specs.declared.refusals.Refusal.{Refusal}
@@ -61,6 +60,7 @@ refused-after tells failing before after later (plan.Explain inputs limit table)
 refused-after tells failing before after later (plan.Check inputs certificate with_inputs) own same is = is
 refused-after tells failing before after later (plan.Book table) own same is = is
 refused-after tells failing before after later (plan.BookOfHeights book) own same is = is
+refused-after tells failing before after later (plan.Mend changes book) own same is = is
 
 -- standard output is not standard error
 output_apart : output ≢ errors
@@ -74,9 +74,9 @@ listed-after tells before after later book same is = record {
   listed = λ tell. same output output_apart ∙ is.listed tell;
 }
 
-booked-after : (tells : Bool) (before after later : Told) (conversion : Conversion) (name : List ℕ) → ((spot : Spot) → spot ≢ errors → later spot ≡ after spot)
-    → IsBooked tells before after conversion name → IsBooked tells before later conversion name
-booked-after tells before after later conversion name same is = record {
+booked-after : (tells : Bool) (after later : Told) (owed : Owed (List ℕ)) → ((spot : Spot) → spot ≢ errors → later spot ≡ after spot)
+    → HoldsBook tells after owed → HoldsBook tells later owed
+booked-after tells after later owed same is = record {
   book = is.book;
   given = is.given;
   booked = λ tell. same output output_apart ∙ is.booked tell;
@@ -130,8 +130,9 @@ done-after tells before after later (plan.Check inputs certificate true) status 
     right = is.right;
   },
 )
-done-after tells before after later (plan.Book table) status same is = (is.0, booked-after tells before after later Differences table.now same is.1)
-done-after tells before after later (plan.BookOfHeights book) status same is = (is.0, booked-after tells before after later Heights book.now same is.1)
+done-after tells before after later (plan.Book table) status same is = (is.0, booked-after tells after later _ same is.1)
+done-after tells before after later (plan.BookOfHeights book) status same is = (is.0, booked-after tells after later _ same is.1)
+done-after tells before after later (plan.Mend changes book) status same is = (is.0, booked-after tells after later _ same is.1)
 
 -- nor does it change what standard output has of a text
 part_after : (tells : Bool) (after later : Told) (text : List ℕ) → ((spot : Spot) → spot ≢ errors → later spot ≡ after spot) → HoldsPart tells after text → HoldsPart tells later text
@@ -146,6 +147,7 @@ cut-after tells before after later (plan.Check inputs certificate false) own sam
 cut-after tells before after later (plan.Check inputs certificate true) own same (claim, sums, given, summed, part) = (claim, sums, given, summed, part_after tells after later _ same part)
 cut-after tells before after later (plan.Book table) own same (text, given, part) = (text, given, part_after tells after later _ same part)
 cut-after tells before after later (plan.BookOfHeights book) own same (text, given, part) = (text, given, part_after tells after later _ same part)
+cut-after tells before after later (plan.Mend changes book) own same (text, given, part) = (text, given, part_after tells after later _ same part)
 cut-after tells before after later other own same is = is
 
 -- no plan writes its outputs to standard error
@@ -164,3 +166,4 @@ errors_apart (plan.Explain inputs limit table) is = cc
 errors_apart (plan.Check inputs certificate with_inputs) is = cc
 errors_apart (plan.Book table) is = cc
 errors_apart (plan.BookOfHeights book) is = cc
+errors_apart (plan.Mend changes book) is = cc

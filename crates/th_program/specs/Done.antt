@@ -18,6 +18,7 @@ use Rattle.th_commands.specs.declared.plans.Plan.{Plan}
 use Rattle.th_commands.specs.declared.plans.Plan.TheVariants as plan
 use Rattle.th_report.specs.Lists.{list_text}
 use Rattle.th_run_book.specs.Booked.{IsOfBooking}
+use Rattle.th_run_book.specs.Mended.{IsOfMending}
 use Rattle.th_run_book.specs.declared.conversions.Conversion.{Conversion}
 use Rattle.th_run_book.specs.declared.conversions.Conversion.TheVariants.{Differences, Heights}
 use Rattle.th_runs.specs.Adjusted.{AreOfAdjustment, adjusting}
@@ -41,11 +42,11 @@ use Rattle.th_run_parts.specs.declared.outputs.Output.{Output}
 use Rattle.th_run_parts.specs.declared.outputs.Output.TheVariants as out
 use Rattle.th_run_parts.specs.declared.refusals.Refusal.{Refusal}
 use Rattle.th_run_parts.specs.declared.refusals.Refusal.TheVariants as refusal
-use Rattle.th_program.specs.Failing.{HasCause, IsInClaim, IsInFiles}
+use Rattle.th_program.specs.Failing.{HasCause, IsInClaim, IsInFiles, IsInMending, Origins}
 use Rattle.th_program.specs.Noted.{AreNotesOf}
 use Rattle.th_messages.specs.Noted.{notes_lines}
 use Rattle.th_files.specs.Outputs.{AreLeft, Holds, HoldsPart, spots_of}
-use Rattle.th_files.specs.Owed.{HasName, Told, all_names, book_owed, claim_names, claim_owed, converted_owed, survey_owed, tolds_in}
+use Rattle.th_files.specs.Owed.{HasName, Told, all_names, book_owed, claim_names, claim_owed, converted_owed, mended_owed, survey_owed, tolds_in}
 
 -- standard output has the list of the book at this spot
 pub record IsListed (tells : Bool) (old new : Told) (book : Spot) : Type 0 where
@@ -53,11 +54,18 @@ pub record IsListed (tells : Bool) (old new : Told) (book : Spot) : Type 0 where
   pub given : Meets (book_owed old None book) (Ok observations)
   pub listed : Holds tells new output (list_text observations)
 
--- standard output has the book that the file of this name becomes
-pub record IsBooked (tells : Bool) (old new : Told) (conversion : Conversion) (name : List ℕ) : Type 0 where
+-- standard output has the book that must be returned
+pub record HoldsBook (tells : Bool) (new : Told) (owed : Owed (List ℕ)) : Type 0 where
   pub book : List ℕ
-  pub given : Meets (converted_owed old None conversion name) (Ok book)
+  pub given : Meets owed (Ok book)
   pub booked : Holds tells new output book
+
+-- it has the book that the file of this name becomes, and the mended book of the files of these names
+abbrev pub IsBooked : Bool → Told → Told → Conversion → List ℕ → Type 0
+IsBooked tells old new conversion name = HoldsBook tells new (converted_owed old None conversion name)
+
+abbrev pub IsMended : Bool → Told → Told → List ℕ → List ℕ → Type 0
+IsMended tells old new changes book = HoldsBook tells new (mended_owed old None changes book)
 
 -- The files of these outputs have texts of the survey in the named files: all of them, if there is no refusal. If a write failed, all files are unchanged;
 -- or one could not take its name, those before it are complete, and its own and those after it are unchanged.
@@ -135,6 +143,7 @@ IsDone tells old new (plan.Check inputs certificate with_inputs) status =
     (verdict : Verdict) × (status ≡ status_of_verdict verdict) × IsCheckedAs with_inputs tells old new (files inputs) certificate.now verdict
 IsDone tells old new (plan.Book table) status = (status ≡ 0) × IsBooked tells old new Differences table.now
 IsDone tells old new (plan.BookOfHeights book) status = (status ≡ 0) × IsBooked tells old new Heights book.now
+IsDone tells old new (plan.Mend changes book) status = (status ≡ 0) × IsMended tells old new changes.now book.now
 
 -- an output was not written
 abbrev pub IsWrite : Refusal → Type 0
@@ -148,11 +157,20 @@ pub record IsRefusedList (failing : Failing) (old : Told) (book : Spot) (own : R
   pub owes : UnlessWrite own (MeetsRefusal (book_owed old (Some own) book) own)
   pub cause : HasCause failing (λ which spot. spot ≡ book) [] own
 
--- the same of the book that the file of this name becomes; it names that file or the book
-pub record IsRefusedBook (failing : Failing) (old : Told) (conversion : Conversion) (name : List ℕ) (own : Refusal) : Type 0 where
-  pub named : IsOfBooking conversion own
-  pub owes : UnlessWrite own (MeetsRefusal (converted_owed old (Some own) conversion name) own)
-  pub cause : HasCause failing (λ which spot. spot ≡ file name) [] own
+-- The refusal of a run that makes a book, whose inputs are at these spots. It names a device of the run. Unless it is a failed write, it is the one that
+-- must be returned. If it blames a device, that one may fail.
+pub record IsRefusedBooking (Named : Refusal → Type 0) (owed : Owed (List ℕ)) (failing : Failing) (origins : Origins) (own : Refusal) : Type 0 where
+  pub named : Named own
+  pub owes : UnlessWrite own (MeetsRefusal owed own)
+  pub cause : HasCause failing origins [] own
+
+-- of the book that the file of this name becomes, and of the mended book of the files of these names
+abbrev pub IsRefusedBook : Failing → Told → Conversion → List ℕ → Refusal → Type 0
+IsRefusedBook failing old conversion name own =
+    IsRefusedBooking (IsOfBooking conversion) (converted_owed old (Some own) conversion name) failing (λ which spot. spot ≡ file name) own
+
+abbrev pub IsRefusedMend : Failing → Told → List ℕ → List ℕ → Refusal → Type 0
+IsRefusedMend failing old changes book own = IsRefusedBooking IsOfMending (mended_owed old (Some own) changes book) failing (IsInMending changes book) own
 
 -- The refusal of a run over the named files. It names a device of this run. Unless it is a failed write, it is the one
 -- that the run must return for its inputs; after a failed write, `HasLeft` says what the outputs have. If it blames a device, it has a cause.
@@ -200,16 +218,22 @@ IsRefused tells failing old new (plan.Page inputs limit prefix) own = IsRefusedP
 IsRefused tells failing old new (plan.Check inputs certificate with_inputs) own = IsRefusedCheck failing old (files inputs) certificate.now own
 IsRefused tells failing old new (plan.Book table) own = IsRefusedBook failing old Differences table.now own
 IsRefused tells failing old new (plan.BookOfHeights book) own = IsRefusedBook failing old Heights book.now own
+IsRefused tells failing old new (plan.Mend changes book) own = IsRefusedMend failing old changes.now book.now own
 
--- Standard output has a beginning of the list of the book at this spot, after a refusal; and the same of the book that a file becomes, of the text of an
--- explanation, and of what a check prints.
+-- Standard output has a beginning of the list of the book at this spot, after a refusal; and the same of the book that a file becomes, of a mended book, of
+-- the text of an explanation, and of what a check prints.
 abbrev pub IsCutList : Bool → Told → Told → Spot → Refusal → Type 0
 IsCutList tells old new book own =
     (observations : List Observed) × Meets (book_owed old (Some own) book) (Ok observations) × HoldsPart tells new (list_text observations)
 
+abbrev pub HoldsPartOfBook : Bool → Told → Owed (List ℕ) → Type 0
+HoldsPartOfBook tells new owed = (book : List ℕ) × Meets owed (Ok book) × HoldsPart tells new book
+
 abbrev pub IsCutBook : Bool → Told → Told → Conversion → List ℕ → Refusal → Type 0
-IsCutBook tells old new conversion name own =
-    (book : List ℕ) × Meets (converted_owed old (Some own) conversion name) (Ok book) × HoldsPart tells new book
+IsCutBook tells old new conversion name own = HoldsPartOfBook tells new (converted_owed old (Some own) conversion name)
+
+abbrev pub IsCutMend : Bool → Told → Told → List ℕ → List ℕ → Refusal → Type 0
+IsCutMend tells old new changes book own = HoldsPartOfBook tells new (mended_owed old (Some own) changes book)
 
 abbrev pub IsCutExplanation : Bool → Told → Told → Files → ℤ → Form → Refusal → Type 0
 IsCutExplanation tells old new from limit wanted own =
@@ -231,6 +255,7 @@ IsCut tells old new (plan.Explain inputs limit table) own = IsCutExplanation tel
 IsCut tells old new (plan.Check inputs certificate with_inputs) own = IsCutVerdict with_inputs tells old new (files inputs) certificate.now own
 IsCut tells old new (plan.Book table) own = IsCutBook tells old new Differences table.now own
 IsCut tells old new (plan.BookOfHeights book) own = IsCutBook tells old new Heights book.now own
+IsCut tells old new (plan.Mend changes book) own = IsCutMend tells old new changes.now book.now own
 IsCut tells old new other own = Unit {0}
 
 -- the spots that an adjustment with this prefix writes to, those of a review, and that of a page
@@ -261,6 +286,7 @@ IsInputOf (plan.Page inputs limit prefix) which name = HasName (files inputs) wh
 IsInputOf (plan.Check inputs certificate with_inputs) which name = HasName (files inputs) which name ⊎ ((which ≡ source.Certificate) × (name ≡ certificate.now))
 IsInputOf (plan.Book table) which name = (which ≡ source.Differences) × (name ≡ table.now)
 IsInputOf (plan.BookOfHeights book) which name = (which ≡ source.Book 1) × (name ≡ book.now)
+IsInputOf (plan.Mend changes book) which name = ((which ≡ source.Changes) × (name ≡ changes.now)) ⊎ ((which ≡ source.Book 1) × (name ≡ book.now))
 
 -- no file that a plan writes is one that it reads
 abbrev pub KeepsInputs : Plan → Type 0

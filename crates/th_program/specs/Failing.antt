@@ -25,6 +25,11 @@ abbrev pub IsInClaim : Files → List ℕ → Origins
 IsInClaim from certificate input.Certificate spot = spot ≡ file certificate
 IsInClaim from certificate which spot = IsInFiles from which spot
 
+-- the table of changes and the book of a run that mends are at this spot
+abbrev pub IsInMending : List ℕ → List ℕ → Origins
+IsInMending changes book input.Changes spot = spot ≡ file changes
+IsInMending changes book which spot = spot ≡ file book
+
 -- A refusal that blames a device has a cause in the folder: reading may fail at the spot of the input, or writing at the spot of the output.
 abbrev pub HasCause : Failing → Origins → List ℕ → Refusal → Type 0
 HasCause failing origins prefix (refusal.Read which) = (spot : Spot) × origins which spot × (failing.reading spot ≡ true)

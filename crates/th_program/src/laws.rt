@@ -3,13 +3,13 @@
 ghost use Rattle.std.specs.Prelude.{◌≡◌, ◌⊎◌, ℕ, ℤ, List, [], None, Ok, Some, Bool};
 ghost use Rattle.th_devices.specs.Spots.{file, output};
 ghost use Rattle.th_network.specs.Networks.{Survey};
-ghost use Rattle.th_commands.specs.Asked.{Files, adjust, check, book, book_of_heights, explain, list, page, review};
+ghost use Rattle.th_commands.specs.Asked.{Files, adjust, check, book, book_of_heights, explain, list, mend, page, review};
 ghost use Rattle.th_commands.specs.declared.plans.Plan.{Plan};
 ghost use Rattle.th_program.specs.Done.{AreDone, IsAdjusted, IsInputOf, IsRun, IsExplained, IsPagedFile, IsReviewed, form_of};
-ghost use Rattle.th_program.specs.Failing.{IsInClaim, IsInFiles};
+ghost use Rattle.th_program.specs.Failing.{IsInClaim, IsInFiles, IsInMending};
 ghost use Rattle.th_program.specs.Headline.{AskFor, IsAccepted, IsEndedAdjust, IsEndedCheck, IsUnlucky, NoneMayFail, SomeMayFail, SparesInputs};
 ghost use Rattle.th_files.specs.Outputs.{spots_of, Holds};
-ghost use Rattle.th_files.specs.Owed.{claim_owed, book_owed, converted_owed};
+ghost use Rattle.th_files.specs.Owed.{claim_owed, book_owed, converted_owed, mended_owed};
 ghost use Rattle.th_runs.specs.Adjusted.{AreOutputs, OutTexts, adjusting};
 ghost use Rattle.th_runs.specs.Checked.{IsRight, checking};
 ghost use Rattle.th_run_parts.specs.Inputs.{Claim, Meets};
@@ -185,6 +185,18 @@ pub fn accepted_table_becomes_a_book<F: Folder>()
         → AskFor words (book_of_heights name)
         → converted_owed (F.held old) None Heights name ≡ Some (Ok text)
         → NoneMayFail (F.failing old) (IsReadAt (file name)) (spots_of [] booking)
+        → ((status ≡ 0) × Holds F.tells (F.held new) output text)
+        ⊎ (status ≡ 4) }
+{}
+
+/// `mend` of a table of changes and a book prints the mended book, or runs out of memory, if there is one
+/// and no device of the run may fail.
+pub fn accepted_changes_mend_a_book<F: Folder>()
+    ensures { (old new : _) (words : List (List ℕ)) (status : ℕ) (changes name text : List ℕ)
+        → AreDone F.tells F.held F.has_failed F.failing old new words status
+        → AskFor words (mend changes name)
+        → mended_owed (F.held old) None changes name ≡ Some (Ok text)
+        → NoneMayFail (F.failing old) (IsInMending changes name) (spots_of [] booking)
         → ((status ≡ 0) × Holds F.tells (F.held new) output text)
         ⊎ (status ≡ 4) }
 {}

@@ -10,6 +10,7 @@
 mod booking;
 mod checking;
 mod listing;
+mod mending;
 mod surveying;
 
 // The program: a refusal is reported, a plan that overwrites no input is run, arguments become a plan.

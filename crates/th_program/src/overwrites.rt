@@ -31,6 +31,7 @@ pub(crate) fn keep_inputs<'a, F: Folder>(
         | Plan::Explain { .. }
         | Plan::Check { .. }
         | Plan::Book { .. }
-        | Plan::BookOfHeights { .. } => Ok(()),
+        | Plan::BookOfHeights { .. }
+        | Plan::Mend { .. } => Ok(()),
     }
 }

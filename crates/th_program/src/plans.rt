@@ -9,6 +9,7 @@ ghost use Rattle.th_run_parts.specs.Writes.{UnlessWrite};
 use crate::booking::make_book;
 use crate::checking::check;
 use crate::listing::list;
+use crate::mending::mend;
 use crate::overwrites::keep_inputs;
 use crate::refusals::refuse;
 use crate::surveying::{adjust, explain, form_of, page, review};
@@ -100,6 +101,7 @@ fn carry_out<F: Folder>(
         }
         Plan::Book { table } => make_book(alloc, folder, Conversion::Differences, *table)?,
         Plan::BookOfHeights { book } => make_book(alloc, folder, Conversion::Heights, *book)?,
+        Plan::Mend { changes, book } => mend(alloc, folder, *changes, *book)?,
     }
     Ok(DONE)
 }

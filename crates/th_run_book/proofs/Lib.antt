@@ -1,1 +1,2 @@
 pub mod BookingLemmas
+pub mod MendingLemmas

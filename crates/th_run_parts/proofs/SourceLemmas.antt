@@ -47,6 +47,8 @@ none_failed failures may_fail none = record { fixed = refl; allowed = λ some. a
 -- of two inputs each is read before the other, or none
 asymmetric : (own other : Input) → IsReadBefore own other → IsReadBefore other own → ⊥
 asymmetric (input.Book own) (input.Book other) before behind = omega (arith, before, behind)
+asymmetric (input.Book own) input.Changes before behind = before
+asymmetric input.Changes (input.Book other) before behind = behind
 asymmetric (input.Book own) other before behind = behind
 asymmetric own (input.Book other) before behind = before
 asymmetric input.Benchmarks input.Benchmarks before behind = before
@@ -64,6 +66,7 @@ differing input.Benchmarks input.Benchmarks differs = absurd (differs refl)
 differing input.Weights input.Weights differs = absurd (differs refl)
 differing input.Certificate input.Certificate differs = absurd (differs refl)
 differing input.Differences input.Differences differs = absurd (differs refl)
+differing input.Changes input.Changes differs = absurd (differs refl)
 differing which own differs = refl
 
 -- the refusal comes from another input, or from none
@@ -155,11 +158,13 @@ books_before state_of number answer (old ∷ olds) (new ∷ news) behind each = 
 -- what is read behind the weights is read behind the books and the benchmarks
 behind_book : (number : ℕ) (at : Input) → IsReadBefore input.Weights at → IsReadBefore (input.Book number) at
 behind_book number (input.Book own) behind = absurd behind
+behind_book number input.Changes behind = absurd behind
 behind_book number at behind = tt
 
 behind_benchmarks : (at : Input) → IsReadBefore input.Weights at → IsReadBefore input.Benchmarks at
 behind_benchmarks (input.Book own) behind = behind
 behind_benchmarks input.Benchmarks behind = behind
+behind_benchmarks input.Changes behind = behind
 behind_benchmarks at behind = tt
 
 wider : (which : Input) (answer : Option Refusal) → ((at : Input) → IsReadBefore input.Weights at → IsReadBefore which at)
@@ -223,6 +228,9 @@ behind_from which at (refusal.Weights fault) is before = subst (λ (known : Opti
 behind_from which at (refusal.Certificate fault) is before = subst (λ (known : Option Input). IfSome known (λ own. IsReadBefore which own)) (sym is) before
 behind_from which at (refusal.Differences fault) is before = subst (λ (known : Option Input). IfSome known (λ own. IsReadBefore which own)) (sym is) before
 behind_from which at (refusal.Heights fault) is before = subst (λ (known : Option Input). IfSome known (λ own. IsReadBefore which own)) (sym is) before
+behind_from which at (refusal.Changes fault) is before = subst (λ (known : Option Input). IfSome known (λ own. IsReadBefore which own)) (sym is) before
+behind_from which at (refusal.Unfit fault) is before = subst (λ (known : Option Input). IfSome known (λ own. IsReadBefore which own)) (sym is) before
+behind_from which at (refusal.Mended fault) is before = subst (λ (known : Option Input). IfSome known (λ own. IsReadBefore which own)) (sym is) before
 behind_from which at (refusal.Read other) is before = subst (λ (known : Option Input). IfSome known (λ own. IsReadBefore which own)) (sym is) before
 behind_from which at (refusal.Network fault) is before = absurd (cc is)
 behind_from which at (refusal.Write other) is before = absurd (cc is)

@@ -12,6 +12,7 @@ use Rattle.th_certificate.specs.Certified.{Certified}
 use Rattle.th_certificate.specs.Reading.{certificate_of}
 use Rattle.th_certificate.specs.Limits.{max_certificate}
 use Rattle.th_conversions.specs.Limits.{max_differences}
+use Rattle.th_mend_table.specs.Limits.{max_changes}
 use Rattle.th_network.specs.Faults.{HasFault, IsNetwork}
 use Rattle.th_network.specs.Networks.{Survey, surveyed}
 use Rattle.th_network.specs.declared.faults.NetFault.{NetFault}
@@ -27,6 +28,7 @@ limit_of input.Benchmarks = max_table
 limit_of input.Weights = max_table
 limit_of input.Certificate = max_certificate
 limit_of input.Differences = max_differences
+limit_of input.Changes = max_changes
 
 -- what a source gave to a run: a failed read, the text that it reported, or a text that it did not report
 pub data Given : Type 0 where

@@ -15,9 +15,11 @@ use Rattle.th_run_parts.specs.declared.outputs.Output.{Output}
 use Rattle.th_run_parts.specs.declared.refusals.Refusal.{Refusal}
 use Rattle.th_run_parts.specs.declared.refusals.Refusal.TheVariants as refusal
 
--- this input is read before that one: books by their numbers, then the benchmarks, the weights, and the certificate. The differences are read alone
+-- this input is read before that one: changes, books by their numbers, then the benchmarks, the weights, and the certificate. The differences are read alone
 abbrev pub IsReadBefore : Input → Input → Type 0
 IsReadBefore (input.Book own) (input.Book other) = own < other
+IsReadBefore input.Changes (input.Book other) = Unit {0}
+IsReadBefore own input.Changes = ⊥
 IsReadBefore own (input.Book other) = ⊥
 IsReadBefore (input.Book own) other = Unit {0}
 IsReadBefore own input.Benchmarks = ⊥
@@ -33,9 +35,10 @@ same_input input.Benchmarks input.Benchmarks = true
 same_input input.Weights input.Weights = true
 same_input input.Certificate input.Certificate = true
 same_input input.Differences input.Differences = true
+same_input input.Changes input.Changes = true
 same_input own other = false
 
--- the input that a refusal comes from; none for the network, for an output, and for out of memory, which may come from any
+-- the input that a refusal comes from: of changes that do not fit, the book; none for the network, for an output, and for out of memory, which may come from any
 abbrev pub decided_by : Refusal → Option Input
 decided_by (refusal.Book number fault) = Some (input.Book number)
 decided_by (refusal.Benchmarks fault) = Some input.Benchmarks
@@ -43,6 +46,9 @@ decided_by (refusal.Weights fault) = Some input.Weights
 decided_by (refusal.Certificate fault) = Some input.Certificate
 decided_by (refusal.Differences fault) = Some input.Differences
 decided_by (refusal.Heights fault) = Some (input.Book 1)
+decided_by (refusal.Changes fault) = Some input.Changes
+decided_by (refusal.Unfit fault) = Some (input.Book 1)
+decided_by (refusal.Mended fault) = Some (input.Book 1)
 decided_by (refusal.Read which) = Some which
 decided_by other = None
 

@@ -14,6 +14,7 @@ use th_certificate::MAX_CERTIFICATE;
 use th_conversions::MAX_DIFFERENCES;
 use th_devices::{ReadFault, Source, read_all};
 use th_inputs::{Input, Sum, add_sum};
+use th_mend_table::MAX_CHANGES;
 use th_tables::{Benchmarks, MAX_TABLE, TableKind, Weights, read_benchmarks, read_weights};
 
 /// The most bytes that an input has.
@@ -25,6 +26,7 @@ pub(crate) fn limit_of(input: Input) -> u32
         Input::Benchmarks | Input::Weights => MAX_TABLE as u32,
         Input::Certificate => MAX_CERTIFICATE as u32,
         Input::Differences => MAX_DIFFERENCES as u32,
+        Input::Changes => MAX_CHANGES as u32,
     }
 }
 

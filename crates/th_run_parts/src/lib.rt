@@ -1,9 +1,9 @@
 //! What runs consist of: why a run is refused, how it reads its inputs, and how it writes its outputs, over
 //! any sources and sinks.
 //!
-//! Inputs are read in one order: books, benchmarks, weights, and for a check the certificate. The
-//! first that is refused decides, and no later one is read. A refusal has one line for the user,
-//! and a status for the program to end with.
+//! Inputs are read in one order: books, benchmarks, weights, and for a check the certificate; the
+//! changes of a book before the book. The first that is refused decides, and no later one is read. A
+//! refusal has one line for the user, and a status for the program to end with.
 #![tactic(auto)]
 
 // What a run writes.

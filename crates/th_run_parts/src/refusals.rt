@@ -10,6 +10,8 @@ use th_certificate::CertFault;
 use th_checker::Verdict;
 use th_conversions::{DifferenceFault, HeightFault};
 use th_inputs::Input;
+use th_mend::RowFault;
+use th_mend_table::ChangeFault;
 use th_network::NetFault;
 use th_tables::TableFault;
 use thiserror::Error;
@@ -48,6 +50,12 @@ pub enum Refusal {
     Differences(DifferenceFault),
     /// The book with heights, which is book 1, has a fault.
     Heights(HeightFault),
+    /// The table of changes has a fault.
+    Changes(ChangeFault),
+    /// A change has no place in the book, which is book 1.
+    Unfit(RowFault),
+    /// The mended book has a fault.
+    Mended(BookFault),
     /// Observations and benchmarks make no network.
     Network(NetFault),
     /// This input was not read to its end.
@@ -72,6 +80,9 @@ impl fmt::Display for Refusal {
             Refusal::Certificate(fault) => write!(f, "certificate {fault}"),
             Refusal::Differences(fault) => write!(f, "differences {fault}"),
             Refusal::Heights(fault) => write!(f, "book 1 {fault}"),
+            Refusal::Changes(fault) => write!(f, "changes {fault}"),
+            Refusal::Unfit(fault) => write!(f, "changes {fault}"),
+            Refusal::Mended(fault) => write!(f, "mended {fault}"),
             Refusal::Network(fault) => write!(f, "network: {fault}"),
             Refusal::Read(input) => write!(f, "read failed: {input}"),
             Refusal::Write(output) => write!(f, "write failed: {output}"),
@@ -101,6 +112,9 @@ pub fn status_of(refusal: &Refusal) -> u8
         | Refusal::Certificate(_)
         | Refusal::Differences(_)
         | Refusal::Heights(_)
+        | Refusal::Changes(_)
+        | Refusal::Unfit(_)
+        | Refusal::Mended(_)
         | Refusal::Network(_) => INPUT_REFUSED,
         Refusal::Read(_) | Refusal::Write(_) => DEVICE_FAILED,
         Refusal::NoMemory => NO_MEMORY,

@@ -25,4 +25,5 @@ returns c =
     let four = with_command _ _ _ _ _ c.in_ok-subcommand-4.ensures three c.in_ok-explain_command.ensures in
     let five = with_command _ _ _ _ _ c.in_ok-subcommand-5.ensures four c.in_ok-page_command.ensures in
     let six = with_command _ _ _ _ _ c.in_ok-subcommand-6.ensures five c.in_ok-check_command.ensures in
-    IfOk-weaker c.subcommand-7.result _ _ (λ command adds. with_command _ _ _ _ _ adds six c.in_ok-book_command.ensures) c.subcommand-7.ensures
+    let seven = with_command _ _ _ _ _ c.in_ok-subcommand-7.ensures six c.in_ok-book_command.ensures in
+    IfOk-weaker c.subcommand-8.result _ _ (λ command adds. with_command _ _ _ _ _ adds seven c.in_ok-mend_command.ensures) c.subcommand-8.ensures

@@ -8,7 +8,8 @@ use Rattle.th_program.proofs.RefusalLemmas.{unless-all}
 use Rattle.th_files.proofs.OpenedLemmas.{given-there}
 use Rattle.th_files.specs.Opened.{AreApart, AreMade, IsTaken, IsUntouched}
 use Rattle.th_files.specs.Outputs.{spots_of}
-use Rattle.th_run_book.specs.Booked.{booked as booked_texts, booking, converted, input_of}
+use Rattle.th_files.specs.Owed.{converted_owed}
+use Rattle.th_run_book.specs.Booked.{IsOfBooking, booked as booked_texts, booking, converted, input_of}
 use Rattle.th_run_parts.specs.Reads.{refused}
 use Rattle.th_program.proofs.booking.make_book.Goals as goal
 
@@ -36,7 +37,7 @@ returns-clause-booked g c =
     let made : AreMade g.F.Out.Sink.state g.F.Folder.tells (g.F.Folder.failing c.args.folder.now).writing (spots_of [] booking) c.as_mut_slice.result.now =
     rw c.as_mut_slice.ensures.value (subst (λ folder. AreMade g.F.Out.Sink.state g.F.Folder.tells (g.F.Folder.failing folder).writing (spots_of [] booking) c.in_ok-outs.outs.items) unopened c.in_ok-outs.ensures.made) in
     let same : c.sinks_of.new.folder ≡ c.args.folder.now = c.sinks_of.ensures.same ∙ c.source.ensures.same in
-    booked g.F.Folder.tells (g.F.Folder.failing c.args.folder.now).writing told (g.F.Folder.held c.close_sinks.new.folder) c.args.conversion _ g.F.Out.Sink.state _ _ _ run.result owed made (subst (AllByRecursion (λ own. IsTaken told (g.F.Folder.held c.close_sinks.new.folder) (g.F.Out.Sink.state own))) outs (rw same at c.close_sinks.ensures.taken))
+    booked g.F.Folder.tells (g.F.Folder.failing c.args.folder.now).writing told (g.F.Folder.held c.close_sinks.new.folder) (λ answer. converted_owed told answer c.args.conversion c.args.name.now) g.F.Out.Sink.state _ _ _ run.result owed made (subst (AllByRecursion (λ own. IsTaken told (g.F.Folder.held c.close_sinks.new.folder) (g.F.Out.Sink.state own))) outs (rw same at c.close_sinks.ensures.taken))
     run.ensures.outcome.written
 
 pub returns-clause-left : goal.returns-clause-left
@@ -49,7 +50,7 @@ returns-clause-left g c =
     let made : AreMade g.F.Out.Sink.state g.F.Folder.tells (g.F.Folder.failing c.args.folder.now).writing (spots_of [] booking) c.as_mut_slice.result.now =
     rw c.as_mut_slice.ensures.value (subst (λ folder. AreMade g.F.Out.Sink.state g.F.Folder.tells (g.F.Folder.failing folder).writing (spots_of [] booking) c.in_ok-outs.outs.items) unopened c.in_ok-outs.ensures.made) in
     let same : c.sinks_of.new.folder ≡ c.args.folder.now = c.sinks_of.ensures.same ∙ c.source.ensures.same in
-    cut-book g.F.Folder.tells (g.F.Folder.failing c.args.folder.now).writing told (g.F.Folder.held c.close_sinks.new.folder) c.args.conversion _ g.F.Out.Sink.state _ _ _ run.result owed made (subst (AllByRecursion (λ own. IsTaken told (g.F.Folder.held c.close_sinks.new.folder) (g.F.Out.Sink.state own))) outs (rw same at c.close_sinks.ensures.taken))
+    cut-book g.F.Folder.tells (g.F.Folder.failing c.args.folder.now).writing told (g.F.Folder.held c.close_sinks.new.folder) (λ answer. converted_owed told answer c.args.conversion c.args.name.now) g.F.Out.Sink.state _ _ _ run.result owed made (subst (AllByRecursion (λ own. IsTaken told (g.F.Folder.held c.close_sinks.new.folder) (g.F.Out.Sink.state own))) outs (rw same at c.close_sinks.ensures.taken))
     run.ensures.outcome.written
 
 pub returns-clause-refused : goal.returns-clause-refused
@@ -66,7 +67,7 @@ returns-clause-refused g c =
     run.ensures.source run.ensures.named)
     (output_caused g.F.Out.Sink.state g.F.Folder.tells (g.F.Folder.failing c.args.folder.now).writing [] booking run.result _ _ made
     (λ begun. let (book, meets, has) = run.ensures.outcome.written begun in (booked_texts book, refl, has))) in
-    refused-book failing (g.F.Folder.held c.args.folder.now) c.args.conversion _ _ run.result owed run.ensures.named run.ensures.outcome.refused caused
+    refused-book (IsOfBooking c.args.conversion) (λ answer. converted_owed (g.F.Folder.held c.args.folder.now) answer c.args.conversion c.args.name.now) failing (λ which spot. spot ≡ file c.args.name.now) _ run.result owed run.ensures.named run.ensures.outcome.refused caused
 
 pub returns-clause-others : goal.returns-clause-others
 returns-clause-others g c =

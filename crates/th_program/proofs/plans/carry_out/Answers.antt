@@ -1,7 +1,7 @@
 use Rattle.std.proofs.Common.{◌≡◌, ◌∙◌, Err, ap, rules, subst, sym}
 use Rattle.th_program.specs.Done.{IsCut, IsOutputOf}
 use Rattle.th_program.proofs.plans.carry_out.Goals as goal
-use Rattle.th_program.proofs.plans.carry_out.Goals.{in-Standard+in_ok-list-in-Standard, in-List+in_ok-list-in-List, in-Adjust+in_ok-adjust-in-Adjust, in-Review+in_ok-review-in-Review, in-Explain+in_ok-explain-in-Explain, in-Page+in_ok-page-in-Page, in-Book+in_ok-make_book-in-Book, in-BookOfHeights+in_ok-make_book-in-BookOfHeights}
+use Rattle.th_program.proofs.plans.carry_out.Goals.{in-Standard+in_ok-list-in-Standard, in-List+in_ok-list-in-List, in-Adjust+in_ok-adjust-in-Adjust, in-Review+in_ok-review-in-Review, in-Explain+in_ok-explain-in-Explain, in-Page+in_ok-page-in-Page, in-Book+in_ok-make_book-in-Book, in-BookOfHeights+in_ok-make_book-in-BookOfHeights, in-Mend+in_ok-mend-in-Mend}
 
 pub returns-clause-others : goal.returns-clause-others
 returns-clause-others g c = λ spot none. elim c.match-plan.branch [
@@ -21,6 +21,8 @@ returns-clause-others g c = λ spot none. elim c.match-plan.branch [
       ap (λ own. g.F.Folder.held own spot) w.folder-is ∙ w.make_book.ensures.others spot (λ is. none (subst (λ own. IsOutputOf own spot) (sym w.in-Book.is) is))
   | in-BookOfHeights+in_ok-make_book-in-BookOfHeights w ↦
       ap (λ own. g.F.Folder.held own spot) w.folder-is ∙ w.make_book-in-BookOfHeights.ensures.others spot (λ is. none (subst (λ own. IsOutputOf own spot) (sym w.in-BookOfHeights.is) is))
+  | in-Mend+in_ok-mend-in-Mend w ↦
+      ap (λ own. g.F.Folder.held own spot) w.folder-is ∙ w.mend.ensures.others spot (λ is. none (subst (λ own. IsOutputOf own spot) (sym w.in-Mend.is) is))
 ]
 
 pub returns-in_err-adjust-in-Adjust-clause-others : goal.returns-in_err-adjust-in-Adjust-clause-others

@@ -1,5 +1,5 @@
 use Rattle.std.proofs.Common.{length}
-use Rattle.th_conversions.proofs.sights.+holds.Given as goal
+use Rattle.th_new_words.proofs.counting.+holds.Given as goal
 
 abbrev pub decreases-holds : goal.decreases-holds
 decreases-holds l = length l.words.now

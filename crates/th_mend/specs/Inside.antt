@@ -1,0 +1,5 @@
+pub mod Stops
+pub mod Ends
+pub mod Forces
+pub mod Located
+pub mod Texts

@@ -1,0 +1,9 @@
+pub mod Faults
+pub mod Reached
+pub mod Edits
+pub mod Located
+pub mod MendedLines
+pub mod Ends
+pub mod MendedBooks
+pub mod Laws
+pub mod Inside

@@ -1,0 +1,5 @@
+pub mod Limits
+pub mod Fields
+pub mod Tables
+pub mod Texts
+pub mod Inside

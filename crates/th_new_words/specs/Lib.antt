@@ -1,0 +1,2 @@
+pub mod NewWords
+pub mod Inside

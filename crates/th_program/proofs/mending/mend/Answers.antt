@@ -1,0 +1,106 @@
+use Rattle.std.proofs.Common.{◌≡◌, ◌∙◌, [], ap, ap₂, map, refl, subst, sym, arith, ◌≢◌}
+use Rattle.std.specs.List.{AllByRecursion}
+use Rattle.th_program.proofs.CauseLemmas.{mending_caused, output_caused, run_caused}
+use Rattle.th_program.proofs.BookLemmas.{booked, cut-book, refused-book}
+use Rattle.th_files.proofs.OutputLemmas.{lent, made_ready, made_untouched, none_among, spots_after}
+use Rattle.th_program.proofs.RefusalLemmas.{unless-all}
+use Rattle.th_files.proofs.OpenedLemmas.{given-there}
+use Rattle.th_files.specs.Opened.{AreApart, AreMade, IsTaken, IsUntouched}
+use Rattle.th_files.specs.Outputs.{spots_of}
+use Rattle.th_files.specs.Owed.{mended_owed}
+use Rattle.th_inputs.specs.declared.inputs.Input.TheVariants as input
+use Rattle.th_program.specs.Failing.{IsInMending}
+use Rattle.th_run_book.specs.Booked.{booked as booked_texts, booking}
+use Rattle.th_run_book.specs.Mended.{IsOfMending, owed_for_mended}
+use Rattle.th_run_parts.specs.Reads.{refused}
+use Rattle.th_program.proofs.mending.mend.Goals as goal
+
+pub run_mend-answer-requires-clause-outs : goal.run_mend-answer-requires-clause-outs
+run_mend-answer-requires-clause-outs g c =
+    rw c.as_mut_slice.ensures.value (made_ready g.F.Out.Sink.state g.F.Folder.tells (g.F.Folder.failing c.source-2.new.self).writing [] booking _ c.in_ok-outs.ensures.made)
+
+pub close_sinks-requires : goal.close_sinks-requires
+close_sinks-requires g c =
+    let run = c.run_mend-answer in
+    let unopened : c.source-2.new.self ≡ c.args.folder.now = c.source-2.ensures.same ∙ c.source.ensures.same in
+    let made : AreMade g.F.Out.Sink.state g.F.Folder.tells (g.F.Folder.failing c.args.folder.now).writing (spots_of [] booking) c.as_mut_slice.result.now =
+    rw c.as_mut_slice.ensures.value (subst (λ folder. AreMade g.F.Out.Sink.state g.F.Folder.tells (g.F.Folder.failing folder).writing (spots_of [] booking) c.in_ok-outs.outs.items) unopened c.in_ok-outs.ensures.made) in
+    let outs = lent c.in_ok-outs.outs.items c.run_mend-answer.new.outs c.in_ok-outs.outs.len (omega (arith, c.as_mut_slice.ensures.len, c.run_mend-answer.auto.outs)) in
+    subst (λ sinks. AreApart (map (λ own. (g.F.Out.Sink.state own).spot) sinks)) (sym outs)
+    (subst AreApart (sym (spots_after g.F.Out.Sink.state g.F.Folder.tells (g.F.Folder.failing c.args.folder.now).writing (spots_of [] booking) _ _ _ run.result _ _ run.ensures.outcome made (λ own has. (booked_texts own, has)))) (tt, tt))
+
+pub returns-clause-mended : goal.returns-clause-mended
+returns-clause-mended g c =
+    let outs = lent c.in_ok-outs.outs.items c.run_mend-answer.new.outs c.in_ok-outs.outs.len (omega (arith, c.as_mut_slice.ensures.len, c.run_mend-answer.auto.outs)) in
+    let run = c.run_mend-answer in
+    let told = g.F.Folder.held c.args.folder.now in
+    let at_book = rw c.source.ensures.same at c.in_ok-source.ensures.opened in
+    let owed = ap₂ owed_for_mended
+    (given-there g.F.In.Source.state (g.F.Folder.failing c.args.folder.now).reading told input.Changes (refused run.result) _ _ _ c.in_ok-table.ensures.opened run.ensures.table.read.failed)
+    (given-there g.F.In.Source.state (g.F.Folder.failing c.args.folder.now).reading told (input.Book 1) (refused run.result) _ _ _ at_book run.ensures.book.read.failed) in
+    let unopened : c.source-2.new.self ≡ c.args.folder.now = c.source-2.ensures.same ∙ c.source.ensures.same in
+    let made : AreMade g.F.Out.Sink.state g.F.Folder.tells (g.F.Folder.failing c.args.folder.now).writing (spots_of [] booking) c.as_mut_slice.result.now =
+    rw c.as_mut_slice.ensures.value (subst (λ folder. AreMade g.F.Out.Sink.state g.F.Folder.tells (g.F.Folder.failing folder).writing (spots_of [] booking) c.in_ok-outs.outs.items) unopened c.in_ok-outs.ensures.made) in
+    let same : c.sinks_of.new.folder ≡ c.args.folder.now = c.sinks_of.ensures.same ∙ c.source-2.ensures.same ∙ c.source.ensures.same in
+    booked g.F.Folder.tells (g.F.Folder.failing c.args.folder.now).writing told (g.F.Folder.held c.close_sinks.new.folder) (λ answer. mended_owed told answer c.args.changes.now c.args.book.now) g.F.Out.Sink.state _ _ _ run.result owed made (subst (AllByRecursion (λ own. IsTaken told (g.F.Folder.held c.close_sinks.new.folder) (g.F.Out.Sink.state own))) outs (rw same at c.close_sinks.ensures.taken))
+    run.ensures.outcome.written
+
+pub returns-clause-left : goal.returns-clause-left
+returns-clause-left g c =
+    let outs = lent c.in_ok-outs.outs.items c.run_mend-answer.new.outs c.in_ok-outs.outs.len (omega (arith, c.as_mut_slice.ensures.len, c.run_mend-answer.auto.outs)) in
+    let run = c.run_mend-answer in
+    let told = g.F.Folder.held c.args.folder.now in
+    let at_book = rw c.source.ensures.same at c.in_ok-source.ensures.opened in
+    let owed = ap₂ owed_for_mended
+    (given-there g.F.In.Source.state (g.F.Folder.failing c.args.folder.now).reading told input.Changes (refused run.result) _ _ _ c.in_ok-table.ensures.opened run.ensures.table.read.failed)
+    (given-there g.F.In.Source.state (g.F.Folder.failing c.args.folder.now).reading told (input.Book 1) (refused run.result) _ _ _ at_book run.ensures.book.read.failed) in
+    let unopened : c.source-2.new.self ≡ c.args.folder.now = c.source-2.ensures.same ∙ c.source.ensures.same in
+    let made : AreMade g.F.Out.Sink.state g.F.Folder.tells (g.F.Folder.failing c.args.folder.now).writing (spots_of [] booking) c.as_mut_slice.result.now =
+    rw c.as_mut_slice.ensures.value (subst (λ folder. AreMade g.F.Out.Sink.state g.F.Folder.tells (g.F.Folder.failing folder).writing (spots_of [] booking) c.in_ok-outs.outs.items) unopened c.in_ok-outs.ensures.made) in
+    let same : c.sinks_of.new.folder ≡ c.args.folder.now = c.sinks_of.ensures.same ∙ c.source-2.ensures.same ∙ c.source.ensures.same in
+    cut-book g.F.Folder.tells (g.F.Folder.failing c.args.folder.now).writing told (g.F.Folder.held c.close_sinks.new.folder) (λ answer. mended_owed told answer c.args.changes.now c.args.book.now) g.F.Out.Sink.state _ _ _ run.result owed made (subst (AllByRecursion (λ own. IsTaken told (g.F.Folder.held c.close_sinks.new.folder) (g.F.Out.Sink.state own))) outs (rw same at c.close_sinks.ensures.taken))
+    run.ensures.outcome.written
+
+pub returns-clause-refused : goal.returns-clause-refused
+returns-clause-refused g c =
+    let run = c.run_mend-answer in
+    let told = g.F.Folder.held c.args.folder.now in
+    let at_book = rw c.source.ensures.same at c.in_ok-source.ensures.opened in
+    let owed = ap₂ owed_for_mended
+    (given-there g.F.In.Source.state (g.F.Folder.failing c.args.folder.now).reading told input.Changes (refused run.result) _ _ _ c.in_ok-table.ensures.opened run.ensures.table.read.failed)
+    (given-there g.F.In.Source.state (g.F.Folder.failing c.args.folder.now).reading told (input.Book 1) (refused run.result) _ _ _ at_book run.ensures.book.read.failed) in
+    let failing = g.F.Folder.failing c.args.folder.now in
+    let origins = IsInMending c.args.changes.now c.args.book.now in
+    let unopened : c.source-2.new.self ≡ c.args.folder.now = c.source-2.ensures.same ∙ c.source.ensures.same in
+    let made : AreMade g.F.Out.Sink.state g.F.Folder.tells (g.F.Folder.failing c.args.folder.now).writing (spots_of [] booking) c.as_mut_slice.result.now =
+    rw c.as_mut_slice.ensures.value (subst (λ folder. AreMade g.F.Out.Sink.state g.F.Folder.tells (g.F.Folder.failing folder).writing (spots_of [] booking) c.in_ok-outs.outs.items) unopened c.in_ok-outs.ensures.made) in
+    let caused = run_caused failing origins [] run.result
+    (mending_caused g.F.In.Source.state g.F.In.Source.state failing.reading told c.args.changes.now c.args.book.now run.result _ _ _ _ c.in_ok-table.ensures.opened at_book
+    run.ensures.table run.ensures.book run.ensures.named)
+    (output_caused g.F.Out.Sink.state g.F.Folder.tells failing.writing [] booking run.result _ _ made
+    (λ begun. let (book, meets, has) = run.ensures.outcome.written begun in (booked_texts book, refl, has))) in
+    refused-book IsOfMending (λ answer. mended_owed told answer c.args.changes.now c.args.book.now) failing origins _ run.result owed run.ensures.named run.ensures.outcome.refused caused
+
+pub returns-clause-others : goal.returns-clause-others
+returns-clause-others g c =
+    let outs = lent c.in_ok-outs.outs.items c.run_mend-answer.new.outs c.in_ok-outs.outs.len (omega (arith, c.as_mut_slice.ensures.len, c.run_mend-answer.auto.outs)) in
+    let run = c.run_mend-answer in
+    let unopened : c.source-2.new.self ≡ c.args.folder.now = c.source-2.ensures.same ∙ c.source.ensures.same in
+    let made : AreMade g.F.Out.Sink.state g.F.Folder.tells (g.F.Folder.failing c.args.folder.now).writing (spots_of [] booking) c.as_mut_slice.result.now =
+    rw c.as_mut_slice.ensures.value (subst (λ folder. AreMade g.F.Out.Sink.state g.F.Folder.tells (g.F.Folder.failing folder).writing (spots_of [] booking) c.in_ok-outs.outs.items) unopened c.in_ok-outs.ensures.made) in
+    let there = spots_after g.F.Out.Sink.state g.F.Folder.tells (g.F.Folder.failing c.args.folder.now).writing (spots_of [] booking) _ _ _ run.result _ _ run.ensures.outcome made (λ own has. (booked_texts own, has)) in
+    let same : c.sinks_of.new.folder ≡ c.args.folder.now = c.sinks_of.ensures.same ∙ c.source-2.ensures.same ∙ c.source.ensures.same in
+    λ spot none. c.close_sinks.ensures.others spot (subst (AllByRecursion (λ own. spot ≢ (g.F.Out.Sink.state own).spot)) (sym outs) (none_among g.F.Out.Sink.state _ (spots_of [] booking) spot there (none, tt))) ∙ ap (λ own. g.F.Folder.held own spot) same
+
+pub returns-clause-untouched : goal.returns-clause-untouched
+returns-clause-untouched g c =
+    let outs = lent c.in_ok-outs.outs.items c.run_mend-answer.new.outs c.in_ok-outs.outs.len (omega (arith, c.as_mut_slice.ensures.len, c.run_mend-answer.auto.outs)) in
+    let run = c.run_mend-answer in
+    let unopened : c.source-2.new.self ≡ c.args.folder.now = c.source-2.ensures.same ∙ c.source.ensures.same in
+    let made : AreMade g.F.Out.Sink.state g.F.Folder.tells (g.F.Folder.failing c.args.folder.now).writing (spots_of [] booking) c.as_mut_slice.result.now =
+    rw c.as_mut_slice.ensures.value (subst (λ folder. AreMade g.F.Out.Sink.state g.F.Folder.tells (g.F.Folder.failing folder).writing (spots_of [] booking) c.in_ok-outs.outs.items) unopened c.in_ok-outs.ensures.made) in
+    unless-all _ _ run.result
+    (λ same. c.close_sinks.ensures.untouched (subst (AllByRecursion (λ own. IsUntouched (g.F.Out.Sink.state own))) (sym outs)
+    (subst (AllByRecursion (λ own. IsUntouched (g.F.Out.Sink.state own))) (sym same) (made_untouched g.F.Out.Sink.state g.F.Folder.tells (g.F.Folder.failing c.args.folder.now).writing (spots_of [] booking) _ made)))
+    ∙ c.sinks_of.ensures.same ∙ c.source-2.ensures.same ∙ c.source.ensures.same)
+    run.ensures.outcome.untouched
