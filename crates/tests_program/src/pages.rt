@@ -10,7 +10,7 @@ const BACK: &str = "page --benchmarks heights --weights weights --out out back.g
 
 /// Lines of that page, in order: of its head, of its picture, of its sections and of its end. They are
 /// those of a program that shares no code with this one.
-const LINES: [&str; 11] = [
+const LINES: [&str; 12] = [
     "<!DOCTYPE html>\n<html lang=\"en\">\n",
     "<li>book 1: <bdi>back.gsi</bdi> <small>228 B, SHA-256 88b572b71bd32bc347efaf3eb069022a2a7ebb24ae58efd8008e6172290499d3</small>\n",
     "<li>benchmarks: <bdi>heights</bdi> <small>19 B, SHA-256 c15a70569a2e2d0025454e42e8ef947dc907df9de97213f74d4ed8795fbdba58</small>\n",
