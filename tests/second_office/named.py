@@ -47,11 +47,11 @@ def uses_of(network: Network, books: List[bytes]) -> List[Tuple[Entry, Set[int]]
 
 
 def doubted(row: Freed, uses: List[Tuple[Entry, Set[int]]]) -> Iterator[Tuple[Entry, int, int]]:
-    """The entries that a row doubts, each with the lowest and the highest height that fits."""
+    """The entries that a row doubts, poles first, each with the lowest and the highest height that fits."""
     own = row.number
     if own.kind in ("benchmark", "book"):
         return
-    for entry, places in uses:
+    for entry, places in sorted(uses, key=lambda use: use[0].word):
         if not places.issuperset(own.places):
             continue
         if own.kind != "sight" and entry.word == own.word():
