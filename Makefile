@@ -194,6 +194,7 @@ planted: built
 	@tests/planted/meant.py --program $(PROGRAM) --share $(EVERY)
 	@tests/planted/sentences.py --program $(PROGRAM) --tries $(TRIES)
 	@tests/planted/noted.py --program $(PROGRAM)
+	@tests/planted/verdicts.py --program $(PROGRAM) --tries $(TRIES)
 
 memory: built
 	@tests/refused_memory/run.py --program $(PROGRAM) --calls $(CALLS)
