@@ -187,9 +187,24 @@ def sentences(explanation: Explanation) -> List[str]:
     return lines if explaining else lines + ["Mend it and run again."]
 
 
+def changes(explanation: Explanation) -> List[str]:
+    """The changes that mend the book, where just one height is named."""
+    if len(explanation.named) != 1:
+        return []
+    named = explanation.named[0]
+    own = explanation.rows[named.row][1].number
+    of_book = f" of book {own.book}" if explanation.counts["books"] > 1 else ""
+    since = " since" if own.kind.endswith("since") else ""
+    if own.kind == "sight" and not named.whole:
+        purpose, change = "To leave the sight out", "33,"
+    else:
+        purpose, change = f"If {metres(named.meant)} was meant", f"{named.word.decode('ascii')}{since},{metres(named.meant)}"
+    return ["", f"{purpose}, height_office mend takes these changes{of_book}:", "line,word,value", f"{own.line},{change}"]
+
+
 def people_text(explanation: Explanation) -> bytes:
     values = [("cost", metres(explanation.cost)), ("blunder limit", metres(explanation.limit)), ("marked", str(explanation.marked))]
     values += [(label, str(explanation.counts[label])) for label in LABELS] + [("explanations", str(len(explanation.rows)))]
     header = columns("NO", "BK", "LINE", "WORD", "FROM", "TO", "PROPOSED", "COST LEFT", "BLUNDERS")
     lines = [label_line(label, value) for label, value in values] + [header] + [text_line(*row) for row in explanation.rows]
-    return "\n".join(lines + [""] + sentences(explanation)).encode("ascii") + b"\n"
+    return "\n".join(lines + [""] + sentences(explanation) + changes(explanation)).encode("ascii") + b"\n"

@@ -13,13 +13,15 @@ TENTH = 10  # of the limit: how far outside the values that fit a height may be
 
 
 class Named(NamedTuple):
-    """A height that may have been meant: the place of its row, the word, what was typed, and whether it is one elsewhere."""
+    """A height that may have been meant: the place of its row, the word, what was typed, whether it is one elsewhere, and whether only sights of
+    the row use what was typed."""
 
     row: int
     word: bytes
     typed: int
     meant: int
     elsewhere: bool
+    whole: bool
 
 
 def slips_of(entry: Entry) -> Set[int]:
@@ -46,20 +48,21 @@ def uses_of(network: Network, books: List[bytes]) -> List[Tuple[Entry, Set[int]]
             for count, book in enumerate(books, start=1) for entry in entries_of(count, book)]
 
 
-def doubted(row: Freed, uses: List[Tuple[Entry, Set[int]]]) -> Iterator[Tuple[Entry, int, int]]:
-    """The entries that a row doubts, poles first, each with the lowest and the highest height that fits."""
+def doubted(row: Freed, uses: List[Tuple[Entry, Set[int]]]) -> Iterator[Tuple[Entry, bool, int, int]]:
+    """The entries that a row doubts, poles first: each with whether it has the sights of the row alone, and the lowest and the highest height that fits."""
     own = row.number
     if own.kind in ("benchmark", "book"):
         return
     for entry, places in sorted(uses, key=lambda use: use[0].word):
         if not places.issuperset(own.places):
             continue
+        whole = places == set(own.places)
         if own.kind != "sight" and entry.word == own.word():
-            yield entry, row.low, row.high
+            yield entry, whole, row.low, row.high
         if own.kind == "sight" and entry.word == reader.REFLECTOR_HEIGHT:
-            yield entry, entry.length + own.given - row.high, entry.length + own.given - row.low
-        if own.kind == "sight" and entry.word == reader.INSTRUMENT_HEIGHT and places == set(own.places):
-            yield entry, entry.length - own.given + row.low, entry.length - own.given + row.high
+            yield entry, whole, entry.length + own.given - row.high, entry.length + own.given - row.low
+        if own.kind == "sight" and entry.word == reader.INSTRUMENT_HEIGHT and whole:
+            yield entry, whole, entry.length - own.given + row.low, entry.length - own.given + row.high
 
 
 def elsewhere(row: Freed, word: bytes, uses: List[Tuple[Entry, Set[int]]]) -> Set[int]:
@@ -71,9 +74,10 @@ def heights_named(network: Network, books: List[bytes], rows: List[Tuple[int, Fr
     uses = uses_of(network, books)
     named = []
     for place, (number, row) in enumerate(rows):
-        for entry, low, high in doubted(row, uses) if number == 1 else ():
+        for entry, whole, low, high in doubted(row, uses) if number == 1 else ():
             others = elsewhere(row, entry.word, uses)
-            named += [Named(place, entry.word, entry.length, meant, meant in others) for meant in named_of(entry, others, low, high, limit)]
+            named += [Named(place, entry.word, entry.length, meant, meant in others, whole)
+                      for meant in named_of(entry, others, low, high, limit)]
     return [own for own in named if own.elsewhere and own.word == reader.REFLECTOR_HEIGHT] or named
 
 

@@ -283,6 +283,10 @@ Word 88 of line 2: given 1.64500000, fits 1.54600000.
 Word 87 of line 2: given 1.50000000, fits 1.59900000.
 Word 88 of line 2: typed 1.64500000, meant 1.54500000?
 The next best leaves 0.10100000.
+
+If 1.54500000 was meant, height_office mend takes these changes:
+line,word,value
+2,88,1.54500000
 """
 TYPED_AT_KO1_TABLE = b"""number,kind,book,line,word,from,to,sights,given,low,high,explains,left,blunders,last,poles,instruments
 1,instrument,1,2,88,KO1,,4,1.64500000,1.54600000,1.54600000,0.19800000,0.00200000,0,2,,1.54500000
@@ -345,6 +349,10 @@ One wrong number explains this: the sight of line 7 of book 1.
 The sight of line 7 of book 1: given 1.77110000, fits 1.27120000.
 The instrument height of line 7 of book 1: typed 1.60350000, meant 1.10350000?
 The next best leaves 23.02750000.
+
+If 1.10350000 was meant, height_office mend takes these changes of book 1:
+line,word,value
+7,88,1.10350000
 """
 NOTHING_TEXT = b"""cost                          0.00000000
 blunder limit                 0.02000000

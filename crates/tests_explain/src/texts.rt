@@ -87,6 +87,7 @@ const NAMED: [Named; 1] = [Named {
     typed: 164_500_000,
     meant: 154_500_000,
     elsewhere: false,
+    whole: true,
 }];
 
 /// Its table.
@@ -120,6 +121,10 @@ Word 88 of line 2: given 1.64500000, fits 1.54600000.
 Word 87 of line 2: given 1.50000000, fits 1.59900000.
 Word 88 of line 2: typed 1.64500000, meant 1.54500000?
 The next best leaves 0.10100000.
+
+If 1.54500000 was meant, height_office mend takes these changes:
+line,word,value
+2,88,1.54500000
 ";
 
 #[test]
@@ -193,6 +198,7 @@ fn pole(meant: i64) -> Named {
         typed: 150_000_000,
         meant,
         elsewhere: true,
+        whole: false,
     }
 }
 
@@ -207,6 +213,7 @@ fn heights_of_a_sight(rt: HostRuntime) {
             typed: 160_200_000,
             meant: -60_200_000,
             elsewhere: false,
+            whole: true,
         },
     ];
     says_of(
@@ -255,11 +262,50 @@ fn lines_that_repeat_a_height(rt: HostRuntime) {
         &rt,
         rt.alloc(),
         row,
-        &[pole(250_000_000)],
+        &[Named {
+            whole: true,
+            ..pole(250_000_000)
+        }],
         b"
 One wrong number explains this: word 87 of lines 2 to 7.
 Word 87 of lines 2 to 7: given 1.50000000, fits 2.50000000.
 Word 87 of lines 2 to 7: typed 1.50000000, meant 2.50000000?
+
+If 2.50000000 was meant, height_office mend takes these changes:
+line,word,value
+2,87,2.50000000
+",
+    );
+}
+
+#[test]
+fn sight_left_out(rt: HostRuntime) {
+    says_of(
+        &rt,
+        rt.alloc(),
+        sighted(&rt, 8, b"KO2", -279_600_000, -289_500_000),
+        &[pole(250_000_000)],
+        b"
+Mend it and run again.
+
+To leave the sight out, height_office mend takes these changes:
+line,word,value
+8,33,
+",
+    );
+}
+
+#[test]
+fn height_changed_since_a_line(rt: HostRuntime) {
+    says_of(
+        &rt,
+        rt.alloc(),
+        entered(&rt, Kind::ReflectorSince, 150_000_000, 250_000_000),
+        &[pole(250_000_000)],
+        b"
+If 2.50000000 was meant, height_office mend takes these changes:
+line,word,value
+2,87 since,2.50000000
 ",
     );
 }

@@ -5,6 +5,7 @@ pub mod Columns
 pub mod Called
 pub mod Fitting
 pub mod Meant
+pub mod Pasting
 pub mod Sentences
 pub mod Ranks
 pub mod Texts

@@ -59,7 +59,11 @@ fn write_named(page: &mut Page, word: &[u8], name: &[u8]) -> Result<(), AllocErr
 }
 
 /// Writes a word and a number.
-fn write_numbered(page: &mut Page, word: &[u8], number: Option<u32>) -> Result<(), AllocError>
+pub(crate) fn write_numbered(
+    page: &mut Page,
+    word: &[u8],
+    number: Option<u32>,
+) -> Result<(), AllocError>
     ensures { OnOk result (page.new ≡ page.old ++ word.now ++ number_field number) }
 {
     page.add(word)?;
@@ -108,7 +112,7 @@ fn is_before(line: Option<u32>, last: Option<u32>) -> bool
 }
 
 /// Writes a number, and nothing where there is none.
-fn write_number(page: &mut Page, number: Option<u32>) -> Result<(), AllocError>
+pub(crate) fn write_number(page: &mut Page, number: Option<u32>) -> Result<(), AllocError>
     ensures { OnOk result (page.new ≡ page.old ++ number_field number) }
 {
     let mut digits = Buffer::new();

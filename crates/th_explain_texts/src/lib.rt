@@ -21,6 +21,7 @@ mod called;
 mod columns;
 mod fitting;
 mod meant;
+mod pasting;
 mod sentences;
 mod texts;
 

@@ -73,6 +73,8 @@ pub struct Named {
     pub meant: i64,
     /// Whether sights that the number does not have use what may have been meant.
     pub elsewhere: bool,
+    /// Whether no sights but those of the number use the height that was keyed in.
+    pub whole: bool,
 }
 
 /// What was looked at, in numbers.

@@ -4,13 +4,14 @@ ghost use Rattle.th_explain_texts.specs.Sentences.{sentences};
 ghost use Rattle.th_explain_texts.specs.Texts.{explanation_text};
 
 use crate::columns::{write_costs, write_counts, write_table};
+use crate::pasting::write_pasted;
 use crate::rows::{Named, Row, Summary};
 use crate::sentences::write_sentences;
 use std::alloc::{AllocError, Global};
 use th_columns::Page;
 
-/// The text for people: what was looked at in numbers, the rows, and what they say, with the heights that may have been
-/// meant.
+/// The text for people: what was looked at in numbers, the rows, what they say, with the heights that may have been
+/// meant, and the changes that mend the book.
 #[tactic(auto, unfolding(crate::specs::Texts::explanation_text))]
 pub fn explanations_text(
     alloc: Global,
@@ -26,6 +27,7 @@ pub fn explanations_text(
     write_table(alloc, &mut page, rows)?;
     page.end_line()?;
     write_sentences(alloc, &mut page, summary, rows, named)?;
+    write_pasted(&mut page, summary.books > 1, rows, named)?;
     Ok(page.into_bytes())
 }
 

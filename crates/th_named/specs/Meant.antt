@@ -38,6 +38,7 @@ named_with keyed others meant = record {
   typed = keyed.entry.length;
   meant = meant;
   elsewhere = is_among meant others;
+  whole = keyed.whole;
 }
 
 -- what may have been meant by one height

@@ -126,6 +126,7 @@ fn named_with(keyed: &Keyed, others: &[i64], height: i64) -> Named
         typed: keyed.entry.length.get(),
         meant: height,
         elsewhere: is_among(height, others),
+        whole: keyed.whole,
     }
 }
 
