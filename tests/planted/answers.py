@@ -111,6 +111,14 @@ class Program:
             raise RuntimeError(f"{' '.join(words)} ends with {done.returncode}: {done.stderr!r}")
         return done
 
+    def print(self, words: List[str]) -> bytes:
+        """What a command prints that reads files of the folder."""
+        done = subprocess.run([str(self.path)] + words, cwd=self.folder, stdout=subprocess.PIPE, stderr=subprocess.PIPE,
+                              timeout=PATIENCE_IN_SECONDS, check=False)
+        if done.returncode:
+            raise RuntimeError(f"{' '.join(words)} ends with {done.returncode}: {done.stderr!r}")
+        return done.stdout
+
     def adjust(self, written: Written) -> Optional[Adjusted]:
         if self.run(["adjust", "--out", "own"], written).returncode:
             return None
