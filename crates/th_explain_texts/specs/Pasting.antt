@@ -32,27 +32,33 @@ abbrev pub leaves_out : Named → Row → Bool
 leaves_out named row = is_sight row.kind && not named.whole
 
 -- the book that is mended is named if there are several
-abbrev pub of_book : Bool → Row → List ℕ
+unfoldable pub of_book : Bool → Row → List ℕ
 of_book several row = if several then codes " of book " ++ number_field row.book else []
 
--- what the table is for
-abbrev pub purpose : Named → Row → List ℕ
+-- what becomes of the height
+unfoldable pub purpose : Named → Row → List ℕ
 purpose named row =
     if leaves_out named row then codes "To leave the sight out"
     else (codes "If " ++ metres named.meant ++ codes " was meant")
 
 -- the word and the value of the change
-abbrev pub word_and_value : Named → Row → List ℕ
+unfoldable pub word_and_value : Named → Row → List ℕ
 word_and_value named row =
     if leaves_out named row then codes ",33,"
     else (codes "," ++ changed_word named.height row.kind ++ codes "," ++ metres named.meant)
 
--- the table, behind an empty line and what it is for
-unfoldable pub change_table : Bool → Named → Row → List ℕ
-change_table several named row =
-    line_end ++ purpose named row ++ codes ", height_office mend takes these changes" ++ of_book several row ++ codes ":" ++ line_end
-    ++ codes "line,word,value" ++ line_end
-    ++ number_field row.line ++ word_and_value named row ++ line_end
+-- an empty line, and what the table is for
+unfoldable pub purpose_line : Bool → Named → Row → List ℕ
+purpose_line several named row =
+    line_end ++ purpose named row ++ codes ", height_office mend takes these changes" ++ of_book several row ++ codes ":\n"
+
+-- the header and the record
+unfoldable pub change_record : Named → Row → List ℕ
+change_record named row = codes "line,word,value\n" ++ number_field row.line ++ word_and_value named row ++ line_end
+
+-- the table, behind what it is for
+abbrev pub change_table : Bool → Named → Row → List ℕ
+change_table several named row = purpose_line several named row ++ change_record named row
 
 abbrev pub table_of : Bool → List Row → Named → List ℕ
 table_of several rows named = option_map_or (λ row. change_table several named row) (slice_get rows named.row) []

@@ -1,7 +1,7 @@
 //! The changes that mend a book, as a table to be pasted.
 ghost use Rattle.std.specs.Prelude.{◌≡◌, ◌++◌, OnOk, codes};
 ghost use Rattle.th_units.specs.Metres.{metres};
-ghost use Rattle.th_explain_texts.specs.Pasting.{change_table, changed_word, leaves_out, of_book, pasted, purpose, sight_word, table_of, word_and_value};
+ghost use Rattle.th_explain_texts.specs.Pasting.{change_record, change_table, changed_word, leaves_out, of_book, pasted, purpose, purpose_line, sight_word, table_of, word_and_value};
 ghost use Rattle.th_explain_texts.specs.Tables.{number_field};
 
 use crate::called::{write_number, write_numbered};
@@ -42,8 +42,7 @@ fn write_table_of(
     }
 }
 
-/// Writes a table of changes.
-#[tactic(auto, unfolding(crate::specs::Pasting::change_table))]
+/// Writes a table of changes, behind what it is for.
 fn write_change_table(
     page: &mut Page,
     several: bool,
@@ -52,17 +51,38 @@ fn write_change_table(
 ) -> Result<(), AllocError>
     ensures { OnOk result (page.new ≡ page.old ++ change_table several named.now row.now) }
 {
+    write_purpose_line(page, several, named, row)?;
+    write_change_record(page, named, row)
+}
+
+/// Writes an empty line, and what the table is for.
+fn write_purpose_line(
+    page: &mut Page,
+    several: bool,
+    named: &Named,
+    row: &Row,
+) -> Result<(), AllocError>
+    ensures { OnOk result (page.new ≡ page.old ++ purpose_line several named.now row.now) }
+{
     page.end_line()?;
     write_purpose(page, named, row)?;
     page.add(b", height_office mend takes these changes")?;
     write_of_book(page, several, row)?;
-    page.add(b":\nline,word,value\n")?;
+    page.add(b":\n")
+}
+
+/// Writes the header and the record of the table.
+fn write_change_record(page: &mut Page, named: &Named, row: &Row) -> Result<(), AllocError>
+    ensures { OnOk result (page.new ≡ page.old ++ change_record named.now row.now) }
+{
+    page.add(b"line,word,value\n")?;
     write_number(page, row.line)?;
     write_word_and_value(page, named, row)?;
     page.end_line()
 }
 
-/// Writes what the table is for.
+/// Writes what becomes of the height.
+#[tactic(auto, unfolding(crate::specs::Pasting::purpose))]
 fn write_purpose(page: &mut Page, named: &Named, row: &Row) -> Result<(), AllocError>
     ensures { OnOk result (page.new ≡ page.old ++ purpose named.now row.now) }
 {
@@ -81,6 +101,7 @@ fn leaves_out(named: &Named, row: &Row) -> bool
 }
 
 /// Writes which book is mended, if there are several.
+#[tactic(auto, unfolding(crate::specs::Pasting::of_book))]
 fn write_of_book(page: &mut Page, several: bool, row: &Row) -> Result<(), AllocError>
     ensures { OnOk result (page.new ≡ page.old ++ of_book several row.now) }
 {
@@ -92,6 +113,7 @@ fn write_of_book(page: &mut Page, several: bool, row: &Row) -> Result<(), AllocE
 }
 
 /// Writes the word and the value of the change.
+#[tactic(auto, unfolding(crate::specs::Pasting::word_and_value))]
 fn write_word_and_value(page: &mut Page, named: &Named, row: &Row) -> Result<(), AllocError>
     ensures { OnOk result (page.new ≡ page.old ++ word_and_value named.now row.now) }
 {
