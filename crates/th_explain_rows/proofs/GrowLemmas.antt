@@ -7,7 +7,7 @@ use Rattle.th_numbers.specs.declared.candidates.Candidate.{Candidate}
 use Rattle.th_explain_rows.specs.Inside.Growing.{AreLowered, IsNoMore, lowered}
 use Rattle.th_explain_rows.specs.Inside.Passing.{IsFinding, IsNoChangeOr}
 use Rattle.th_explain_rows.specs.declared.finder.Finding.{Finding}
-use Rattle.th_explain_rows.specs.declared.finder.Finding.TheVariants.{Exactly, More, AtLeast}
+use Rattle.th_explain_rows.specs.declared.finder.Finding.TheVariants.{Exactly, Mild, More, AtLeast}
 
 pub no_more_same : (least : Option ℕ) → IsNoMore least least
 no_more_same None = tt
@@ -35,6 +35,10 @@ module _ (survey : Survey) (limit : ℤ) where
 
   pub lowered_is : (least left : Option ℕ) (candidate : Candidate) (finding : Finding) → IsNoMore left least → IsFinding survey limit least candidate finding → IsFinding survey limit left candidate (lowered least left finding)
   lowered_is least left candidate (Exactly freed) no_more is = is
+  lowered_is None None candidate Mild no_more is = is
+  lowered_is None (Some left) candidate Mild no_more is = λ freed passes. absurd (is freed passes)
+  lowered_is (Some least) None candidate Mild no_more is = absurd no_more
+  lowered_is (Some least) (Some left) candidate Mild no_more is = λ freed passes. let above = is freed passes in omega (arith, no_more, above)
   lowered_is None None candidate More no_more is = is
   lowered_is None (Some left) candidate More no_more is = λ freed passes. absurd (is freed passes)
   lowered_is (Some least) None candidate More no_more is = absurd no_more

@@ -3,3 +3,4 @@ pub mod SiftLemmas
 mod RowLemmas
 mod FindLemmas
 mod GrowLemmas
+mod HalfLemmas

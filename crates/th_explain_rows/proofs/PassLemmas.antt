@@ -1,5 +1,5 @@
 -- Numbers that pass, and those that may be missing.
-use Rattle.std.proofs.Common.{◌≡◌, ◌⊎◌, inl, inr, ℕ, zero, suc, ◌<◌, ◌≤◌, ◌+◌, ◌∙◌, ℤ, Bool, true, false, if◌then◌else◌, List, [], ◌∷◌, ◌++◌, All, Option, None, Some, drop, length, take, subst, sym, ap, get_or, map, arith}
+use Rattle.std.proofs.Common.{◌≡◌, ◌⊎◌, inl, inr, ℕ, zero, suc, ◌<◌, ◌≤◌, ◌+◌, ◌∙◌, ℤ, Bool, true, false, if◌then◌else◌, List, [], ◌∷◌, ◌++◌, All, Option, None, Some, drop, length, take, replicate, subst, sym, ap, get_or, map, arith}
 use Rattle.std.proofs.lemmas.List.Elements.{All-push}
 use Rattle.std.proofs.lemmas.List.FromFn.{get_or-enumerate_from}
 use Rattle.std.specs.List.{AllZip, enumerate_from}
@@ -11,10 +11,11 @@ use Rattle.th_changes.specs.declared.numbers.Number.{Number}
 use Rattle.th_network.specs.Networks.{Survey}
 use Rattle.th_numbers.specs.Candidates.{number_of, whole_of}
 use Rattle.th_numbers.specs.declared.candidates.Candidate.{Candidate}
-use Rattle.th_explain_rows.specs.Inside.Passing.{IsAtMostOrNone, IsFinding, IsMore, IsMostOf, IsPassedOr, IsPassedOrBehind, freed_of}
+use Rattle.th_explain_rows.proofs.HalfLemmas.{beyond_half}
+use Rattle.th_explain_rows.specs.Inside.Passing.{IsAtMostOrNone, IsFinding, IsMildIf, IsMore, IsMostOf, IsPassedOr, IsPassedOrBehind, freed_of, is_mild}
 use Rattle.th_explain_rows.specs.Rows.{IsBehind, LeavesNoMore, Passes, beyond, limit_size}
 use Rattle.th_explain_rows.specs.declared.finder.Finding.{Finding}
-use Rattle.th_explain_rows.specs.declared.finder.Finding.TheVariants.{Exactly, More, AtLeast}
+use Rattle.th_explain_rows.specs.declared.finder.Finding.TheVariants.{Exactly, Mild, More, AtLeast}
 use Rattle.th_explain_rows.specs.declared.rows.Cutoff.{Cutoff}
 
 -- what is known of two lists, place by place
@@ -80,6 +81,7 @@ module _ (survey : Survey) (limit : ℤ) where
 
   freed_pass : (least : Option ℕ) (candidate : Candidate) (finding : Finding) → IsFinding survey limit least candidate finding → IsPassedOr survey limit (IsAtLeast least) candidate (freed_of finding)
   freed_pass least candidate (Exactly freed) is = is
+  freed_pass least candidate Mild is = λ freed passes. more_at_least least freed.left (is freed (beyond_half survey limit candidate freed passes))
   freed_pass least candidate More is = λ freed passes. more_at_least least freed.left (is freed passes)
   freed_pass least candidate AtLeast is = is
 
@@ -88,6 +90,26 @@ module _ (survey : Survey) (limit : ℤ) where
   all_freed_pass least [] (own ∷ findings) all = absurd all
   all_freed_pass least (candidate ∷ candidates) [] all = absurd all
   all_freed_pass least (candidate ∷ candidates) (own ∷ findings) all = (freed_pass least candidate own all.0, all_freed_pass least candidates findings all.1)
+
+  -- ---- of which numbers none passes beyond half of the limit
+  mild_if : (cutoff : Option Cutoff) (least : Option ℕ) (place : ℕ) (candidate : Candidate) (finding : Finding) → ((left : ℕ) → IsMore least left → IsBehind cutoff place left) → IsFinding survey limit least candidate finding
+      → IsMildIf survey limit cutoff (place, candidate) (is_mild finding)
+  mild_if cutoff least place candidate (Exactly freed) behind is known = grind (arith, known)
+  mild_if cutoff least place candidate Mild behind is known = λ freed passes. behind freed.left (is freed passes)
+  mild_if cutoff least place candidate More behind is known = grind (arith, known)
+  mild_if cutoff least place candidate AtLeast behind is known = grind (arith, known)
+
+  pub all_mild_if : (cutoff : Option Cutoff) (least : Option ℕ) (n : ℕ) (candidates : List Candidate) (findings : List Finding) → ((place left : ℕ) → IsMore least left → IsBehind cutoff place left)
+      → AllZip (IsFinding survey limit least) candidates findings → AllZip (IsMildIf survey limit cutoff) (enumerate_from n candidates) (map is_mild findings)
+  all_mild_if cutoff least n [] [] behind all = all
+  all_mild_if cutoff least n [] (own ∷ findings) behind all = absurd all
+  all_mild_if cutoff least n (candidate ∷ candidates) [] behind all = absurd all
+  all_mild_if cutoff least n (candidate ∷ candidates) (own ∷ findings) behind all = (mild_if cutoff least n candidate own (behind n) all.0, all_mild_if cutoff least (n + 1) candidates findings behind all.1)
+
+  -- it may be known of none
+  pub none_mild : (cutoff : Option Cutoff) (n : ℕ) (candidates : List Candidate) → AllZip (IsMildIf survey limit cutoff) (enumerate_from n candidates) (replicate (length candidates) false)
+  none_mild cutoff n [] = tt
+  none_mild cutoff n (candidate ∷ candidates) = (λ known. grind (arith, known), none_mild cutoff (n + 1) candidates)
 
   -- ---- a change passes if it leaves no more than its whole entry
   leads_at_most : (whole : Number) (most left : ℕ) → IsLeastInReach survey whole most → LeavesNoMore survey (Some whole) left → left ≤ most

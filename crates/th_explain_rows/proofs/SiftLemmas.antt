@@ -11,26 +11,14 @@ use Rattle.th_changes.specs.declared.numbers.Number.{Number}
 use Rattle.th_network.specs.Networks.{Survey}
 use Rattle.th_numbers.specs.Candidates.{number_of}
 use Rattle.th_numbers.specs.declared.candidates.Candidate.{Candidate}
-use Rattle.th_explain_rows.specs.Inside.Passing.{IsPassedOrBehind}
-use Rattle.th_explain_rows.specs.Inside.Sifting.{IsKnownOrMilder, IsSettled, IsSiftedOrBehind, least_left, lesser}
+use Rattle.th_explain_rows.proofs.HalfLemmas.{beyond_half, explains_less, half_less, size_of}
+use Rattle.th_explain_rows.specs.Inside.Passing.{IsMildIf, IsPassedOrBehind}
+use Rattle.th_explain_rows.specs.Inside.Sifting.{IsFoundOrMilder, IsKnownOrMilder, IsSettled, IsSiftedOrBehind, least_left, lesser}
 use Rattle.th_explain_rows.specs.Rows.{IsBehind, IsBestBeyond, Passes, beyond, half_of, least_change, limit_size, sifting}
 use Rattle.th_explain_rows.specs.declared.rows.Cutoff.{Cutoff}
+use Rattle.th_explain_rows.specs.declared.sifting.Earlier.{Earlier}
 
--- ---- sizes
-half_less : (b : Bool) (size : ℕ) → (if b then size / 2 else size) ≤ size
-half_less true size = omega arith
-half_less false size = omega arith
-
-not_below : (n : ℕ) → int_lt (pos n) (pos 0) ≡ true → ⊥
-not_below n e = grind (arith, ints)
-
-size_of : (n : ℕ) → limit_size (pos n) ≡ n
-size_of n = by (int_lt (pos n) (pos 0)) refl
-  where
-    by : (b : Bool) → int_lt (pos n) (pos 0) ≡ b → (if b then 0 else unsigned_abs (pos n)) ≡ n
-    by true e = absurd (not_below n e)
-    by false e = refl
-
+-- ---- amounts
 pub is_no_more : (left best : ℕ) → nat_le left best ≡ true → left ≤ best
 is_no_more left best e = grind (arith, nat_tests)
 
@@ -43,14 +31,6 @@ no_more_is left best less = by (nat_le left best) refl
 
 -- ---- numbers that pass
 module _ (survey : Survey) (limit : ℤ) where
-  explains_less : (far near : ℕ) (number : Number) (freed : Freed) → near ≤ far → Explains survey far number freed → Explains survey near number freed
-  explains_less far near number freed less is = record {
-    exact = is.exact;
-    far = let above = is.far in omega (arith, less, above);
-    low_in_reach = is.low_in_reach;
-    high_in_reach = is.high_in_reach;
-  }
-
   abbrev ExplainsIf : Candidate → Freed → Bool → Type 0
   ExplainsIf candidate freed b = Explains survey (if b then limit_size limit / 2 else limit_size limit) (number_of candidate) freed
 
@@ -58,7 +38,7 @@ module _ (survey : Survey) (limit : ℤ) where
   pub passes_each : (best : Option ℕ) (candidate : Candidate) (freed : Freed) → Passes survey (beyond limit) candidate freed → Passes survey (sifting limit best) candidate freed
   passes_each None candidate freed is = is
   passes_each (Some best) candidate freed is = record {
-    explains = explains_less (limit_size limit) (least_change (sifting limit (Some best)) freed.left) (number_of candidate) freed (half_less (nat_le freed.left best) (limit_size limit)) is.explains;
+    explains = explains_less survey (limit_size limit) (least_change (sifting limit (Some best)) freed.left) (number_of candidate) freed (half_less (nat_le freed.left best) (limit_size limit)) is.explains;
     leads = is.leads;
   }
 
@@ -83,15 +63,30 @@ module _ (survey : Survey) (limit : ℤ) where
     }
 
   -- what was found of a number, with what is found of it beyond half of the limit
-  pub sifted_or : (cutoff : Option Cutoff) (place : ℕ) (candidate : Candidate) (best : ℕ) (least : Option ℕ) (before own : Option Freed) → ((left : ℕ) → left ≤ best → IsAtLeast least left → IsBehind cutoff place left)
-      → IsPassedOrBehind survey limit cutoff (place, candidate) before → IsKnownOrMilder survey (half_of limit) best least candidate before own → IsSiftedOrBehind survey (sifting limit (Some best)) cutoff (place, candidate) own
-  sifted_or cutoff place candidate best least (Some freed) own behind is same = subst (IsSiftedOrBehind survey (sifting limit (Some best)) cutoff (place, candidate)) (sym same) (passes_each (Some best) candidate freed is)
-  sifted_or cutoff place candidate best least None (Some freed) behind none (is, less) = half_passes best candidate freed less is
-  sifted_or cutoff place candidate best least None None behind none milder = λ freed is. by freed is (nat_le freed.left best) refl
+  found_or : (cutoff : Option Cutoff) (place : ℕ) (candidate : Candidate) (best : ℕ) (least : Option ℕ) (before own : Option Freed) → ((left : ℕ) → left ≤ best → IsAtLeast least left → IsBehind cutoff place left)
+      → IsPassedOrBehind survey limit cutoff (place, candidate) before → IsFoundOrMilder survey (half_of limit) best least candidate before own → IsSiftedOrBehind survey (sifting limit (Some best)) cutoff (place, candidate) own
+  found_or cutoff place candidate best least (Some freed) own behind is same = subst (IsSiftedOrBehind survey (sifting limit (Some best)) cutoff (place, candidate)) (sym same) (passes_each (Some best) candidate freed is)
+  found_or cutoff place candidate best least None (Some freed) behind none (is, less) = half_passes best candidate freed less is
+  found_or cutoff place candidate best least None None behind none milder = λ freed is. by freed is (nat_le freed.left best) refl
     where
       by : (freed : Freed) → Passes survey (sifting limit (Some best)) candidate freed → (b : Bool) → nat_le freed.left best ≡ b → IsBehind cutoff place freed.left
       by freed is true e = behind freed.left (is_no_more freed.left best e) (milder freed (passes_half best candidate freed e is) (is_no_more freed.left best e))
       by freed is false e = none freed (passes_whole best candidate freed e is)
+
+  -- one that passes a filter of the limit passes beyond half of it
+  passes_beyond_half : (best : ℕ) (candidate : Candidate) (freed : Freed) → Passes survey (sifting limit (Some best)) candidate freed → Passes survey (beyond (half_of limit)) candidate freed
+  passes_beyond_half best candidate freed is = by (nat_le freed.left best) refl
+    where
+      by : (b : Bool) → nat_le freed.left best ≡ b → Passes survey (beyond (half_of limit)) candidate freed
+      by true e = passes_half best candidate freed e is
+      by false e = beyond_half survey limit candidate freed (passes_whole best candidate freed e is)
+
+  pub sifted_or : (cutoff : Option Cutoff) (place : ℕ) (candidate : Candidate) (best : ℕ) (least : Option ℕ) (earlier : Earlier) (own : Option Freed) → ((left : ℕ) → left ≤ best → IsAtLeast least left → IsBehind cutoff place left)
+      → IsPassedOrBehind survey limit cutoff (place, candidate) earlier.freed → IsMildIf survey limit cutoff (place, candidate) earlier.is_mild
+      → IsKnownOrMilder survey (half_of limit) best least candidate earlier own → IsSiftedOrBehind survey (sifting limit (Some best)) cutoff (place, candidate) own
+  sifted_or cutoff place candidate best least earlier own behind is mild (inl (known, none)) =
+      subst (IsSiftedOrBehind survey (sifting limit (Some best)) cutoff (place, candidate)) (sym none) (λ freed passes. mild known freed (passes_beyond_half best candidate freed passes))
+  sifted_or cutoff place candidate best least earlier own behind is mild (inr found) = found_or cutoff place candidate best least earlier.freed own behind is found
 
   -- where no number is beyond the limit, none is beyond half of it
   pub none_sifted : (cutoff : Option Cutoff) (numbered : List (ℕ × Candidate)) (found : List (Option Freed)) → AllZip (IsPassedOrBehind survey limit cutoff) numbered found → AllZip (IsSiftedOrBehind survey (beyond limit) cutoff) numbered found

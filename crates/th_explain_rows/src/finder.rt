@@ -3,7 +3,7 @@ ghost use Rattle.std.specs.Prelude.{◌≡◌, ◌⊎◌, ℕ, All, IfOk, IfSome
 ghost use Rattle.th_explain.specs.Explained.{IsAtLeast};
 ghost use Rattle.th_numbers.specs.Candidates.{whole_of};
 ghost use Rattle.th_explain_rows.specs.Inside.Passing.{IsAtMostOrNone, IsFinding, IsMore, IsMostOf, IsPassedOr};
-ghost use Rattle.th_explain_rows.specs.Rows.{LeavesNoMore, limit_size};
+ghost use Rattle.th_explain_rows.specs.Rows.{LeavesNoMore, half_of, limit_size};
 
 use std::alloc::{AllocError, Global};
 use th_blunders::Fit;
@@ -30,6 +30,8 @@ struct Whole {
 pub(crate) enum Finding {
     /// It passes, and this is then left.
     Exactly(Freed),
+    /// Beyond half of the limit, too, it does not pass, or leaves more than the amount.
+    Mild,
     /// It does not pass, or leaves more than the amount.
     More,
     /// It does not pass, or leaves at least the amount.
@@ -83,11 +85,30 @@ impl<'a> Finder<'a> {
         ensures found { IfOk result (IsFinding self.old.misfit.case.now.network.now self.old.misfit.limit least candidate.now) }
         ensures misfit { self.new.misfit ≡ self.old.misfit }
     {
+        let limit = self.misfit.limit;
         let more = next(least);
-        if self.is_shown(candidate, more) {
+        if self.is_shown(candidate, half_of(limit), more) {
+            return Ok(Finding::Mild);
+        }
+        self.look_at_limit(alloc, candidate, least)
+    }
+
+    /// The same, beyond the limit alone.
+    fn look_at_limit(
+        &mut self,
+        alloc: Global,
+        candidate: &Candidate,
+        least: Option<u128>,
+    ) -> Result<Finding, AllocError>
+        ensures found { IfOk result (IsFinding self.old.misfit.case.now.network.now self.old.misfit.limit least candidate.now) }
+        ensures misfit { self.new.misfit ≡ self.old.misfit }
+    {
+        let limit = self.misfit.limit;
+        let more = next(least);
+        if self.is_shown(candidate, limit, more) {
             return Ok(Finding::More);
         }
-        if self.is_shown(candidate, least) {
+        if self.is_shown(candidate, limit, least) {
             return Ok(Finding::AtLeast);
         }
         match self.solved(alloc, candidate, more)? {
@@ -107,19 +128,19 @@ impl<'a> Finder<'a> {
         ensures found { IfOk result (IsPassedOr self.old.misfit.case.now.network.now self.old.misfit.limit (IsAtLeast least) candidate.now) }
         ensures misfit { self.new.misfit ≡ self.old.misfit }
     {
-        if self.is_shown(candidate, least) {
+        if self.is_shown(candidate, self.misfit.limit, least) {
             return Ok(None);
         }
         self.solved(alloc, candidate, least)
     }
 
-    /// Whether the sieve shows, without solving a network, that a number does not pass, or leaves at least `least`,
-    /// if it is given. If not, it may be so all the same.
-    fn is_shown(&mut self, candidate: &Candidate, least: Option<u128>) -> bool
-        ensures shown { result ≡ true → IsPassedOr self.old.misfit.case.now.network.now self.old.misfit.limit (IsAtLeast least) candidate.now None }
+    /// Whether the sieve shows, without solving a network, that a number does not pass beyond a limit, or leaves at
+    /// least `least`, if it is given. If not, it may be so all the same.
+    fn is_shown(&mut self, candidate: &Candidate, limit: i64, least: Option<u128>) -> bool
+        ensures shown { result ≡ true → IsPassedOr self.old.misfit.case.now.network.now limit (IsAtLeast least) candidate.now None }
         ensures misfit { self.new.misfit ≡ self.old.misfit }
     {
-        let size = limit_size(self.misfit.limit);
+        let size = limit_size(limit);
         let nearer = self.nearer(candidate, least);
         shown(&mut self.sieve, &candidate.number(), size, nearer)
     }
@@ -252,6 +273,13 @@ pub(crate) fn at_most(found: &Option<Freed>, most: u128) -> Option<Freed>
         Some(freed) if freed.left <= most => Some(*freed),
         _ => None,
     }
+}
+
+/// Half of a limit, rounded down; 0 where it is below.
+pub(crate) fn half_of(limit: i64) -> i64
+    ensures { result ≡ half_of limit }
+{
+    if limit < 0 { 0 } else { limit / 2 }
 }
 
 /// A limit as a size: 0 where it is below.

@@ -100,6 +100,7 @@ pub(crate) fn lowered(finding: &Finding, least: Option<u128>, left: Option<u128>
 {
     match finding {
         Finding::Exactly(freed) => Finding::Exactly(*freed),
+        Finding::Mild => Finding::Mild,
         Finding::More => Finding::More,
         Finding::AtLeast => {
             if is_less(left, least) {

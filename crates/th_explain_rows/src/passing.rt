@@ -1,7 +1,7 @@
 //! What is left if each of all numbers is freed, where it passes, up to a cutoff.
 ghost use Rattle.std.specs.Prelude.{◌≡◌, ◌++◌, IfOk, OnOk, [], ◌∷◌, None, Some, drop, length, map, take};
 ghost use Rattle.std.specs.List.{AllZip, enumerate_from};
-ghost use Rattle.th_explain_rows.specs.Inside.Passing.{IsFinding, IsMore, IsNoChangeOr, IsPassedOr, IsPassedOrBehind, freed_of};
+ghost use Rattle.th_explain_rows.specs.Inside.Passing.{IsFinding, IsMildIf, IsMore, IsNoChangeOr, IsPassedOr, IsPassedOrBehind, freed_of, is_mild};
 
 use crate::finder::{Finder, Finding, next};
 use crate::growing::{Findings, lowered};
@@ -25,6 +25,8 @@ struct Found<'a> {
 pub(crate) struct Passed {
     pub cutoff: Option<Cutoff>,
     pub freed: Vec<Option<Freed>>,
+    /// Of which numbers it is known that none passes beyond half of the limit either, ahead of the cutoff.
+    pub mild: Vec<bool>,
 }
 
 /// All numbers that pass.
@@ -36,6 +38,8 @@ pub(crate) fn all_passed<P: Progress>(
 ) -> Result<Passed, AllocError>
     ensures found { IfOk result (λ found.
         AllZip (IsPassedOrBehind finder.old.misfit.case.now.network.now finder.old.misfit.limit found.cutoff) (enumerate_from 0 candidates.now) found.freed.items) }
+    ensures mild { IfOk result (λ found.
+        AllZip (IsMildIf finder.old.misfit.case.now.network.now finder.old.misfit.limit found.cutoff) (enumerate_from 0 candidates.now) found.mild.items) }
     ensures all { IfOk result (λ found. found.cutoff ≡ None) }
     ensures misfit { finder.new.misfit ≡ finder.old.misfit }
 {
@@ -45,9 +49,11 @@ pub(crate) fn all_passed<P: Progress>(
         let own = finder.passed(alloc, candidate, None)?;
         add_freed(&mut freed, own)?;
     }
+    let mild = vec![in alloc; false; candidates.len()]?;
     Ok(Passed {
         cutoff: None,
         freed,
+        mild,
     })
 }
 
@@ -62,6 +68,8 @@ pub(crate) fn passed_before_cutoff<P: Progress>(
 ) -> Result<Passed, AllocError>
     ensures found { IfOk result (λ found.
         AllZip (IsPassedOrBehind finder.old.misfit.case.now.network.now finder.old.misfit.limit found.cutoff) (enumerate_from 0 candidates.now) found.freed.items) }
+    ensures mild { IfOk result (λ found.
+        AllZip (IsMildIf finder.old.misfit.case.now.network.now finder.old.misfit.limit found.cutoff) (enumerate_from 0 candidates.now) found.mild.items) }
     ensures misfit { finder.new.misfit ≡ finder.old.misfit }
 {
     let known = found_of(alloc, finder, first, None, progress)?;
@@ -77,9 +85,11 @@ pub(crate) fn passed_before_cutoff<P: Progress>(
         }
         None => {
             let freed = all_freed(alloc, &found.all)?;
+            let mild = all_mild(alloc, &found.all)?;
             Ok(Passed {
                 cutoff: None,
                 freed,
+                mild,
             })
         }
     }
@@ -194,15 +204,19 @@ fn cut_off<P: Progress>(
     requires found { AllZip (IsFinding finder.old.misfit.case.now.network.now finder.old.misfit.limit found.now.least) found.now.candidates.now found.now.findings.now }
     ensures found { IfOk result (λ passed.
         AllZip (IsPassedOrBehind finder.old.misfit.case.now.network.now finder.old.misfit.limit passed.cutoff) (enumerate_from 0 found.now.candidates.now) passed.freed.items) }
+    ensures mild { IfOk result (λ passed.
+        AllZip (IsMildIf finder.old.misfit.case.now.network.now finder.old.misfit.limit passed.cutoff) (enumerate_from 0 found.now.candidates.now) passed.mild.items) }
     ensures misfit { finder.new.misfit ≡ finder.old.misfit }
 {
     let mut freed = passed_with_ties(alloc, finder, found, progress)?;
     let place = freed.len();
     let known = all_freed(alloc, found.findings)?;
     add_others(&mut freed, &known)?;
+    let mild = all_mild(alloc, found.findings)?;
     Ok(Passed {
         cutoff: Some(Cutoff { left, place }),
         freed,
+        mild,
     })
 }
 
@@ -252,6 +266,7 @@ fn passed_again(
 {
     match known {
         Finding::Exactly(freed) => Ok(Some(*freed)),
+        Finding::Mild => Ok(None),
         Finding::More => Ok(None),
         Finding::AtLeast => finder.passed(alloc, candidate, next(least)),
     }
@@ -287,9 +302,28 @@ fn freed_of(finding: &Finding) -> Option<Freed>
 {
     match finding {
         Finding::Exactly(freed) => Some(*freed),
+        Finding::Mild => None,
         Finding::More => None,
         Finding::AtLeast => None,
     }
+}
+
+/// Of which of some numbers it was found that none passes beyond half of the limit either.
+fn all_mild(alloc: Global, found: &[Finding]) -> Result<Vec<bool>, AllocError>
+    ensures { IfOk result (λ mild. mild.items ≡ map is_mild found.now) }
+{
+    let mut mild = Vec::with_capacity(alloc, found.len())?;
+    for own in found {
+        mild.push(is_mild(own))?;
+    }
+    Ok(mild)
+}
+
+/// Whether that was found of a number.
+fn is_mild(finding: &Finding) -> bool
+    ensures { result ≡ is_mild finding.now }
+{
+    matches!(finding, Finding::Mild)
 }
 
 /// Whether a number leaves as much as this.

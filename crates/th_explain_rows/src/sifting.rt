@@ -3,11 +3,11 @@
 ghost use Rattle.std.specs.Prelude.{◌≡◌, ◌≤◌, ℕ, IfOk, OnOk, Some, true};
 ghost use Rattle.std.specs.List.{AllZip, enumerate_from};
 ghost use Rattle.th_explain.specs.Explained.{IsAtLeast};
-ghost use Rattle.th_explain_rows.specs.Inside.Passing.{IsPassedOrBehind};
+ghost use Rattle.th_explain_rows.specs.Inside.Passing.{IsMildIf, IsPassedOrBehind};
 ghost use Rattle.th_explain_rows.specs.Inside.Sifting.{IsKnownOrMilder, IsSettled, IsSiftedOrBehind, least_left, lesser};
 ghost use Rattle.th_explain_rows.specs.Rows.{IsBehind, IsBestBeyond, half_of, sifting};
 
-use crate::finder::{Finder, at_most, next};
+use crate::finder::{Finder, at_most, half_of, next};
 use crate::passing::{Passed, add_freed};
 use crate::rows::{Cutoff, Filter, is_behind};
 use std::alloc::{AllocError, Global};
@@ -44,6 +44,7 @@ pub(crate) fn filtered<P: Progress>(
     progress: &mut P,
 ) -> Result<Sifted, AllocError>
     requires found { AllZip (IsPassedOrBehind finder.old.misfit.case.now.network.now finder.old.misfit.limit found.cutoff) (enumerate_from 0 candidates.now) found.freed.items }
+    requires mild { AllZip (IsMildIf finder.old.misfit.case.now.network.now finder.old.misfit.limit found.cutoff) (enumerate_from 0 candidates.now) found.mild.items }
     requires settled { IsSettled (least_left found.freed.items) found.cutoff }
     ensures limit { IfOk result (λ own. own.filter.limit ≡ finder.old.misfit.limit) }
     ensures best { IfOk result (λ own. IsBestBeyond finder.old.misfit.case.now.network.now finder.old.misfit.limit candidates.now own.filter.best) }
@@ -85,6 +86,13 @@ struct Known<'a> {
     best: u128,
 }
 
+/// What is known of a number beyond the limit, and whether none passes beyond half of it either, ahead of the cutoff.
+#[derive(Clone, Copy)]
+struct Earlier {
+    freed: Option<Freed>,
+    is_mild: bool,
+}
+
 /// A number is sought that leaves no more than `best`. One that leaves at least `least` may be missing, if it is given.
 #[derive(Clone, Copy)]
 struct Sought {
@@ -115,7 +123,8 @@ fn with_milder<P: Progress>(
     known: &Known<'_>,
     progress: &mut P,
 ) -> Result<Vec<Option<Freed>>, AllocError>
-    requires { AllZip (IsPassedOrBehind finder.old.misfit.case.now.network.now finder.old.misfit.limit known.now.found.now.cutoff) (enumerate_from 0 known.now.candidates.now) known.now.found.now.freed.items }
+    requires found { AllZip (IsPassedOrBehind finder.old.misfit.case.now.network.now finder.old.misfit.limit known.now.found.now.cutoff) (enumerate_from 0 known.now.candidates.now) known.now.found.now.freed.items }
+    requires mild { AllZip (IsMildIf finder.old.misfit.case.now.network.now finder.old.misfit.limit known.now.found.now.cutoff) (enumerate_from 0 known.now.candidates.now) known.now.found.now.mild.items }
     ensures found { IfOk result (λ freed.
         AllZip (IsSiftedOrBehind finder.old.misfit.case.now.network.now (sifting finder.old.misfit.limit (Some known.now.best)) known.now.found.now.cutoff) (enumerate_from 0 known.now.candidates.now) freed.items) }
     ensures misfit { OnOk result (finder.new.misfit ≡ finder.old.misfit) }
@@ -125,7 +134,10 @@ fn with_milder<P: Progress>(
     let mut freed = Vec::with_capacity(alloc, known.candidates.len())?;
     for place in 0..known.candidates.len() {
         progress.show(Work::Numbers, place, known.candidates.len());
-        let earlier = known.found.freed[place];
+        let earlier = Earlier {
+            freed: known.found.freed[place],
+            is_mild: known.found.mild[place],
+        };
         let sought = known.sought(place);
         let own = known_or_milder(alloc, finder, &known.candidates[place], &earlier, sought)?;
         add_freed(&mut freed, own)?;
@@ -134,19 +146,23 @@ fn with_milder<P: Progress>(
     Ok(freed)
 }
 
-/// What is left if a number is freed that is beyond the limit; or else what is found of it now.
+/// What is left if a number is freed that is beyond the limit; or else what is found of it now, if it may be beyond
+/// half of the limit.
 fn known_or_milder(
     alloc: Global,
     finder: &mut Finder<'_>,
     candidate: &Candidate,
-    earlier: &Option<Freed>,
+    earlier: &Earlier,
     sought: Sought,
 ) -> Result<Option<Freed>, AllocError>
     ensures found { IfOk result (IsKnownOrMilder finder.old.misfit.case.now.network.now finder.old.misfit.limit sought.best sought.least candidate.now earlier.now) }
     ensures misfit { finder.new.misfit ≡ finder.old.misfit }
 {
-    match earlier {
-        Some(freed) => Ok(Some(*freed)),
+    if earlier.is_mild {
+        return Ok(None);
+    }
+    match earlier.freed {
+        Some(freed) => Ok(Some(freed)),
         None => {
             let own = finder.passed(alloc, candidate, sought.least)?;
             Ok(at_most(&own, sought.best))
@@ -175,11 +191,4 @@ fn lesser(least: Option<u128>, own: &Option<Freed>) -> Option<u128>
         (Some(least), None) => Some(least),
         (Some(least), Some(freed)) => Some(least.min(freed.left)),
     }
-}
-
-/// Half of a limit, rounded down; 0 where it is below.
-fn half_of(limit: i64) -> i64
-    ensures { result ≡ half_of limit }
-{
-    if limit < 0 { 0 } else { limit / 2 }
 }

@@ -1,7 +1,7 @@
 -- What was found of numbers, compared with a lesser amount.
 use Rattle.std.specs.Prelude.{◌≡◌, ◌⊎◌, ℕ, ◌≤◌, Bool, true, false, List, Option, Some, None, if◌then◌else◌, map, nat_lt, ⊤}
 use Rattle.th_explain_rows.specs.declared.finder.Finding.{Finding}
-use Rattle.th_explain_rows.specs.declared.finder.Finding.TheVariants.{Exactly, More, AtLeast}
+use Rattle.th_explain_rows.specs.declared.finder.Finding.TheVariants.{Exactly, Mild, More, AtLeast}
 
 -- Whether an amount is less than another one. One that is not given is above all.
 abbrev pub is_less : Option ℕ → Option ℕ → Bool
@@ -19,6 +19,7 @@ IsNoMore None None = ⊤
 -- What was found of a number that was compared with the first amount, compared with the second, which is no more.
 abbrev pub lowered : Option ℕ → Option ℕ → Finding → Finding
 lowered least left (Exactly freed) = Exactly freed
+lowered least left Mild = Mild
 lowered least left More = More
 lowered least left AtLeast = if is_less left least then More else AtLeast
 

@@ -1,5 +1,5 @@
 -- Numbers that pass, of which some may be missing.
-use Rattle.std.specs.Prelude.{◌≡◌, ℕ, ◌<◌, ◌≤◌, ℤ, List, Option, Some, None, length, option_to_list}
+use Rattle.std.specs.Prelude.{◌≡◌, ℕ, ◌<◌, ◌≤◌, ℤ, Bool, true, false, List, Option, Some, None, length, option_to_list}
 use Rattle.th_explain.specs.Explained.{IsAtLeast}
 use Rattle.std.specs.List.{AllZip, enumerate_from, flat_map}
 use Rattle.th_explain.specs.declared.freed.Freed.{Freed}
@@ -9,9 +9,9 @@ use Rattle.th_network.specs.Networks.{Survey}
 use Rattle.th_numbers.specs.Candidates.{whole_of}
 use Rattle.th_numbers.specs.declared.candidates.Candidate.{Candidate}
 use Rattle.th_explain_rows.specs.Explanations.{IsEnough}
-use Rattle.th_explain_rows.specs.Rows.{IsBehind, IsBestBeyond, IsRow, IsRowOrBehind, LeavesNoMore, Passes, beyond, sifting}
+use Rattle.th_explain_rows.specs.Rows.{IsBehind, IsBestBeyond, IsRow, IsRowOrBehind, LeavesNoMore, Passes, beyond, half_of, sifting}
 use Rattle.th_explain_rows.specs.declared.finder.Finding.{Finding}
-use Rattle.th_explain_rows.specs.declared.finder.Finding.TheVariants.{Exactly, More, AtLeast}
+use Rattle.th_explain_rows.specs.declared.finder.Finding.TheVariants.{Exactly, Mild, More, AtLeast}
 use Rattle.th_explain_rows.specs.declared.rows.Cutoff.{Cutoff}
 use Rattle.th_explain_rows.specs.declared.rows.Filter.{Filter}
 
@@ -25,9 +25,11 @@ abbrev pub IsPassedOr : Survey → ℤ → (ℕ → Type 0) → Candidate → Op
 IsPassedOr survey limit MayMiss candidate None = (freed : Freed) → Passes survey (beyond limit) candidate freed → MayMiss freed.left
 IsPassedOr survey limit MayMiss candidate (Some freed) = Passes survey (beyond limit) candidate freed
 
--- the number passes, and what is then left; or it does not, or leaves more than this amount, or at least as much
+-- the number passes, and what is then left; or it does not, or leaves more than this amount, or at least as much; a mild one does not pass beyond
+-- half of the limit either, or leaves more
 abbrev pub IsFinding : Survey → ℤ → Option ℕ → Candidate → Finding → Type 0
 IsFinding survey limit least candidate (Exactly freed) = Passes survey (beyond limit) candidate freed
+IsFinding survey limit least candidate Mild = IsPassedOr survey (half_of limit) (IsMore least) candidate None
 IsFinding survey limit least candidate More = IsPassedOr survey limit (IsMore least) candidate None
 IsFinding survey limit least candidate AtLeast = IsPassedOr survey limit (IsAtLeast least) candidate None
 
@@ -38,12 +40,24 @@ IsNoChangeOr survey limit least candidate finding = whole_of candidate ≡ None 
 -- what is left if a number is freed, where that was found
 abbrev pub freed_of : Finding → Option Freed
 freed_of (Exactly freed) = Some freed
+freed_of Mild = None
 freed_of More = None
 freed_of AtLeast = None
+
+-- whether it was found that a number does not pass beyond half of the limit either, or leaves more
+abbrev pub is_mild : Finding → Bool
+is_mild (Exactly freed) = false
+is_mild Mild = true
+is_mild More = false
+is_mild AtLeast = false
 
 -- what was found of a number at its place, where those behind a cutoff may be missing
 abbrev pub IsPassedOrBehind : Survey → ℤ → Option Cutoff → ℕ × Candidate → Option Freed → Type 0
 IsPassedOrBehind survey limit cutoff (place, candidate) found = IsPassedOr survey limit (IsBehind cutoff place) candidate found
+
+-- if it is known of a number at its place, it does not pass beyond half of the limit, or is behind the cutoff
+abbrev pub IsMildIf : Survey → ℤ → Option Cutoff → ℕ × Candidate → Bool → Type 0
+IsMildIf survey limit cutoff (place, candidate) known = known ≡ true → IsPassedOr survey (half_of limit) (IsBehind cutoff place) candidate None
 
 -- a change of a whole entry leads exactly if it leaves at most this
 pub record IsMostOf (survey : Survey) (whole : Number) (most : ℕ) : Type 0 where

@@ -1,5 +1,5 @@
 -- Numbers that pass a filter, of which some may be missing.
-use Rattle.std.specs.Prelude.{◌≡◌, ℕ, ◌≤◌, ℤ, List, Option, Some, None, fold, min, ⊤}
+use Rattle.std.specs.Prelude.{◌≡◌, ◌⊎◌, ℕ, ◌≤◌, ℤ, true, List, Option, Some, None, fold, min, ⊤}
 use Rattle.th_explain.specs.Explained.{IsAtLeast}
 use Rattle.th_explain.specs.declared.freed.Freed.{Freed}
 use Rattle.th_network.specs.Networks.{Survey}
@@ -7,6 +7,7 @@ use Rattle.th_numbers.specs.declared.candidates.Candidate.{Candidate}
 use Rattle.th_explain_rows.specs.Rows.{IsBehind, Passes, beyond}
 use Rattle.th_explain_rows.specs.declared.rows.Cutoff.{Cutoff}
 use Rattle.th_explain_rows.specs.declared.rows.Filter.{Filter}
+use Rattle.th_explain_rows.specs.declared.sifting.Earlier.{Earlier}
 
 -- what was found of a number at its place, if it passes a filter; those behind a cutoff may be missing
 abbrev pub IsSiftedOrBehind : Survey → Filter → Option Cutoff → ℕ × Candidate → Option Freed → Type 0
@@ -35,6 +36,10 @@ IsMilderOr survey limit best least candidate None = (freed : Freed) → Passes s
 IsMilderOr survey limit best least candidate (Some freed) = Passes survey (beyond limit) candidate freed × (freed.left ≤ best)
 
 -- what was found of a number before; or if nothing was, what is found of it now
-abbrev pub IsKnownOrMilder : Survey → ℤ → ℕ → Option ℕ → Candidate → Option Freed → Option Freed → Type 0
-IsKnownOrMilder survey limit best least candidate (Some freed) own = own ≡ Some freed
-IsKnownOrMilder survey limit best least candidate None own = IsMilderOr survey limit best least candidate own
+abbrev pub IsFoundOrMilder : Survey → ℤ → ℕ → Option ℕ → Candidate → Option Freed → Option Freed → Type 0
+IsFoundOrMilder survey limit best least candidate (Some freed) own = own ≡ Some freed
+IsFoundOrMilder survey limit best least candidate None own = IsMilderOr survey limit best least candidate own
+
+-- the same, but nothing if it is known that the number does not pass beyond half of the limit either
+abbrev pub IsKnownOrMilder : Survey → ℤ → ℕ → Option ℕ → Candidate → Earlier → Option Freed → Type 0
+IsKnownOrMilder survey limit best least candidate earlier own = ((earlier.is_mild ≡ true) × (own ≡ None)) ⊎ IsFoundOrMilder survey limit best least candidate earlier.freed own

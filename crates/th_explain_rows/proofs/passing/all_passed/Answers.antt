@@ -1,12 +1,12 @@
-use Rattle.std.proofs.Common.{◌∙◌, List, None, subst, arith}
+use Rattle.std.proofs.Common.{◌∙◌, Bool, List, None, subst, sym, arith}
 use Rattle.std.proofs.lemmas.List.{take_all}
-use Rattle.std.specs.List.{AllZip}
+use Rattle.std.specs.List.{AllZip, enumerate_from}
 use Rattle.th_explain.specs.Explained.{IsAtLeast}
 use Rattle.th_numbers.specs.declared.candidates.Candidate.{Candidate}
 use Rattle.th_reliability.proofs.ZipLemmas.{zip_next}
-use Rattle.th_explain_rows.specs.Inside.Passing.{IsPassedOr}
+use Rattle.th_explain_rows.specs.Inside.Passing.{IsMildIf, IsPassedOr}
 use Rattle.th_explain_rows.specs.declared.finder.Misfit.{Misfit}
-use Rattle.th_explain_rows.proofs.PassLemmas.{placed}
+use Rattle.th_explain_rows.proofs.PassLemmas.{none_mild, placed}
 use Rattle.th_explain_rows.proofs.passing.all_passed.Goals as goal
 
 pub loop-candidate-preserved : goal.loop-candidate-preserved
@@ -26,3 +26,11 @@ returns-clause-found g c =
     let candidates = c.args.candidates.now in
     placed survey misfit.limit None (IsAtLeast None) 0 candidates c.loop-candidate.freed.items (λ k left later none. none)
     (subst (λ (own : List Candidate). AllZip (IsPassedOr survey misfit.limit (IsAtLeast None)) own c.loop-candidate.freed.items) (take_all c.loop-candidate.candidate-index candidates (omega (arith, c.loop-candidate-test.false))) c.loop-candidate.invariant.freed)
+
+pub returns-clause-mild : goal.returns-clause-mild
+returns-clause-mild g c =
+    let misfit : Misfit = c.args.finder.now.misfit in
+    let survey = misfit.case.now.network.now in
+    let candidates = c.args.candidates.now in
+    subst (λ (mild : List Bool). AllZip (IsMildIf survey misfit.limit None) (enumerate_from 0 candidates) mild) (sym (c.in_ok-mild.ensures.items_if_clones_equal (λ y e. e)))
+    (none_mild survey misfit.limit None 0 candidates)

@@ -4,12 +4,12 @@ use Rattle.std.proofs.lemmas.List.FromFn.{length-enumerate_from}
 use Rattle.std.proofs.lemmas.Slice.Zip.{AllZip-long}
 use Rattle.std.specs.List.{AllZip, enumerate_from}
 use Rattle.th_reliability.proofs.ZipLemmas.{zip_next}
-use Rattle.th_explain.specs.declared.freed.Freed.{Freed}
 use Rattle.th_numbers.specs.declared.candidates.Candidate.{Candidate}
 use Rattle.th_explain_rows.specs.Rows.{half_of, sifting}
-use Rattle.th_explain_rows.specs.Inside.Passing.{IsPassedOrBehind}
+use Rattle.th_explain_rows.specs.Inside.Passing.{IsMildIf, IsPassedOrBehind}
 use Rattle.th_explain_rows.specs.Inside.Sifting.{IsKnownOrMilder, IsSiftedOrBehind}
 use Rattle.th_explain_rows.specs.declared.finder.Misfit.{Misfit}
+use Rattle.th_explain_rows.specs.declared.sifting.Earlier.{Earlier}
 use Rattle.th_explain_rows.specs.declared.sifting.Known.{Known}
 use Rattle.th_explain_rows.proofs.PassLemmas.{numbered, zip_at}
 use Rattle.th_explain_rows.proofs.SiftLemmas.{sifted_or}
@@ -17,7 +17,13 @@ use Rattle.th_explain_rows.proofs.sifting.with_milder.Goals as goal
 
 pub index-requires : goal.index-requires
 index-requires g c =
-    let long = AllZip-long _ _ _ c.requires in
+    let long = AllZip-long _ _ _ c.requires.found in
+    let all = length-enumerate_from 0 c.args.known.now.candidates.now in
+    omega (arith, long, all, c.loop-place-test.true)
+
+pub index-requires-in-loop-place : goal.index-requires-in-loop-place
+index-requires-in-loop-place g c =
+    let long = AllZip-long _ _ _ c.requires.mild in
     let all = length-enumerate_from 0 c.args.known.now.candidates.now in
     omega (arith, long, all, c.loop-place-test.true)
 
@@ -29,7 +35,7 @@ loop-place-preserved g c =
     let known : Known = c.args.known.now in
     let candidates = known.candidates.now in
     let place : ℕ = c.loop-place.place in
-    let earlier : Option Freed = c.index.result.now in
+    let earlier : Earlier = record { freed = c.index.result.now; is_mild = c.index-in-loop-place.result.now } in
     let here = numbered candidates place c.index-known-place.result c.loop-place-test.true c.index-known-place.is in
     let within : place < length (enumerate_from 0 candidates) = omega (arith, c.loop-place-test.true, length-enumerate_from 0 candidates) in
     record {
@@ -37,7 +43,9 @@ loop-place-preserved g c =
           within here c.in_ok-add_freed.ensures c.loop-place.invariant.freed
           (sifted_or survey limit known.found.now.cutoff place c.index-known-place.result known.best c.sought-sought.result.least earlier c.in_ok-own.own c.sought-sought.ensures.least
           (subst (IsPassedOrBehind survey limit known.found.now.cutoff (place, c.index-known-place.result)) (sym c.index.ensures)
-          (zip_at (IsPassedOrBehind survey limit known.found.now.cutoff) (enumerate_from 0 candidates) known.found.now.freed.items place (place, c.index-known-place.result) earlier c.requires within here))
+          (zip_at (IsPassedOrBehind survey limit known.found.now.cutoff) (enumerate_from 0 candidates) known.found.now.freed.items place (place, c.index-known-place.result) earlier.freed c.requires.found within here))
+          (subst (IsMildIf survey limit known.found.now.cutoff (place, c.index-known-place.result)) (sym c.index-in-loop-place.ensures)
+          (zip_at (IsMildIf survey limit known.found.now.cutoff) (enumerate_from 0 candidates) known.found.now.mild.items place (place, c.index-known-place.result) earlier.is_mild c.requires.mild within here))
           (subst (λ (candidate : Candidate). IsKnownOrMilder survey (half_of limit) known.best c.sought-sought.result.least candidate earlier c.in_ok-own.own) (sym c.index-known-place.is)
           (subst (λ (own : Misfit). IsKnownOrMilder own.case.now.network.now own.limit known.best c.sought-sought.result.least (get_or candidates place c.index-known-place.result) earlier c.in_ok-own.own) c.loop-place.invariant.misfit
           (subst (λ (best : ℕ). IsKnownOrMilder c.loop-place.finder.misfit.case.now.network.now c.loop-place.finder.misfit.limit best c.sought-sought.result.least (get_or candidates place c.index-known-place.result) earlier c.in_ok-own.own) c.sought-sought.ensures.best c.in_ok-own.ensures.found))));
