@@ -192,6 +192,7 @@ planted: built
 	@tests/planted/explained.py --program $(PROGRAM) --share $(EVERY)
 	@tests/planted/reviewed.py --program $(PROGRAM) --share $(EVERY)
 	@tests/planted/meant.py --program $(PROGRAM) --share $(EVERY)
+	@tests/planted/mended.py --program $(PROGRAM) --share $(EVERY)
 	@tests/planted/sentences.py --program $(PROGRAM) --tries $(TRIES)
 	@tests/planted/noted.py --program $(PROGRAM)
 	@tests/planted/verdicts.py --program $(PROGRAM) --tries $(TRIES)
