@@ -1,0 +1,16 @@
+pub mod EndedLines
+pub mod RowLemmas
+pub mod LastLemmas
+pub mod ForceLemmas
+pub mod WordLemmas
+pub mod EditLemmas
+pub mod AddedLemmas
+pub mod LineLemmas
+pub mod NameLemmas
+pub mod SpelledLemmas
+pub mod PairLemmas
+pub mod HeightLemmas
+pub mod TableLemmas
+pub mod StandingLemmas
+pub mod BookLemmas
+pub mod MendedLemmas
