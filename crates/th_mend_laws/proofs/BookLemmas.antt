@@ -225,7 +225,7 @@ module _ (edits : List Edit) (k : ℕ) (old new : ParsedLine) (pair : ArePaired 
       P words own = begins_with_point words ≡ true → point_name words ≡ Some before → point_name own ≡ Some (renamed_by (edit_on edits point_number k) before)
 
 -- what is taken of a range of places
-mapped_range : (f g : ℕ → Observed) (p q : ℕ → Bool) (first many : ℕ) → ((k : ℕ) → k < many → p (first + k) ≡ q (first + k)) → ((k : ℕ) → k < many → q (first + k) ≡ true → f (first + k) ≡ g (first + k))
+pub mapped_range : (f g : ℕ → Observed) (p q : ℕ → Bool) (first many : ℕ) → ((k : ℕ) → k < many → p (first + k) ≡ q (first + k)) → ((k : ℕ) → k < many → q (first + k) ≡ true → f (first + k) ≡ g (first + k))
     → map f (filter p (range_with_len first many)) ≡ map g (filter q (range_with_len first many))
 mapped_range f g p q first zero same agree = refl
 mapped_range f g p q first (suc many) same agree =

@@ -80,7 +80,8 @@ pub record IsLocated (parsed : List ParsedLine) (edit : Edit) : Type 0 where
   pub last : edit.last ≡ unwrap_or (last_below (λ other. are_one (home edit.what parsed place) (home edit.what parsed other)) (length parsed)) place
   pub readable : IsReadable edit.what
 
-located : (parsed : List ParsedLine) (row : ℕ) (change : Change) (edit : Edit) → IsReadable change.what → edit_of parsed row change ≡ Ok edit → IsLocated parsed edit
+pub located : (parsed : List ParsedLine) (row : ℕ) (change : Change) (edit : Edit) → IsReadable change.what → edit_of parsed row change ≡ Ok edit
+    → (is : IsLocated parsed edit) × (edit.what ≡ change.what) × (is.place ≡ place_of change)
 located parsed row change edit readable h = by (nat_lt place (length parsed)) refl h
   where
     place : ℕ
@@ -89,13 +90,16 @@ located parsed row change edit readable h = by (nat_lt place (length parsed)) re
     made : Edit
     made = edit_with row change (spot_at change.what parsed place (length parsed))
 
-    from : (fault : Option MendKind) → own_fault change.what (words_at parsed place) (home change.what parsed place) ≡ fault → place < length parsed → edit_unless fault made ≡ Ok edit → IsLocated parsed edit
+    Found : Edit → Type 0
+    Found edit = (is : IsLocated parsed edit) × (edit.what ≡ change.what) × (is.place ≡ place)
+
+    from : (fault : Option MendKind) → own_fault change.what (words_at parsed place) (home change.what parsed place) ≡ fault → place < length parsed → edit_unless fault made ≡ Ok edit → Found edit
     from (Some kind) is within h = absurd (cc h)
     from None is within h =
         let same : made ≡ edit = cc h in
-        subst (IsLocated parsed) same (record { place = place; within = within; fault = is; first = refl; last = refl; readable = readable })
+        subst Found same (record { place = place; within = within; fault = is; first = refl; last = refl; readable = readable }, refl, refl)
 
-    by : (within : Bool) → nat_lt place (length parsed) ≡ within → edit_from row change (cond within (Some (spot_at change.what parsed place (length parsed))) None) ≡ Ok edit → IsLocated parsed edit
+    by : (within : Bool) → nat_lt place (length parsed) ≡ within → edit_from row change (cond within (Some (spot_at change.what parsed place (length parsed))) None) ≡ Ok edit → Found edit
     by false e h = absurd (cc h)
     by true e h = from (own_fault change.what (words_at parsed place) (home change.what parsed place)) refl (ltb-true place (length parsed) e) h
 
@@ -140,7 +144,7 @@ all_located parsed (change ∷ changes) row earlier edits readable are apart h =
 
     from : (edit : Edit) (clashes : Bool) → list_any (clash edit) earlier ≡ clashes → edit_of parsed row change ≡ Ok edit → edit_then row (cond clashes (Err Clash) (Ok edit)) later ≡ Ok edits → Goes → All (IsLocated parsed) edits × AreApart edits
     from edit true is found h goes = absurd (cc h)
-    from edit false is found h goes = goes edit (All-push (IsLocated parsed) earlier edit are (located parsed row change edit readable.0 found)) (apart_more earlier edit apart is) h
+    from edit false is found h goes = goes edit (All-push (IsLocated parsed) earlier edit are (located parsed row change edit readable.0 found).0) (apart_more earlier edit apart is) h
 
     by : (found : Result Edit MendKind) → edit_of parsed row change ≡ found → edit_then row (unless_clash earlier found) later ≡ Ok edits → Goes → All (IsLocated parsed) edits × AreApart edits
     by (Err kind) is h goes = absurd (cc h)
@@ -170,7 +174,7 @@ home_one entry found h = ap (are_one (Some entry)) h ∙ eq-eqb entry entry refl
 pub covers_at : (k : ℕ) (edit : Edit) → covers k edit ≡ true → (edit.first ≤ k) × (k ≤ edit.last)
 covers_at k edit h = let parts = and_parts (nat_le edit.first k) (nat_le k edit.last) h in (leb-true edit.first k parts.0, leb-true k edit.last parts.1)
 
-covered : (k : ℕ) (edit : Edit) → edit.first ≤ k → k ≤ edit.last → covers k edit ≡ true
+pub covered : (k : ℕ) (edit : Edit) → edit.first ≤ k → k ≤ edit.last → covers k edit ≡ true
 covered k edit after before = and_from (nat_le edit.first k) (nat_le k edit.last) (le-leb edit.first k after) (le-leb k edit.last before)
 
 pub of_height : (parsed : List ParsedLine) (edit : Edit) (kind : HeightKind) (reach : Reach) (own : ℤ) → edit.what ≡ Height kind reach own → IsLocated parsed edit → IsOfHeight (index_of kind) reach parsed edit
@@ -249,7 +253,7 @@ is_height (Target name) = false
 is_height (Station name) = false
 
 -- any other edit is of its own line alone
-own_place : (parsed : List ParsedLine) (edit : Edit) → (loc : IsLocated parsed edit) → is_height edit.what ≡ false → (edit.first ≡ loc.place) × (edit.last ≡ loc.place)
+pub own_place : (parsed : List ParsedLine) (edit : Edit) → (loc : IsLocated parsed edit) → is_height edit.what ≡ false → (edit.first ≡ loc.place) × (edit.last ≡ loc.place)
 own_place parsed edit loc other = by edit.what refl other
   where
     place : ℕ

@@ -14,3 +14,5 @@ pub mod TableLemmas
 pub mod StandingLemmas
 pub mod BookLemmas
 pub mod MendedLemmas
+pub mod SingleLemmas
+pub mod TypedLemmas

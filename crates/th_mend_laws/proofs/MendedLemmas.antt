@@ -169,3 +169,15 @@ module _ (laws : Laws) (changes : List Change) (readable : AreReadable changes) 
   corrected_answer number =
       answer_again (observations_of 1 new) (observations_of number new) is.others (nat_lt max_book (length text)) (first_fault new) is.answered_too
       ∙ ap Ok (observations_same is.edits parsed new fine (pairs_long is.edits 0 parsed new pairs) good.1 good.0 pair number)
+
+-- the observations of a book without a fault
+pub answered_is : (number : ℕ) (bytes : List ℕ) (observations : List Observed) → book_answer number bytes ≡ Ok observations → observations ≡ observations_of number (parsed_of bytes)
+answered_is number bytes observations h = by (nat_lt max_book (length bytes)) (first_fault (parsed_of bytes)) h
+  where
+    by : (long : Bool) (fault : Option BookFault) → cond long (Err too_long) (answer fault (observations_of number (parsed_of bytes))) ≡ Ok observations → observations ≡ observations_of number (parsed_of bytes)
+    by true fault h = absurd (cc h)
+    by false None h = sym (cc h)
+    by false (Some fault) h = absurd (cc h)
+
+pub same_observations : (one other : List Observed) → ◌≡◌ {A = Result (List Observed) BookFault} (Ok one) (Ok other) → one ≡ other
+same_observations one other h = cc h
