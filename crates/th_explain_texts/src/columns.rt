@@ -124,7 +124,7 @@ fn write_values(alloc: Global, page: &mut Page, row: &Row) -> Result<(), AllocEr
 }
 
 /// The proposed value that is nearest to the given one.
-pub(crate) fn mildest_value(values: &Values) -> i64
+pub fn mildest_value(values: &Values) -> i64
     ensures { result ≡ mildest_value values.now }
 {
     if values.given < values.low {

@@ -28,8 +28,10 @@ mod texts;
 // Laws.
 pub mod laws;
 
+pub use columns::mildest_value;
 pub use ranks::{MOST_ROWS, ranked};
 pub use rows::{Kind, Named, Row, Summary, Values};
+pub use sentences::firsts_of;
 pub use tables::explanations_csv;
 pub use texts::{explanations_text, sentences_text};
 pub use words::{is_pole, is_sight};

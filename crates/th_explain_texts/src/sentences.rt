@@ -54,7 +54,7 @@ pub(crate) fn write_sentences(
 }
 
 /// The rows that explain most.
-fn firsts_of(alloc: Global, rows: &[Row]) -> Result<Vec<Row>, AllocError>
+pub fn firsts_of(alloc: Global, rows: &[Row]) -> Result<Vec<Row>, AllocError>
     ensures { IfOk result (λ own. own.items ≡ firsts rows.now) }
 {
     rows.iter()

@@ -1,8 +1,8 @@
 //! The numbers of a survey that somebody read or typed.
 //!
 //! `listing_of` lists them in the order of rows that explain equally: entered heights, changes that were
-//! forgotten, sights and benchmarks. `books_of` lists the books, each of which may have been read from
-//! mark to mark. `specs/` has the definitions.
+//! forgotten, sights and benchmarks. `tied_rows` finds which benchmarks are tied to another one. `books_of`
+//! lists the books, each of which may have been read from mark to mark. `specs/` has the definitions.
 #![tactic(auto)]
 
 // A number, and where it is.
@@ -21,4 +21,4 @@ pub use books::{SightedBook, books_of};
 pub use candidates::{Candidate, Label, sight_count};
 pub use kinds::{Kinds, is_kind};
 pub use listing::{Listing, listing_of};
-pub use ties::TiedRow;
+pub use ties::{TiedRow, tied_rows};

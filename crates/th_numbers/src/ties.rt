@@ -21,7 +21,7 @@ pub struct TiedRow {
 }
 
 /// The rows of the benchmarks' table.
-pub(crate) fn tied_rows(alloc: Global, network: &Network) -> Result<Vec<TiedRow>, AllocError>
+pub fn tied_rows(alloc: Global, network: &Network) -> Result<Vec<TiedRow>, AllocError>
     ensures rows { IfOk result (λ rows. AreTiedRows network.now rows.items) }
     ensures few { IfOk result (λ rows. length rows.items ≤ max_points) }
 {

@@ -81,3 +81,8 @@ IsBookRowOrNone survey entries cost limit book (Some row) = IsBookRow survey ent
 abbrev pub IsReadOrNone : List Entry → ℕ → List Observed → Option (List Observed) → Type 0
 IsReadOrNone entries book observations None = ¬ IsReadable entries book observations
 IsReadOrNone entries book observations (Some read) = read ≡ map (read_observation entries book) observations
+
+-- the survey, with a book read from mark to mark, or none
+abbrev pub IsRereadOrNone : List Entry → ℕ → Survey → Option Survey → Type 0
+IsRereadOrNone entries book survey None = ¬ IsReadable entries book survey.observations
+IsRereadOrNone entries book survey (Some own) = own ≡ reread entries book survey

@@ -3,7 +3,7 @@ ghost use Rattle.std.specs.Prelude.{◌≡◌, ◌≤◌, ◌<◌, ◌+◌, ◌*
 ghost use Rattle.std.specs.List.{AllZip};
 ghost use Rattle.th_observations.specs.Observed.{largest_difference};
 ghost use Rattle.th_entries.specs.declared.entries.HeightKind.TheVariants as height;
-ghost use Rattle.th_readings.specs.Readings.{IsBookRowOrNone, IsReadOrNone, height_in, is_cheaper, read_difference, read_observation, row_of_book, with_difference, word_33};
+ghost use Rattle.th_readings.specs.Readings.{IsBookRowOrNone, IsReadOrNone, IsRereadOrNone, height_in, is_cheaper, read_difference, read_observation, row_of_book, with_difference, word_33};
 
 use std::alloc::{AllocError, Global};
 use th_blunders::{Fit, blunder_count};
@@ -86,6 +86,22 @@ fn row_if_cheaper(
     }
     let blunders = blunder_count(own.observations(), &fit.residuals, limit);
     Ok(Some(row_of_book(cost, book, fit.cost, blunders)))
+}
+
+/// The network in which the book with this number is read from mark to mark; none if a difference is then
+/// larger than any in a network.
+pub fn reread_network<'a>(
+    alloc: Global,
+    network: &Network<'a>,
+    kinds: &Kinds<'_>,
+    book: u32,
+) -> Result<Option<Network<'a>>, AllocError>
+    ensures { IfOk result (IsRereadOrNone kinds.now.entries.now book network.now) }
+{
+    match reread(alloc, network.observations(), kinds, book)? {
+        Some(read) => Ok(Some(network.with_differences(alloc, read)?)),
+        None => Ok(None),
+    }
 }
 
 /// The row of a book that leaves so much, and so many blunders.

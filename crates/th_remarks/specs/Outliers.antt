@@ -28,6 +28,11 @@ pub record IsUsual (sights : List (ℕ × ℤ)) (usual : ℕ) : Type 0 where
   pub enough : 5 ≤ length (sizes_of sights)
   pub median : IsMedian (sizes_of sights) usual
 
+-- the usual weighted size, or none if there are fewer than five that are not 0
+abbrev pub IsUsualOrNone : List (ℕ × ℤ) → Option ℕ → Type 0
+IsUsualOrNone sights None = length (sizes_of sights) < 5
+IsUsualOrNone sights (Some usual) = IsUsual sights usual
+
 -- a weighted size is far beyond the usual one if it is more than eight times as large
 abbrev pub far_beyond : ℕ → ℕ
 far_beyond usual = 8 * usual

@@ -27,6 +27,6 @@ pub use collected::Remarks;
 pub use gaps::many_heights;
 pub use heights::ManyHeights;
 pub use marked::marks_of;
-pub use outlying::outlier_of;
+pub use outlying::{is_far_beyond, outlier_of, usual_of, weighted_size};
 pub use repeats::{Repeat, repeats_in};
 pub use residuals::{Marks, Outlier};

@@ -2,7 +2,7 @@
 ghost use Rattle.std.specs.Prelude.{◌≡◌, ◌<◌, ◌+◌, ◌*◌, ◌^◌, ◌++◌, ◌∷◌, [], ◌≤ℤ◌, pos, All, IfOk, IfSome, OnOk, if◌then◌else◌, length, min, nat_lt, unsigned_abs};
 ghost use Rattle.std.specs.List.{zip};
 ghost use Rattle.th_blunders.specs.Residuals.{residual_limit};
-ghost use Rattle.th_remarks.specs.Outliers.{IsFarthest, IsMedian, IsOutlierNote, IsUsual, most, proposed_limit, size_at, sizes_of, times_as_large, weighed, weighted_size};
+ghost use Rattle.th_remarks.specs.Outliers.{IsFarthest, IsMedian, IsOutlierNote, IsUsual, IsUsualOrNone, far_beyond, most, proposed_limit, size_at, sizes_of, times_as_large, weighed, weighted_size};
 
 use crate::residuals::Outlier;
 use std::alloc::{AllocError, Global};
@@ -35,12 +35,40 @@ pub fn outlier_of(
     ensures marked { IfOk result (λ note. IfSome note (λ own. 100 * own.limit < own.size)) }
     ensures below { IfOk result (λ note. IfSome note (λ own. pos own.size ≤ℤ limit)) }
 {
+    match usual_of(alloc, network, residuals)? {
+        Some(usual) => Ok(outlier_beyond(network, residuals, limit, usual)),
+        None => Ok(None),
+    }
+}
+
+/// The usual weighted size of the residuals of a network's sights: the median of those that are not 0, if
+/// there are five or more.
+///
+/// Residuals are in the order of the observations and in units of 10 nm.
+pub fn usual_of(
+    alloc: Global,
+    network: &Network,
+    residuals: &[i64],
+) -> Result<Option<u128>, AllocError>
+    requires each { length residuals.now ≡ length network.now.observations }
+    requires small { All (λ residual. unsigned_abs residual < residual_limit) residuals.now }
+    ensures usual { IfOk result (λ usual. IsUsualOrNone (weighed network.now residuals.now) usual) }
+    ensures short { IfOk result (λ usual. IfSome usual (λ own. own < 2 ^ 96)) }
+    ensures positive { IfOk result (λ usual. IfSome usual (λ own. 0 < own)) }
+{
     let mut sizes = sizes_of(alloc, network, residuals)?;
     if sizes.len() < FEWEST {
         return Ok(None);
     }
-    let usual = median(&mut sizes);
-    Ok(outlier_beyond(network, residuals, limit, usual))
+    Ok(Some(median(&mut sizes)))
+}
+
+/// Whether a weighted size is far beyond the usual one: more than eight times as large.
+pub fn is_far_beyond(size: u128, usual: u128) -> bool
+    requires { usual < 2 ^ 96 }
+    ensures { result ≡ nat_lt (far_beyond usual) size }
+{
+    FAR * usual < size
 }
 
 /// The note on the farthest unmarked sight, if it is far beyond this usual weighted size.
@@ -148,7 +176,7 @@ fn size_at(weights: &[u32], residuals: &[i64], place: usize) -> u128
 }
 
 /// The weighted size of the residual of a sight with this weight.
-fn weighted_size(weight: u32, residual: i64) -> u128
+pub fn weighted_size(weight: u32, residual: i64) -> u128
     ensures value { result ≡ weighted_size (weight, residual) }
     ensures short { result < 2 ^ 96 }
 {
