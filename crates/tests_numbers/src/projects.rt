@@ -51,6 +51,10 @@ Word 88 of line 2: given 1.71200000, fits from 1.61200000 to 1.61300000.
 Word 87 of line 2: given 1.30000000, fits from 1.39900000 to 1.40000000.
 The sight of line 9: given -0.80200000, fits from -0.90200000 to -0.90100000.
 Word 88 of line 2: typed 1.71200000, meant 1.61200000?
+
+If 1.61200000 was meant, height_office mend takes these changes:
+line,word,value
+2,88,1.61200000
 ";
 
 /// On the dam the height of ROCK R in the table is 50 mm too low.
@@ -259,6 +263,10 @@ One wrong number explains this: the sight of line 7 of book 1.
 The sight of line 7 of book 1: given 1.77110000, fits 1.27120000.
 The instrument height of line 7 of book 1: typed 1.60350000, meant 1.10350000?
 The next best leaves 23.02750000.
+
+If 1.10350000 was meant, height_office mend takes these changes of book 1:
+line,word,value
+7,88,1.10350000
 ";
 
 /// A book whose words 33 run from mark to mark.

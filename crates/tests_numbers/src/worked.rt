@@ -57,6 +57,10 @@ Word 88 of line 2: given 1.64500000, fits 1.54600000.
 Word 87 of line 2: given 1.50000000, fits 1.59900000.
 Word 88 of line 2: typed 1.64500000, meant 1.54500000?
 The next best leaves 0.10100000.
+
+If 1.54500000 was meant, height_office mend takes these changes:
+line,word,value
+2,88,1.54500000
 ";
 
 #[test]
