@@ -1,0 +1,9 @@
+mod ListLemmas
+mod ListedLemmas
+mod PlaceLemmas
+mod CorrectedLemmas
+mod MovedLemmas
+mod JudgedLemmas
+mod AnswerLemmas
+mod TellingLemmas
+mod LawLemmas

@@ -1,0 +1,5 @@
+-- what private functions promise each other
+pub mod Raised
+pub mod Readjusted
+pub mod Judging
+pub mod Moving
