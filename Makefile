@@ -40,7 +40,7 @@ help-all: help
 	@echo 'make compare   compare the built program with the second reader on mutated books (BOOKS=$(BOOKS) SEED=$(SEED))'
 	@echo 'make office    compare the built program with the second office on random projects (PROJECTS=$(PROJECTS) SEED=$(SEED))'
 	@echo 'make mutated   the same on mutated books, tables and certificates (INPUTS=$(INPUTS) SEED=$(SEED)); a million take hours'
-	@echo 'make page-tidy read sample pages by tidy, where it is installed'
+	@echo 'make page-tidy read sample pages by a parser that knows what a page may have, and by tidy where it is installed'
 	@echo 'make planted   plant wrong numbers in surveys, and compare what comes of them with explain and review (every one in EVERY=$(EVERY))'
 	@echo 'make memory    run the built program, and the calls that `make calls` builds, with each allocation refused in turn'
 	@echo

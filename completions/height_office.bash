@@ -12,16 +12,16 @@ _height_office() {
             mapfile -t COMPREPLY < <(compgen -f -- "$word")
             return
             ;;
-        --blunder)
+        --limit | --blunder | --title)
             return
             ;;
     esac
     case ${COMP_WORDS[1]} in
         list) options='--help' ;;
-        adjust) options='--benchmarks --weights --blunder --out --help' ;;
-        review) options='--benchmarks --weights --blunder --out --help' ;;
-        explain) options='--benchmarks --weights --blunder --csv --help' ;;
-        page) options='--benchmarks --weights --blunder --out --help' ;;
+        adjust) options='--benchmarks --weights --limit --blunder --out --help' ;;
+        review) options='--benchmarks --weights --limit --blunder --out --help' ;;
+        explain) options='--benchmarks --weights --limit --blunder --csv --help' ;;
+        page) options='--title --benchmarks --weights --limit --blunder --out --help' ;;
         check) options='--benchmarks --weights --certificate --inputs --help' ;;
         book) options='--heights --help' ;;
         mend) options='--help' ;;

@@ -84,6 +84,11 @@ class SecondOffice:
     def explain(self, written: Written) -> List[Row]:
         return rows_of(office.explain(self.inputs(written), self.limit, csv_text)[0].standard_output)
 
+    def page(self, written: Written) -> str:
+        inputs = self.inputs(written)
+        paged = office.page(office.review(inputs, self.limit), office.explain(inputs, self.limit, csv_text)[0], inputs, b"own")
+        return paged.files[".html"].decode()
+
 
 class Program:
     """A built program, in a folder of its own."""
@@ -130,3 +135,7 @@ class Program:
 
     def explain(self, written: Written) -> List[Row]:
         return rows_of(self.run(["explain", "--csv"], written).stdout)
+
+    def page(self, written: Written) -> str:
+        self.run(["page", "--out", "own"], written)
+        return (self.folder / "own.html").read_text()

@@ -290,4 +290,4 @@ def survey_of(seed: int, shape: str, size: int, noise: int, heaviest: int = 1) -
     pairs = [(station, target) for setups in books for station, targets in setups for target in targets]
     weights = {pair: rng.randint(1, heaviest) for pair in pairs} if heaviest > 1 else {}
     seen = tuple(tuple(observed(rng, setup, heights, noise) for setup in setups) for setups in books)
-    return Survey(f"{shape} {size}{' weighted' if weights else ''}", seen, {name: heights[name] for name in benchmarks}, weights, heights)
+    return Survey(f"{shape} {size}{' weighted' if weights else ''}", seen, {name: heights[name] for name in benchmarks if name in heights}, weights, heights)

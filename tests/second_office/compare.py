@@ -5,11 +5,12 @@
 
 Each project is adjusted and reviewed by both, and both write its page. Standard output, standard error and status have to be the
 same, and so have the five files of the review, the page, the heights file, the report, the GSI file, and all records of the
-certificate but the flows, byte by byte. For the page the books have names that would do harm if they were markup. Which of several
-best flows is written is open: the program's have to keep their weights, balance and be slack with the heights, and have the cost. Both
-forms of what `explain` prints have to be the second office's, byte by byte. Then the program checks its own certificate, and changed
-ones, with the second office's verdict, line and status; every second project lists the inputs behind `yes`. Prints the seed, how many came out which way, and every difference, with the
-project saved in a folder that it names. Status 0 only without a difference; 2 where the comparison could not be made.
+certificate but the flows, byte by byte. For the page books and titles have names that would do harm if they were markup, and each page
+has known elements and attributes alone. Which of several best flows is written is open: the program's have to keep their weights,
+balance and be slack with the heights, and have the cost. Both forms of what `explain` prints have to be the second office's, byte by
+byte. Then the program checks its own certificate, and changed ones, with the second office's verdict, line and status; every second
+project lists the inputs behind `yes`. Prints the seed, how many came out which way, and every difference, with the project saved in a
+folder that it names. Status 0 only without a difference; 2 where the comparison could not be made.
 """
 
 import argparse
@@ -25,8 +26,9 @@ from random import Random
 from typing import Dict, List, NamedTuple, Optional, Tuple
 
 import office
-from projects import Project, changed_certificate, random_project
+from markup import faults_of
 from pages import HOSTILE
+from projects import Project, changed_certificate, some_project
 from runs import (DEFAULT_PROGRAM, ENDS, EXPLAIN_FORMS, PAGE_END, REVIEW_ENDS, Files, compare_files, differ, differ_in_lines,
                   explain_words, network_words, outcome_of, saved, saved_under, second_adjustment, second_explanations,
                   second_review, written)
@@ -43,6 +45,16 @@ class Comparison(NamedTuple):
     outcomes: List[str]
     differences: List[str]
     folder: Path
+
+
+class Renamed(NamedTuple):
+    """What a page is called, and its books."""
+
+    books: List[bytes]
+    title: Optional[bytes]
+
+    def words(self) -> List[str]:
+        return [] if self.title is None else ["--title", os.fsdecode(self.title)]
 
 
 # Running the program
@@ -79,16 +91,19 @@ def compare_explain(program: Path, project: Project, files: Files, forms: List[o
     return outcome_of("explain", second), differences
 
 
-def hostile_names(rng: Random, count: int) -> List[bytes]:
-    """Names of files for so many books. An argument has to be text."""
+def renamed(rng: Random, count: int) -> Renamed:
+    """Hostile names of so many books, and a hostile title or none. An argument has to be text, and a title a line without controls."""
     names = [name for name in HOSTILE if name.decode("utf-8", "ignore").encode("utf-8") == name]
-    return [b"%d" % number + rng.choice(names) for number in range(count)]
+    titles = [name for name in names if min(name) >= 32 and 127 not in name]
+    return Renamed([b"%d" % number + rng.choice(names) for number in range(count)], rng.choice([None, *titles]))
 
 
-def compare_page(program: Path, project: Project, files: Files, second: office.Answer, names: List[bytes]) -> Tuple[str, List[str]]:
-    own = run(program, files.folder, network_words("page", project, saved_under(names, project, files)))
+def compare_page(program: Path, project: Project, files: Files, second: office.Answer, rename: Renamed) -> Tuple[str, List[str]]:
+    named = saved_under(rename.books, project, files)
+    own = run(program, files.folder, network_words("page", project, named) + rename.words())
+    page = written(files.folder).get(PAGE_END, b"")
     differences = differ("page", own, (second.status, second.standard_output, second.standard_error))
-    differences += differ_in_lines("page", written(files.folder).get(PAGE_END, b""), second.files.get(PAGE_END, b""))
+    differences += differ_in_lines("page", page, second.files.get(PAGE_END, b"")) + (faults_of(page) if page else [])
     return outcome_of("page", second), differences
 
 
@@ -104,7 +119,7 @@ def compare_check(program: Path, project: Project, files: Files, title: str, cer
 def compare_project(program: Path, folder: Path, seed: int, number: int) -> Comparison:
     """Compares project `number`, which hangs on the seed and the number alone."""
     rng = Random(f"{seed} {number}")
-    project = random_project(rng)
+    project = some_project(rng, number)
     files = saved(project, folder)
     own = run(program, folder, network_words("adjust", project, files))
     second = second_adjustment(project)
@@ -112,9 +127,10 @@ def compare_project(program: Path, folder: Path, seed: int, number: int) -> Comp
     differences += compare_files(project, some_of(written(folder), ENDS), second)
     outcomes = [outcome_of("adjust", second)]
     reviewed, explained = second_review(project), second_explanations(project, *EXPLAIN_FORMS)
-    names = hostile_names(Random(f"names {seed} {number}"), len(project.inputs.books))
+    rename = renamed(Random(f"names {seed} {number}"), len(project.inputs.books))
+    paged = office.page(reviewed, explained[0], project.inputs, rename.title or b"own", rename.books)
     for outcome, found in (compare_review(program, project, files, reviewed), compare_explain(program, project, files, explained),
-                           compare_page(program, project, files, office.page(reviewed, explained[0], names), names)):
+                           compare_page(program, project, files, paged, rename)):
         outcomes.append(outcome)
         differences += found
     # Where a table was refused there is no certificate of one's own, but somebody else's is still checked.

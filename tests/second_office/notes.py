@@ -21,6 +21,16 @@ class Unmarked(NamedTuple):
     weighted: int
 
 
+class Outlier(NamedTuple):
+    """The observation within the limit that is farthest from the usual one: its size, how many times the usual one that is, and the
+    limit in micrometres that marks it."""
+
+    observation: Observation
+    size: int
+    times: int
+    proposed: int
+
+
 def joined(lines: List[str]) -> bytes:
     return "".join(f"note: {line}\n" for line in lines).encode("ascii")
 
@@ -81,21 +91,35 @@ def usual_size(weighted: List[int]) -> Optional[int]:
     return there[(len(there) - 1) // 2] if len(there) >= FEWEST_SIZES else None
 
 
-def outlying(network: Network, heights: Heights, limit: int) -> List[str]:
+def sizes_of(network: Network, heights: Heights) -> List[Unmarked]:
     sizes = [abs(observation.residual(heights)) for observation in network.observations]
-    all_of_them = [Unmarked(own, size, own.weight * size) for own, size in zip(network.observations, sizes)]
-    usual = usual_size([own.weighted for own in all_of_them])
-    unmarked = [own for own in all_of_them if own.size <= limit]
-    if usual is None or not unmarked:
+    return [Unmarked(own, size, own.weight * size) for own, size in zip(network.observations, sizes)]
+
+
+def far_beyond(network: Network, heights: Heights, limit: int) -> List[Unmarked]:
+    """The observations within the limit that are far beyond the usual size."""
+    sizes = sizes_of(network, heights)
+    usual = usual_size([own.weighted for own in sizes])
+    return [] if usual is None else [own for own in sizes if own.size <= limit and own.weighted > FAR * usual]
+
+
+def outlier_of(network: Network, heights: Heights, limit: int) -> Optional[Outlier]:
+    found = far_beyond(network, heights, limit)
+    if not found:
+        return None
+    usual = usual_size([own.weighted for own in sizes_of(network, heights)])
+    farthest = max(found, key=lambda own: own.weighted)  # the first of the largest
+    return Outlier(farthest.observation, farthest.size, min(farthest.weighted // usual, MOST),
+                   min(FAR * usual // (UNITS_IN_MICROMETRE * farthest.observation.weight), MOST))
+
+
+def outlying(network: Network, heights: Heights, limit: int) -> List[str]:
+    own = outlier_of(network, heights, limit)
+    if own is None:
         return []
-    farthest = max(unmarked, key=lambda own: own.weighted)  # the first of the largest
-    if farthest.weighted <= FAR * usual:
-        return []
-    times = min(farthest.weighted // usual, MOST)
-    proposed = min(FAR * usual // (UNITS_IN_MICROMETRE * farthest.observation.weight), MOST)
-    where = f"book {farthest.observation.book} line {farthest.observation.line}"
-    return [f"a residual of {metres(farthest.size)} m ({where}) is within the limit, and {times} times the usual one: "
-            f"--blunder {proposed} marks it"]
+    where = f"book {own.observation.book} line {own.observation.line}"
+    return [f"a residual of {metres(own.size)} m ({where}) is within the limit, and {own.times} times the usual one: "
+            f"--blunder {own.proposed} marks it"]
 
 
 def in_one_case(network: Network) -> List[str]:

@@ -5,7 +5,7 @@
     office.py review --benchmarks F [--weights F] [--blunder MICROMETRES] --out PREFIX BOOK...
     office.py check --benchmarks F [--weights F] --certificate F [--inputs] BOOK...
     office.py explain --benchmarks F [--weights F] [--blunder MICROMETRES] [--csv] BOOK...
-    office.py page --benchmarks F [--weights F] [--blunder MICROMETRES] --out PREFIX BOOK...
+    office.py page --benchmarks F [--weights F] [--blunder MICROMETRES] [--title TEXT] --out PREFIX BOOK...
 
 Gives what the program gives: the same files, the same lines, the same statuses. It shares nothing with the program, so that where
 the two differ one of them, or the page, is at fault. Which of several best flows a certificate carries is left open: the program's
@@ -18,6 +18,7 @@ import sys
 from pathlib import Path
 from typing import Dict, List, NamedTuple, Optional
 
+from answer import answer_of
 from certificates import CertificateFault, certificate_text, read_certificate, verdict_line
 from explain import Explanation, csv_text, explanation_of, people_text
 from inputs import Input, input_line, inputs_of
@@ -184,12 +185,14 @@ def explain(inputs: Inputs, limit: int, *texts) -> List[Answer]:
     return [Answer(0, text(explanation), b"", {}, explanation=explanation) for text in texts]
 
 
-def page(reviewed: Answer, explained: Answer, books: List[bytes]) -> Answer:
-    """The page of a project whose books have these names, given what `review` and `explain` find."""
+def page(reviewed: Answer, explained: Answer, inputs: Inputs, title: bytes, names: Optional[List[bytes]] = None) -> Answer:
+    """The page of a project, given what `review` and `explain` find. The books may have other names."""
     if reviewed.review is None or explained.explanation is None:
         return reviewed
-    named = [own._replace(name=name) for own, name in zip(reviewed.review.inputs, books)] + reviewed.review.inputs[len(books):]
-    return Answer(0, b"", b"", {".html": page_text(page_of(reviewed.review, explained.explanation, named))})
+    found, names = reviewed.review, names or []
+    named = [own._replace(name=name) for own, name in zip(found.inputs, names)] + found.inputs[len(names):]
+    answer = answer_of(found.network, found.low, explained.explanation, inputs.books)
+    return Answer(0, b"", b"", {".html": page_text(page_of(found, explained.explanation, answer, named, title))})
 
 
 # The command line
@@ -207,6 +210,7 @@ def arguments(words: Optional[List[str]] = None) -> argparse.Namespace:
         commands.choices[name].add_argument("--blunder", type=int, default=DEFAULT_BLUNDER)
     for name in ("adjust", "review", "page"):
         commands.choices[name].add_argument("--out", required=True)
+    commands.choices["page"].add_argument("--title")
     commands.choices["explain"].add_argument("--csv", action="store_const", const=csv_text, default=people_text)
     commands.choices["check"].add_argument("--certificate", type=Path, required=True)
     commands.choices["check"].add_argument("--inputs", action="store_true")
@@ -224,7 +228,8 @@ def run(chosen: argparse.Namespace) -> Answer:
     if chosen.command == "explain":
         return explain(inputs, limit, chosen.csv)[0]
     if chosen.command == "page":
-        return page(review(inputs, limit), explain(inputs, limit, csv_text)[0], [os.fsencode(path) for path in chosen.books])
+        title = chosen.title or chosen.out.rsplit("/", 1)[-1]
+        return page(review(inputs, limit), explain(inputs, limit, csv_text)[0], inputs, os.fsencode(title))
     return adjust(inputs, limit) if chosen.command == "adjust" else review(inputs, limit)
 
 

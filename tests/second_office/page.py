@@ -1,112 +1,14 @@
-"""The page: section 10 of docs/FORMATS.md. Lengths are in units of 10 nm, coordinates in tenths of a pixel."""
+"""The page: docs/PAGE.md, but for its pictures. Lengths are in units of 10 nm."""
 
-import re
 from pathlib import Path
-from typing import List, NamedTuple, Optional, Tuple
+from typing import Iterable, List, Optional
 
-from inputs import Input
+from markings import (Benchmark, Entry, Explanation, Page, Point, Sight, count, escaped, first_rows, height, is_marked, largest_within, place,
+                      signed, size, span)
+from picture import legend, picture, strip, undrawn
 
-LEFT, WIDTH = 900, 7000
-TOP, HEIGHT = 300, 3000
-FEW, MANY, ROWS = 60, 1_000, 100
-GAP_NAMES, BLOCK, NAMES, PLACES = 20, 20, 30, 4
-RAISE = 10**18
-STEPS = [digit * 10**power for power in range(5, 17) for digit in (1, 2, 5)]
-POWERS = [10**power for power in range(5, 18)]
-LEAST_REACH = 435
-GROUPS = ("s", "t", "h", "u", "b")
-
-
-class Point(NamedTuple):
-    """A point in point order. A benchmark has no strength."""
-
-    name: bytes
-    low: int
-    high: int
-    strength: Optional[int]
-
-
-class Sight(NamedTuple):
-    """An observation with its number from 1; its ends are places among the points, from 0."""
-
-    number: int
-    book: int
-    line: int
-    station: int
-    target: int
-    difference: int
-    weight: int
-    residual: int
-    control: Optional[int]
-    mistake: str
-
-
-class Entry(NamedTuple):
-    """A keyed-in height, `reflector` or `instrument`."""
-
-    book: int
-    line: int
-    kind: str
-    station: bytes
-    length: int
-    sights: int
-    weight: int
-    mistake: str
-
-
-class Benchmark(NamedTuple):
-    """A row of the table of benchmarks. One that was never observed has no mistake."""
-
-    name: bytes
-    height: int
-    sights: int
-    weight: int
-    mistake: Optional[str]
-
-
-class Explanation(NamedTuple):
-    """A row of what `explain` prints."""
-
-    number: int
-    kind: str
-    book: Optional[int]
-    line: Optional[int]
-    station: Optional[bytes]
-    target: Optional[bytes]
-    given: Optional[int]
-    low: Optional[int]
-    high: Optional[int]
-    left: int
-    blunders: int
-
-
-class Page(NamedTuple):
-    """What a page shows."""
-
-    inputs: List[Input]
-    points: List[Point]
-    sights: List[Sight]
-    entries: List[Entry]
-    benchmarks: List[Benchmark]
-    explanations: List[Explanation]
-    says: List[bytes]
-    notes: List[bytes]
-    cost: int
-    limit: int
-
-
-# Texts
-
-ENTITIES = {ord("&"): b"&amp;", ord("<"): b"&lt;", ord(">"): b"&gt;", ord('"'): b"&quot;", ord("'"): b"&#39;"}
-
-
-# C1 controls, and what is no character.
-HIDDEN = re.compile(rb"\xc2[\x80-\x9f]|\xef\xbf[\xbe\xbf]")
-
-
-def escaped(text: bytes) -> bytes:
-    text = HIDDEN.sub(b"?", text)
-    return b"".join(ENTITIES.get(byte, b"?" if byte < 32 or byte == 127 else bytes([byte])) for byte in text)
+ROWS, BLOCK, MOST_LISTED = 100, 20, 2_000
+STYLE = (Path(__file__).resolve().parents[2] / "docs" / "page" / "style.css").read_bytes()
 
 
 def number(value: int) -> bytes:
@@ -117,261 +19,180 @@ def optional(value: Optional[int], text=number) -> bytes:
     return b"" if value is None else text(value)
 
 
-def tenths(length: int) -> int:
-    """The size in tenths of a millimetre, halves up."""
-    return (abs(length) // 5_000 + 1) // 2
+def paragraph(text: bytes) -> bytes:
+    return b"<p>%s</p>\n" % text
 
 
-def height(length: int) -> bytes:
-    size = tenths(length)
-    return (b"-" if length < 0 < size else b"") + b"%d.%04d" % (size // 10_000, size % 10_000)
+# What the verdict depends on
 
 
-def signed(length: int) -> bytes:
-    return (b"+" if length > 0 and tenths(length) > 0 else b"") + height(length)
+def loops(page: Page) -> int:
+    return max(0, len(page.sights) - new_points(page))
 
 
-def place(book: int, line: int) -> bytes:
-    return b"%d:%d" % (book, line)
+def new_points(page: Page) -> int:
+    return sum(point.strength is not None for point in page.points)
 
 
-WORDS = {"shows": b"shows", "ties": b'<b class="t">=</b> ties', "hides": b'<b class="h">&lt;</b> hides',
-         "unchecked": b'<b class="u">0</b> unchecked', "drags": b'<b class="h">&lt;</b> drags'}
+def moved_points(page: Page) -> List[Point]:
+    return [point for point in page.points if point.moved is not None]
 
 
-# Places in the plots
+def unchecked(rows: Iterable) -> int:
+    return sum(row.mistake == "unchecked" for row in rows)
 
 
-class Scale(NamedTuple):
-    """Raised heights: the lowest and the highest line of the scale, and the step between two lines."""
+HEADINGS = {
+    "unlike": b"All sights are within the limit, but not all fit alike.",
+    "unchecked": b"Nothing checks these heights.",
+    "fits": b"All sights fit.",
+    "doubted": b"All sights are within the limit, but one number may be wrong.",
+    "unexplained": b"Sights do not fit, and no one number explains it.",
+    "in part": b"Sights do not fit, and no one number explains all of it.",
+    "explained": b"One wrong number explains all that does not fit.",
+    "undecided": b"One wrong number explains all that does not fit, but the books do not say which.",
+}
 
-    low: int
-    high: int
-    step: int
 
+def verdict_without_marks(page: Page) -> str:
+    if page.explanations:
+        return "doubted"
+    if not loops(page):
+        return "unchecked"
+    return "unlike" if page.outlier is not None else "fits"
 
-def x_of(k: int, n: int) -> int:
-    return LEFT + min(WIDTH, WIDTH * (2 * k + 1) // max(1, 2 * n))
 
+def verdict_on(page: Page) -> str:
+    """Which row of the table of verdicts applies first."""
+    if not any(is_marked(page, sight) for sight in page.sights):
+        return verdict_without_marks(page)
+    if not page.explanations:
+        return "unexplained"
+    explaining = sum(row.blunders == 0 for row in first_rows(page))
+    return "in part" if explaining == 0 else "explained" if explaining == 1 else "undecided"
 
-def moved(start: int, by: int) -> int:
-    return start + by if by >= 0 else max(0, start + by)
 
+def class_of(page: Page) -> bytes:
+    verdict = verdict_on(page)
+    if moved_points(page) or verdict in ("unexplained", "in part"):
+        return b"bad"
+    return b"good" if verdict == "fits" and not unchecked(page.sights) and not unchecked(page.entries) else b"care"
 
-def raised(length: int) -> int:
-    return moved(RAISE, length)
 
+# The verdict
 
-def scale_of(points: List[Point]) -> Scale:
-    lows = [raised(point.low) for point in points] or [RAISE]
-    least, greatest = min(lows), max(lows)
-    step = next(step for step in STEPS if (greatest - least) // 8 < step)
-    return Scale(least - least % step, greatest - greatest % step + step, step)
 
+def meaning(page: Page) -> bytes:
+    marked = sum(is_marked(page, sight) for sight in page.sights)
+    text = b'Their residuals are above the limit: see <a href="#residuals">residuals</a>.' if marked else b"No residual is above the limit."
+    wait = b" Do not use these heights yet." if class_of(page) == b"bad" else b""
+    return paragraph(b"<b>%d of %d sights marked.</b> %s%s" % (marked, len(page.sights), text, wait))
 
-def y_of(scale: Scale, at: int) -> int:
-    return TOP + min(HEIGHT, HEIGHT * max(0, scale.high - at) // max(1, scale.high - scale.low))
 
+def moves(page: Page) -> bytes:
+    """What the first rows move."""
+    points, alone = moved_points(page), len(first_rows(page)) == 1
+    if not points:
+        return paragraph(b"No height moves by more than %s then." % size(page.limit))
+    if not alone:
+        return paragraph(b"%s on it by more than %s: struck out below." % (count(len(points), b"height depends", b"heights depend"), size(page.limit)))
+    if len(points) > 1:
+        return paragraph(b"Then %d heights move by more than %s: they are struck out below." % (len(points), size(page.limit)))
+    point = points[0]
+    return paragraph(b"Then the height of <b>%s</b> is <b>%s</b> in place of <s>%s</s>." % (escaped(point.name), height(point.moved[0]), height(point.low)))
 
-# The picture
 
+def unlike(page: Page) -> bytes:
+    """What the note on the sight that is farthest from the usual residual says."""
+    own = page.outlier
+    return paragraph(b"The sight in line %d of book %d is off by %s: %d times the usual residual. To see what would explain it, make the page again "
+                     b"with <code>--blunder %d</code>." % (own.observation.line, own.observation.book, size(own.size), own.times, own.proposed))
 
-def is_marked(page: Page, sight: Sight) -> bool:
-    return abs(sight.residual) > page.limit
 
+def verdict(page: Page) -> bytes:
+    out = b'<div class="verdict %s">\n<h2>%s</h2>\n' % (class_of(page), HEADINGS[verdict_on(page)])
+    out += meaning(page) + b"".join(paragraph(escaped(sentence)) for sentence in page.says)
+    out += moves(page) if first_rows(page) else b""
+    out += unlike(page) if verdict_on(page) == "unlike" else b""
+    counts = [count(many, one, more) for many, one, more in ((unchecked(page.sights), b"sight", b"sights"),
+                                                             (unchecked(page.entries), b"keyed-in height", b"keyed-in heights")) if many]
+    if counts:
+        out += paragraph(b"Nothing checks %s: a mistake there would not show." % b" and ".join(counts))
+    if len(page.points) - new_points(page) == 1:
+        out += paragraph(b"All heights rest on one benchmark: nothing checks its height.")
+    return out + b"</div>\n"
 
-def group_of(page: Page, sight: Sight) -> str:
-    return "b" if is_marked(page, sight) else sight.mistake[0]
 
+def fact(value: bytes, what: bytes) -> bytes:
+    return b"<li><b>%s</b>%s\n" % (value, what)
 
-def in_group(page: Page, group: str) -> List[Sight]:
-    return [sight for sight in page.sights if group_of(page, sight) == group]
 
-
-def tick_lines(scale: Scale) -> bytes:
-    ticks = [at for at in (scale.low + k * scale.step for k in range(10)) if at <= scale.high]
-    return b"".join(b'<path class="l" d="M900 %dH7900"/><text x="840" y="%d">%s</text>\n'
-                    % (y_of(scale, at), y_of(scale, at) + 35, height(at - RAISE)) for at in ticks)
-
-
-def title_of(page: Page, sight: Sight) -> bytes:
-    return ends(page, sight) + b", " + signed(sight.residual)
-
-
-def ends(page: Page, sight: Sight) -> bytes:
-    return b"%s %s to %s" % (place(sight.book, sight.line), escaped(page.points[sight.station].name), escaped(page.points[sight.target].name))
-
-
-class Curve(NamedTuple):
-    """Where a sight is drawn: from (x, y) to (u, v), and the rise of its bend."""
-
-    x: int
-    y: int
-    u: int
-    v: int
-    bend: int
-
-    def middle(self) -> Tuple[int, int]:
-        return (self.x + self.u) // 2, (self.y + self.v) // 2 + self.bend
-
-
-def curve_of(page: Page, scale: Scale, sight: Sight) -> Curve:
-    count, own, other = len(page.points), page.points[sight.station], page.points[sight.target]
-    x, u = x_of(sight.station, count), x_of(sight.target, count)
-    flat = 32 * (sight.number % 3 + 1)
-    return Curve(x, y_of(scale, raised(own.low)), u, y_of(scale, moved(raised(other.low), sight.residual)), x // flat - u // flat)
-
-
-def path(page: Page, scale: Scale, sight: Sight) -> bytes:
-    own = curve_of(page, scale, sight)
-    return (b'<path class="%s" d="M%d %dQ%d %d %d %dT%d %d"><title>%s</title></path>\n'
-            % (sight.mistake[0].encode(), own.x, own.y, (3 * own.x + own.u) // 4, (3 * own.y + own.v) // 4 + own.bend, *own.middle(),
-               own.u, own.v, title_of(page, sight)))
-
-
-def group_lines(page: Page, scale: Scale, group: str) -> bytes:
-    sights = in_group(page, group)
-    if len(sights) > MANY:
-        return b""
-    few = b" few" if len(sights) <= FEW else b""
-    return b'<g class="g%s%s">\n' % (group.encode(), few) + b"".join(path(page, scale, sight) for sight in sights) + b"</g>\n"
-
-
-def dot(page: Page, scale: Scale, k: int) -> bytes:
-    point = page.points[k]
-    x, y = x_of(k, len(page.points)), y_of(scale, raised(point.low))
-    title = b"<title>%s %s</title>" % (escaped(point.name), height(point.low))
-    if point.strength is None:
-        return b'<path class="k" d="M%d %dl70 120h-140z">%s</path>\n' % (x, y - 75, title)
-    play = b'<path class="p" d="M%d %dV%d"/>' % (x, y, y_of(scale, raised(point.high))) if point.high > point.low else b""
-    return play + b'<circle cx="%d" cy="%d" r="%d">%s</circle>\n' % (x, y, 38 if len(page.points) <= FEW else 20, title)
-
-
-def named(place_of_sight: bytes, own: Curve) -> bytes:
-    """The place of a sight in the middle of its curve, above the names of points."""
-    x, y = own.middle()
-    side, anchor = (x + 100, b"start") if x < 4_400 else (x - 100, b"end")
-    return b'<text x="%d" y="%d" text-anchor="%s">%s</text>' % (side, min(3_300, y + 40), anchor, place_of_sight)
-
-
-def gap(page: Page, scale: Scale, sight: Sight, has_place: bool) -> bytes:
-    own = curve_of(page, scale, sight)
-    text = named(place(sight.book, sight.line), own) if has_place else b""
-    low = y_of(scale, raised(page.points[sight.target].low))
-    return (b'<path class="gap" d="M%d %dV%d"/><path class="x" d="M%d %dl80 80m0-80l-80 80"/>%s\n'
-            % (own.u, own.v, low, own.u - 40, own.v - 40, text))
-
-
-def gap_lines(page: Page, scale: Scale) -> bytes:
-    marked = in_group(page, "b")
-    if len(marked) > MANY:
-        return b""
-    return b'<g class="n gaps">\n' + b"".join(gap(page, scale, sight, len(marked) <= GAP_NAMES) for sight in marked) + b"</g>\n"
-
-
-def is_written(k: int, count: int, many: int) -> bool:
-    """Whether number k, from 0, of a count is written, if fewer than twice `many` are written."""
-    return k % max(1, count // many) == 0
-
-
-def name_lines(page: Page, scale: Scale, level: bool) -> bytes:
-    lines = b""
-    for k, point in enumerate(page.points):
-        x, y = x_of(k, len(page.points)), y_of(scale, raised(point.low))
-        if is_written(k, len(page.points), NAMES):
-            start = b'<text class="c" x="%d" y="3450">' % x if level else b'<text class="e" x="-3360" y="%d" transform="rotate(-90)">' % (x + 35)
-            lines += b'<path class="d" d="M%d %dV3300"/>' % (x, y) + start + escaped(point.name) + b"</text>\n"
-    return lines
-
-
-MARKERS = b"".join(b'<marker id="%s" viewBox="0 0 160 160" refX="80" refY="80" markerWidth="160" markerHeight="160" '
-                   b'markerUnits="userSpaceOnUse"><circle class="%s" cx="80" cy="80" r="72"/><text x="80" y="118">%s</text></marker>\n'
-                   % (letter, letter, sign) for letter, sign in ((b"t", b"="), (b"h", b"&lt;"), (b"u", b"0")))
-
-
-def picture(page: Page) -> bytes:
-    scale = scale_of(page.points)
-    longest = max([0] + [len(point.name) for point in page.points])
-    level = longest <= 70 // max(1, len(page.points))
-    depth = 160 if level else 100 + 90 * longest
-    return (b'<svg viewBox="0 0 8000 %d" role="img" aria-label="Heights of points and sights">\n<defs>\n' % (3_360 + depth) + MARKERS
-            + b'</defs>\n<g class="n e">\n<text x="840" y="160">metres</text>\n' + tick_lines(scale) + b'</g>\n<g class="n">\n'
-            + name_lines(page, scale, level) + b"</g>\n" + b"".join(group_lines(page, scale, group) for group in GROUPS)
-            + b'<g class="dots">\n' + b"".join(dot(page, scale, k) for k in range(len(page.points))) + b"</g>\n"
-            + gap_lines(page, scale) + b"</svg>\n")
-
-
-# The strip of residuals
-
-
-def offset(length: int) -> int:
-    return sum(min(140, 140 * abs(length) // power) for power in POWERS)
-
-
-def strip_ticks(middle: int, reach: int) -> bytes:
-    lines = b""
-    for power in POWERS:
-        if offset(power) <= reach:
-            for y, length in ((middle - offset(power), power), (middle + offset(power), -power)):
-                lines += b'<path class="l" d="M900 %dH7900"/><text x="840" y="%d">%s</text>\n' % (y, y + 35, signed(length))
-    return lines
-
-
-def bar(page: Page, middle: int, sight: Sight) -> bytes:
-    x, length = x_of(sight.number - 1, len(page.sights)), offset(sight.residual)
-    if sight.residual < 0:
-        return b"M%d %dV%d" % (x, middle - 20, middle + length)
-    return b"M%d %dV%d" % (x, middle + 20, middle - length)
-
-
-def place_lines(page: Page, y: int) -> bytes:
-    count = len(page.sights)
-    return b"".join(b'<text x="%d" y="%d">%s</text>\n' % (x_of(sight.number - 1, count), y, place(sight.book, sight.line))
-                    for sight in page.sights if is_written(sight.number - 1, count, PLACES))
-
-
-def strip(page: Page) -> bytes:
-    reach = max([LEAST_REACH, offset(page.limit)] + [offset(sight.residual) for sight in page.sights])
-    middle, grey = reach + 100, offset(page.limit)
-    bars = b"".join(b'<path class="%s" d="%s"/>\n' % (group.encode(), b"".join(bar(page, middle, sight) for sight in in_group(page, group)))
-                    for group in GROUPS)
-    return (b'<svg viewBox="0 0 8000 %d" role="img" aria-label="Residuals of sights">\n' % (2 * reach + 320)
-            + b'<rect x="900" y="%d" width="7000" height="%d"/>\n<g class="n e">\n' % (middle - grey, 2 * grey) + strip_ticks(middle, reach)
-            + b'</g>\n<path class="z" d="M900 %dH7900"/>\n<g class="bars" stroke-width="%d">\n' % (middle, max(6, min(80, 3_500 // max(1, len(page.sights)))))
-            + bars + b'</g>\n<g class="n e">\n' + place_lines(page, middle + reach + 150) + b"</g>\n</svg>\n")
+def facts(rows: List[bytes]) -> bytes:
+    return b'<ul class="facts">\n' + b"".join(rows) + b"</ul>\n"
 
 
 # Tables
 
-SIGHT_HEAD = b"<td>Place<th>From<th>To<td>Observed<td>Residual<td>Weight<td>Control<th>A mistake"
+SIGHT_HEAD = b"<td>Place<th>From<th>To<td>Observed<td>Residual<td>Weight<td>Control<th>"
 ENTRY_HEAD = b"<td>Place<th>Height of<th>At<td>Given<td>Sights<td>Weight<th>A mistake"
-BENCHMARK_HEAD = b"<th>Benchmark<td>Height<td>Sights<td>Weight<th>A mistake"
+WEAK_BENCHMARK_HEAD = b"<th>Benchmark<td>Height<td>Sights<td>Weight<th>A mistake"
+BENCHMARK_HEAD = b"<th>Benchmark<td>Given<td>Sights<td>The others say<td>Off by"
 HEIGHT_HEAD = b"<th>Point<td>Height<td>up to<td>Strength"
 EXPLANATION_HEAD = b"<td>No<td>Place<th>What<th>At<td>Given<td>Proposed<td>up to<td>Cost left<td>Marks left"
 WHAT = {"instrument": b"instrument height", "reflector": b"reflector height", "instrument since": b"instrument height since",
         "reflector since": b"reflector height since", "sight": b"sight", "benchmark": b"benchmark", "book": b"word 33 of the book"}
+GROUP_WORDS = {"a": b"in question", "s": b"does not fit", "c": b"fits if mended", "v": b"unlike the others", "q": b""}
+
+
+def row_start(is_first: bool) -> bytes:
+    return b'<tr class="x">' if is_first else b"<tr>"
+
+
+def sight_cells(page: Page, sight: Sight) -> bytes:
+    return (b"<tr><td>%s<th>%s<th>%s<td>%s<td>%s<td>%d<td>%s"
+            % (place(sight.book, sight.line), escaped(page.points[sight.station].name), escaped(page.points[sight.target].name),
+               height(sight.difference), signed(sight.residual), sight.weight, optional(sight.control)))
 
 
 def sight_row(page: Page, sight: Sight) -> bytes:
-    return (b"<tr><td>%s<th>%s<th>%s<td>%s<td>%s<td>%d<td>%s<th>%s\n"
-            % (place(sight.book, sight.line), escaped(page.points[sight.station].name), escaped(page.points[sight.target].name),
-               height(sight.difference), signed(sight.residual), sight.weight, optional(sight.control), WORDS[sight.mistake]))
+    return sight_cells(page, sight) + b'<th class="t">%s\n' % GROUP_WORDS[sight.group]
+
+
+def weak_sight_row(page: Page, sight: Sight) -> bytes:
+    return sight_cells(page, sight) + b"<th>%s\n" % sight.mistake.encode()
 
 
 def entry_row(entry: Entry) -> bytes:
     return (b"<tr><td>%s<th>%s<th>%s<td>%s<td>%d<td>%d<th>%s\n"
             % (place(entry.book, entry.line), entry.kind.encode(), escaped(entry.station), height(entry.length), entry.sights, entry.weight,
-               WORDS[entry.mistake]))
+               entry.mistake.encode()))
 
 
-def benchmark_row(row: Benchmark) -> bytes:
-    return b"<tr><th>%s<td>%s<td>%d<td>%d<th>%s\n" % (escaped(row.name), height(row.height), row.sights, row.weight, b"" if row.mistake is None else WORDS[row.mistake])
+def weak_benchmark_row(row: Benchmark) -> bytes:
+    return b"<tr><th>%s<td>%s<td>%d<td>%d<th>%s\n" % (escaped(row.name), height(row.height), row.sights, row.weight, row.mistake.encode())
 
 
-def height_row(point: Point) -> bytes:
-    return (b"<tr><th>%s<td>%s<td>%s<td>%s\n"
-            % (escaped(point.name), height(point.low), height(point.high) if point.high > point.low else b"",
-               b"benchmark" if point.strength is None else number(point.strength)))
+def off_by(row: Benchmark) -> int:
+    """How far the given height is outside what the others say."""
+    low, high = row.others.differ or (row.height, row.height)
+    return max(0, low - row.height, row.height - high)
+
+
+def benchmark_row(page: Page, row: Benchmark) -> bytes:
+    off = off_by(row)
+    says = span(row.others.differ) if row.others.differ else b""
+    cells = b"<td>%s<td>%s" % (says, size(off) if off else b"fits")
+    if not row.others.speak:
+        cells = b"<td>nothing%s<td>" % (b": it is the only one" if len(page.benchmarks) == 1 else b"")
+    return row_start(off > page.limit) + b"<th>%s<td>%s<td>%d%s\n" % (escaped(row.name), height(row.height), row.sights, cells)
+
+
+def height_row(point: Point, has_moved: bool) -> bytes:
+    strength = b"benchmark" if point.strength is None else number(point.strength)
+    if point.moved is not None:
+        return b'<tr class="x"><th>%s<td><s>%s</s><td><td>%s<td><b>%s</b>\n' % (escaped(point.name), height(point.low), strength, span(point.moved))
+    high = height(point.high) if point.high > point.low else b""
+    return b"<tr><th>%s<td>%s<td>%s<td>%s%s\n" % (escaped(point.name), height(point.low), high, strength, b"<td>" if has_moved else b"")
 
 
 def place_found(row: Explanation) -> bytes:
@@ -387,137 +208,115 @@ def ends_found(row: Explanation) -> bytes:
 
 def explanation_row(row: Explanation) -> bytes:
     high = None if row.low == row.high else row.high
-    return (b"<tr><td>%d<td>%s<th>%s<th>%s<td>%s<td>%s<td>%s<td>%s<td>%d\n"
+    return (row_start(row.number == 1) + b"<td>%d<td>%s<th>%s<th>%s<td>%s<td>%s<td>%s<td>%s<td>%d\n"
             % (row.number, place_found(row), WHAT[row.kind], ends_found(row), optional(row.given, height), optional(row.low, height),
                optional(high, height), height(row.left), row.blunders))
 
 
-def table(head: bytes, rows: List[bytes]) -> bytes:
-    more = b"<p>%d more rows are in the tables of height_office review.</p>\n" % (len(rows) - ROWS) if len(rows) > ROWS else b""
-    return b'<div class="w"><table>\n<thead><tr>' + head + b"</thead>\n<tbody>\n" + b"".join(rows[:ROWS]) + b"</tbody></table></div>\n" + more
+def table(head: bytes, rows: List[bytes], box: bytes = b"w") -> bytes:
+    return b'<div class="%s"><table>\n<thead><tr>%s</thead>\n<tbody>\n%s</tbody></table></div>\n' % (box, head, b"".join(rows))
 
 
-def section(name: bytes, title: bytes, text: bytes, body: bytes) -> bytes:
-    return b'<section id="%s">\n<h2>%s</h2>\n<p>%s</p>\n%s</section>\n' % (name, title, text, body)
+def short_table(head: bytes, rows: List[bytes]) -> bytes:
+    more = paragraph(b"%d more rows are in the tables of height_office review." % (len(rows) - ROWS)) if len(rows) > ROWS else b""
+    return table(head, rows[:ROWS]) + more
+
+
+def details(summary: bytes, body: bytes) -> bytes:
+    return b"<details>\n<summary>%s</summary>\n%s</details>\n" % (summary, body)
+
+
+def section(name: bytes, title: bytes, note: bytes, body: bytes) -> bytes:
+    text = b'<p class="note">%s</p>\n' % note if note else b""
+    return b'<section id="%s">\n<h2>%s</h2>\n%s%s</section>\n' % (name, title, text, body)
+
+
+# Sections
+
+
+def heights(page: Page) -> bytes:
+    has_moved = bool(moved_points(page))
+    wait = b'<span class="r">Do not use the heights that are struck out.</span> ' if has_moved else b""
+    head = HEIGHT_HEAD + (b"<td>If mended" if has_moved else b"")
+    blocks = [page.points[k : k + BLOCK] for k in range(0, len(page.points), BLOCK)] or [[]]
+    return section(b"heights", b"Heights",
+                   wait + b"In metres. Where there is a second height, any height up to it fits equally well if other points move with it. "
+                   b"Strength is the least weight of sights that tie the point to the benchmarks. Wrong sights that weigh less than half "
+                   b"of it together do not drag the point.",
+                   b"".join(table(head, [height_row(point, has_moved) for point in block], b"col") for block in blocks))
+
+
+def benchmarks(page: Page) -> bytes:
+    rows = [benchmark_row(page, row) for row in page.benchmarks[:ROWS]] + [b""] * max(0, len(page.benchmarks) - ROWS)
+    return section(b"benchmarks", b"Benchmarks", b"The given heights, and what the other benchmarks say of each by the sights that lead there.",
+                   short_table(BENCHMARK_HEAD, rows)) if rows else b""
+
+
+def residuals(page: Page) -> bytes:
+    if not page.sights:
+        return b""
+    others = [sight_row(page, sight) for sight in page.sights if sight.group != "q"]
+    body = b'<div class="w">\n' + strip(page) + b"</div>\n" + (short_table(SIGHT_HEAD, others) if others else b"")
+    if len(page.sights) <= MOST_LISTED:
+        body += details(b"All %d sights" % len(page.sights), table(SIGHT_HEAD, [sight_row(page, sight) for sight in page.sights]))
+    return section(b"residuals", b"Residuals",
+                   b"By how much each sight puts its target above (+) or below (-) its height, in the order of the books. Grey: within the limit. "
+                   b"A place such as 2:14 is line 14 of book 2.", body)
+
+
+def explanations(page: Page) -> bytes:
+    rows = [explanation_row(row) for row in page.explanations]
+    return section(b"explanations", b"What would explain it",
+                   b"One number changed at a time. With the proposed number nearest to the given one, the cost and the marks of the last two "
+                   b"columns are left. Rows with the same number explain equally well.", short_table(EXPLANATION_HEAD, rows)) if rows else b""
+
+
+def could_hide(page: Page) -> bytes:
+    sights = [weak_sight_row(page, sight) for sight in page.sights if sight.mistake != "shows"]
+    weak = [weak_benchmark_row(row) for row in page.benchmarks if row.mistake not in ("shows", None)]
+    entries = [entry_row(row) for row in page.entries if row.mistake != "shows"]
+    body = facts([fact(number(len(sights)), b"weak sights"), fact(number(len(weak)), b"weak benchmarks"),
+                  fact(number(len(entries)), b"weak keyed-in heights")])
+    body += details(b"Weak sights", short_table(SIGHT_HEAD + b"A mistake", sights)) if sights else b""
+    body += details(b"Weak benchmarks", short_table(WEAK_BENCHMARK_HEAD, weak)) if weak else b""
+    body += details(b"Weak keyed-in heights", short_table(ENTRY_HEAD, entries)) if entries else b""
+    return section(b"hide", b"What could hide",
+                   b"Where a single mistake would not show as its own residual. This is no fault that was found: nearly every survey has such "
+                   b"numbers, and another sight or benchmark checks them. Ties: it or another sight is marked. Hides: other sights are marked. "
+                   b"Drags: points move, and other sights are marked, or none. Unchecked: nothing is marked.", body)
+
+
+def notes(page: Page) -> bytes:
+    rows = b"".join(b"<li>%s\n" % escaped(note) for note in page.notes)
+    return section(b"notes", b"Notes", b"What looks odd in the books and tables.", b"<ul>\n" + rows + b"</ul>\n") if rows else b""
+
+
+def asked(page: Page) -> bytes:
+    inputs = [b"<li>%s: <bdi>%s</bdi> <small>%d B, SHA-256 %s</small>\n" % (own.label.encode(), escaped(own.last_part), len(own.text), own.digest.encode())
+              for own in page.inputs]
+    return section(b"ask", b"What a client may ask", b"",
+                   paragraph(b"<b>How were the heights found?</b> They keep the benchmarks, and the sum of weight times size over all residuals is %s m: no "
+                             b"heights that keep the benchmarks have less. A sight that others outweigh does not pull them. All lengths are in "
+                             b"metres, rounded to 0.1 mm." % height(page.cost))
+                   + paragraph(b"<b>How can they be checked?</b> <code>height_office adjust</code> writes a certificate beside the heights. With it and "
+                               b"these inputs <code>height_office check</code> prints yes.")
+                   + paragraph(b"<b>What were they made of?</b>") + b'<ul class="inputs">\n' + b"".join(inputs) + b"</ul>\n"
+                   + paragraph(b"Height Office"))
 
 
 # The page
 
-FIXED = Path(__file__).resolve().parents[2] / "docs" / "page"
-STYLE, LEGEND, FOOT = ((FIXED / name).read_bytes() for name in ("style.css", "legend.html", "foot.html"))
-
-
-HEADINGS = {
-    "unchecked": (b"care", b"Nothing checks these heights."),
-    "fits": (b"good", b"All sights fit."),
-    "doubted": (b"care", b"All sights are within the limit, but one number may be wrong."),
-    "unexplained": (b"bad", b"Sights do not fit, and no one number explains it."),
-    "in part": (b"bad", b"Sights do not fit, and no one number explains all of it."),
-    "explained": (b"bad", b"One wrong number explains all that does not fit."),
-    "undecided": (b"bad", b"One wrong number explains all that does not fit, but the books do not say which."),
-}
-
-
-def loops(page: Page) -> int:
-    fixed = sum(point.strength is None for point in page.points)
-    return max(0, len(page.sights) - (len(page.points) - fixed))
-
-
-def verdict_on(page: Page) -> str:
-    """Which row of the table of verdicts applies first."""
-    if not in_group(page, "b"):
-        return "doubted" if page.explanations else "fits" if loops(page) else "unchecked"
-    if not page.explanations:
-        return "unexplained"
-    explaining = sum(row.number == 1 and row.blunders == 0 for row in page.explanations)
-    return "in part" if explaining == 0 else "explained" if explaining == 1 else "undecided"
-
-
-def paragraph(text: bytes) -> bytes:
-    return b"<p>%s</p>\n" % text
-
-
-def verdict(page: Page) -> bytes:
-    marked = len(in_group(page, "b"))
-    alone = sum(sight.mistake == "unchecked" for sight in page.sights)
-    meaning = b'Their residuals are above the limit: see <a href="#marked">marked sights</a>. Do not use these heights yet.'
-    out = b'<div class="verdict %s">\n<h2>%s</h2>\n' % HEADINGS[verdict_on(page)]
-    out += paragraph(b"<b>%d of %d sights marked.</b> %s" % (marked, len(page.sights), meaning if marked else b"No residual is above the limit."))
-    out += b"".join(paragraph(escaped(sentence)) for sentence in page.says)
-    if alone:
-        out += paragraph(b"Sights that no other checks: %d. A mistake there would not show." % alone)
-    if sum(point.strength is None for point in page.points) == 1:
-        out += paragraph(b"All heights rest on one benchmark: nothing checks its height.")
-    return out + b"</div>\n"
-
-
-def fact(what: bytes, value: bytes) -> bytes:
-    return b"<li>%s <b>%s</b>\n" % (what, value)
-
-
-def hiding(page: Page) -> bytes:
-    """How many sights, benchmarks and entries are weak."""
-    return (fact(b"Weak sights", number(sum(sight.mistake != "shows" for sight in page.sights)))
-            + fact(b"Weak benchmarks", number(sum(row.mistake not in ("shows", None) for row in page.benchmarks)))
-            + fact(b"Weak keyed-in heights", number(sum(row.mistake != "shows" for row in page.entries))))
-
-
-def facts(page: Page) -> bytes:
-    fixed = sum(point.strength is None for point in page.points)
-    values = ((b"Points", number(len(page.points))), (b"Benchmarks", number(fixed)), (b"Sights", number(len(page.sights))),
-              (b"Loops", number(loops(page))), (b"Keyed-in heights", number(len(page.entries))), (b"Cost", height(page.cost) + b" m"),
-              (b"Limit", height(page.limit) + b" m"))
-    return b"".join(fact(*value) for value in values)
-
-
-def sections(page: Page) -> bytes:
-    marked = [sight_row(page, sight) for sight in in_group(page, "b")]
-    weak = [sight_row(page, sight) for sight in page.sights if sight.mistake != "shows"]
-    benchmarks = [benchmark_row(row) for row in page.benchmarks if row.mistake not in ("shows", None)]
-    entries = [entry_row(row) for row in page.entries if row.mistake != "shows"]
-    blocks = [page.points[k : k + BLOCK] for k in range(0, len(page.points), BLOCK)] or [[]]
-    heights = b"".join(b'<div class="col"><table>\n<thead><tr>' + HEIGHT_HEAD + b"</thead>\n<tbody>\n"
-                       + b"".join(height_row(point) for point in block) + b"</tbody></table></div>\n" for block in blocks)
-    out = b""
-    if page.explanations:
-        out += section(b"explanations", b"One wrong number that would explain the marks",
-                       b"With the proposed number nearest to the given one, the cost and the marks of the last two columns are left.",
-                       table(EXPLANATION_HEAD, [explanation_row(row) for row in page.explanations]))
-    if marked:
-        out += section(b"marked", b"Marked sights",
-                       b"Their residuals are above the limit. Look at them first, and then at what is weak nearby: a mistake there may mark "
-                       b"right sights.", table(SIGHT_HEAD, marked))
-    out += section(b"heights", b"Heights",
-                   b"In metres. Where there is a second height, any height up to it fits equally well if other points move with it. "
-                   b"Strength is the least weight of sights that tie the point to the benchmarks. Wrong sights that weigh less than half "
-                   b"of it together do not drag the point.", heights)
-    if weak:
-        out += section(b"weak", b"Weak sights",
-                       b"Another sight between the same points, or of the point from elsewhere, checks them.", table(SIGHT_HEAD, weak))
-    if benchmarks:
-        out += section(b"benchmarks", b"Weak benchmarks", b"A mistake in such a height may move points, and mark right sights or none.",
-                       table(BENCHMARK_HEAD, benchmarks))
-    if entries:
-        out += section(b"entries", b"Weak keyed-in heights",
-                       b"A mistake in such a height is in all of its sights. It may move points, and mark right sights or none.",
-                       table(ENTRY_HEAD, entries))
-    if page.notes:
-        out += section(b"notes", b"Notes", b"What looks odd in the books and tables.",
-                       b"<ul>\n" + b"".join(b"<li>%s\n" % escaped(note) for note in page.notes) + b"</ul>\n")
-    return out
-
 
 def page_text(page: Page) -> bytes:
-    undrawn = sum(len(sights) for sights in (in_group(page, group) for group in GROUPS) if len(sights) > MANY)
-    left_out = b"<p>Not drawn, because they are too many: %d sights.</p>\n" % undrawn if undrawn else b""
+    inputs = b", ".join(b"<bdi>%s</bdi>" % escaped(own.last_part) for own in page.inputs)
+    left_out = paragraph(b"Not drawn, because they are too many: %d sights." % undrawn(page)) if undrawn(page) else b""
     return (b'<!DOCTYPE html>\n<html lang="en">\n<head>\n<meta charset="utf-8">\n<meta name="viewport" content="width=device-width, initial-scale=1">\n'
-            b"<title>Height network</title>\n<style>\n" + STYLE
-            + b'</style>\n</head>\n<body>\n<h1>Height network</h1>\n<ul class="inputs">\n'
-            + b"".join(b"<li>%s: <bdi>%s</bdi> <small>%d B, SHA-256 %s</small>\n" % (own.label.encode(), escaped(own.last_part), len(own.text), own.digest.encode())
-                       for own in page.inputs)
-            + b"</ul>\n<p>A place such as 2:14 is line 14 of book 2.</p>\n" + verdict(page) + b'<ul class="facts">\n' + facts(page)
-            + b'</ul>\n<ul class="facts">\n' + hiding(page) + b"</ul>\n<figure>\n<figcaption><b>Heights.</b> Each sight is drawn from its station to where it puts its target. It bends up if it "
-            b'runs to the right, and down if to the left.</figcaption>\n<div class="w">\n' + picture(page) + b"</div>\n" + LEGEND + left_out
-            + b"</figure>\n<figure>\n<figcaption><b>Residuals</b> in metres, in the order of the books. Linear up to a millimetre, then a step for each "
-            b'factor of ten. Grey: within the limit.</figcaption>\n<div class="w">\n' + strip(page)
-            + b"</div>\n</figure>\n" + sections(page) + FOOT)
+            b"<title>%s: heights</title>\n<style>\n" % escaped(page.title) + STYLE
+            + b'</style>\n</head>\n<body>\n<h1>%s</h1>\n<p class="of">Heights from %s &middot; limit %s</p>\n' % (escaped(page.title), inputs, size(page.limit))
+            + verdict(page) + b'<figure>\n<div class="w">\n' + picture(page) + b"</div>\n" + legend(page) + left_out
+            + b"<figcaption>Heights in metres, points in the order of the books. Each sight is drawn from its station to where it puts its "
+            b"target. It bends up if it runs to the right, and down if to the left.</figcaption>\n</figure>\n"
+            + facts([fact(number(len(page.sights)), b"sights"), fact(number(new_points(page)), b"new points"), fact(number(loops(page)), b"sights to spare"),
+                     fact(size(largest_within(page)), b"largest residual within the limit")])
+            + heights(page) + benchmarks(page) + residuals(page) + explanations(page)
+            + could_hide(page) + notes(page) + asked(page) + b"</body>\n</html>\n")

@@ -5,17 +5,29 @@ wrong, points that nothing ties to a benchmark, and networks whose best heights 
 """
 
 import re
+import sys
+from pathlib import Path
 from random import Random
-from typing import Callable, List, NamedTuple, Optional, Tuple
+from typing import Callable, List, NamedTuple, Optional, Sequence, Tuple
 
 from office import Inputs
 from tables import metres_in, reader
 
+sys.path.append(str(Path(__file__).resolve().parents[1] / "planted"))
+from surveys import SHAPES, changed, survey_of, written  # noqa: E402
+
 NAMES = (b"A", b"B", b"C", b"D", b"BM1", b"BM2", b"KO 1", b"7", b"0", b"A,B", b'X"Y', b"SO 112/4")
+# Names of 16 characters, some of which would do harm if they were markup, and a short one.
+LONG_NAMES = (b"<script>1</script"[:16], b"</b></s></td><i>", b"&lt;&amp;&quot;;", b"\"'\"'\"'><a href=x", b"<img src=# on=x>", b"WWWWWWWWWWWWWWWW",
+              b"SIXTEEN-BYTES-AB", b"<!--]]>&#x3c;b>.", b"A")
 MEASURED_NUMBERS = (b"21.", b"22.", b"31.", b"32.", b"83.", b"310", b"329", b"330", b"331", b"335", b"339", b"340", b"830")
 LARGEST_LIMIT = 1_000_000_000
 DEFAULT_LIMIT = 20_000
 MILLIMETRE = 100_000
+
+
+# Of one number that is planted: its change in millimetres.
+CHANGES_OF_ONE = (15, 20, 21, 25, 50, 100, 1_000)
 
 
 class Project(NamedTuple):
@@ -41,9 +53,10 @@ class BookWriter:
     """Writes setups and sights as an instrument does, with GSI-8 or GSI-16 words. Some instruments write the heights in force into
     every sight, others once."""
 
-    def __init__(self, rng: Random) -> None:
+    def __init__(self, rng: Random, longest: int = 1) -> None:
+        """A book of names of at most so many characters."""
         self.rng = rng
-        self.width = rng.choice((8, 8, 16))
+        self.width = max(rng.choice((8, 8, 16)), 8 if longest <= 8 else 16)
         self.end = rng.choice((b"\n", b"\r\n"))
         self.repeats = rng.choice((0.0, 0.0, 0.3, 1.0))
         # Some write a word 33 that holds the heights already.
@@ -57,7 +70,7 @@ class BookWriter:
         self.lines.append(star + b" ".join(words) + self.rng.choice((b" ", b" ", b"")) + self.end)
 
     def point_word(self, name: bytes) -> bytes:
-        number = len(self.lines) + 1
+        number = (len(self.lines) + 1) % 10_000
         return f"11{number:04}+".encode("ascii") + name.rjust(self.width, self.rng.choice((b"0", b"0", b"0", b"0", b" ")))
 
     def height_word(self, index: str, height: int) -> bytes:
@@ -114,8 +127,8 @@ def noise(rng: Random) -> int:
 
 
 def book_of(rng: Random, heights: dict) -> bytes:
-    writer = BookWriter(rng)
     names = list(heights)
+    writer = BookWriter(rng, max(map(len, names)))
     if rng.random() < 0.05:
         for _ in range(rng.randint(1, 3)):
             writer.measured(rng.choice(names))
@@ -338,8 +351,8 @@ def random_height(rng: Random) -> int:
     return rng.randint(-2_000, 20_000) * MILLIMETRE + rng.choice((0, 0, rng.randint(0, 99_999)))
 
 
-def random_project(rng: Random) -> Project:
-    names = rng.sample(NAMES, rng.randint(2, 7))
+def random_project(rng: Random, pool: Sequence[bytes] = NAMES) -> Project:
+    names = rng.sample(pool, rng.randint(2, 7))
     heights = {name: random_height(rng) for name in names}
     books = [book_of(rng, heights) for _ in range(rng.choice((1, 1, 2, 3)))]
     if rng.random() < 0.1:
@@ -356,3 +369,17 @@ def random_project(rng: Random) -> Project:
     # Residuals are often whole millimetres, so some limits are as large as a residual.
     limit = rng.choice((None, None, 0, 1_000, 2_000, 3_000, 50_000, DEFAULT_LIMIT, rng.randint(0, LARGEST_LIMIT)))
     return Project(Inputs(books, benchmarks, weights), limit)
+
+
+def planted_project(rng: Random) -> Project:
+    """A small survey of some shape with one wrong number."""
+    survey = survey_of(rng.randrange(10**6), rng.choice(list(SHAPES)), rng.choice((4, 5)), rng.choice((0, 1)), rng.choice((1, 1, 5)))
+    number = rng.choice(written(survey, "once").numbers)
+    text = written(changed(survey, number, rng.choice((-1, 1)) * rng.choice(CHANGES_OF_ONE)), rng.choice(("once", "each")))
+    return Project(Inputs(text.books, text.benchmarks, text.weights), None)
+
+
+def some_project(rng: Random, number: int) -> Project:
+    """Project `number` of a row of them, three in ten of which have one wrong number, and one in ten long names."""
+    kind = number % 10
+    return planted_project(rng) if kind < 3 else random_project(rng, LONG_NAMES) if kind == 3 else random_project(rng)

@@ -91,6 +91,22 @@ class Typed(Case):
         self.assertEqual(answer.lines, ["reading a book from the terminal, up to Ctrl-D; for help, write 'height_office --help'"])
 
 
+class Dash(Case):
+    """The input `-` is standard input, and `./-` a file of that name."""
+
+    def runTest(self) -> None:
+        book = (self.folder / "cellar.gsi").read_bytes()
+        listed = self.answer("list cellar.gsi").printed
+        for words in ("list -", f"adjust {MARKS} --out own -", f"adjust {MARKS} --out file cellar.gsi"):
+            with (self.folder / "cellar.gsi").open("rb") as stream:
+                answer = self.answer(words, stdin=stream)
+            self.assertEqual((answer.status, answer.printed), (0, listed if words.startswith("list") else ""), words)
+        self.assertEqual(*((self.folder / f"{name}.heights.csv").read_bytes() for name in ("own", "file")))
+        self.write({"-": book})
+        self.check("list ./-", 0, printed=listed)
+        self.check("list -", 0, printed=LIST)
+
+
 class Watched(Case):
     """What a review and an explanation show while they work: on a terminal, after two seconds, a line that is gone at the end.
 
@@ -164,5 +180,5 @@ def watched_cases() -> Iterator[Watched]:
 def cases() -> Iterator[Case]:
     read: Sequence[str] = ["list cellar.gsi", "book differences.csv", "mend changes.csv cellar.gsi", f"explain {MARKS} cellar.gsi",
                            f"check {MARKS} --certificate cellar.certificate.csv cellar.gsi"]
-    single: List[Case] = [Full(), Typed()]
+    single: List[Case] = [Full(), Typed(), Dash()]
     return itertools.chain(map(ReadByNobody, read), single, closed_cases(), watched_cases())

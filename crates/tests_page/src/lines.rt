@@ -1,12 +1,13 @@
 //! The rows that a page shows, read from a text. Its lines are:
 //!
-//! - `limit UNITS`, `cost UNITS`, `book HEX`, a name that the page sums as the book's bytes, `note HEX`;
-//! - `point HEX LOW HIGH STRENGTH`;
+//! - `limit UNITS`, `cost UNITS`, `title HEX`, `book HEX`, a name that the page sums as the book's bytes, `note HEX`;
+//! - `point HEX LOW HIGH STRENGTH DRAWN LOW HIGH`, the last two its heights if a number moves it;
 //! - `observations HEX`, the bytes of the next book;
-//! - `sight WEIGHT RESIDUAL CONTROL MISTAKE FROM LOW TO LOW`, one for each observation of the books in order,
+//! - `sight WEIGHT RESIDUAL CONTROL MISTAKE FROM LOW TO LOW GROUP`, one for each observation of the books in order,
 //!   with places among the points from 0;
 //! - `entry BOOK LINE WORD HEX SIGN DIGITS UNIT SIGHTS WEIGHT MISTAKE`;
-//! - `benchmark HEX HEIGHT SIGHTS WEIGHT MISTAKE`;
+//! - `benchmark HEX HEIGHT SIGHTS WEIGHT MISTAKE OTHERS LOW HIGH`, where the others say nothing, that it fits, or that it
+//!   differs;
 //! - `explanation NUMBER KIND BOOK LINE HEX HEX GIVEN LOW HIGH LEFT BLUNDERS`;
 //! - `says HEX`, a sentence of the explanations.
 //!
@@ -16,6 +17,7 @@ use crate::words::{
 };
 use anyhow::{Context, Result, bail};
 use std::alloc::Global;
+use th_answer::{Answer, Group, Moved, Others};
 use th_book::read_book;
 use th_entries::{Entry, HeightKind};
 use th_explain_texts::{Kind, Row, Values};
@@ -28,6 +30,7 @@ use th_review_rows::{BenchmarkRow, End, EntryRow, ObservationRow, PointRow};
 pub struct Rows {
     observations: Vec<Observation>,
     read: u32,
+    pub title: Vec<u8>,
     pub books: Vec<Vec<u8>>,
     pub points: Vec<PointRow>,
     pub sights: Vec<ObservationRow>,
@@ -36,6 +39,7 @@ pub struct Rows {
     pub explanations: Vec<Row>,
     pub says: Vec<Vec<u8>>,
     pub notes: Vec<Vec<u8>>,
+    pub answer: Answer,
     pub cost: u128,
     pub limit: i64,
 }
@@ -46,6 +50,7 @@ impl Rows {
         let mut rows = Rows {
             observations: Vec::new(alloc),
             read: 0,
+            title: Vec::new(alloc),
             books: Vec::new(alloc),
             points: Vec::new(alloc),
             sights: Vec::new(alloc),
@@ -54,6 +59,7 @@ impl Rows {
             explanations: Vec::new(alloc),
             says: Vec::new(alloc),
             notes: Vec::new(alloc),
+            answer: no_answer(alloc),
             cost: 0,
             limit: 0,
         };
@@ -69,6 +75,7 @@ impl Rows {
         match words {
             ["limit", units] => self.set_limit(units),
             ["cost", units] => self.set_cost(units),
+            ["title", text] => self.set_title(alloc, text),
             ["book", text] => self.add_book(alloc, text),
             ["note", text] => self.add_note(alloc, text),
             ["observations", book] => self.read_book(alloc, &bytes_of(alloc, book)?),
@@ -94,6 +101,12 @@ impl Rows {
         Ok(())
     }
 
+    /// Sets the title.
+    fn set_title(&mut self, alloc: Global, text: &str) -> Result<()> {
+        self.title = bytes_of(alloc, text)?;
+        Ok(())
+    }
+
     /// Adds the name of a book.
     fn add_book(&mut self, alloc: Global, text: &str) -> Result<()> {
         let name = bytes_of(alloc, text)?;
@@ -115,10 +128,15 @@ impl Rows {
         Ok(())
     }
 
-    /// Adds a point.
+    /// Adds a point, and what is said of it.
     fn add_point(&mut self, alloc: Global, words: &[&str]) -> Result<()> {
-        let row = point_of(alloc, words)?;
-        self.points.push(row)?;
+        let [own, low, high, strength, drawn, least, greatest] = words else {
+            bail!("a point")
+        };
+        self.points
+            .push(point_of(alloc, &[*own, *low, *high, *strength])?)?;
+        self.answer.drawn.push(length(drawn)?)?;
+        self.answer.moved.push(moved_of(least, greatest)?)?;
         Ok(())
     }
 
@@ -129,10 +147,16 @@ impl Rows {
         Ok(())
     }
 
-    /// Adds a benchmark.
+    /// Adds a benchmark, and what the others say of it.
     fn add_benchmark(&mut self, alloc: Global, words: &[&str]) -> Result<()> {
-        let row = benchmark_of(alloc, words)?;
+        let [own, height, sights, weight, mistake, others, low, high] = words else {
+            bail!("a benchmark")
+        };
+        let row = benchmark_of(alloc, &[*own, *height, *sights, *weight, *mistake])?;
         self.benchmarks.push(row)?;
+        if *others != "-" {
+            self.answer.others.push(others_of(others, low, high)?)?;
+        }
         Ok(())
     }
 
@@ -146,12 +170,63 @@ impl Rows {
         Ok(())
     }
 
-    /// Adds the sight of the next observation.
+    /// Adds the sight of the next observation, and its group.
     fn add_sight(&mut self, words: &[&str]) -> Result<()> {
+        let [rest @ .., group] = words else {
+            bail!("a sight")
+        };
         let k = self.sights.len();
         let observation = *self.observations.get(k).context("too many sights")?;
-        self.sights.push(sight_of(k, &observation, words)?)?;
+        self.sights.push(sight_of(k, &observation, rest)?)?;
+        self.answer.groups.push(group_of(group)?)?;
         Ok(())
+    }
+}
+
+/// An answer that says nothing yet. No row has the sight that is far beyond the usual residual.
+fn no_answer(alloc: Global) -> Answer {
+    Answer {
+        groups: Vec::new(alloc),
+        moved: Vec::new(alloc),
+        drawn: Vec::new(alloc),
+        others: Vec::new(alloc),
+        outlier: None,
+    }
+}
+
+/// The heights of a point that a number moves, if one does.
+fn moved_of(low: &str, high: &str) -> Result<Option<Moved>> {
+    if low == "-" {
+        return Ok(None);
+    }
+    Ok(Some(Moved {
+        low: length(low)?,
+        high: length(high)?,
+    }))
+}
+
+/// The group of a letter.
+fn group_of(letter: &str) -> Result<Group> {
+    match letter {
+        "a" => Ok(Group::Question),
+        "s" => Ok(Group::Stays),
+        "c" => Ok(Group::Cleared),
+        "v" => Ok(Group::Unlike),
+        "q" => Ok(Group::Fits),
+        _ => bail!("no group"),
+    }
+}
+
+/// What the others say.
+fn others_of(word: &str, low: &str, high: &str) -> Result<Others> {
+    match word {
+        "nothing" => Ok(Others::Nothing),
+        "fits" => Ok(Others::Fits),
+        "differs" => Ok(Others::Differ {
+            low: length(low)?,
+            high: length(high)?,
+        }),
+        _ => bail!("nothing that others say"),
     }
 }
 

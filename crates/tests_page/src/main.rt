@@ -29,6 +29,7 @@ fn page_of(alloc: Global, rows: &Rows) -> Result<Vec<u8>> {
     let page = page_text(
         alloc,
         &Shown {
+            title: &rows.title,
             names: &names,
             sums: &sums,
             points: &rows.points,
@@ -42,6 +43,7 @@ fn page_of(alloc: Global, rows: &Rows) -> Result<Vec<u8>> {
                 limit: rows.limit,
                 rows: &rows.explanations,
                 sentences: b"",
+                answer: &rows.answer,
             },
         },
     )?;

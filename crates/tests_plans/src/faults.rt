@@ -2,7 +2,7 @@
 use crate::plans::words_of;
 use clap::error::ErrorKind;
 use std::process::Abort;
-use th_commands::{PlanFault, plan};
+use th_commands::{ArgumentFault, PlanFault, plan};
 
 /// The fault of words that are no plan.
 pub fn fault_of(rt: &(impl AllocGlobal + Abort), words: &str) -> PlanFault {
@@ -21,8 +21,15 @@ const TOO_MANY_BOOKS: [&str; 3] = [
 #[test]
 fn seventeen_books_are_too_many(rt: HostRuntime) {
     for words in TOO_MANY_BOOKS {
-        let fault = fault_of(&rt, words);
-        assert!(rt; matches!(fault, PlanFault::TooManyBooks), "{words}");
+        is_faulty(&rt, words, ArgumentFault::TooManyBooks);
+    }
+}
+
+/// An argument has this fault.
+fn is_faulty(rt: &(impl AllocGlobal + Abort), words: &str, fault: ArgumentFault) {
+    match fault_of(rt, words) {
+        PlanFault::Argument(own) => assert!(rt; own == fault, "{words}"),
+        _ => assert!(rt; false, "{words}"),
     }
 }
 
@@ -38,28 +45,116 @@ fn a_prefix_must_name_files(rt: HostRuntime) {
             let apart = format!(in rt.alloc();
                 "height_office {command} a --benchmarks m --out {prefix}"
             );
-            names_no_files(&rt, apart.expect(&rt, "memory").as_str());
+            let apart = apart.expect(&rt, "memory");
+            is_faulty(&rt, apart.as_str(), ArgumentFault::NamesNoFiles);
             let joined = format!(in rt.alloc();
                 "height_office {command} --out={prefix} --benchmarks m a"
             );
-            names_no_files(&rt, joined.expect(&rt, "memory").as_str());
+            let joined = joined.expect(&rt, "memory");
+            is_faulty(&rt, joined.as_str(), ArgumentFault::NamesNoFiles);
         }
     }
-    let many =
-        "height_office adjust 1 2 3 4 5 6 7 8 9 10 11 12 13 14 15 16 17 --benchmarks m --out=";
-    assert!(rt; matches!(fault_of(&rt, many), PlanFault::TooManyBooks));
 }
 
-/// The prefix in the words names no files.
-fn names_no_files(rt: &(impl AllocGlobal + Abort), words: &str) {
-    assert!(rt;
-        matches!(fault_of(rt, words), PlanFault::NamesNoFiles),
-        "{words}"
+/// Options with a wrong value, and their faults: of several the first one.
+const WRONG_VALUES: [(&str, ArgumentFault); 32] = [
+    (
+        "adjust 1 2 3 4 5 6 7 8 9 10 11 12 13 14 15 16 17 --out=",
+        ArgumentFault::TooManyBooks,
+    ),
+    ("adjust - b - --out=", ArgumentFault::TwoStreams),
+    ("explain - --weights -", ArgumentFault::TwoStreams),
+    (
+        "check a --weights - --certificate -",
+        ArgumentFault::TwoStreams,
+    ),
+    (
+        "page a --out= --limit 5 --title=",
+        ArgumentFault::NamesNoFiles,
+    ),
+    (
+        "page a --out=p --limit 5 --blunder 5 --title=",
+        ArgumentFault::TwoLimits,
+    ),
+    (
+        "adjust a --out=p --limit 5mm --blunder 5000",
+        ArgumentFault::TwoLimits,
+    ),
+    (
+        "explain a --limit 5mm --blunder 0",
+        ArgumentFault::TwoLimits,
+    ),
+    ("page a --out=p --limit 5 --title=", ArgumentFault::BadLimit),
+    // Neither a whole number, nor a unit that is taken.
+    ("adjust a --out=p --limit 5", ArgumentFault::BadLimit),
+    ("adjust a --out=p --limit=", ArgumentFault::BadLimit),
+    ("adjust a --out=p --limit mm", ArgumentFault::BadLimit),
+    ("adjust a --out=p --limit um", ArgumentFault::BadLimit),
+    ("adjust a --out=p --limit m", ArgumentFault::BadLimit),
+    ("adjust a --out=p --limit 5m", ArgumentFault::BadLimit),
+    ("adjust a --out=p --limit 5cm", ArgumentFault::BadLimit),
+    ("adjust a --out=p --limit 5MM", ArgumentFault::BadLimit),
+    ("adjust a --out=p --limit 5mmm", ArgumentFault::BadLimit),
+    ("adjust a --out=p --limit 5umm", ArgumentFault::BadLimit),
+    ("adjust a --out=p --limit 5mum", ArgumentFault::BadLimit),
+    ("adjust a --out=p --limit mm5", ArgumentFault::BadLimit),
+    ("adjust a --out=p --limit 0.5mm", ArgumentFault::BadLimit),
+    ("adjust a --out=p --limit=-5mm", ArgumentFault::BadLimit),
+    ("adjust a --out=p --limit ++5mm", ArgumentFault::BadLimit),
+    ("adjust a --out=p --limit 5\u{b5}m", ArgumentFault::BadLimit),
+    // Too large, also for the numbers that the program computes with.
+    (
+        "review a --out=p --limit 1000001mm",
+        ArgumentFault::BadLimit,
+    ),
+    (
+        "review a --out=p --limit 1000000001um",
+        ArgumentFault::BadLimit,
+    ),
+    (
+        "review a --out=p --limit 4294968mm",
+        ArgumentFault::BadLimit,
+    ),
+    (
+        "review a --out=p --limit 4294967296um",
+        ArgumentFault::BadLimit,
+    ),
+    ("page a --out=p --title=", ArgumentFault::BadTitle),
+    ("page a --out=p --title=a\nb", ArgumentFault::BadTitle),
+    ("page a --out=p --title=a\u{7f}", ArgumentFault::BadTitle),
+];
+
+#[test]
+fn the_first_wrong_value_is_reported(rt: HostRuntime) {
+    for (words, fault) in WRONG_VALUES {
+        let words = format!(in rt.alloc(); "height_office {words} --benchmarks m");
+        is_faulty(&rt, words.expect(&rt, "memory").as_str(), fault);
+    }
+}
+
+#[test]
+fn a_table_and_its_book_are_not_both_standard_input(rt: HostRuntime) {
+    is_faulty(&rt, "height_office mend - -", ArgumentFault::TwoStreams);
+}
+
+#[test]
+fn a_title_has_at_most_a_hundred_characters(rt: HostRuntime) {
+    let mut title = String::new(rt.alloc());
+    for _ in 0..50_u8 {
+        title.push_str("\u{fc}\u{1f3d4}").expect(&rt, "memory");
+    }
+    let words = format!(in rt.alloc();
+        "height_office page a --benchmarks m --out p --title {title}"
     );
+    let words = words.expect(&rt, "memory");
+    let split = words_of(&rt, words.as_str());
+    assert!(rt; plan(rt.alloc(), split.as_slice()).is_ok());
+    let longer = format!(in rt.alloc(); "{words}a").expect(&rt, "memory");
+    is_faulty(&rt, longer.as_str(), ArgumentFault::BadTitle);
 }
 
 /// Words that are no plan, and the kind of the error that `clap` answers.
-const WRONG_WORDS: [(&str, ErrorKind); 74] = [
+const WRONG_WORDS: [(&str, ErrorKind); 80] = [
     ("height_office list", ErrorKind::MissingRequiredArgument),
     ("height_office list a b", ErrorKind::UnknownArgument),
     ("height_office lisst a", ErrorKind::InvalidSubcommand),
@@ -267,6 +362,31 @@ const WRONG_WORDS: [(&str, ErrorKind); 74] = [
     (
         "height_office adjust a --benchmarks m --out p --blunder=",
         ErrorKind::ValueValidation,
+    ),
+    (
+        "height_office adjust a --benchmarks m --out p --limit -5mm",
+        ErrorKind::UnknownArgument,
+    ),
+    (
+        "height_office adjust a --benchmarks m --out p --limit 5mm --limit 5mm",
+        ErrorKind::ArgumentConflict,
+    ),
+    (
+        "height_office adjust a --benchmarks m --out p --limit",
+        ErrorKind::InvalidValue,
+    ),
+    (
+        "height_office check a --benchmarks m --certificate c --limit 5mm",
+        ErrorKind::UnknownArgument,
+    ),
+    // A title of something else than a page.
+    (
+        "height_office review a --benchmarks m --out p --title t",
+        ErrorKind::UnknownArgument,
+    ),
+    (
+        "height_office page a --benchmarks m --out p --title t --title t",
+        ErrorKind::ArgumentConflict,
     ),
 ];
 

@@ -4,11 +4,17 @@ use std::test::Fail;
 use th_commands::{Inputs, Limit, Plan, plan};
 
 /// Command lines, and the plans that they name.
-const PLANS: [(&str, &str); 50] = [
+const PLANS: [(&str, &str); 62] = [
     ("height_office", "standard"),
     ("height_office list k.gsi", "list k.gsi"),
     ("height_office list -", "list -"),
     ("height_office list ", "list "),
+    (
+        "height_office explain --benchmarks m - a",
+        "explain - a by m limit 2000000 as text",
+    ),
+    ("height_office mend c.csv -", "mend - by c.csv"),
+    ("height_office mend -- - k", "mend k by -"),
     ("height_office list -- --out", "list --out"),
     (
         "height_office adjust --benchmarks m --weights w --blunder 500 --out p a b",
@@ -105,15 +111,53 @@ const PLANS: [(&str, &str); 50] = [
     // `page` takes what `adjust` takes.
     (
         "height_office page --benchmarks m --weights w --blunder 500 --out p a b",
-        "page a b by m w limit 50000 out p",
+        "page a b by m w limit 50000 out p titled p",
     ),
     (
         "height_office page page --out=page --benchmarks page",
-        "page page by page limit 2000000 out page",
+        "page page by page limit 2000000 out page titled page",
     ),
     (
         "height_office page 1 2 3 4 5 6 7 8 9 10 11 12 13 14 15 16 --benchmarks m --out p",
-        "page 1 2 3 4 5 6 7 8 9 10 11 12 13 14 15 16 by m limit 2000000 out p",
+        "page 1 2 3 4 5 6 7 8 9 10 11 12 13 14 15 16 by m limit 2000000 out p titled p",
+    ),
+    // It has a title: without one, the last part of the prefix.
+    (
+        "height_office page k --benchmarks m --out site/dam",
+        "page k by m limit 2000000 out site/dam titled dam",
+    ),
+    (
+        "height_office page k --benchmarks m --out site/dam --title=site/<Dam>",
+        "page k by m limit 2000000 out site/dam titled site/<Dam>",
+    ),
+    (
+        "height_office page --title \u{dc}berlauf k --benchmarks m --out dam",
+        "page k by m limit 2000000 out dam titled \u{dc}berlauf",
+    ),
+    // The limit has a unit, or is in micrometres.
+    (
+        "height_office adjust k --benchmarks m --out p --limit 5mm",
+        "adjust k by m limit 500000 out p",
+    ),
+    (
+        "height_office review k --benchmarks m --out p --limit=500um",
+        "review k by m limit 50000 out p",
+    ),
+    (
+        "height_office explain k --benchmarks m --limit 0mm",
+        "explain k by m limit 0 as text",
+    ),
+    (
+        "height_office page k --benchmarks m --out p --limit +0020mm",
+        "page k by m limit 2000000 out p titled p",
+    ),
+    (
+        "height_office adjust k --benchmarks m --out p --limit 1000000mm",
+        "adjust k by m limit 100000000000 out p",
+    ),
+    (
+        "height_office adjust k --benchmarks m --out p --limit 1000000000um",
+        "adjust k by m limit 100000000000 out p",
     ),
     (
         "height_office check --benchmarks m --certificate c a b",
@@ -224,7 +268,11 @@ fn options_stand_in_every_order(rt: HostRuntime) {
         let words = in_order(&rt, "height_office review", &ADJUSTED, order);
         is_planned(&rt, words.as_str(), "review a b by m w limit 50000 out p");
         let words = in_order(&rt, "height_office page", &ADJUSTED, order);
-        is_planned(&rt, words.as_str(), "page a b by m w limit 50000 out p");
+        is_planned(
+            &rt,
+            words.as_str(),
+            "page a b by m w limit 50000 out p titled p",
+        );
         let words = in_order(&rt, "height_office explain", &EXPLAINED, order);
         is_planned(
             &rt,
@@ -291,7 +339,12 @@ fn text_of(rt: &(impl AllocGlobal + Abort), plan: &Plan<'_>) -> String {
             inputs,
             limit,
             prefix,
-        } => options_text(rt, "page", inputs, *limit, *prefix),
+            title,
+        } => {
+            let options = options_text(rt, "page", inputs, *limit, *prefix);
+            let title = String::from_utf8_lossy(rt.alloc(), *title).expect(rt, "memory");
+            format!(in rt.alloc(); "{options} titled {title}").expect(rt, "memory")
+        }
         Plan::Check {
             inputs,
             certificate,

@@ -1,7 +1,7 @@
 //! The texts of faults, compared whole, and those of help, searched for parts that they must have.
 use crate::faults::fault_of;
 use std::process::Abort;
-use th_commands::{PlanFault, VERSION};
+use th_commands::{ArgumentFault, PlanFault, VERSION};
 
 const LIMIT_TOO_LARGE: &str =
     "error: invalid value '1000000001' for '--blunder <MICROMETRES>': 1000000001 is not in 0..=1000000000\n\nFor more information, try '--help'.\n";
@@ -19,13 +19,16 @@ const NO_COMMAND: &str =
     "error: unrecognized subcommand 'k.gsi'\n\nUsage: height_office list <BOOK>\n       height_office adjust [OPTIONS] --benchmarks <FILE> --out <PREFIX> <BOOK>...\n       height_office review [OPTIONS] --benchmarks <FILE> --out <PREFIX> <BOOK>...\n       height_office explain [OPTIONS] --benchmarks <FILE> <BOOK>...\n       height_office page [OPTIONS] --benchmarks <FILE> --out <PREFIX> <BOOK>...\n       height_office check [OPTIONS] --benchmarks <FILE> --certificate <FILE> <BOOK>...\n       height_office book <TABLE>\n       height_office book --heights <BOOK>\n       height_office mend <CHANGES> <BOOK>\n       height_office < BOOK        (lists the book on standard input)\n\nFor more information, try '--help'.\n\n  tip: to list the book in a file, write 'height_office list FILE'\n";
 
 const LIMIT_BELOW_ZERO: &str =
-    "error: unexpected argument '-5' found\n\n  tip: write '--' before a book whose name begins with '-'\n\nUsage: height_office adjust [OPTIONS] --benchmarks <FILE> --out <PREFIX> <BOOK>...\n\nFor more information, try '--help'.\n";
+    "error: unexpected argument '-5' found\n\nUsage: height_office adjust [OPTIONS] --benchmarks <FILE> --out <PREFIX> <BOOK>...\n\nFor more information, try '--help'.\n";
 
 const OPTION_MISTYPED: &str =
     "error: unexpected argument '--weight' found\n\n  tip: a similar argument exists: '--weights'\n\nUsage: height_office check --benchmarks <FILE> --certificate <FILE> --weights <FILE> <BOOK>...\n\nFor more information, try '--help'.\n";
 
 const NO_PREFIX: &str =
-    "error: unexpected argument '--out' found\n\n  tip: write '--' before a book whose name begins with '-'\n\nUsage: height_office explain --benchmarks <FILE> <BOOK>...\n\nFor more information, try '--help'.\n";
+    "error: unexpected argument '--out' found\n\nUsage: height_office explain --benchmarks <FILE> <BOOK>...\n\nFor more information, try '--help'.\n";
+
+const BOOK_WITH_DASHES: &str =
+    "error: unexpected argument '--k.gsi' found\n\n  tip: write '--' before a book whose name begins with '-'\n\nUsage: height_office explain --benchmarks <FILE> <BOOK>...\n\nFor more information, try '--help'.\n";
 
 const FLAG_DOUBLED: &str =
     "error: the argument '--csv' cannot be used multiple times\n\nUsage: height_office explain [OPTIONS] --benchmarks <FILE> <BOOK>...\n\nFor more information, try '--help'.\n";
@@ -33,8 +36,20 @@ const FLAG_DOUBLED: &str =
 const NAMES_NO_FILES: &str =
     "error: the value of '--out' must end in the beginning of a file name, as in 'dam' or 'site/dam'\n\nFor more information, try '--help'.\n";
 
+const TWO_LIMITS: &str =
+    "error: '--limit' and '--blunder' are one limit: leave one of them out\n\nFor more information, try '--help'.\n";
+
+const BAD_LIMIT: &str =
+    "error: the value of '--limit' must be a whole number of mm or um, as in '5mm', and at most 1 km\n\nFor more information, try '--help'.\n";
+
+const TWO_STREAMS: &str =
+    "error: '-' is standard input, and can be one input alone\n\nFor more information, try '--help'.\n";
+
+const BAD_TITLE: &str =
+    "error: the value of '--title' must be one line of 1 to 100 characters\n\nFor more information, try '--help'.\n";
+
 /// Command lines that are no plan, and the text that answers them.
-const SAID: [(&str, &str); 10] = [
+const SAID: [(&str, &str); 15] = [
     ("height_office k.gsi", NO_COMMAND),
     ("height_office adjust a --out p", OPTION_MISSING),
     (
@@ -55,6 +70,10 @@ const SAID: [(&str, &str); 10] = [
     ),
     ("height_office explain a --benchmarks m --out p", NO_PREFIX),
     (
+        "height_office explain a --benchmarks m --k.gsi",
+        BOOK_WITH_DASHES,
+    ),
+    (
         "height_office explain a --csv --benchmarks m --csv",
         FLAG_DOUBLED,
     ),
@@ -65,6 +84,19 @@ const SAID: [(&str, &str); 10] = [
     (
         "height_office review a --benchmarks m --out site/",
         NAMES_NO_FILES,
+    ),
+    ("height_office explain - --benchmarks -", TWO_STREAMS),
+    (
+        "height_office explain a --benchmarks m --limit 5mm --blunder 5000",
+        TWO_LIMITS,
+    ),
+    (
+        "height_office adjust a --benchmarks m --out p --limit 5",
+        BAD_LIMIT,
+    ),
+    (
+        "height_office page a --benchmarks m --out p --title=",
+        BAD_TITLE,
     ),
 ];
 
@@ -84,7 +116,7 @@ fn a_fault_shows_its_text(rt: HostRuntime) {
     assert!(rt; shown.as_str() == version.as_str(), "{shown}");
     let shown = text_of(&rt, &PlanFault::NoMemory);
     assert!(rt; shown.as_str() == "out of memory\n");
-    let shown = text_of(&rt, &PlanFault::TooManyBooks);
+    let shown = text_of(&rt, &PlanFault::Argument(ArgumentFault::TooManyBooks));
     assert!(rt;
         shown.as_str() == "error: more than 16 books\n\nFor more information, try '--help'.\n"
     );

@@ -46,9 +46,14 @@ fn is_refused(
         "the words",
     );
     assert_eq!(rt; run(rt, &mut folder, words.as_str()), 3);
+    let help = if input.starts_with("book") {
+        "leave it out, or give another prefix"
+    } else {
+        "give another prefix"
+    };
     let line = format!(in rt.alloc();
-        "error: output {output} would overwrite {input} {output}\n"
-    ).expect(rt, "the line");
+        "error: output {output} would overwrite {input} {output}\n  {help}\n"
+    ).expect(rt, "the lines");
     assert!(rt;
         reports(&folder, line.as_bytes()) && same(file(&folder, output), BOOK),
         "{line}"

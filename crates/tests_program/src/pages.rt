@@ -12,17 +12,17 @@ const BACK: &str = "page --benchmarks heights --weights weights --out out back.g
 /// those of a program that shares no code with this one.
 const LINES: [&str; 12] = [
     "<!DOCTYPE html>\n<html lang=\"en\">\n",
-    "<li>book 1: <bdi>back.gsi</bdi> <small>228 B, SHA-256 88b572b71bd32bc347efaf3eb069022a2a7ebb24ae58efd8008e6172290499d3</small>\n",
-    "<li>benchmarks: <bdi>heights</bdi> <small>19 B, SHA-256 c15a70569a2e2d0025454e42e8ef947dc907df9de97213f74d4ed8795fbdba58</small>\n",
-    "<li>weights: <bdi>weights</bdi> <small>21 B, SHA-256 c8f3a58f1f4f356bc7b76a8c0ad9044b7924ebb9e180b5a0a75f26afb28df694</small>\n</ul>\n",
+    "<title>out: heights</title>\n",
+    "<h1>out</h1>\n<p class=\"of\">Heights from <bdi>back.gsi</bdi>, <bdi>heights</bdi>, <bdi>weights</bdi> &middot; limit 20.0 mm</p>\n",
     "<div class=\"verdict good\">\n<h2>All sights fit.</h2>\n<p><b>0 of 2 sights marked.</b> No residual is above the limit.</p>\n<p>Nothing to explain: no number has to be wrong by more than 0.02000000 m.</p>\n<p>All heights rest on one benchmark: nothing checks its height.</p>\n</div>\n",
-    "<li>Points <b>2</b>\n<li>Benchmarks <b>1</b>\n<li>Sights <b>2</b>\n<li>Loops <b>1</b>\n<li>Keyed-in heights <b>4</b>\n<li>Cost <b>0.0100 m</b>\n<li>Limit <b>0.0200 m</b>\n",
-    "<ul class=\"facts\">\n<li>Weak sights <b>1</b>\n<li>Weak benchmarks <b>1</b>\n",
-    "<circle cx=\"6150\" cy=\"755\" r=\"38\"><title>B 102.5450</title></circle>\n",
+    "<circle cx=\"6150\" cy=\"855\" r=\"38\"><title>B 102.5450</title></circle>\n",
+    "<ul class=\"facts\">\n<li><b>2</b>sights\n<li><b>1</b>new points\n<li><b>1</b>sights to spare\n<li><b>10.0 mm</b>largest residual within the limit\n",
     "<tr><th>A<td>100.0000<td><td>benchmark\n<tr><th>B<td>102.5450<td><td>4\n",
-    "<tr><td>1:2<th>A<th>B<td>2.5450<td>0.0000<td>3<td>1<th><b class=\"h\">&lt;</b> hides\n",
+    "<ul class=\"facts\">\n<li><b>1</b>weak sights\n<li><b>1</b>weak benchmarks\n",
+    "<tr><td>1:2<th>A<th>B<td>2.5450<td>0.0000<td>3<td>1<th>hides\n",
     "<li>a part of the network hangs on A alone: nothing checks its height\n",
-    "</footer>\n</body>\n</html>\n",
+    "<li>book 1: <bdi>back.gsi</bdi> <small>228 B, SHA-256 88b572b71bd32bc347efaf3eb069022a2a7ebb24ae58efd8008e6172290499d3</small>\n<li>benchmarks: <bdi>heights</bdi> <small>19 B, SHA-256 c15a70569a2e2d0025454e42e8ef947dc907df9de97213f74d4ed8795fbdba58</small>\n<li>weights: <bdi>weights</bdi> <small>21 B, SHA-256 c8f3a58f1f4f356bc7b76a8c0ad9044b7924ebb9e180b5a0a75f26afb28df694</small>\n",
+    "<p>Height Office</p>\n</section>\n</body>\n</html>\n",
 ];
 
 /// A page has the lines, in order, and ends with the last of them.
@@ -67,6 +67,31 @@ fn a_residual_above_the_limit_is_marked(rt: HostRuntime) {
         let mut folder = project(&rt, WIDE);
         assert_eq!(rt; run(&rt, &mut folder, page), 0);
         assert!(rt; page_of(&folder).contains(marked), "{marked}");
+    }
+}
+
+/// Pages, and the title that each has.
+const TITLED: [(&str, &str); 3] = [
+    (
+        "page --benchmarks heights --weights weights --out out back.gsi",
+        "<title>out: heights</title>",
+    ),
+    (
+        "page --title a<b --benchmarks heights --weights weights --out out back.gsi",
+        "<title>a&lt;b: heights</title>",
+    ),
+    (
+        "page --benchmarks heights --weights weights --limit 9mm --title out2 --out out back.gsi",
+        "<h1>out2</h1>",
+    ),
+];
+
+#[test]
+fn a_page_has_the_title_that_was_asked_for(rt: HostRuntime) {
+    for (page, title) in TITLED {
+        let mut folder = project(&rt, WIDE);
+        assert_eq!(rt; run(&rt, &mut folder, page), 0);
+        assert!(rt; page_of(&folder).contains(title), "{title}");
     }
 }
 

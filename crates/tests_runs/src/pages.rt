@@ -15,6 +15,9 @@ use th_runs::{MakePage, Refusal, ReviewReader, run_command};
 /// The names of the inputs of which one call fails.
 const NAMES: [&str; 4] = ["monday.gsi", "none.gsi", "marks.csv", "weights.csv"];
 
+/// The title of a page.
+const TITLE: &[u8] = b"<i>site";
+
 /// How many bytes a sink takes a write.
 const PIECE: usize = 4_096;
 
@@ -30,21 +33,22 @@ const CALLS: [(Device, u8); 5] = [
 
 /// Lines of the page of a misread sight, in order. They are those of a program that shares no code with
 /// this one.
-const LINES: [&str; 14] = [
-    "<li>book 1: <bdi>&lt;b&gt; &amp; &#39;so&#39;.gsi</bdi> <small>196 B, SHA-256 ee792ecd53e9be0d8c2f78ad2f5ce487418d40f7c53a952e55070151b5cb8493</small>\n",
-    "<li>benchmarks: <bdi>marks.csv</bdi> <small>19 B, SHA-256 c15a70569a2e2d0025454e42e8ef947dc907df9de97213f74d4ed8795fbdba58</small>\n",
-    "<li>weights: <bdi>weights.csv</bdi> <small>21 B, SHA-256 25342a3d84e0c31ca539d7c2a9b326eb2dbf6a51e13c8d5e1a0fe0bbe69eb97e</small>\n",
-    "<div class=\"verdict bad\">\n<h2>One wrong number explains all that does not fit.</h2>\n<p><b>1 of 3 sights marked.</b> Their residuals are above the limit: see <a href=\"#marked\">marked sights</a>. Do not use these heights yet.</p>\n<p>One wrong number explains this: the sight of line 4.</p>\n<p>The sight of line 4: given 3.54500000, fits from 2.54500000 to 2.54600000.</p>\n",
-    "<li>Keyed-in heights <b>2</b>\n<li>Cost <b>1.0000 m</b>\n<li>Limit <b>0.0200 m</b>\n",
-    "<li>Weak sights <b>0</b>\n",
-    "<path class=\"s\" d=\"M2650 3300Q3525 2626 4400 1990T6150 754\"><title>1:3 A to B, 0.0000</title></path>\n",
-    "<circle cx=\"6150\" cy=\"754\" r=\"38\"><title>B 102.5460</title></circle>\n",
-    "<path class=\"b\" d=\"M6733 693V100\"/>\n",
-    "<tr><td>1<td>1:4<th>sight<th>A to B<td>3.5450<td>2.5450<td>2.5460<td>0.0010<td>0\n",
-    "<tr><td>1:4<th>A<th>B<td>3.5450<td>+0.9990<td>1<td>2<th>shows\n",
+const LINES: [&str; 15] = [
+    "<title>&lt;i&gt;site: heights</title>\n",
+    "<h1>&lt;i&gt;site</h1>\n<p class=\"of\">Heights from <bdi>&lt;b&gt; &amp; &#39;so&#39;.gsi</bdi>, <bdi>marks.csv</bdi>, <bdi>weights.csv</bdi> &middot; limit 20.0 mm</p>\n",
+    "<div class=\"verdict care\">\n<h2>One wrong number explains all that does not fit.</h2>\n<p><b>1 of 3 sights marked.</b> Their residuals are above the limit: see <a href=\"#residuals\">residuals</a>.</p>\n<p>One wrong number explains this: the sight of line 4.</p>\n<p>The sight of line 4: given 3.54500000, fits from 2.54500000 to 2.54600000.</p>\n<p>No height moves by more than 20.0 mm then.</p>\n<p>Nothing checks 2 keyed-in heights: a mistake there would not show.</p>\n",
+    "<path d=\"M2650 3400Q3525 2726 4400 2090T6150 854\"><title>1:3 A to B, 0.0000</title></path>\n",
+    "<g class=\"a few\">\n<path d=\"M2650 3400Q3525 2515 4400 1740T6150 300\"><title>1:4 A to B, +0.9990</title></path>\n",
+    "<circle cx=\"6150\" cy=\"854\" r=\"38\"><title>B 102.5460</title></circle>\n",
+    "<li><b>3</b>sights\n<li><b>1</b>new points\n<li><b>2</b>sights to spare\n<li><b>1.0 mm</b>largest residual within the limit\n",
     "<tr><th>A<td>100.0000<td><td>benchmark\n<tr><th>B<td>102.5460<td><td>3\n",
-    "<tr><td>1:1<th>instrument<th>A<td>1.5000<td>3<td>3<th><b class=\"u\">0</b> unchecked\n",
+    "<tr><th>A<td>100.0000<td>3<td>nothing: it is the only one<td>\n",
+    "<path class=\"a\" d=\"M6733 670V100\"/>\n",
+    "<tr><td>1:4<th>A<th>B<td>3.5450<td>+0.9990<td>1<td>2<th class=\"t\">in question\n",
+    "<tr class=\"x\"><td>1<td>1:4<th>sight<th>A to B<td>3.5450<td>2.5450<td>2.5460<td>0.0010<td>0\n",
+    "<tr><td>1:1<th>instrument<th>A<td>1.5000<td>3<td>3<th>unchecked\n",
     "<li>weights record 2: B to A was never observed, but A to B was\n",
+    "<li>book 1: <bdi>&lt;b&gt; &amp; &#39;so&#39;.gsi</bdi> <small>196 B, SHA-256 ee792ecd53e9be0d8c2f78ad2f5ce487418d40f7c53a952e55070151b5cb8493</small>\n<li>benchmarks: <bdi>marks.csv</bdi> <small>19 B, SHA-256 c15a70569a2e2d0025454e42e8ef947dc907df9de97213f74d4ed8795fbdba58</small>\n<li>weights: <bdi>weights.csv</bdi> <small>21 B, SHA-256 25342a3d84e0c31ca539d7c2a9b326eb2dbf6a51e13c8d5e1a0fe0bbe69eb97e</small>\n</ul>\n",
 ];
 
 /// A sink with room for a page, which holds a text, and whose call with this number fails, counted from
@@ -75,6 +79,7 @@ fn page_where<R: AllocGlobal + Abort>(
         rt.alloc(),
         &MakePage {
             limit: LIMIT,
+            title: TITLE,
             names: &NAMES,
         },
         &mut ReviewReader::new(rt.alloc()),
@@ -127,6 +132,7 @@ fn a_misread_sight_is_shown(rt: HostRuntime) {
         rt.alloc(),
         &MakePage {
             limit: LIMIT,
+            title: TITLE,
             names: &["client/<b> & 'so'.gsi", "marks.csv", "weights.csv"],
         },
         &mut ReviewReader::new(rt.alloc()),

@@ -1,3 +1,4 @@
 pub mod CommandLemmas
 pub mod LimitLemmas
 pub mod PlanLemmas
+pub mod StreamLemmas

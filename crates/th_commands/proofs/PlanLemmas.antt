@@ -1,7 +1,5 @@
-use Rattle.std.proofs.Common.{◌≡◌, ◌≢◌, ◌<◌, ◌≤◌, ◌⊎◌, ℕ, false, is_some, [], Ok, Err, Result, IsErrAnd, IfErr, List, length, Some, None, ap, sym, subst, refl, inl, inr, ◌∙◌, true}
+use Rattle.std.proofs.Common.{◌≡◌, ◌≢◌, ◌<◌, ◌⊎◌, false, is_some, [], Ok, Err, Result, IsErrAnd, IfErr, List, length, Some, None, ap, sym, subst, refl, inl, inr, ◌∙◌, true}
 use Rattle.std.specs.Prelude.{Option, option_map}
-use Rattle.std.specs.Option.{option_map_or}
-use Rattle.std.proofs.lemmas.Bool.{cases_lt}
 use Rattle.clap.proofs.WalkLemmas.{both}
 use Rattle.clap.specs.Words.{App, HasKind, HasMatchesOf, Row, Text, fault_of, is_simple, is_simple_and_free, kind_of, subcommand_of, subcommand_rows_of}
 use Rattle.clap.specs.declared.error.Error.{Error}
@@ -9,12 +7,13 @@ use Rattle.clap.specs.declared.error.kind.ErrorKind.{ErrorKind}
 use Rattle.clap.specs.declared.error.kind.ErrorKind.TheVariants.{MissingRequiredArgument, OutOfMemory}
 use Rattle.clap.specs.declared.parser.matches.ArgMatches.{ArgMatches}
 use Rattle.clap.proofs.OnLiterals.{clap_on_literals}
-use Rattle.th_commands.specs.PlanLimits.{max_books}
-use Rattle.th_commands.specs.Plans.{AreTaken, IsFaultOf, IsPlanOf, asked, books_named, name_no_files, said_by}
+use Rattle.th_commands.specs.ArgumentFaults.{argument_fault_by}
+use Rattle.th_commands.specs.Plans.{AreTaken, IsFaultOf, IsPlanOf, argument_fault, asked, said_by}
 use Rattle.th_commands.specs.Commands.{command_line}
-use Rattle.th_commands.specs.Asked.{Asked, asked_by, book_count, has_bad_prefix}
+use Rattle.th_commands.specs.Asked.{Asked, asked_by}
 use Rattle.th_commands.specs.declared.plans.Plan.{Plan}
 use Rattle.th_commands.specs.declared.plans.Plan.TheVariants as plan
+use Rattle.th_commands.specs.declared.faults.ArgumentFault.{ArgumentFault}
 use Rattle.th_commands.specs.declared.faults.PlanFault.{PlanFault}
 use Rattle.th_commands.specs.declared.faults.PlanFault.TheVariants.{Line, NoMemory}
 
@@ -79,7 +78,7 @@ is_plan words own found more taken met e = go own (said_is_asked (said_by own) (
     go (plan.Adjust inputs limit prefix) h = (more, taken, ap asked_by (sym met) ∙ h.0)
     go (plan.Review inputs limit prefix) h = (more, taken, ap asked_by (sym met) ∙ h.0)
     go (plan.Explain inputs limit table) h = (more, taken, ap asked_by (sym met) ∙ h.0)
-    go (plan.Page inputs limit prefix) h = (more, taken, ap asked_by (sym met) ∙ h.0)
+    go (plan.Page inputs limit prefix title) h = (more, taken, ap asked_by (sym met) ∙ h.0)
     go (plan.Check inputs certificate true) h = (more, taken, ap asked_by (sym met) ∙ h.0)
     go (plan.Check inputs certificate false) h = (more, taken, ap asked_by (sym met) ∙ h.0)
     go (plan.Book table) h = (more, taken, ap asked_by (sym met) ∙ h.0)
@@ -95,32 +94,13 @@ nothing_asked words found met e = ap asked_by (sym met) ∙ go (asked_by found) 
     go None h = refl
     go (Some x) h = cc
 
--- the books that were found are those that the words name
-pub books_are : (words : List Text) (found : Option (Text × List Row)) → found ≡ subcommand_of command_line words
-    → option_map_or (λ (p : Text × List Row). book_count p.1) found 0 ≡ books_named words
-books_are words found met = ap (λ (f : Option (Text × List Row)). option_map_or (λ (p : Text × List Row). book_count p.1) f 0) met
-
-not_more : (most n : ℕ) → (most < n → ⊥) → n ≤ most
-not_more most n h = elim (cases_lt most n) [
-  | inl less ↦ absurd (h less)
-  | inr least ↦ least
-]
-
--- so words whose books that were found are not too many name no more
-pub few_books : (words : List Text) (found : Option (Text × List Row)) → found ≡ subcommand_of command_line words
-    → (max_books < option_map_or (λ (p : Text × List Row). book_count p.1) found 0 → ⊥) → books_named words ≤ max_books
-few_books words found met few = subst (λ (n : ℕ). n ≤ max_books) (books_are words found met) (not_more max_books _ few)
-
--- and the prefix that was found is the one that the words name
-pub prefix_is : (words : List Text) (found : Option (Text × List Row)) → found ≡ subcommand_of command_line words
-    → option_map_or (λ (p : Text × List Row). has_bad_prefix p.1) found false ≡ name_no_files words
-prefix_is words found met = ap (λ (f : Option (Text × List Row)). option_map_or (λ (p : Text × List Row). has_bad_prefix p.1) f false) met
+-- what is wrong with the arguments that were found is what is wrong with the words
+pub argument_fault_is : (words : List Text) (found : Option (Text × List Row)) (own : Option ArgumentFault) → found ≡ subcommand_of command_line words
+    → own ≡ argument_fault_by found → argument_fault words ≡ own
+argument_fault_is words found own met e = ap argument_fault_by (sym met) ∙ sym e
 
 -- a missing argument is no allocation failure
 pub other_kind : (kind : ErrorKind) → kind ≡ MissingRequiredArgument → kind ≡ OutOfMemory → ⊥
 other_kind kind missing memory =
     let bad : MissingRequiredArgument ≡ OutOfMemory = sym missing ∙ memory in
     cc
-
-pub not_true : false ≡ true → ⊥
-not_true e = cc

@@ -1,11 +1,13 @@
-use Rattle.std.specs.Prelude.{◌*◌, ◌&&◌, ℕ, ℤ, Bool, false, List, Option, Some, None, pos, [], codes, if◌then◌else◌, length, nat_le, not, option_and_then, option_map, unwrap_or}
+use Rattle.std.specs.Prelude.{◌&&◌, ℤ, Bool, false, List, Option, Some, None, codes, if◌then◌else◌, length, nat_le, option_and_then, option_map}
 use Rattle.std.specs.Option.{option_map_or}
 use Rattle.std.specs.Str.{bytes_eq}
-use Rattle.std.specs.Str.Parse.{digits_value, without_leading_plus}
-use Rattle.clap.specs.ValueTests.{is_numeral}
-use Rattle.clap.specs.Words.{Row, Text, all_of, first_of, one_of}
-use Rattle.th_commands.specs.PlanLimits.{max_blunder, max_books, units_in_micrometre}
+use Rattle.clap.specs.Words.{Row, Text, all_of, first_of}
+use Rattle.th_columns.specs.FileNames.{last_part}
+use Rattle.th_commands.specs.BlunderLimits.{limit_from}
+use Rattle.th_commands.specs.PlanLimits.{max_books}
 use Rattle.th_commands.specs.Prefixes.{names_files}
+use Rattle.th_commands.specs.Streams.{reads_twice}
+use Rattle.th_commands.specs.Titles.{is_title}
 
 -- the names of the files that `adjust`, `review`, `explain`, `page` and `check` read: the books in order, the benchmarks, and the weights if a file of them is named
 pub record Files : Type 0 where
@@ -14,14 +16,14 @@ pub record Files : Type 0 where
   pub weights : Option Text
 
 -- what a command line requests: to list a book; to adjust, to review or to make a page, with a limit of blunders
--- in units of 10 nm and the prefix of the outputs; to explain, with a limit and whether a table is printed; to check a certificate,
+-- in units of 10 nm and the prefix of the outputs, and the title of a page; to explain, with a limit and whether a table is printed; to check a certificate,
 -- and maybe to list what was read; to make a book of a table of differences, or of a book with heights; or to mend by a table of changes a book
 pub data Asked : Type 0 where
   list : Text → Asked
   adjust : Files → ℤ → Text → Asked
   review : Files → ℤ → Text → Asked
   explain : Files → ℤ → Bool → Asked
-  page : Files → ℤ → Text → Asked
+  page : Files → ℤ → Text → Text → Asked
   check : Files → Text → Asked
   check_with_inputs : Files → Text → Asked
   book : Text → Asked
@@ -31,16 +33,6 @@ pub data Asked : Type 0 where
 -- the names of the books, if there is one at least, and no more than a command takes
 abbrev pub books_of : List Text → Option (List Text)
 books_of names = if nat_le 1 (length names) && nat_le (length names) max_books then Some names else None
-
--- a limit of blunders in units of 10 nm, given in micrometres; none above the largest that a command takes
-abbrev pub limit_of : ℕ → Option ℤ
-limit_of micrometres = if nat_le micrometres max_blunder then Some (pos (units_in_micrometre * micrometres)) else None
-
--- the whole number that a text writes
-abbrev pub number_in : Text → Option ℕ
-number_in text =
-    let digits = without_leading_plus text in
-    if is_numeral digits then Some (digits_value 10 digits) else None
 
 -- the files in what `clap` found for a command's arguments
 abbrev pub files_in : List Row → Option Files
@@ -53,7 +45,7 @@ files_in rows =
 
 -- the limit of blunders in what `clap` found
 abbrev pub limit_in : List Row → Option ℤ
-limit_in rows = option_and_then limit_of (option_and_then number_in (one_of (codes "blunder") rows))
+limit_in rows = limit_from (first_of (codes "limit") rows) (first_of (codes "blunder") rows)
 
 -- the prefix of the outputs in what `clap` found, if it names files
 abbrev pub prefix_in : List Row → Option Text
@@ -63,6 +55,14 @@ prefix_in rows = option_and_then (λ prefix. if names_files prefix then Some pre
 abbrev pub options_in : List Row → Option (Files × ℤ × Text)
 options_in rows =
     option_and_then (λ files. option_and_then (λ limit. option_map (λ prefix. (files, limit, prefix)) (prefix_in rows)) (limit_in rows)) (files_in rows)
+
+-- the title of a page in what `clap` found, if it is one; where there is none, the last part of the prefix
+abbrev pub title_or : Text → Option Text → Option Text
+title_or prefix None = Some (last_part prefix)
+title_or prefix (Some text) = if is_title text then Some text else None
+
+abbrev pub title_in : Text → List Row → Option Text
+title_in prefix rows = title_or prefix (first_of (codes "title") rows)
 
 -- whether `clap` found a flag
 abbrev pub flag_in : Text → List Row → Bool
@@ -78,14 +78,6 @@ inputs_in rows = flag_in (codes "inputs") rows
 abbrev pub heights_in : List Row → Bool
 heights_in rows = flag_in (codes "heights") rows
 
--- whether `clap` found a prefix that names no files
-abbrev pub has_bad_prefix : List Row → Bool
-has_bad_prefix rows = option_map_or (λ prefix. not (names_files prefix)) (first_of (codes "out") rows) false
-
--- how many books `clap` found
-abbrev pub book_count : List Row → ℕ
-book_count rows = length (unwrap_or (all_of (codes "book") rows) [])
-
 -- what the arguments of each command request
 abbrev pub list_asked : List Row → Option Asked
 list_asked rows = option_map list (first_of (codes "book") rows)
@@ -100,7 +92,7 @@ abbrev pub explain_asked : List Row → Option Asked
 explain_asked rows = option_and_then (λ files. option_map (λ limit. explain files limit (table_in rows)) (limit_in rows)) (files_in rows)
 
 abbrev pub page_asked : List Row → Option Asked
-page_asked rows = option_map (λ own. page own.0 own.1 own.2) (options_in rows)
+page_asked rows = option_and_then (λ own. option_map (page own.0 own.1 own.2) (title_in own.2 rows)) (options_in rows)
 
 abbrev pub check_asked : List Row → Option Asked
 check_asked rows =
@@ -125,6 +117,6 @@ command_asked name rows =
     else if bytes_eq name (codes "mend") then mend_asked rows
     else None
 
--- what a command requests, given what `clap` found for its arguments
+-- what a command requests, given what `clap` found for its arguments; it reads standard input once at most
 abbrev pub asked_by : Option (Text × List Row) → Option Asked
-asked_by = option_and_then (λ found. command_asked found.0 found.1)
+asked_by = option_and_then (λ found. if reads_twice found.1 then None else command_asked found.0 found.1)

@@ -1,5 +1,5 @@
 -- The command line, as `clap` describes one.
-use Rattle.std.specs.Prelude.{◌∷◌, true, pos, Some, codes, []}
+use Rattle.std.specs.Prelude.{true, pos, Some, codes}
 use Rattle.clap.specs.Lexer.{usize_max}
 use Rattle.clap.specs.Words.{App, Rule, Text, new_app, new_rule, with_rule, with_subcommand}
 use Rattle.clap.specs.declared.builder.action.ArgAction.TheVariants.{Append, SetTrue}
@@ -43,12 +43,9 @@ option_rule name = record (new_rule name) {
 abbrev pub needed_rule : Text → Rule
 needed_rule name = record (option_rule name) { required = true }
 
--- `--blunder MICROMETRES`, a whole number from 0 to `max_blunder`, 20000 by default
+-- `--blunder MICROMETRES`, a whole number from 0 to `max_blunder`
 abbrev pub blunder_rule : Rule
-blunder_rule = record (option_rule (codes "blunder")) {
-  defaults = codes "20000" ∷ [];
-  parser = Some (Signed (pos 0) (pos max_blunder));
-}
+blunder_rule = record (option_rule (codes "blunder")) { parser = Some (Signed (pos 0) (pos max_blunder)) }
 
 -- an option that takes no value
 abbrev pub flag_rule : Text → Rule
@@ -61,27 +58,28 @@ flag_rule name = record (new_rule name) {
 abbrev pub list_command : App
 list_command = with_rule (new_app (codes "list")) book_rule
 
--- a command with the options of `adjust`, `review` and `page`: `--benchmarks FILE [--weights FILE] [--blunder MICROMETRES] --out PREFIX BOOK...`
+-- a command with the options of `adjust`, `review` and `page`: `--benchmarks FILE [--weights FILE] [--limit LENGTH | --blunder MICROMETRES] --out PREFIX BOOK...`
 abbrev pub with_options : App → App
 with_options app =
-    with_rule (with_rule (with_rule (with_rule (with_rule app (needed_rule (codes "benchmarks")))
-    (option_rule (codes "weights"))) blunder_rule) (needed_rule (codes "out"))) books_rule
+    with_rule (with_rule (with_rule (with_rule (with_rule (with_rule app (needed_rule (codes "benchmarks")))
+    (option_rule (codes "weights"))) (option_rule (codes "limit"))) blunder_rule) (needed_rule (codes "out"))) books_rule
 
--- `adjust`, `review` and `page`
+-- `adjust` and `review`
 abbrev pub adjust_command : App
 adjust_command = with_options (new_app (codes "adjust"))
 
 abbrev pub review_command : App
 review_command = with_options (new_app (codes "review"))
 
+-- `page`, with `[--title TEXT]` and these options
 abbrev pub page_command : App
-page_command = with_options (new_app (codes "page"))
+page_command = with_options (with_rule (new_app (codes "page")) (option_rule (codes "title")))
 
--- `explain --benchmarks FILE [--weights FILE] [--blunder MICROMETRES] [--csv] BOOK...`
+-- `explain --benchmarks FILE [--weights FILE] [--limit LENGTH | --blunder MICROMETRES] [--csv] BOOK...`
 abbrev pub explain_command : App
 explain_command =
-    with_rule (with_rule (with_rule (with_rule (with_rule (new_app (codes "explain")) (needed_rule (codes "benchmarks")))
-    (option_rule (codes "weights"))) blunder_rule) (flag_rule (codes "csv"))) books_rule
+    with_rule (with_rule (with_rule (with_rule (with_rule (with_rule (new_app (codes "explain")) (needed_rule (codes "benchmarks")))
+    (option_rule (codes "weights"))) (option_rule (codes "limit"))) blunder_rule) (flag_rule (codes "csv"))) books_rule
 
 -- `check --benchmarks FILE [--weights FILE] --certificate FILE [--inputs] BOOK...`
 abbrev pub check_command : App

@@ -3,6 +3,10 @@ pub mod Commands
 pub mod Inside
 pub mod PlanLimits
 pub mod Prefixes
+pub mod Titles
+pub mod Streams
+pub mod BlunderLimits
 pub mod Asked
+pub mod ArgumentFaults
 pub mod Books
 pub mod Plans

@@ -1,22 +1,24 @@
 //! Reading a command line with `clap`.
-ghost use Rattle.std.specs.Prelude.{◌≡◌, ◌<◌, ◌≤◌, ◌↔◌, IfErr, IfOk, IsTrue, Ok, Some, false, length, map, option_map};
-ghost use Rattle.std.specs.Option.{option_map_or};
+ghost use Rattle.std.specs.Prelude.{◌≡◌, ◌≤◌, ◌↔◌, IfErr, IfOk, Ok, Some, length, map, option_map};
 ghost use Rattle.clap.specs.Words.{all_of, first_of, found_of, rows_of, subcommand_rows_of};
-ghost use Rattle.th_commands.specs.Asked.{adjust_asked, asked_by, book_asked, book_count, check_asked, explain_asked, files_in, flag_in, has_bad_prefix, heights_in, limit_in, list_asked, mend_asked, options_in, page_asked, prefix_in, review_asked, table_in};
-ghost use Rattle.th_commands.specs.PlanLimits.{max_books};
+ghost use Rattle.th_commands.specs.Asked.{adjust_asked, asked_by, book_asked, check_asked, command_asked, explain_asked, files_in, flag_in, heights_in, limit_in, list_asked, mend_asked, options_in, page_asked, prefix_in, review_asked, table_in, title_in};
 ghost use Rattle.th_commands.specs.Plans.{IsFaultOf, IsPlanOf, files, said_by};
 
+use crate::argument_faults::argument_fault_of;
 use crate::blunder_limits::Limit;
 use crate::books::Books;
 use crate::commands::command_line;
 use crate::faults::PlanFault;
 use crate::plans::{Inputs, Plan};
 use crate::prefixes::names_files;
+use crate::streams::reads_twice;
+use crate::titles::is_title;
+use crate::values::{value_of, values_of};
 use clap::ArgMatches;
 use clap::error::ErrorKind;
 use std::alloc::Global;
 use std::convert::AsStr;
-use th_limits::MAX_BOOKS;
+use th_columns::last_part;
 
 /// The plan of a command line, whose first word is the program's own name.
 pub fn plan<'a, S: AsStr>(alloc: Global, words: &'a [S]) -> Result<Plan<'a>, PlanFault>
@@ -29,10 +31,11 @@ pub fn plan<'a, S: AsStr>(alloc: Global, words: &'a [S]) -> Result<Plan<'a>, Pla
     }
     let mut command = command_line(alloc)?;
     let matches = command.try_get_matches_from_mut(words)?;
-    match plan_of(&matches) {
-        Some(plan) => Ok(plan),
-        None if has_too_many_books(&matches) => Err(PlanFault::TooManyBooks),
-        None if has_bad_prefix(&matches) => Err(PlanFault::NamesNoFiles),
+    if let Some(plan) = plan_of(&matches) {
+        return Ok(plan);
+    }
+    match argument_fault_of(&matches) {
+        Some(fault) => Err(PlanFault::Argument(fault)),
         // Never where `clap` keeps its contract: a parse that succeeds has all required arguments.
         None => Err(PlanFault::Line(command.error(
             ErrorKind::MissingRequiredArgument,
@@ -41,12 +44,24 @@ pub fn plan<'a, S: AsStr>(alloc: Global, words: &'a [S]) -> Result<Plan<'a>, Pla
     }
 }
 
-/// The plan of the command that was found.
+/// The plan of the command that was found. It reads standard input once at most.
 fn plan_of<'a>(matches: &ArgMatches<'a>) -> Option<Plan<'a>>
     ensures { option_map said_by result
         ≡ option_map Some (asked_by (subcommand_rows_of matches.now)) }
 {
     let (name, found) = matches.subcommand()?;
+    if reads_twice(found) {
+        None
+    } else {
+        plan_of_command(name, found)
+    }
+}
+
+/// The plan of the command of this name.
+fn plan_of_command<'a>(name: &str, found: &ArgMatches<'a>) -> Option<Plan<'a>>
+    ensures { option_map said_by result
+        ≡ option_map Some (command_asked name.now (rows_of (found_of found.now))) }
+{
     if name == "list" {
         list_of(found)
     } else if name == "adjust" {
@@ -65,34 +80,6 @@ fn plan_of<'a>(matches: &ArgMatches<'a>) -> Option<Plan<'a>>
         mend_of(found)
     } else {
         None
-    }
-}
-
-/// Whether the command that was found has more books than it takes.
-fn has_too_many_books(matches: &ArgMatches<'_>) -> bool
-    ensures { IsTrue result ↔ (max_books < option_map_or (λ found. book_count found.1)
-        (subcommand_rows_of matches.now) 0) }
-{
-    let Some((_, found)) = matches.subcommand() else {
-        return false;
-    };
-    match values_of(found, "book") {
-        Some(names) => names.len() > MAX_BOOKS,
-        None => false,
-    }
-}
-
-/// Whether the command that was found has a prefix that names no files.
-fn has_bad_prefix(matches: &ArgMatches<'_>) -> bool
-    ensures { result ≡ option_map_or (λ found. has_bad_prefix found.1)
-        (subcommand_rows_of matches.now) false }
-{
-    let Some((_, found)) = matches.subcommand() else {
-        return false;
-    };
-    match value_of(found, "out") {
-        Some(prefix) => !names_files(prefix),
-        None => false,
     }
 }
 
@@ -154,6 +141,7 @@ fn page_of<'a>(found: &ArgMatches<'a>) -> Option<Plan<'a>>
         inputs,
         limit,
         prefix,
+        title: title_of(found, prefix)?,
     })
 }
 
@@ -217,7 +205,7 @@ fn inputs_of<'a>(found: &ArgMatches<'a>) -> Option<Inputs<'a>>
 fn limit_of(found: &ArgMatches<'_>) -> Option<Limit>
     ensures { result ≡ limit_in (rows_of (found_of found.now)) }
 {
-    Limit::of_micrometres(found.get_one::<u32>("blunder")?)
+    Limit::of_options(value_of(found, "limit"), value_of(found, "blunder"))
 }
 
 /// Whether the flag for a table is there.
@@ -256,18 +244,14 @@ fn prefix_of<'a>(found: &ArgMatches<'a>) -> Option<&'a str>
     }
 }
 
-/// The first value of an argument.
-fn value_of<'a>(found: &ArgMatches<'a>, name: &str) -> Option<&'a str>
-    ensures { option_map (λ value. value.now) result
-        ≡ first_of name.now (rows_of (found_of found.now)) }
+/// The title of a page, in UTF-8: where it is not given, the last part of the prefix.
+fn title_of<'a>(found: &ArgMatches<'a>, prefix: &'a str) -> Option<&'a [u8]>
+    ensures { option_map (λ title. title.now) result
+        ≡ title_in prefix.entry.now (rows_of (found_of found.now)) }
 {
-    found.get_str(name)
-}
-
-/// The values of an argument.
-fn values_of<'b, 'a>(found: &'b ArgMatches<'a>, name: &str) -> Option<&'b [&'a str]>
-    ensures { option_map (λ values. map (λ value. value.now) values.now) result
-        ≡ all_of name.now (rows_of (found_of found.now)) }
-{
-    found.get_strs(name)
+    match value_of(found, "title") {
+        None => Some(last_part(prefix.as_bytes())),
+        Some(title) if is_title(title) => Some(title.as_bytes()),
+        Some(_) => None,
+    }
 }

@@ -120,7 +120,7 @@ nothing and writes one file, for people and for whoever they hand it to:
 A browser shows and prints it. It loads nothing and runs no program.
 
 Example:
-  height_office page --benchmarks marks.csv --weights weights.csv --out dam monday.gsi tuesday.gsi
+  height_office page --benchmarks marks.csv --title 'Upper dam' --out dam monday.gsi tuesday.gsi
 
 Exit status: 0 the page was written, 2 an input was refused, 3 a bad command line or help,
 4 out of memory, 5 a file could not be read or written";
@@ -232,7 +232,8 @@ fn page_command<'a>(alloc: Global) -> Result<Command<'a>, AllocError>
 {
     let page = Command::new(alloc, "page")
         .about("Shows the network of the books on one page: writes an HTML file")
-        .after_help(AFTER_PAGE);
+        .after_help(AFTER_PAGE)
+        .arg(title(alloc))?;
     with_options(alloc, page)
 }
 
@@ -243,6 +244,7 @@ fn with_options<'a>(alloc: Global, command: Command<'a>) -> Result<Command<'a>, 
     command
         .arg(benchmarks(alloc))?
         .arg(weights(alloc))?
+        .arg(limit(alloc))?
         .arg(blunder(alloc))?
         .arg(out(alloc))?
         .arg(books(alloc))
@@ -257,6 +259,7 @@ fn explain_command<'a>(alloc: Global) -> Result<Command<'a>, AllocError>
         .after_help(AFTER_EXPLAIN)
         .arg(benchmarks(alloc))?
         .arg(weights(alloc))?
+        .arg(limit(alloc))?
         .arg(blunder(alloc))?
         .arg(csv(alloc))?
         .arg(books(alloc))
@@ -305,7 +308,7 @@ fn book<'a>(alloc: Global) -> Arg<'a>
     Arg::new(alloc, "book")
         .required(true)
         .value_name("BOOK")
-        .help("The file of the book, in GSI-8 or GSI-16 blocks")
+        .help("The file of the book, in GSI-8 or GSI-16 blocks; - is standard input")
 }
 
 /// The books of `adjust`, `review`, `explain` and `check`.
@@ -317,7 +320,7 @@ fn books<'a>(alloc: Global) -> Arg<'a>
         .action(ArgAction::Append)
         .num_args(1..)
         .value_name("BOOK")
-        .help("The files of 1 to 16 books, in GSI-8 or GSI-16 blocks")
+        .help("The files of 1 to 16 books, in GSI-8 or GSI-16 blocks; - is standard input")
 }
 
 /// The table of `mend`.
@@ -370,18 +373,29 @@ fn weights<'a>(alloc: Global) -> Arg<'a>
         )
 }
 
-/// `--blunder MICROMETRES`.
+/// `--limit LENGTH`.
 ///
-/// 'explain' explains nothing that differs by less. The default is 20000, which is 20 mm.
+/// A whole number with its unit, at most 1 km. 'explain' explains nothing that differs by less.
+fn limit<'a>(alloc: Global) -> Arg<'a>
+    ensures { IsArgument (option_rule (codes "limit")) result }
+{
+    Arg::new(alloc, "limit")
+        .long("limit")
+        .value_name("LENGTH")
+        .help(
+            "Residuals above this size are marked as blunders, as 5mm or 500um; 20mm if not given",
+        )
+}
+
+/// `--blunder MICROMETRES`.
 fn blunder<'a>(alloc: Global) -> Arg<'a>
     ensures { IsArgument blunder_rule result }
 {
     Arg::new(alloc, "blunder")
         .long("blunder")
         .value_parser(clap::value_parser!(u32).range(0..=MAX_BLUNDER as i64))
-        .default_value("20000")
         .value_name("MICROMETRES")
-        .help("Residuals above this size are marked as blunders, 0 to 1000000000")
+        .help("The same limit in micrometres, in place of --limit")
 }
 
 /// `--csv`.
@@ -425,6 +439,18 @@ fn out<'a>(alloc: Global) -> Arg<'a>
         .required(true)
         .value_name("PREFIX")
         .help("The beginning of the names of the output files")
+}
+
+/// `--title TEXT`.
+///
+/// It has one line of at most 100 characters.
+fn title<'a>(alloc: Global) -> Arg<'a>
+    ensures { IsArgument (option_rule (codes "title")) result }
+{
+    Arg::new(alloc, "title")
+        .long("title")
+        .value_name("TEXT")
+        .help("The title of the page; the last part of the prefix if not given")
 }
 
 /// `--certificate FILE`.

@@ -2,9 +2,9 @@
 //! reads it.
 //!
 //! `plan` returns the command that the arguments name, or why they name none. It has the names of
-//! the files, the prefix of the outputs and the limit of blunders exactly as `clap` states them.
-//! The types keep a plan at 1 to `MAX_BOOKS` books and a limit of at most `MAX_BLUNDER`. The last part
-//! of a prefix is not empty, `.` or `..`.
+//! the files, the prefix of the outputs, the limit of blunders and the title of a page exactly as `clap`
+//! states them. The types keep a plan at 1 to `MAX_BOOKS` books and a limit of at most `MAX_BLUNDER`. The
+//! last part of a prefix is not empty, `.` or `..`. A given title is one line of at most `MAX_TITLE` characters.
 #![tactic(auto)]
 
 // The command line that `clap` gets.
@@ -17,15 +17,19 @@ mod books;
 mod faults;
 mod plans;
 mod prefixes;
+mod titles;
 
 // Reading a command line.
+mod argument_faults;
 mod command_lines;
+mod streams;
+mod values;
 
 pub use blunder_limits::Limit;
 pub use books::Books;
 pub use command_lines::plan;
 pub use commands::VERSION;
-pub use faults::PlanFault;
-pub use limits::MAX_BLUNDER;
+pub use faults::{ArgumentFault, PlanFault};
+pub use limits::{MAX_BLUNDER, MAX_TITLE};
 pub use plans::{Inputs, Plan};
 pub use th_limits::MAX_BOOKS;

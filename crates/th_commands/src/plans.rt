@@ -46,11 +46,13 @@ pub enum Plan<'a> {
         table: bool,
     },
     /// `page`: write what `adjust`, `review` and `explain` find as a page, in the file whose name is
-    /// the prefix and `.html`. Residuals above the limit are reported as blunders.
+    /// the prefix and `.html`. Residuals above the limit are reported as blunders. The title is that of
+    /// the page, in UTF-8.
     Page {
         inputs: Inputs<'a>,
         limit: Limit,
         prefix: &'a str,
+        title: &'a [u8],
     },
     /// `check`: check the certificate in the file of this name against the inputs, and after a `yes` list
     /// all that was read, if that is wanted.

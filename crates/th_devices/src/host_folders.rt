@@ -20,6 +20,9 @@ use std::time::{Duration, Instant};
 use std::{fs, io, mem, thread};
 use th_progress::Meter;
 
+/// The name of standard input. A file of this name is `./-`.
+const INPUT_NAME: &str = "-";
+
 /// How often a run tries to lock a folder that another run has locked, and how long it waits each time.
 const TRIES: u32 = 1_000;
 
@@ -116,11 +119,13 @@ impl<'a, R: Files<File = File> + Input + Print + Eprint + Clock> Folder for Host
 
     fn source(&mut self, alloc: Global, origin: Origin<'_>) -> Result<Self::In, AllocError> {
         let source = match origin {
-            Origin::File(name) => {
+            Origin::File(name) if name != INPUT_NAME => {
                 let name = String::from_str(alloc, name)?;
                 OneOf::First(FileSource::new(self.rt, name, self.reasons))
             }
-            Origin::Input => OneOf::Second(StandardInput::new(self.rt, self.reasons)),
+            Origin::File(_) | Origin::Input => {
+                OneOf::Second(StandardInput::new(self.rt, self.reasons))
+            }
         };
         Ok(Untold { source })
     }

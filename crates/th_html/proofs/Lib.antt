@@ -1,1 +1,2 @@
 pub mod Markup
+mod Struck

@@ -3,5 +3,8 @@ pub mod Lengths
 pub mod Words
 pub mod Cells
 pub mod Places
+pub mod Shown
 pub mod Tables
+pub mod Heights
+pub mod Benchmarks
 pub mod Laws

@@ -1,26 +1,22 @@
 -- The tables of a page: their heads and their rows.
-use Rattle.std.specs.Prelude.{ℕ, ℤ, ◌-◌, ◌%◌, ◌==◌, ◌&&◌, false, List, [], Option, None, Some, ◌++◌, codes, decimal, if◌then◌else◌, int_lt, length, nat_lt, option_map, take}
-use Rattle.std.specs.List.{enumerate_from, flat_map}
+use Rattle.std.specs.Prelude.{ℕ, ℤ, ◌-◌, ◌==◌, Bool, false, List, [], Option, None, Some, ◌++◌, codes, decimal, if◌then◌else◌, int_lt, length, nat_lt, option_map, take}
+use Rattle.std.specs.List.{flat_map}
 use Rattle.th_explain_texts.specs.declared.rows.Row.{Row}
 use Rattle.th_explain_texts.specs.declared.rows.Values.{Values}
 use Rattle.th_reliability.specs.declared.mistakes.SharedMistake.{SharedMistake}
 use Rattle.th_review_rows.specs.declared.rows.BenchmarkRow.{BenchmarkRow}
 use Rattle.th_review_rows.specs.declared.rows.EntryRow.{EntryRow}
 use Rattle.th_review_rows.specs.declared.rows.ObservationRow.{ObservationRow}
-use Rattle.th_review_rows.specs.declared.rows.PointRow.{PointRow}
 use Rattle.th_html.specs.Cells.{height_cell, name_cell, number_cell, optional_cell, optional_height_cell, place_cell, signed_cell, words_cell}
 use Rattle.th_html.specs.Lengths.{sized_text}
 use Rattle.th_html.specs.Places.{place_text}
 use Rattle.th_html.specs.Texts.{escaped}
-use Rattle.th_html.specs.Words.{entry_words, mistake_words, number_words, shared_mistake_words}
+use Rattle.th_html.specs.Words.{entry_words, number_words}
+use Rattle.th_review_rows.specs.Words.{mistake_word, shared_mistake_word}
 
 -- the most rows of a table
 abbrev pub most_rows : ℕ
 most_rows = 100
-
--- how many points a table of heights has
-abbrev pub block : ℕ
-block = 20
 
 -- the beginning of a table, with its head
 unfoldable pub table_start : List ℕ
@@ -52,11 +48,10 @@ sight_cells row =
     place_cell row.observation.book row.observation.line ++ name_cell row.observation.station ++ name_cell row.observation.target
 
 unfoldable pub found_cells : ObservationRow → List ℕ
-found_cells row =
-    height_cell row.observation.difference ++ signed_cell row.residual ++ number_cell row.weight ++ optional_cell row.control ++ words_cell (mistake_words row.mistake)
+found_cells row = height_cell row.observation.difference ++ signed_cell row.residual ++ number_cell row.weight ++ optional_cell row.control
 
 unfoldable pub sight_row : ObservationRow → List ℕ
-sight_row row = codes "<tr>" ++ sight_cells row ++ found_cells row ++ codes "\n"
+sight_row row = codes "<tr>" ++ sight_cells row ++ found_cells row ++ words_cell (mistake_word row.mistake) ++ codes "\n"
 
 unfoldable pub sight_table : List ObservationRow → List ℕ
 sight_table rows = table_open sight_head ++ flat_map sight_row (take most_rows rows) ++ table_close ++ left_out (length rows)
@@ -71,7 +66,7 @@ entry_cells row = place_cell row.entry.book row.entry.line ++ words_cell (entry_
 unfoldable pub entry_row : EntryRow → List ℕ
 entry_row row =
     codes "<tr>" ++ entry_cells row ++ height_cell row.entry.length ++ number_cell row.entry.sights ++ number_cell row.weight
-    ++ words_cell (shared_mistake_words row.mistake) ++ codes "\n"
+    ++ words_cell (shared_mistake_word row.mistake) ++ codes "\n"
 
 unfoldable pub entry_table : List EntryRow → List ℕ
 entry_table rows = table_open entry_head ++ flat_map entry_row (take most_rows rows) ++ table_close ++ left_out (length rows)
@@ -82,7 +77,7 @@ benchmark_head = codes "<th>Benchmark<td>Height<td>Sights<td>Weight<th>A mistake
 
 abbrev pub benchmark_words : Option SharedMistake → List ℕ
 benchmark_words None = []
-benchmark_words (Some mistake) = shared_mistake_words mistake
+benchmark_words (Some mistake) = shared_mistake_word mistake
 
 unfoldable pub benchmark_row : BenchmarkRow → List ℕ
 benchmark_row row =
@@ -92,33 +87,11 @@ benchmark_row row =
 unfoldable pub benchmark_table : List BenchmarkRow → List ℕ
 benchmark_table rows = table_open benchmark_head ++ flat_map benchmark_row (take most_rows rows) ++ table_close ++ left_out (length rows)
 
--- heights, in tables of `block` points that stand side by side where there is room
-unfoldable pub heights_open : List ℕ
-heights_open = codes "<div class=\"col\"><table>\n<thead><tr><th>Point<td>Height<td>up to<td>Strength</thead>\n<tbody>\n"
+-- the beginning of a row, which is marked or not
+abbrev pub row_open : Bool → List ℕ
+row_open is_marked = if is_marked then codes "<tr class=\"x\">" else codes "<tr>"
 
--- the highest best height, if it is above the lowest
-abbrev pub above : PointRow → Option ℤ
-above row = if int_lt row.low row.high then Some row.high else None
-
--- the strength; a benchmark has none
-abbrev pub strength_cell : Option ℕ → List ℕ
-strength_cell None = codes "<td>benchmark"
-strength_cell (Some strength) = number_cell strength
-
-unfoldable pub height_row : PointRow → List ℕ
-height_row row = codes "<tr>" ++ name_cell row.name ++ height_cell row.low ++ optional_height_cell (above row) ++ strength_cell row.strength ++ codes "\n"
-
--- what is between two tables: nothing, but behind each `block` rows
-abbrev pub break_at : ℕ → List ℕ
-break_at k = if nat_lt 0 k && k % block == 0 then table_close ++ heights_open else []
-
-unfoldable pub numbered_height : ℕ × PointRow → List ℕ
-numbered_height (k, row) = break_at k ++ height_row row
-
-unfoldable pub height_tables : List PointRow → List ℕ
-height_tables rows = heights_open ++ flat_map numbered_height (enumerate_from 0 rows) ++ table_close
-
--- explanations
+-- explanations; those with number 1 are marked
 unfoldable pub explanation_head : List ℕ
 explanation_head = codes "<td>No<td>Place<th>What<th>At<td>Given<td>Proposed<td>up to<td>Cost left<td>Marks left"
 
@@ -158,7 +131,7 @@ value_cells row =
     ++ codes "<td>" ++ sized_text false row.left ++ number_cell row.blunders
 
 unfoldable pub explanation_row : Row → List ℕ
-explanation_row row = codes "<tr>" ++ number_cells row ++ value_cells row ++ codes "\n"
+explanation_row row = row_open (row.number == 1) ++ number_cells row ++ value_cells row ++ codes "\n"
 
 unfoldable pub explanation_table : List Row → List ℕ
 explanation_table rows = table_open explanation_head ++ flat_map explanation_row (take most_rows rows) ++ table_close ++ left_out (length rows)

@@ -5,11 +5,10 @@ ghost use Rattle.th_html.specs.Tables.{benchmark_head, benchmark_row, benchmark_
 
 use crate::cells::{write_height_cell, write_name_cell, write_number_cell, write_words_cell};
 use crate::tables::{first_rows, write_close, write_left_out, write_open};
-use crate::words::shared_mistake_words;
 use std::alloc::AllocError;
 use th_columns::Page;
 use th_reliability::SharedMistake;
-use th_review_rows::BenchmarkRow;
+use th_review_rows::{BenchmarkRow, shared_mistake_word};
 
 /// Writes the table of some benchmarks.
 #[tactic(auto, unfolding(crate::specs::Tables::benchmark_table))]
@@ -59,7 +58,7 @@ fn benchmark_words(mistake: &Option<SharedMistake>) -> &[u8]
     ensures { result.now ≡ benchmark_words mistake.now }
 {
     match mistake {
-        Some(mistake) => shared_mistake_words(mistake),
+        Some(mistake) => shared_mistake_word(mistake),
         None => b"",
     }
 }

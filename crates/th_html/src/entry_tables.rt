@@ -7,10 +7,10 @@ use crate::cells::{
     write_height_cell, write_name_cell, write_number_cell, write_place_cell, write_words_cell,
 };
 use crate::tables::{first_rows, write_close, write_left_out, write_open};
-use crate::words::{entry_words, shared_mistake_words};
+use crate::words::entry_words;
 use std::alloc::AllocError;
 use th_columns::Page;
-use th_review_rows::EntryRow;
+use th_review_rows::{EntryRow, shared_mistake_word};
 
 /// Writes the table of some entries.
 #[tactic(auto, unfolding(crate::specs::Tables::entry_table))]
@@ -51,7 +51,7 @@ fn write_row(page: &mut Page, row: &EntryRow) -> Result<(), AllocError>
     write_height_cell(page, row.entry.length.get())?;
     write_number_cell(page, u64::from(row.entry.sights))?;
     write_number_cell(page, u64::from(row.weight))?;
-    write_words_cell(page, shared_mistake_words(&row.mistake))?;
+    write_words_cell(page, shared_mistake_word(&row.mistake))?;
     page.add(b"\n")
 }
 

@@ -6,7 +6,7 @@ ghost use Rattle.th_html.specs.Tables.{above_low, ends_found, explanation_head, 
 use crate::cells::{write_number_cell, write_optional_height, write_words_cell};
 use crate::lengths::write_sized;
 use crate::places::write_place;
-use crate::tables::{first_rows, write_close, write_left_out, write_open};
+use crate::tables::{first_rows, write_close, write_left_out, write_open, write_row_open};
 use crate::texts::{write_escaped, write_number};
 use crate::words::number_words;
 use gsi_word::Name;
@@ -48,7 +48,7 @@ fn write_rows(page: &mut Page, rows: &[Row]) -> Result<(), AllocError>
 fn write_row(page: &mut Page, row: &Row) -> Result<(), AllocError>
     ensures { OnOk result (page.new ≡ page.old ++ explanation_row row.now) }
 {
-    page.add(b"<tr>")?;
+    write_row_open(page, row.number == 1)?;
     write_number_cells(page, row)?;
     write_value_cells(page, row)?;
     page.add(b"\n")

@@ -1,6 +1,6 @@
-//! Lengths in metres with four digits behind the dot.
+//! Lengths in metres with four digits behind the dot, and small ones in millimetres.
 ghost use Rattle.std.specs.Prelude.{◌≡◌, ◌<◌, ◌++◌, ◌^◌, OnOk, codes, unsigned_abs};
-ghost use Rattle.th_html.specs.Lengths.{height_text, sign_text, signed_text, sized_text, tenths, tenths_text};
+ghost use Rattle.th_html.specs.Lengths.{height_text, look_alike, metres_text, millimetres_text, same_side, sign_text, signed_text, size_text, sized_text, span_text, tenths, tenths_text, up_to};
 
 use itoa::Buffer;
 use std::alloc::AllocError;
@@ -57,4 +57,74 @@ fn write_tenths(page: &mut Page, count: u128) -> Result<(), AllocError>
     page.add(whole.format(count / 10_000).as_bytes())?;
     page.add(b".")?;
     page.add(&decimals)
+}
+
+/// Writes the lengths from one to another, which is left out if it looks like the first.
+#[tactic(auto, unfolding(crate::specs::Lengths::span_text))]
+pub(crate) fn write_span(page: &mut Page, low: i64, high: i64) -> Result<(), AllocError>
+    ensures { OnOk result (page.new ≡ page.old ++ span_text low high) }
+{
+    write_height(page, low)?;
+    write_up_to(page, low, high)
+}
+
+/// Writes up to which length it goes, unless it looks like the first one.
+fn write_up_to(page: &mut Page, low: i64, high: i64) -> Result<(), AllocError>
+    ensures { OnOk result (page.new ≡ page.old ++ up_to low high) }
+{
+    if look_alike(low, high) {
+        Ok(())
+    } else {
+        page.add(b" to ")?;
+        write_height(page, high)
+    }
+}
+
+/// Whether two lengths are rounded to the same size, and both or neither are below zero.
+fn look_alike(low: i64, high: i64) -> bool
+    ensures { result ≡ look_alike low high }
+{
+    tenths(u128::from(low.unsigned_abs())) == tenths(u128::from(high.unsigned_abs()))
+        && same_side(low, high)
+}
+
+/// Whether both or neither of two lengths are below zero.
+fn same_side(low: i64, high: i64) -> bool
+    ensures { result ≡ same_side low high }
+{
+    if low < 0 { high < 0 } else { high >= 0 }
+}
+
+/// Writes a size in units of 10 nm, in millimetres if it is below a metre.
+pub fn write_size(page: &mut Page, size: u64) -> Result<(), AllocError>
+    ensures { OnOk result (page.new ≡ page.old ++ size_text size) }
+{
+    let count = tenths(u128::from(size));
+    if count < 10_000 {
+        write_millimetres(page, count)
+    } else {
+        write_metres(page, size)
+    }
+}
+
+/// Writes tenths of a millimetre in millimetres.
+#[tactic(auto, unfolding(crate::specs::Lengths::millimetres_text))]
+fn write_millimetres(page: &mut Page, count: u128) -> Result<(), AllocError>
+    ensures { OnOk result (page.new ≡ page.old ++ millimetres_text count) }
+{
+    let mut whole = Buffer::new();
+    let mut rest = Buffer::new();
+    page.add(whole.format(count / 10).as_bytes())?;
+    page.add(b".")?;
+    page.add(rest.format(count % 10).as_bytes())?;
+    page.add(b" mm")
+}
+
+/// Writes a size in metres, with the unit.
+#[tactic(auto, unfolding(crate::specs::Lengths::metres_text))]
+fn write_metres(page: &mut Page, size: u64) -> Result<(), AllocError>
+    ensures { OnOk result (page.new ≡ page.old ++ metres_text size) }
+{
+    write_sized(page, false, u128::from(size))?;
+    page.add(b" m")
 }

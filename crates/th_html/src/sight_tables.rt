@@ -8,10 +8,9 @@ use crate::cells::{
     write_signed_cell, write_words_cell,
 };
 use crate::tables::{first_rows, write_close, write_left_out, write_open};
-use crate::words::mistake_words;
 use std::alloc::AllocError;
 use th_columns::Page;
-use th_review_rows::ObservationRow;
+use th_review_rows::{ObservationRow, mistake_word};
 
 /// Writes the table of some sights.
 #[tactic(auto, unfolding(crate::specs::Tables::sight_table))]
@@ -50,12 +49,13 @@ fn write_row(page: &mut Page, row: &ObservationRow) -> Result<(), AllocError>
     page.add(b"<tr>")?;
     write_sight_cells(page, row)?;
     write_found_cells(page, row)?;
+    write_words_cell(page, mistake_word(&row.mistake))?;
     page.add(b"\n")
 }
 
-/// Writes which sight it is.
+/// Writes the cells that tell which sight it is.
 #[tactic(auto, unfolding(crate::specs::Tables::sight_cells))]
-fn write_sight_cells(page: &mut Page, row: &ObservationRow) -> Result<(), AllocError>
+pub fn write_sight_cells(page: &mut Page, row: &ObservationRow) -> Result<(), AllocError>
     ensures { OnOk result (page.new ≡ page.old ++ sight_cells row.now) }
 {
     write_place_cell(page, row.observation.book, row.observation.line)?;
@@ -63,14 +63,13 @@ fn write_sight_cells(page: &mut Page, row: &ObservationRow) -> Result<(), AllocE
     write_name_cell(page, &row.observation.target)
 }
 
-/// Writes what was found of a sight.
+/// Writes the cells of what was found of a sight: its difference, residual, weight and control.
 #[tactic(auto, unfolding(crate::specs::Tables::found_cells))]
-fn write_found_cells(page: &mut Page, row: &ObservationRow) -> Result<(), AllocError>
+pub fn write_found_cells(page: &mut Page, row: &ObservationRow) -> Result<(), AllocError>
     ensures { OnOk result (page.new ≡ page.old ++ found_cells row.now) }
 {
     write_height_cell(page, row.observation.difference())?;
     write_signed_cell(page, row.residual)?;
     write_number_cell(page, u64::from(row.weight))?;
-    write_optional_cell(page, row.control)?;
-    write_words_cell(page, mistake_words(&row.mistake))
+    write_optional_cell(page, row.control)
 }

@@ -1,6 +1,6 @@
 //! What all tables have.
 ghost use Rattle.std.specs.Prelude.{◌≡◌, ◌++◌, OnOk, take};
-ghost use Rattle.th_html.specs.Tables.{head_end, left_out, more_text, most_rows, table_close, table_open, table_start};
+ghost use Rattle.th_html.specs.Tables.{head_end, left_out, more_text, most_rows, row_open, table_close, table_open, table_start};
 
 use crate::texts::write_number;
 use std::alloc::AllocError;
@@ -10,7 +10,7 @@ use th_columns::Page;
 const MOST_ROWS: usize = 100;
 
 /// The first rows, as many as a table has.
-pub(crate) fn first_rows<T>(rows: &[T]) -> &[T]
+pub fn first_rows<T>(rows: &[T]) -> &[T]
     ensures { result.now ≡ take most_rows rows.now }
 {
     if rows.len() <= MOST_ROWS {
@@ -22,7 +22,7 @@ pub(crate) fn first_rows<T>(rows: &[T]) -> &[T]
 
 /// Writes the beginning of a table, with its head.
 #[tactic(auto, unfolding(crate::specs::Tables::table_open))]
-pub(crate) fn write_open(page: &mut Page, head: &[u8]) -> Result<(), AllocError>
+pub fn write_open(page: &mut Page, head: &[u8]) -> Result<(), AllocError>
     ensures { OnOk result (page.new ≡ page.old ++ table_open head.now) }
 {
     write_start(page)?;
@@ -40,7 +40,7 @@ fn write_start(page: &mut Page) -> Result<(), AllocError>
 
 /// Writes what is behind the head of a table.
 #[tactic(auto, unfolding(crate::specs::Tables::head_end))]
-fn write_head_end(page: &mut Page) -> Result<(), AllocError>
+pub(crate) fn write_head_end(page: &mut Page) -> Result<(), AllocError>
     ensures { OnOk result (page.new ≡ page.old ++ head_end) }
 {
     page.add(b"</thead>\n<tbody>\n")
@@ -48,14 +48,25 @@ fn write_head_end(page: &mut Page) -> Result<(), AllocError>
 
 /// Writes the end of a table.
 #[tactic(auto, unfolding(crate::specs::Tables::table_close))]
-pub(crate) fn write_close(page: &mut Page) -> Result<(), AllocError>
+pub fn write_close(page: &mut Page) -> Result<(), AllocError>
     ensures { OnOk result (page.new ≡ page.old ++ table_close) }
 {
     page.add(b"</tbody></table></div>\n")
 }
 
+/// Writes the beginning of a row, which is marked or not.
+pub(crate) fn write_row_open(page: &mut Page, is_marked: bool) -> Result<(), AllocError>
+    ensures { OnOk result (page.new ≡ page.old ++ row_open is_marked) }
+{
+    if is_marked {
+        page.add(b"<tr class=\"x\">")
+    } else {
+        page.add(b"<tr>")
+    }
+}
+
 /// Writes how many rows were left out, given how many there are.
-pub(crate) fn write_left_out(page: &mut Page, count: usize) -> Result<(), AllocError>
+pub fn write_left_out(page: &mut Page, count: usize) -> Result<(), AllocError>
     ensures { OnOk result (page.new ≡ page.old ++ left_out count) }
 {
     if count > MOST_ROWS {

@@ -4,6 +4,7 @@ use Rattle.gsi_word.specs.declared.faults.WordFault.{WordFault}
 use Rattle.gsi_word.specs.declared.faults.WordFault.TheVariants.{Short, BadIndex, BadInfo, BadSign, BadData}
 use Rattle.gsi_block.specs.declared.faults.BlockFault.{BlockFault}
 use Rattle.gsi_block.specs.declared.faults.BlockFault.TheVariants.{BadWord, TooManyWords, LineTooLong, BadSeparator}
+use Rattle.th_book.specs.declared.faults.BookFault.{BookFault}
 use Rattle.th_book.specs.declared.faults.BookKind.{BookKind}
 use Rattle.th_conversions.specs.declared.height_faults.HeightKind.{HeightKind}
 use Rattle.th_conversions.specs.declared.height_faults.HeightKind.TheVariants.{Book, FarTarget, HasDifference, NoStationHeight, NoUnit}
@@ -16,6 +17,15 @@ word_help k BadIndex = if k == 1 then codes "a line begins with a word: no byte 
 word_help k BadInfo = codes "positions 3 to 6 of a word are digits and dots"
 word_help k BadSign = codes "position 7 of a word is + or -"
 word_help k BadData = codes "words are printable ASCII: no accents, and no control characters"
+
+-- the first word of a book: other files have none there
+abbrev pub no_book : List ℕ
+no_book = codes "this is no GSI book: no zip, XML, table or UTF-16, and nothing before the first word, as a byte order mark, quotes or a blank"
+
+abbrev pub first_word_help : WordFault → List ℕ
+first_word_help Short = no_book
+first_word_help BadIndex = no_book
+first_word_help other = word_help 1 other
 
 -- a line that is no block
 abbrev pub block_help : BlockFault → List ℕ
@@ -36,9 +46,18 @@ book_help TooLarge = codes "words 33, 87 and 88 are at most 10 km"
 book_help SightBeforeSetup = codes "before its sights comes a station line: word 11, and 84, 85 or 86"
 book_help NoInstrumentHeight = codes "the station line needs word 88, the instrument height"
 book_help NoReflectorHeight = codes "the recording mask needs word 87, the pole height, in the station line or in each sight"
-book_help SightToItself = codes "the sight has the name of its own station"
+book_help SightToItself = codes "the sight has the name of its own station: one of the two names is wrong"
 book_help BookTooLong = codes "a book has at most 64 MiB"
 book_help NoMemory = codes "this is no fault of the book"
+
+-- a fault of the first line of a book
+abbrev pub first_line_help : BookKind → List ℕ
+first_line_help (Block (BadWord k fault)) = if k == 1 then first_word_help fault else word_help k fault
+first_line_help other = book_help other
+
+-- a fault of a book, in its line
+abbrev pub fault_help : BookFault → List ℕ
+fault_help fault = if fault.line == 1 then first_line_help fault.kind else book_help fault.kind
 
 -- a fault of a book that is converted, if other books may have it too: words 83 and 86 count
 abbrev pub converted_help : BookKind → List ℕ

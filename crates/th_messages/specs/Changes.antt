@@ -6,11 +6,11 @@ use Rattle.th_mend.specs.declared.faults.MendKind.{MendKind}
 use Rattle.th_mend.specs.declared.faults.MendKind.TheVariants.{NoLine, NoSight, NoSetup, NoHeight, BeginsSetup, Clash, NoUnit, NotWhole, TooManyDigits, LongName}
 
 abbrev pub changes_help : ChangeKind → List ℕ
-changes_help BadHeader = codes "the first line must be: line,word,value (commas, no semicolons)"
+changes_help BadHeader = codes "the first line must be: line,word,value (commas, no semicolons, no blanks)"
 changes_help FieldCount = codes "each line has three fields, separated by commas; decimals by a dot"
 changes_help BadLine = codes "the lines of the book count from 1, blank ones too"
 changes_help BadWord = codes "a word is 88, 87, 88 since, 87 since, 33, sign, to or from"
-changes_help BadLength = codes "a length is in metres with a dot, no comma, and at most 10000, as 1.567"
+changes_help BadLength = codes "a length is in metres with a dot, no comma, no blank, and at most 10000, as 1.567"
 changes_help GivenValue = codes "sign changes + to - and - to +: its value is empty"
 changes_help BadName = codes "a name has 1 to 16 characters of ASCII"
 changes_help TableTooLong = codes "a table of changes has at most 64 KiB: mend with a part of it, and the mended book with the rest"

@@ -4,7 +4,7 @@ use Rattle.th_conversions.specs.declared.faults.DifferenceKind.{DifferenceKind}
 use Rattle.th_conversions.specs.declared.faults.DifferenceKind.TheVariants.{BadHeader, FieldCount, BadName, BadDifference, ToItself, TableTooLong, NoMemory}
 
 abbrev pub differences_help : DifferenceKind → List ℕ
-differences_help BadHeader = codes "the first line must be: from,to,difference (commas, no semicolons), or that of a list"
+differences_help BadHeader = codes "the first line must be: from,to,difference (commas, no semicolons, no blanks), or that of a list"
 differences_help FieldCount = codes "each line has as many fields as the first: fields are separated by commas, decimals by a dot"
 differences_help BadName = codes "a name has 1 to 16 characters of ASCII"
 differences_help BadDifference = codes "a difference is in metres with a dot, no comma, in steps of 0.00001 and at most 10000, as -1.2345"

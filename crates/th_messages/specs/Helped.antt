@@ -1,7 +1,7 @@
 -- The lines of a refusal: its own, and the second, which names the file and what helps.
 use Rattle.std.specs.Prelude.{◌++◌, ◌-◌, ◌∷◌, [], ℕ, List, Option, Some, None, option_map, slice_get}
 use Rattle.th_devices.specs.declared.reasons.Reason.{Reason}
-use Rattle.th_messages.specs.Books.{book_help, heights_help}
+use Rattle.th_messages.specs.Books.{book_help, fault_help, heights_help}
 use Rattle.th_messages.specs.Certificates.{certificate_help}
 use Rattle.th_messages.specs.Changes.{changes_help, unfit_help}
 use Rattle.th_messages.specs.Differences.{differences_help}
@@ -38,7 +38,7 @@ name_of_input (plan.List book) which = Some book.now
 name_of_input (plan.Adjust inputs limit prefix) which = name_in (files inputs) which
 name_of_input (plan.Review inputs limit prefix) which = name_in (files inputs) which
 name_of_input (plan.Explain inputs limit table) which = name_in (files inputs) which
-name_of_input (plan.Page inputs limit prefix) which = name_in (files inputs) which
+name_of_input (plan.Page inputs limit prefix title) which = name_in (files inputs) which
 name_of_input (plan.Check inputs certificate with_inputs) source.Certificate = Some certificate.now
 name_of_input (plan.Check inputs certificate with_inputs) other = name_in (files inputs) other
 name_of_input (plan.Book table) which = Some table.now
@@ -50,7 +50,7 @@ name_of_input (plan.Mend changes book) other = Some book.now
 abbrev pub name_of_output : Plan → Output → Option (List ℕ)
 name_of_output (plan.Adjust inputs limit prefix) which = option_map (λ ending. prefix.now ++ ending) (ending_of which)
 name_of_output (plan.Review inputs limit prefix) which = option_map (λ ending. prefix.now ++ ending) (ending_of which)
-name_of_output (plan.Page inputs limit prefix) which = option_map (λ ending. prefix.now ++ ending) (ending_of which)
+name_of_output (plan.Page inputs limit prefix title) which = option_map (λ ending. prefix.now ++ ending) (ending_of which)
 name_of_output other which = None
 
 -- the second line for a fault of the network: a point without a benchmark may be spelled otherwise in the table of benchmarks
@@ -60,7 +60,7 @@ network_line asked other = help_line None (network_help other)
 
 -- the second line of a refusal, if the system told this reason or none; there is none where memory ran out
 abbrev pub second_line : Plan → Refusal → Option Reason → List ℕ
-second_line asked (refusal.Book number fault) reason = help_line (name_of_input asked (source.Book number)) (book_help fault.kind)
+second_line asked (refusal.Book number fault) reason = help_line (name_of_input asked (source.Book number)) (fault_help fault)
 second_line asked (refusal.Benchmarks fault) reason = help_line (name_of_input asked source.Benchmarks) (benchmarks_help fault.kind)
 second_line asked (refusal.Weights fault) reason = help_line (name_of_input asked source.Weights) (weights_help fault.kind)
 second_line asked (refusal.Certificate fault) reason = help_line (name_of_input asked source.Certificate) (certificate_help fault.kind)

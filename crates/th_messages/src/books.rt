@@ -1,11 +1,43 @@
 //! Help against the faults of books.
 ghost use Rattle.std.specs.Prelude.{◌≡◌};
-ghost use Rattle.th_messages.specs.Books.{block_help, book_help, converted_help, heights_help, word_help};
+ghost use Rattle.th_messages.specs.Books.{block_help, book_help, converted_help, fault_help, first_line_help, first_word_help, heights_help, word_help};
 
 use gsi_block::BlockFault;
 use gsi_word::WordFault;
-use th_book::BookKind;
+use th_book::{BookFault, BookKind};
 use th_conversions::HeightKind;
+
+/// What helps against a fault of a book, in its line.
+pub fn fault_help(fault: &BookFault) -> &'static str
+    ensures { result.now ≡ fault_help fault.now }
+{
+    if fault.line == 1 {
+        first_line_help(fault.kind)
+    } else {
+        book_help(fault.kind)
+    }
+}
+
+/// What helps against a fault of the first line of a book.
+fn first_line_help(kind: BookKind) -> &'static str
+    ensures { result.now ≡ first_line_help kind }
+{
+    match kind {
+        BookKind::Block(BlockFault::BadWord(1, fault)) => first_word_help(fault),
+        other => book_help(other),
+    }
+}
+
+/// What helps against a bad first word of a book.
+fn first_word_help(fault: WordFault) -> &'static str
+    ensures { result.now ≡ first_word_help fault }
+{
+    match fault {
+        WordFault::Short | WordFault::BadIndex =>
+            "this is no GSI book: no zip, XML, table or UTF-16, and nothing before the first word, as a byte order mark, quotes or a blank",
+        other => word_help(1, other),
+    }
+}
 
 /// What helps against a fault of a book.
 pub fn book_help(kind: BookKind) -> &'static str
@@ -24,7 +56,8 @@ pub fn book_help(kind: BookKind) -> &'static str
         BookKind::NoInstrumentHeight => "the station line needs word 88, the instrument height",
         BookKind::NoReflectorHeight =>
             "the recording mask needs word 87, the pole height, in the station line or in each sight",
-        BookKind::SightToItself => "the sight has the name of its own station",
+        BookKind::SightToItself =>
+            "the sight has the name of its own station: one of the two names is wrong",
         BookKind::BookTooLong => "a book has at most 64 MiB",
         BookKind::NoMemory => "this is no fault of the book",
     }

@@ -10,13 +10,14 @@ pub fn changes_help(kind: ChangeKind) -> &'static str
     ensures { result.now ≡ changes_help kind }
 {
     match kind {
-        ChangeKind::BadHeader => "the first line must be: line,word,value (commas, no semicolons)",
+        ChangeKind::BadHeader =>
+            "the first line must be: line,word,value (commas, no semicolons, no blanks)",
         ChangeKind::FieldCount =>
             "each line has three fields, separated by commas; decimals by a dot",
         ChangeKind::BadLine => "the lines of the book count from 1, blank ones too",
         ChangeKind::BadWord => "a word is 88, 87, 88 since, 87 since, 33, sign, to or from",
         ChangeKind::BadLength =>
-            "a length is in metres with a dot, no comma, and at most 10000, as 1.567",
+            "a length is in metres with a dot, no comma, no blank, and at most 10000, as 1.567",
         ChangeKind::GivenValue => "sign changes + to - and - to +: its value is empty",
         ChangeKind::BadName => "a name has 1 to 16 characters of ASCII",
         ChangeKind::TableTooLong =>

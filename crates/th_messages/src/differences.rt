@@ -10,7 +10,7 @@ pub fn differences_help(kind: DifferenceKind) -> &'static str
 {
     match kind {
         DifferenceKind::BadHeader =>
-            "the first line must be: from,to,difference (commas, no semicolons), or that of a list",
+            "the first line must be: from,to,difference (commas, no semicolons, no blanks), or that of a list",
         DifferenceKind::FieldCount =>
             "each line has as many fields as the first: fields are separated by commas, decimals by a dot",
         DifferenceKind::BadName => "a name has 1 to 16 characters of ASCII",

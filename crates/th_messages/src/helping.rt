@@ -5,7 +5,7 @@ ghost use Rattle.th_messages.specs.Lines.{HasRoom, IsPut};
 ghost use Rattle.th_commands.specs.Plans.{files};
 ghost use Rattle.th_messages.specs.Helped.{name_in, name_of_input, name_of_output, network_line, second_line};
 
-use crate::books::{book_help, heights_help};
+use crate::books::{book_help, fault_help, heights_help};
 use crate::certificates::certificate_help;
 use crate::changes::{changes_help, unfit_help};
 use crate::differences::differences_help;
@@ -31,7 +31,7 @@ pub(crate) fn put_second_line<K: Sink>(
     match refusal {
         Refusal::Book(number, fault) => {
             let name = name_of_input(plan, Input::Book(*number));
-            put_help_line(line, name, book_help(fault.kind))
+            put_help_line(line, name, fault_help(fault))
         }
         Refusal::Benchmarks(fault) => {
             let name = name_of_input(plan, Input::Benchmarks);

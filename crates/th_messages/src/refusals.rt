@@ -5,7 +5,7 @@ ghost use Rattle.th_devices.specs.Spots.{errors};
 ghost use Rattle.th_messages.specs.Lines.{HasRoom, IsPut};
 ghost use Rattle.th_inputs.specs.Shown.{shown};
 ghost use Rattle.th_messages.specs.Helped.{refused_lines};
-ghost use Rattle.th_messages.specs.Said.{IsSaid, overwrite_text};
+ghost use Rattle.th_messages.specs.Said.{IsSaid, overwrite_help, overwrite_lines, overwrite_text};
 ghost use Rattle.th_tables.specs.Texts.{fault_text};
 ghost use Rattle.th_inputs.specs.Inputs.{input_text};
 ghost use Rattle.th_run_parts.specs.Refusals.{refusal_text};
@@ -42,12 +42,12 @@ pub fn refuse_memory<F: Folder>(folder: &mut F) -> u8
     NO_MEMORY
 }
 
-/// Reports on standard error that an output would overwrite an input, and answers the status to end
-/// with.
+/// Reports on standard error that an output would overwrite an input, and what helps, and answers the
+/// status to end with.
 pub fn refuse_overwrite<F: Folder>(folder: &mut F, overwrite: &Overwrite<'_>) -> u8
     ensures status { result ≡ 3 }
     ensures reported { F.has_failed folder.new errors ≡ false → IsSaid F.tells (F.held folder.new)
-        (overwrite_text (string_bytes overwrite.now.output) overwrite.now.input
+        (overwrite_lines (string_bytes overwrite.now.output) overwrite.now.input
         overwrite.now.name.now) }
     ensures others { (spot : _) → spot ≢ errors → F.held folder.new spot ≡ F.held folder.old spot }
 {
@@ -221,15 +221,37 @@ fn put_failed_write<K: Sink>(line: &mut Line<K>, output: Output) -> Result<(), F
     line.put(output.name())
 }
 
-/// Puts the line that an output would overwrite an input.
+/// Puts the lines that an output would overwrite an input.
 #[tactic(auto, using(crate::proofs::LineLemmas::appended))]
 fn put_overwrite<K: Sink>(line: &mut Line<K>, overwrite: &Overwrite<'_>) -> Result<(), Failed>
     requires { HasRoom 16 line.old }
-    ensures { IsPut 16 (overwrite_text (string_bytes overwrite.now.output) overwrite.now.input
+    ensures { IsPut 16 (overwrite_lines (string_bytes overwrite.now.output) overwrite.now.input
         overwrite.now.name.now ++ 10 ∷ []) line.old line.new result }
 {
-    put_overwrite_text(line, overwrite)?;
+    put_overwrite_lines(line, overwrite)?;
     line.put("\n")
+}
+
+/// Puts the texts of these lines.
+#[tactic(auto, using(crate::proofs::LineLemmas::appended))]
+fn put_overwrite_lines<K: Sink>(line: &mut Line<K>, overwrite: &Overwrite<'_>) -> Result<(), Failed>
+    requires { HasRoom 14 line.old }
+    ensures { IsPut 14 (overwrite_lines (string_bytes overwrite.now.output) overwrite.now.input
+        overwrite.now.name.now) line.old line.new result }
+{
+    put_overwrite_text(line, overwrite)?;
+    line.put("\n  ")?;
+    line.put(overwrite_help(overwrite.input))
+}
+
+/// What helps where an output would overwrite an input.
+fn overwrite_help(input: Input) -> &'static str
+    ensures { result.now ≡ overwrite_help input }
+{
+    match input {
+        Input::Book(_) => "leave it out, or give another prefix",
+        _ => "give another prefix",
+    }
 }
 
 /// Puts the text that an output would overwrite an input.

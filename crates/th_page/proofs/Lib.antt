@@ -1,3 +1,6 @@
 pub mod LineLemmas
 pub mod ShownLemmas
+mod Fillings
+mod PicturePieces
 mod Pieces
+mod Reasons

@@ -1,11 +1,11 @@
--- The figures of a page.
-use Rattle.std.specs.Prelude.{ℕ, ℤ, ◌==◌, List, [], ◌++◌, codes, decimal, if◌then◌else◌}
+-- The figure of a page: the picture with its caption and its legend.
+use Rattle.std.specs.Prelude.{ℕ, ◌==◌, List, [], ◌++◌, codes, decimal, if◌then◌else◌}
 use Rattle.th_picture.specs.Groups.{undrawn_count}
+use Rattle.th_picture.specs.Legends.{legend_text}
 use Rattle.th_picture.specs.Pictures.{picture_text}
-use Rattle.th_picture.specs.Strips.{strip_text}
-use Rattle.th_review_rows.specs.declared.rows.ObservationRow.{ObservationRow}
-use Rattle.th_review_rows.specs.declared.rows.PointRow.{PointRow}
-use Rattle.th_page.specs.Fixed.{legend_text, picture_start, strip_start}
+use Rattle.th_picture.specs.declared.drawn.DrawnPoint.{DrawnPoint}
+use Rattle.th_picture.specs.declared.drawn.DrawnSight.{DrawnSight}
+use Rattle.th_page.specs.Fixed.{caption_text, picture_start}
 
 -- how many sights are not drawn, if any are not
 unfoldable pub undrawn_note : ℕ → List ℕ
@@ -14,11 +14,8 @@ undrawn_note count = codes "<p>Not drawn, because they are too many: " ++ decima
 abbrev pub undrawn_text : ℕ → List ℕ
 undrawn_text count = if count == 0 then [] else undrawn_note count
 
--- the picture with its caption and its legend
-unfoldable pub picture_figure : List PointRow → List ObservationRow → ℤ → List ℕ
-picture_figure points sights limit =
-    picture_start ++ picture_text points sights limit ++ legend_text ++ undrawn_text (undrawn_count limit sights) ++ codes "</figure>\n"
-
--- the strip with its caption
-unfoldable pub strip_figure : List ObservationRow → ℤ → List ℕ
-strip_figure sights limit = strip_start ++ strip_text sights limit ++ codes "</div>\n</figure>\n"
+-- the picture of points and sights, if so many numbers explain most
+unfoldable pub figure_text : List DrawnPoint → List DrawnSight → ℕ → List ℕ
+figure_text points sights firsts =
+    picture_start ++ picture_text points sights ++ codes "</div>\n" ++ legend_text sights firsts ++ undrawn_text (undrawn_count sights)
+    ++ caption_text

@@ -1,6 +1,8 @@
--- Laws of the page. Its texts from outside are the names of inputs and points, the sentences of the explanations, and notes.
-use Rattle.std.specs.Prelude.{◌≡◌, ℕ, List, Option, map, length, option_map}
-use Rattle.std.specs.List.{flat_map}
+-- Laws of the page. Its texts from outside are its title, the names of inputs and points, the sentences of the explanations, and notes.
+use Rattle.std.specs.Prelude.{◌≡◌, ℕ, ℤ, Bool, true, false, List, Option, map, count_by, length, nat_lt, not, option_map}
+use Rattle.std.specs.List.{flat_map, list_all}
+use Rattle.th_answer.specs.declared.answers.Group.{Group}
+use Rattle.th_answer.specs.declared.answers.Group.TheVariants.{Question, Stays, Cleared, Unlike, Fits}
 use Rattle.th_html.specs.Texts.{escaped}
 use Rattle.th_observations.specs.Observed.{Observed}
 use Rattle.th_inputs.specs.Inputs.{NamedInput}
@@ -10,7 +12,11 @@ use Rattle.th_review_rows.specs.declared.rows.PointRow.{PointRow}
 use Rattle.th_review_rows.specs.declared.rows.ObservationRow.{ObservationRow}
 use Rattle.th_review_rows.specs.declared.rows.EntryRow.{EntryRow}
 use Rattle.th_review_rows.specs.declared.rows.BenchmarkRow.{BenchmarkRow}
-use Rattle.th_page.specs.Pages.{ShownRows, page_text}
+use Rattle.th_page.specs.Contents.{ShownRows, joined_of}
+use Rattle.th_page.specs.Counts.{counts_of, is_first, is_marked, tone_of}
+use Rattle.th_page.specs.Pages.{page_text}
+use Rattle.th_page.specs.declared.verdicts.Tone.TheVariants.{Good}
+use Rattle.th_picture.specs.declared.drawn.DrawnSight.{DrawnSight}
 
 -- what is given in the place of each text from outside
 abbrev pub Names : Type 0
@@ -57,6 +63,7 @@ input_named given input = (given.text input.0, input.1)
 -- what a page shows, with what is given
 abbrev pub shown_named : Given → ShownRows → ShownRows
 shown_named given shown = record {
+  title = given.text shown.title;
   inputs = map (input_named given) shown.inputs;
   points = map (point_named given) shown.points;
   sights = map (sight_named given) shown.sights;
@@ -67,6 +74,7 @@ shown_named given shown = record {
   notes = map given.text shown.notes;
   cost = shown.cost;
   limit = shown.limit;
+  answer = shown.answer;
 }
 
 -- A page is a list of pieces. Whatever texts of the same lengths are given for those from outside, its text has these, escaped, and otherwise the same bytes;
@@ -74,3 +82,30 @@ shown_named given shown = record {
 abbrev pub PagesAreOfPieces : Type 0
 PagesAreOfPieces = (shown : ShownRows) → (pieces : List Piece)
     × ((given : Given) → ((text : List ℕ) → length (given.text text) ≡ length text) → page_text (shown_named given shown) ≡ flat_map (filled given.text) pieces)
+
+-- a sight that is drawn in red, or because of one that is: it is in question, or marked
+abbrev pub is_accused : Group → Bool
+is_accused Question = true
+is_accused Stays = true
+is_accused Cleared = true
+is_accused Unlike = false
+is_accused Fits = false
+
+-- a sight is accused for a reason: it is in question only if a row explains most, and else is marked
+abbrev pub has_reason : ℤ → ℕ → DrawnSight → Group → Bool
+has_reason limit firsts sight Question = nat_lt 0 firsts
+has_reason limit firsts sight Stays = is_marked limit sight
+has_reason limit firsts sight Cleared = is_marked limit sight
+has_reason limit firsts sight Unlike = true
+has_reason limit firsts sight Fits = true
+
+abbrev pub are_reasoned : ShownRows → Bool
+are_reasoned shown = list_all (λ sight. has_reason shown.limit (count_by is_first shown.explanations) sight sight.group) (joined_of shown).sights
+
+-- whether no sight is accused, and no height is struck out
+abbrev pub HasNoRed : ShownRows → Type 0
+HasNoRed shown = (list_all (λ sight. not (is_accused sight.group)) (joined_of shown).sights ≡ true) × ((counts_of shown (joined_of shown)).moved ≡ 0)
+
+-- Red means something: where sights are accused for a reason, a page with a good verdict accuses none and strikes out no height.
+abbrev pub GoodPagesHaveNoRed : Type 0
+GoodPagesHaveNoRed = (shown : ShownRows) → are_reasoned shown ≡ true → tone_of (counts_of shown (joined_of shown)) ≡ Good → HasNoRed shown

@@ -1,7 +1,13 @@
+pub mod Contents
 pub mod Fixed
-pub mod Fronts
+pub mod Heads
+pub mod Counts
 pub mod Verdicts
+pub mod Facts
 pub mod Figures
+pub mod Residuals
+pub mod Hiding
+pub mod Asks
 pub mod Sections
 pub mod Pages
 pub mod Shown

@@ -1,68 +1,43 @@
 -- The page.
-use Rattle.std.specs.Prelude.{ℕ, ℤ, List, ◌++◌, length, map, zip}
-use Rattle.std.specs.List.{flat_map}
-use Rattle.th_explain_texts.specs.declared.rows.Row.{Row}
-use Rattle.th_inputs.specs.Inputs.{NamedInput}
-use Rattle.th_review_rows.specs.declared.rows.BenchmarkRow.{BenchmarkRow}
-use Rattle.th_review_rows.specs.declared.rows.EntryRow.{EntryRow}
-use Rattle.th_review_rows.specs.declared.rows.ObservationRow.{ObservationRow}
-use Rattle.th_review_rows.specs.declared.rows.PointRow.{PointRow}
-use Rattle.th_page.specs.Figures.{picture_figure, strip_figure}
-use Rattle.th_page.specs.Fronts.{facts_text, hiding_text, input_item}
-use Rattle.th_page.specs.Sections.{explanation_section, note_section, number_sections, sight_sections}
+use Rattle.std.specs.Prelude.{ℕ, List, ◌++◌, codes}
+use Rattle.th_picture.specs.Strips.{largest_of}
+use Rattle.th_page.specs.Asks.{ask_section}
+use Rattle.th_page.specs.Contents.{JoinedRows, ShownRows, joined_of}
+use Rattle.th_page.specs.Counts.{counts_of}
+use Rattle.th_page.specs.Facts.{facts_text}
+use Rattle.th_page.specs.Figures.{figure_text}
+use Rattle.th_page.specs.Heads.{head_part}
+use Rattle.th_page.specs.Hiding.{hiding_section}
+use Rattle.th_page.specs.Residuals.{residual_section}
+use Rattle.th_page.specs.Sections.{benchmark_section, explanation_section, height_section, note_section}
 use Rattle.th_page.specs.Verdicts.{verdict_text}
-use Rattle.th_page.specs.declared.contents.Shown.{Shown}
-use Rattle.th_page.specs.Fixed.{body_text, foot_text, head_text, places_text, style_text}
+use Rattle.th_page.specs.declared.counts.Counts.{Counts}
 
--- what a page shows, as lists: the inputs, whose names have no folders, a row for each point, sight, entry, benchmark and explanation, the
--- sentences of the explanations, notes, the least cost, and the limit of blunders
-pub record ShownRows : Type 0 where
-  pub inputs : List NamedInput
-  pub points : List PointRow
-  pub sights : List ObservationRow
-  pub entries : List EntryRow
-  pub benchmarks : List BenchmarkRow
-  pub explanations : List Row
-  pub says : List (List ℕ)
-  pub notes : List (List ℕ)
-  pub cost : ℕ
-  pub limit : ℤ
+-- the verdict, the picture and the facts
+unfoldable pub front_part : Counts → ShownRows → JoinedRows → List ℕ
+front_part counts shown joined =
+    verdict_text counts shown joined ++ figure_text joined.dots joined.sights counts.firsts ++ facts_text counts (largest_of shown.limit joined.sights)
 
-abbrev pub shown_by : Shown → ShownRows
-shown_by shown = record {
-  inputs = zip (map (λ name. name.now) shown.names.now) shown.sums.now;
-  points = shown.points.now;
-  sights = shown.sights.now;
-  entries = shown.entries.now;
-  benchmarks = shown.benchmarks.now;
-  explanations = shown.explained.rows.now;
-  says = map (λ line. line.now) shown.says.now;
-  notes = map (λ note. note.now) shown.notes.now;
-  cost = shown.explained.cost;
-  limit = shown.explained.limit;
-}
+-- the heights, what the benchmarks say, and the residuals
+unfoldable pub height_part : ShownRows → JoinedRows → List ℕ
+height_part shown joined =
+    height_section joined.points ++ benchmark_section joined.benchmarks shown.limit ++ residual_section joined.sights shown.limit
 
--- the head, and the inputs
-unfoldable pub head_part : List NamedInput → List ℕ
-head_part inputs = head_text ++ style_text ++ body_text ++ flat_map input_item inputs ++ places_text
+-- what is behind them
+unfoldable pub back_part : ShownRows → List ℕ
+back_part shown =
+    explanation_section shown.explanations ++ hiding_section shown.sights shown.benchmarks shown.entries ++ note_section shown.notes
+    ++ ask_section shown.cost shown.inputs
 
--- the verdict, the facts and the figures
-unfoldable pub front_part : ShownRows → List ℕ
-front_part shown =
-    verdict_text shown.points shown.sights shown.explanations shown.says shown.limit
-    ++ facts_text shown.points (length shown.sights) (length shown.entries) shown.cost shown.limit
-    ++ hiding_text shown.sights shown.benchmarks shown.entries
-    ++ picture_figure shown.points shown.sights shown.limit
-    ++ strip_figure shown.sights shown.limit
-
--- the sections
-unfoldable pub table_part : ShownRows → List ℕ
-table_part shown =
-    explanation_section shown.explanations
-    ++ sight_sections shown.points shown.sights shown.limit
-    ++ number_sections shown.benchmarks shown.entries
-    ++ note_section shown.notes
+-- the page, given its counts and its rows with what the answer says of them
+unfoldable pub page_with : Counts → ShownRows → JoinedRows → List ℕ
+page_with counts shown joined =
+    head_part shown.title shown.inputs shown.limit
+    ++ front_part counts shown joined
+    ++ height_part shown joined
+    ++ back_part shown
+    ++ codes "</body>\n</html>\n"
 
 -- the text of the page
-unfoldable pub page_text : ShownRows → List ℕ
-page_text shown = head_part shown.inputs ++ front_part shown ++ table_part shown ++ foot_text
+abbrev pub page_text : ShownRows → List ℕ
+page_text shown = page_with (counts_of shown (joined_of shown)) shown (joined_of shown)

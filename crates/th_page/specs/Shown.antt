@@ -4,7 +4,8 @@ use Rattle.th_columns.specs.FileNames.{last_part}
 use Rattle.th_explain_texts.specs.declared.rows.Row.{Row}
 use Rattle.th_inputs.specs.Inputs.{NamedInput}
 use Rattle.th_notes.specs.Notes.{note_text}
-use Rattle.th_page.specs.Pages.{ShownRows}
+use Rattle.th_page.specs.Contents.{Answered, ShownRows, answered}
+use Rattle.th_page.specs.declared.contents.Explained.{Explained}
 use Rattle.th_review_rows.specs.Found.{FoundRows}
 
 -- an input whose name has no folder
@@ -19,18 +20,36 @@ lines_behind line (byte ∷ rest) = if byte == 10 then line ∷ lines_behind [] 
 abbrev pub lines_in : List ℕ → List (List ℕ)
 lines_in text = lines_behind [] text
 
--- what a page shows, given what was found, the inputs, the least cost, what would explain the marks, in rows and in sentences of a line each,
--- and the limit of blunders
-abbrev pub shown_of : FoundRows → List NamedInput → ℕ → List Row → List ℕ → ℤ → ShownRows
-shown_of found inputs cost explanations sentences limit = record {
+-- what would explain the marks of a survey, as lists: the least cost, the limit of blunders, the rows, in sentences of a line each, and what they mean
+pub record ExplainedRows : Type 0 where
+  pub cost : ℕ
+  pub limit : ℤ
+  pub rows : List Row
+  pub sentences : List ℕ
+  pub answer : Answered
+
+abbrev pub explained_by : Explained → ExplainedRows
+explained_by explained = record {
+  cost = explained.cost;
+  limit = explained.limit;
+  rows = explained.rows.now;
+  sentences = explained.sentences.now;
+  answer = answered explained.answer.now;
+}
+
+-- what a page with a title shows, given what was found, the inputs, and what would explain the marks
+abbrev pub shown_of : List ℕ → FoundRows → List NamedInput → ExplainedRows → ShownRows
+shown_of title found inputs explained = record {
+  title = title;
   inputs = map without_folder inputs;
   points = found.points;
   sights = found.observations;
   entries = found.entries;
   benchmarks = found.benchmarks;
-  explanations = explanations;
-  says = lines_in sentences;
+  explanations = explained.rows;
+  says = lines_in explained.sentences;
   notes = map note_text found.notes;
-  cost = cost;
-  limit = limit;
+  cost = explained.cost;
+  limit = explained.limit;
+  answer = explained.answer;
 }

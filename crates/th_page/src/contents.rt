@@ -1,4 +1,5 @@
 //! All that a page shows, as rows and texts that it borrows.
+use th_answer::Answer;
 use th_explain_texts::Row;
 use th_inputs::Sum;
 use th_review_rows::{BenchmarkRow, EntryRow, ObservationRow, PointRow};
@@ -14,11 +15,14 @@ pub struct Explained<'a> {
     pub rows: &'a [Row],
     /// What the rows say: sentences, each on a line.
     pub sentences: &'a [u8],
+    /// What the rows mean for sights, heights and benchmarks.
+    pub answer: &'a Answer,
 }
 
 /// What a page shows.
 #[derive(Clone, Copy)]
 pub struct Shown<'a> {
+    pub title: &'a [u8],
     /// The names of the inputs, without their folders.
     pub names: &'a [&'a [u8]],
     /// The sums of the inputs.

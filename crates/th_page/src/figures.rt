@@ -1,30 +1,29 @@
-//! The figures.
+//! The figure: the picture with its caption and its legend.
 ghost use Rattle.std.specs.Prelude.{◌≡◌, ◌++◌, OnOk, decimal};
-ghost use Rattle.th_page.specs.Figures.{picture_figure, strip_figure, undrawn_note, undrawn_text};
+ghost use Rattle.th_page.specs.Figures.{figure_text, undrawn_note, undrawn_text};
 
-use crate::fixed::{write_legend_text, write_picture_start, write_strip_start};
+use crate::fixed::{write_caption_text, write_picture_start};
 use itoa::Buffer;
 use std::alloc::AllocError;
 use th_columns::Page;
-use th_picture::{undrawn_count, write_picture, write_strip};
-use th_review_rows::{ObservationRow, PointRow};
+use th_picture::{DrawnPoint, DrawnSight, undrawn_count, write_legend, write_picture};
 
-/// Writes the picture with its caption and its legend.
-#[tactic(auto, unfolding(crate::specs::Figures::picture_figure))]
-pub(crate) fn write_picture_figure(
+/// Writes the picture with its caption and its legend, if so many numbers explain most.
+#[tactic(auto, unfolding(crate::specs::Figures::figure_text))]
+pub(crate) fn write_figure(
     page: &mut Page,
-    points: &[PointRow],
-    sights: &[ObservationRow],
-    limit: i64,
+    points: &[DrawnPoint],
+    sights: &[DrawnSight],
+    firsts: u64,
 ) -> Result<(), AllocError>
-    ensures { OnOk result (page.new
-        ≡ page.old ++ picture_figure points.now sights.now limit) }
+    ensures { OnOk result (page.new ≡ page.old ++ figure_text points.now sights.now firsts) }
 {
     write_picture_start(page)?;
-    write_picture(page, points, sights, limit)?;
-    write_legend_text(page)?;
-    write_undrawn(page, undrawn_count(limit, sights))?;
-    page.add(b"</figure>\n")
+    write_picture(page, points, sights)?;
+    page.add(b"</div>\n")?;
+    write_legend(page, sights, firsts)?;
+    write_undrawn(page, undrawn_count(sights))?;
+    write_caption_text(page)
 }
 
 /// Writes how many sights are not drawn, if any are not.
@@ -54,18 +53,4 @@ fn write_count(page: &mut Page, count: u128) -> Result<(), AllocError>
 {
     let mut digits = Buffer::new();
     page.add(digits.format(count).as_bytes())
-}
-
-/// Writes the strip of residuals with its caption.
-#[tactic(auto, unfolding(crate::specs::Figures::strip_figure))]
-pub(crate) fn write_strip_figure(
-    page: &mut Page,
-    sights: &[ObservationRow],
-    limit: i64,
-) -> Result<(), AllocError>
-    ensures { OnOk result (page.new ≡ page.old ++ strip_figure sights.now limit) }
-{
-    write_strip_start(page)?;
-    write_strip(page, sights, limit)?;
-    page.add(b"</div>\n</figure>\n")
 }

@@ -1,192 +1,215 @@
 //! The texts that every page has.
 ghost use Rattle.std.specs.Prelude.{◌≡◌, ◌++◌, OnOk};
-ghost use Rattle.th_page.specs.Fixed.{benchmark_start, body_text, entry_start, explanation_start, foot_text, head_text, height_start, legend_text, marked_start, note_start, picture_start, places_text, strip_start, style_text, weak_start};
+ghost use Rattle.th_page.specs.Fixed.{ask_end, ask_middle, ask_start, benchmark_start, body_text, caption_text, details_end, explanation_start, head_text, height_note, height_start, hiding_start, note_start, picture_start, residual_start, section_end, style_text, title_end, weak_benchmarks_start, weak_entries_start, weak_sights_start};
 
 use std::alloc::AllocError;
 use th_columns::Page;
 
-/// What is before the style.
+/// What is before the title.
 const HEAD: &[u8] = b"\
 <!DOCTYPE html>\n\
 <html lang=\"en\">\n\
 <head>\n\
 <meta charset=\"utf-8\">\n\
 <meta name=\"viewport\" content=\"width=device-width, initial-scale=1\">\n\
-<title>Height network</title>\n\
+<title>";
+
+/// What is between the title and the style.
+const TITLE_END: &[u8] = b"\
+: heights</title>\n\
 <style>\n\
 ";
 
 /// The style.
 const STYLE: &[u8] = b"\
 :root{color-scheme:light}\n\
-body{margin:0 auto;padding:1em;max-width:60em;background:#fff;color:#111;font:1em/1.4 system-ui,Helvetica,Arial,sans-serif}\n\
-h1{margin:0;font-size:1.6em}\n\
-h2{margin:1.6em 0 .3em;font-size:1.15em}\n\
-p{margin:.3em 0}\n\
+body{margin:0 auto;padding:1em 1em 3em;max-width:54em;background:#fff;color:#16191d;font:1em/1.4 system-ui,Helvetica,Arial,sans-serif}\n\
+h1{margin:0;font-size:1.6em;line-height:1.2;overflow-wrap:anywhere}\n\
+h2{margin:1.8em 0 .3em;font-size:1.15em}\n\
+p,ul{margin:.4em 0;padding:0}\n\
+ul{list-style:none}\n\
 figure{margin:1.4em 0 0}\n\
-.inputs,.facts,.legend{margin:.4em 0;padding:0}\n\
-.inputs{list-style:none}\n\
-.facts{display:flex;flex-wrap:wrap;gap:.2em 1.6em;list-style:none;color:#555}\n\
-.facts b{color:#111}\n\
-li,bdi,th{overflow-wrap:anywhere}\n\
-.verdict{margin:.8em 0;padding:.1em 0 .3em .8em;border-left:.4em solid #d0021b}\n\
-.verdict h2{margin:0}\n\
-.good{border-left:.4em double #2a7d4f}\n\
-.care{border-left:.4em dashed #c46200}\n\
+figcaption,.of,.note{color:#555d66;font-size:.88em}\n\
+bdi,li,p,th{overflow-wrap:anywhere}\n\
+code{font:.92em ui-monospace,Menlo,Consolas,monospace}\n\
+.verdict{margin:.8em 0;padding:.3em 0 .4em .9em;border-left:.4em solid #c4161c}\n\
+.verdict h2{margin:0 0 .2em;font-size:1.3em;line-height:1.25}\n\
+.verdict.good{border-left:.4em double #2a7d4f}\n\
+.verdict.care{border-left:.4em dashed #2f5d8a}\n\
+.facts{display:flex;flex-wrap:wrap;gap:.4em 2em;color:#555d66;font-size:.88em}\n\
+.facts b{display:block;color:#16191d;font-size:1.4em;line-height:1.2;font-variant-numeric:tabular-nums}\n\
 .w,.col{overflow-x:auto}\n\
 table{border-collapse:collapse;font-variant-numeric:tabular-nums}\n\
-th,td{padding:.15em .7em .15em 0;text-align:right;white-space:nowrap;border-bottom:1px solid #ddd}\n\
+th,td{padding:.15em .7em .15em 0;text-align:right;white-space:nowrap;border-bottom:1px solid #e2e5e8}\n\
 th{font:1em ui-monospace,Menlo,Consolas,monospace;text-align:left;white-space:pre}\n\
-thead th,thead td{color:#555;font:.85em system-ui,Helvetica,Arial,sans-serif;border-color:#111}\n\
+th.t{font-family:inherit}\n\
+thead th,thead td{color:#555d66;font:.85em system-ui,Helvetica,Arial,sans-serif;border-color:#16191d}\n\
+.x th,.x td{border-bottom-color:#c4161c}\n\
+.x>:first-child{box-shadow:inset .3em 0 #c4161c;padding-left:.7em}\n\
+.x b,.r{color:#c4161c;font-weight:bold}\n\
+s{text-decoration-color:#c4161c}\n\
 .col{display:inline-block;box-sizing:border-box;max-width:100%;vertical-align:top;margin-bottom:1em;padding-right:2em;break-inside:avoid}\n\
+summary{cursor:pointer;margin:.6em 0;color:#2f5d8a}\n\
 svg{display:block;width:100%}\n\
+path{fill:none}\n\
 .n{font:110px ui-monospace,Menlo,Consolas,monospace;fill:#444}\n\
 .e{text-anchor:end}\n\
-.c{text-anchor:middle}\n\
-path{fill:none;stroke:#111;stroke-width:10}\n\
-.l{stroke:#e4e4e4}\n\
+.m{text-anchor:middle}\n\
+.l{stroke:#e2e5e8;stroke-width:10}\n\
 .d{stroke:#bbb;stroke-width:6;stroke-dasharray:6 24}\n\
-.z{stroke:#777}\n\
-rect{fill:#f0f0f0}\n\
-.s{stroke:#8a949e;color:#5b6670}\n\
-.t{stroke-width:18;stroke:#c46200;stroke-dasharray:70 40;color:#a65200}\n\
-.h{stroke-width:18;stroke:#0057b8;stroke-dasharray:20 30;color:#0057b8}\n\
-.u{stroke-width:18;stroke:#111;stroke-dasharray:120 30 20 30;color:#111}\n\
-.b,.gb path,.gap,.x{stroke:#d0021b}\n\
-.b,.gb path{stroke-width:12}\n\
-.b,.gb.few path{stroke-width:24}\n\
-.gs path{stroke-width:6;opacity:.5}\n\
-.gs.few path{stroke-width:10;opacity:1}\n\
-.x{stroke-width:18}\n\
-.gap{stroke-width:14;stroke-dasharray:30 30}\n\
-.gaps text{fill:#d0021b;font-weight:bold;stroke:#fff;stroke-width:40;paint-order:stroke}\n\
-circle{fill:#fff;stroke:#111;stroke-width:14}\n\
-.k{fill:#111;stroke:#fff}\n\
+.z{stroke:#555d66;stroke-width:10}\n\
+rect{fill:#eef1f3}\n\
+.q{stroke:#b4bcc5;stroke-width:6}\n\
+.v{stroke:#2f5d8a;stroke-width:16;stroke-dasharray:120 30 20 30}\n\
+.c{stroke:#16191d;stroke-width:14;stroke-dasharray:70 45}\n\
+.s{stroke:#c4161c;stroke-width:14;stroke-dasharray:20 25}\n\
+.a{stroke:#c4161c;stroke-width:16}\n\
+.q.few{stroke:#8a949e;stroke-width:10}\n\
+.v.few,.c.few,.s.few{stroke-width:20}\n\
+.a.few{stroke-width:30}\n\
+circle{fill:#fff;stroke:#16191d;stroke-width:14}\n\
+.dots:has(:nth-child(1001)) circle{r:4px;stroke:#8a949e;stroke-width:8}\n\
+.k{fill:#16191d;stroke:#fff;stroke-width:10}\n\
 .p{stroke:#c46200;stroke-width:70;opacity:.4}\n\
+.gap,.cross{stroke:#c4161c;stroke-width:18}\n\
+.gap{stroke-dasharray:30 30}\n\
 .bars path{stroke-width:inherit;stroke-dasharray:none}\n\
-.few .t,.legend .t{marker-mid:url(#t)}\n\
-.few .h,.legend .h{marker-mid:url(#h)}\n\
-.few .u,.legend .u{marker-mid:url(#u)}\n\
-#t circle,#h circle,#u circle{stroke-dasharray:none;stroke-width:10}\n\
-marker text{font:bold 110px ui-monospace,Menlo,Consolas,monospace;text-anchor:middle}\n\
-.legend{display:flex;flex-wrap:wrap;gap:.2em 1.2em;font-size:.85em}\n\
-.legend li{display:flex;align-items:center;gap:.4em;list-style:none}\n\
-.legend svg{width:3.6em}\n\
-footer{margin-top:2em;border-top:1px solid #111;color:#444;font-size:.85em}\n\
+.legend{display:flex;flex-wrap:wrap;gap:.2em 1.4em;color:#555d66;font-size:.88em}\n\
+.legend li{display:flex;align-items:center;gap:.5em}\n\
+.legend svg{width:3em;flex:none}\n\
+.legend path{stroke-width:24}\n\
+#ask{margin-top:2.4em;border-top:1px solid #16191d;color:#555d66;font-size:.88em}\n\
+#ask b{color:#16191d}\n\
 @media screen{.col{content-visibility:auto;contain-intrinsic-size:auto 20em auto 36em}}\n\
-@media screen and (max-width:40em){.n{font-size:150px}.w svg{min-width:36em}}\n\
-@media print{@page{size:A4;margin:15mm}body{padding:0;max-width:none;font-size:9pt}th{white-space:pre-wrap}tr,figure,footer,li,p{break-inside:avoid}h2,h2+p{break-after:avoid}}\n\
+@media screen and (max-width:40em){body{padding-top:.6em}h1{font-size:1.3em}.verdict{margin:.5em 0;padding:.1em 0 .2em .7em}.verdict h2{font-size:1.15em}.verdict p{margin:.25em 0;line-height:1.3}figure{margin:.6em 0 0}.w{margin:0 -1em;padding:0 1em}.w svg{overflow:visible}.n{font-size:150px}.n.e{font-size:190px}table{font-size:.9em}}\n\
+@media print{@page{size:A4;margin:15mm}body{padding:0;max-width:none;font-size:9pt}th{white-space:pre-wrap}tr,figure,li,p,.verdict{break-inside:avoid}h2,h2+p{break-after:avoid}details{display:none}}\n\
 ";
 
-/// What is between the style and the inputs.
+/// What is between the style and the title above the page.
 const BODY: &[u8] = b"\
 </style>\n\
 </head>\n\
 <body>\n\
-<h1>Height network</h1>\n\
-<ul class=\"inputs\">\n\
-";
-
-/// What is between the inputs and the facts.
-const PLACES: &[u8] = b"\
-</ul>\n\
-<p>A place such as 2:14 is line 14 of book 2.</p>\n\
-";
+<h1>";
 
 /// What is before the picture.
 const PICTURE: &[u8] = b"\
 <figure>\n\
-<figcaption><b>Heights.</b> Each sight is drawn from its station to where it puts its target. It bends up if it runs to the right, and down if to the left.</figcaption>\n\
 <div class=\"w\">\n\
 ";
 
-/// The end of the picture, and its legend.
-const LEGEND: &[u8] = b"\
-</div>\n\
-<ul class=\"legend\">\n\
-<li><svg viewBox=\"0 0 600 200\"><path class=\"s\" d=\"M0 100H300H600\"/></svg>a mistake shows\n\
-<li><svg viewBox=\"0 0 600 200\"><path class=\"t\" d=\"M0 100H300H600\"/></svg>ties: a coin toss\n\
-<li><svg viewBox=\"0 0 600 200\"><path class=\"h\" d=\"M0 100H300H600\"/></svg>hides: others are marked\n\
-<li><svg viewBox=\"0 0 600 200\"><path class=\"u\" d=\"M0 100H300H600\"/></svg>unchecked: nothing is marked\n\
-<li><svg viewBox=\"0 0 600 200\"><path class=\"b\" d=\"M0 100H300H600\"/><path class=\"x\" d=\"M510 60l80 80m0-80l-80 80\"/></svg>marked, up to its cross\n\
-<li><svg viewBox=\"0 0 600 200\"><path class=\"k\" d=\"M520 25l70 120h-140z\"/></svg>benchmark\n\
-<li><svg viewBox=\"0 0 600 200\"><path class=\"p\" d=\"M520 0V200\"/></svg>heights that fit equally well\n\
-</ul>\n\
-";
-
-/// What is before the strip of residuals.
-const STRIP: &[u8] = b"\
-<figure>\n\
-<figcaption><b>Residuals</b> in metres, in the order of the books. Linear up to a millimetre, then a step for each factor of ten. Grey: within the limit.</figcaption>\n\
-<div class=\"w\">\n\
-";
-
-/// The beginning of the section of explanations.
-const EXPLANATIONS: &[u8] = b"\
-<section id=\"explanations\">\n\
-<h2>One wrong number that would explain the marks</h2>\n\
-<p>With the proposed number nearest to the given one, the cost and the marks of the last two columns are left.</p>\n\
-";
-
-/// The beginning of the section of marked sights.
-const MARKS: &[u8] = b"\
-<section id=\"marked\">\n\
-<h2>Marked sights</h2>\n\
-<p>Their residuals are above the limit. Look at them first, and then at what is weak nearby: a mistake there may mark right sights.</p>\n\
+/// The caption of the picture, and the end of its figure.
+const CAPTION: &[u8] = b"\
+<figcaption>Heights in metres, points in the order of the books. Each sight is drawn from its station to where it puts its target. It bends up if it runs to the right, and down if to the left.</figcaption>\n\
+</figure>\n\
 ";
 
 /// The beginning of the section of heights.
 const HEIGHTS: &[u8] = b"\
 <section id=\"heights\">\n\
 <h2>Heights</h2>\n\
-<p>In metres. Where there is a second height, any height up to it fits equally well if other points move with it. Strength is the least weight of sights that tie the point to the benchmarks. Wrong sights that weigh less than half of it together do not drag the point.</p>\n\
-";
+<p class=\"note\">";
 
-/// The beginning of the section of weak sights.
-const WEAK: &[u8] = b"\
-<section id=\"weak\">\n\
-<h2>Weak sights</h2>\n\
-<p>Another sight between the same points, or of the point from elsewhere, checks them.</p>\n\
-";
+/// What heights are.
+const HEIGHT_NOTE: &[u8] =
+    b"In metres. Where there is a second height, any height up to it fits equally well if other points move with it. Strength is the least weight of sights that tie the point to the benchmarks. Wrong sights that weigh less than half of it together do not drag the point.</p>\n";
 
-/// The beginning of the section of weak benchmarks.
+/// The beginning of the section of benchmarks.
 const BENCHMARKS: &[u8] = b"\
 <section id=\"benchmarks\">\n\
-<h2>Weak benchmarks</h2>\n\
-<p>A mistake in such a height may move points, and mark right sights or none.</p>\n\
+<h2>Benchmarks</h2>\n\
+<p class=\"note\">The given heights, and what the other benchmarks say of each by the sights that lead there.</p>\n\
 ";
 
-/// The beginning of the section of weak keyed-in heights.
-const ENTRIES: &[u8] = b"\
-<section id=\"entries\">\n\
-<h2>Weak keyed-in heights</h2>\n\
-<p>A mistake in such a height is in all of its sights. It may move points, and mark right sights or none.</p>\n\
+/// The beginning of the section of residuals.
+const RESIDUALS: &[u8] = b"\
+<section id=\"residuals\">\n\
+<h2>Residuals</h2>\n\
+<p class=\"note\">By how much each sight puts its target above (+) or below (-) its height, in the order of the books. Grey: within the limit. A place such as 2:14 is line 14 of book 2.</p>\n\
+<div class=\"w\">\n\
 ";
+
+/// The beginning of the section of explanations.
+const EXPLANATIONS: &[u8] = b"\
+<section id=\"explanations\">\n\
+<h2>What would explain it</h2>\n\
+<p class=\"note\">One number changed at a time. With the proposed number nearest to the given one, the cost and the marks of the last two columns are left. Rows with the same number explain equally well.</p>\n\
+";
+
+/// The beginning of the section of where a mistake could hide.
+const HIDING: &[u8] = b"\
+<section id=\"hide\">\n\
+<h2>What could hide</h2>\n\
+<p class=\"note\">Where a single mistake would not show as its own residual. This is no fault that was found: one more sight or benchmark can check such a number. Ties: it or another sight is marked. Hides: other sights are marked. Drags: points move, and other sights are marked, or none. Unchecked: nothing is marked.</p>\n\
+";
+
+/// What is before the table of weak sights.
+const WEAK_SIGHTS: &[u8] = b"\
+<details>\n\
+<summary>Weak sights</summary>\n\
+";
+
+/// What is before the table of weak benchmarks.
+const WEAK_BENCHMARKS: &[u8] = b"\
+<details>\n\
+<summary>Weak benchmarks</summary>\n\
+";
+
+/// What is before the table of weak keyed-in heights.
+const WEAK_ENTRIES: &[u8] = b"\
+<details>\n\
+<summary>Weak keyed-in heights</summary>\n\
+";
+
+/// The end of details.
+const DETAILS_END: &[u8] = b"</details>\n";
 
 /// The beginning of the section of notes.
 const NOTES: &[u8] = b"\
 <section id=\"notes\">\n\
 <h2>Notes</h2>\n\
-<p>What looks odd in the books and tables.</p>\n\
+<p class=\"note\">What looks odd in the books and tables.</p>\n\
 <ul>\n\
 ";
 
-/// The foot.
-const FOOT: &[u8] = b"\
-<footer>\n\
-<p>The cost is the sum of weight times size over all residuals; no heights that keep the benchmarks have less. All lengths are in metres, rounded to 0.1 mm. A mistake in a sight shows: its residual is the mistake, as closely as small errors of the others allow. <b class=\"t\">=</b> ties: it or another sight is marked. <b class=\"h\">&lt;</b> hides: other sights are marked. <b class=\"u\">0</b> unchecked: nothing is marked. A mistake in a keyed-in height or a benchmark <b class=\"h\">&lt;</b> drags: points move, and other sights are marked, or none.</p>\n\
-<p>Height Office</p>\n\
-</footer>\n\
-</body>\n\
-</html>\n\
+/// The beginning of the section of what a client may ask, up to the cost.
+const ASK: &[u8] = b"\
+<section id=\"ask\">\n\
+<h2>What a client may ask</h2>\n\
+<p><b>How were the heights found?</b> They keep the benchmarks, and the sum of weight times size over all residuals is ";
+
+/// What is between the cost and the inputs.
+const ASK_MIDDLE: &[u8] =
+    b" m: no heights that keep the benchmarks have less. A sight that others outweigh does not pull them. All lengths are in metres, rounded to 0.1 mm.</p>\n\
+<p><b>How can they be checked?</b> <code>height_office adjust</code> writes a certificate beside the heights. With it and these inputs <code>height_office check</code> prints yes.</p>\n\
+<p><b>What were they made of?</b></p>\n\
+<ul class=\"inputs\">\n\
 ";
 
-/// Writes what is before the style.
+/// The end of that section.
+const ASK_END: &[u8] = b"\
+</ul>\n\
+<p>Height Office</p>\n\
+</section>\n\
+";
+
+/// The end of a section.
+const SECTION_END: &[u8] = b"</section>\n";
+
+/// Writes what is before the title.
 #[tactic(auto, unfolding(crate::specs::Fixed::head_text))]
 pub(crate) fn write_head_text(page: &mut Page) -> Result<(), AllocError>
     ensures { OnOk result (page.new ≡ page.old ++ head_text) }
 {
     page.add(HEAD)
+}
+
+/// Writes what is between the title and the style.
+#[tactic(auto, unfolding(crate::specs::Fixed::title_end))]
+pub(crate) fn write_title_end(page: &mut Page) -> Result<(), AllocError>
+    ensures { OnOk result (page.new ≡ page.old ++ title_end) }
+{
+    page.add(TITLE_END)
 }
 
 /// Writes the style.
@@ -197,20 +220,12 @@ pub(crate) fn write_style_text(page: &mut Page) -> Result<(), AllocError>
     page.add(STYLE)
 }
 
-/// Writes what is between the style and the inputs.
+/// Writes what is between the style and the title above the page.
 #[tactic(auto, unfolding(crate::specs::Fixed::body_text))]
 pub(crate) fn write_body_text(page: &mut Page) -> Result<(), AllocError>
     ensures { OnOk result (page.new ≡ page.old ++ body_text) }
 {
     page.add(BODY)
-}
-
-/// Writes what is between the inputs and the facts.
-#[tactic(auto, unfolding(crate::specs::Fixed::places_text))]
-pub(crate) fn write_places_text(page: &mut Page) -> Result<(), AllocError>
-    ensures { OnOk result (page.new ≡ page.old ++ places_text) }
-{
-    page.add(PLACES)
 }
 
 /// Writes what is before the picture.
@@ -221,36 +236,12 @@ pub(crate) fn write_picture_start(page: &mut Page) -> Result<(), AllocError>
     page.add(PICTURE)
 }
 
-/// Writes the end of the picture, and its legend.
-#[tactic(auto, unfolding(crate::specs::Fixed::legend_text))]
-pub(crate) fn write_legend_text(page: &mut Page) -> Result<(), AllocError>
-    ensures { OnOk result (page.new ≡ page.old ++ legend_text) }
+/// Writes the caption of the picture, and the end of its figure.
+#[tactic(auto, unfolding(crate::specs::Fixed::caption_text))]
+pub(crate) fn write_caption_text(page: &mut Page) -> Result<(), AllocError>
+    ensures { OnOk result (page.new ≡ page.old ++ caption_text) }
 {
-    page.add(LEGEND)
-}
-
-/// Writes what is before the strip of residuals.
-#[tactic(auto, unfolding(crate::specs::Fixed::strip_start))]
-pub(crate) fn write_strip_start(page: &mut Page) -> Result<(), AllocError>
-    ensures { OnOk result (page.new ≡ page.old ++ strip_start) }
-{
-    page.add(STRIP)
-}
-
-/// Writes the beginning of the section of explanations.
-#[tactic(auto, unfolding(crate::specs::Fixed::explanation_start))]
-pub(crate) fn write_explanation_start(page: &mut Page) -> Result<(), AllocError>
-    ensures { OnOk result (page.new ≡ page.old ++ explanation_start) }
-{
-    page.add(EXPLANATIONS)
-}
-
-/// Writes the beginning of the section of marked sights.
-#[tactic(auto, unfolding(crate::specs::Fixed::marked_start))]
-pub(crate) fn write_marked_start(page: &mut Page) -> Result<(), AllocError>
-    ensures { OnOk result (page.new ≡ page.old ++ marked_start) }
-{
-    page.add(MARKS)
+    page.add(CAPTION)
 }
 
 /// Writes the beginning of the section of heights.
@@ -261,15 +252,15 @@ pub(crate) fn write_height_start(page: &mut Page) -> Result<(), AllocError>
     page.add(HEIGHTS)
 }
 
-/// Writes the beginning of the section of weak sights.
-#[tactic(auto, unfolding(crate::specs::Fixed::weak_start))]
-pub(crate) fn write_weak_start(page: &mut Page) -> Result<(), AllocError>
-    ensures { OnOk result (page.new ≡ page.old ++ weak_start) }
+/// Writes what heights are.
+#[tactic(auto, unfolding(crate::specs::Fixed::height_note))]
+pub(crate) fn write_height_note(page: &mut Page) -> Result<(), AllocError>
+    ensures { OnOk result (page.new ≡ page.old ++ height_note) }
 {
-    page.add(WEAK)
+    page.add(HEIGHT_NOTE)
 }
 
-/// Writes the beginning of the section of weak benchmarks.
+/// Writes the beginning of the section of benchmarks.
 #[tactic(auto, unfolding(crate::specs::Fixed::benchmark_start))]
 pub(crate) fn write_benchmark_start(page: &mut Page) -> Result<(), AllocError>
     ensures { OnOk result (page.new ≡ page.old ++ benchmark_start) }
@@ -277,12 +268,60 @@ pub(crate) fn write_benchmark_start(page: &mut Page) -> Result<(), AllocError>
     page.add(BENCHMARKS)
 }
 
-/// Writes the beginning of the section of weak keyed-in heights.
-#[tactic(auto, unfolding(crate::specs::Fixed::entry_start))]
-pub(crate) fn write_entry_start(page: &mut Page) -> Result<(), AllocError>
-    ensures { OnOk result (page.new ≡ page.old ++ entry_start) }
+/// Writes the beginning of the section of residuals.
+#[tactic(auto, unfolding(crate::specs::Fixed::residual_start))]
+pub(crate) fn write_residual_start(page: &mut Page) -> Result<(), AllocError>
+    ensures { OnOk result (page.new ≡ page.old ++ residual_start) }
 {
-    page.add(ENTRIES)
+    page.add(RESIDUALS)
+}
+
+/// Writes the beginning of the section of explanations.
+#[tactic(auto, unfolding(crate::specs::Fixed::explanation_start))]
+pub(crate) fn write_explanation_start(page: &mut Page) -> Result<(), AllocError>
+    ensures { OnOk result (page.new ≡ page.old ++ explanation_start) }
+{
+    page.add(EXPLANATIONS)
+}
+
+/// Writes the beginning of the section of where a mistake could hide.
+#[tactic(auto, unfolding(crate::specs::Fixed::hiding_start))]
+pub(crate) fn write_hiding_start(page: &mut Page) -> Result<(), AllocError>
+    ensures { OnOk result (page.new ≡ page.old ++ hiding_start) }
+{
+    page.add(HIDING)
+}
+
+/// Writes what is before the table of weak sights.
+#[tactic(auto, unfolding(crate::specs::Fixed::weak_sights_start))]
+pub(crate) fn write_weak_sights_start(page: &mut Page) -> Result<(), AllocError>
+    ensures { OnOk result (page.new ≡ page.old ++ weak_sights_start) }
+{
+    page.add(WEAK_SIGHTS)
+}
+
+/// Writes what is before the table of weak benchmarks.
+#[tactic(auto, unfolding(crate::specs::Fixed::weak_benchmarks_start))]
+pub(crate) fn write_weak_benchmarks_start(page: &mut Page) -> Result<(), AllocError>
+    ensures { OnOk result (page.new ≡ page.old ++ weak_benchmarks_start) }
+{
+    page.add(WEAK_BENCHMARKS)
+}
+
+/// Writes what is before the table of weak keyed-in heights.
+#[tactic(auto, unfolding(crate::specs::Fixed::weak_entries_start))]
+pub(crate) fn write_weak_entries_start(page: &mut Page) -> Result<(), AllocError>
+    ensures { OnOk result (page.new ≡ page.old ++ weak_entries_start) }
+{
+    page.add(WEAK_ENTRIES)
+}
+
+/// Writes the end of details.
+#[tactic(auto, unfolding(crate::specs::Fixed::details_end))]
+pub(crate) fn write_details_end(page: &mut Page) -> Result<(), AllocError>
+    ensures { OnOk result (page.new ≡ page.old ++ details_end) }
+{
+    page.add(DETAILS_END)
 }
 
 /// Writes the beginning of the section of notes.
@@ -293,10 +332,34 @@ pub(crate) fn write_note_start(page: &mut Page) -> Result<(), AllocError>
     page.add(NOTES)
 }
 
-/// Writes the foot.
-#[tactic(auto, unfolding(crate::specs::Fixed::foot_text))]
-pub(crate) fn write_foot_text(page: &mut Page) -> Result<(), AllocError>
-    ensures { OnOk result (page.new ≡ page.old ++ foot_text) }
+/// Writes the beginning of the section of what a client may ask, up to the cost.
+#[tactic(auto, unfolding(crate::specs::Fixed::ask_start))]
+pub(crate) fn write_ask_start(page: &mut Page) -> Result<(), AllocError>
+    ensures { OnOk result (page.new ≡ page.old ++ ask_start) }
 {
-    page.add(FOOT)
+    page.add(ASK)
+}
+
+/// Writes what is between the cost and the inputs.
+#[tactic(auto, unfolding(crate::specs::Fixed::ask_middle))]
+pub(crate) fn write_ask_middle(page: &mut Page) -> Result<(), AllocError>
+    ensures { OnOk result (page.new ≡ page.old ++ ask_middle) }
+{
+    page.add(ASK_MIDDLE)
+}
+
+/// Writes the end of that section.
+#[tactic(auto, unfolding(crate::specs::Fixed::ask_end))]
+pub(crate) fn write_ask_end(page: &mut Page) -> Result<(), AllocError>
+    ensures { OnOk result (page.new ≡ page.old ++ ask_end) }
+{
+    page.add(ASK_END)
+}
+
+/// Writes the end of a section.
+#[tactic(auto, unfolding(crate::specs::Fixed::section_end))]
+pub(crate) fn write_section_end(page: &mut Page) -> Result<(), AllocError>
+    ensures { OnOk result (page.new ≡ page.old ++ section_end) }
+{
+    page.add(SECTION_END)
 }

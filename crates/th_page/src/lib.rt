@@ -1,20 +1,30 @@
 //! One page to hand on: a text of HTML with pictures, which has no script and loads nothing.
 //!
-//! `page_text` makes it from rows and texts. `specs/Pages.antt` defines it. `page_of` makes it of what a
-//! review found, whose rows are those of the page, and of explanations. Out of memory is the only failure.
+//! It says first whether the sights fit, which number is wrong if they do not, and which heights not to use.
+//! `page_text` makes it from rows, texts and an answer. `specs/Pages.antt` defines it. `page_of` makes it of
+//! what a review found, whose rows are those of the page, and of explanations. Out of memory is the only
+//! failure.
 #![tactic(auto)]
 
-// What a page shows, and the texts that every page has.
+// What a page shows, its rows with what the answer says of them, and the texts that every page has.
 mod contents;
 mod fixed;
+mod joined;
 
-// The parts of a page, from the first to the last.
+// The verdict: what decides it, and its words.
+mod counts;
+mod meanings;
+mod verdict_texts;
+mod verdicts;
+
+// The other parts of a page, from the first to the last.
+mod asks;
 mod facts;
 mod figures;
+mod heads;
 mod hiding;
-mod inputs;
+mod residuals;
 mod sections;
-mod verdicts;
 mod weak;
 // The whole.
 mod pages;

@@ -2,7 +2,7 @@
 ghost use Rattle.std.specs.Prelude.{◌≡◌, IfOk};
 ghost use Rattle.th_inputs.specs.Inputs.{inputs_of};
 ghost use Rattle.th_page.specs.Pages.{page_text};
-ghost use Rattle.th_page.specs.Shown.{shown_of};
+ghost use Rattle.th_page.specs.Shown.{explained_by, shown_of};
 ghost use Rattle.th_review_rows.specs.Found.{rows_in};
 
 use crate::contents::{Explained, Shown};
@@ -12,16 +12,17 @@ use std::alloc::{AllocError, Global};
 use th_inputs::NamedInputs;
 use th_review_rows::Found;
 
-/// The page of what a review found, of the inputs that gave it, and of what would explain the marks.
+/// The page of what a review found, with a title, of the inputs that gave it, and of what would explain the
+/// marks.
 pub fn page_of(
     alloc: Global,
+    title: &[u8],
     found: &Found<'_>,
     inputs: NamedInputs<'_>,
     explained: Explained<'_>,
 ) -> Result<Vec<u8>, AllocError>
-    ensures { IfOk result (λ text. text.items ≡ page_text (shown_of (rows_in found.now)
-        (inputs_of inputs.entry) explained.entry.cost explained.entry.rows.now
-        explained.entry.sentences.now explained.entry.limit)) }
+    ensures { IfOk result (λ text. text.items ≡ page_text (shown_of title.now (rows_in found.now)
+        (inputs_of inputs.entry) (explained_by explained.entry))) }
 {
     let names = names_shown(alloc, inputs)?;
     let says = lent_lines(alloc, explained.sentences)?;
@@ -30,6 +31,7 @@ pub fn page_of(
     page_text(
         alloc,
         &Shown {
+            title,
             names: &names,
             sums: inputs.sums,
             points: &found.points,

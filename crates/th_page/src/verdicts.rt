@@ -1,23 +1,17 @@
-//! The verdict: whether the sights fit, and if they do not, what the explanations say of it.
-ghost use Rattle.std.specs.Prelude.{◌≡◌, ◌++◌, OnOk, count_by, length, map};
-ghost use Rattle.std.specs.List.{flat_map};
-ghost use Rattle.th_page.specs.Fronts.{loop_count};
-ghost use Rattle.th_page.specs.Verdicts.{alone_count, alone_note, alone_paragraph, explains_all, lone_paragraph, marks_counts, marks_paragraph, marks_words, said_paragraph, unchecked_paragraphs, verdict_class, verdict_heading, verdict_of, verdict_start, verdict_text};
+//! The verdict: whether the sights fit, and how good that makes the heights.
+ghost use Rattle.std.specs.Prelude.{◌≡◌};
+ghost use Rattle.th_page.specs.Counts.{all_checked, tone_of, tone_of_verdict, verdict_of, verdict_of_fit, verdict_of_marks};
+ghost use Rattle.th_page.specs.Verdicts.{tone_class, verdict_heading, wait_words};
 
-use crate::facts::{fixed_count, loop_count};
-use std::alloc::AllocError;
-use th_columns::Page;
-use th_explain_texts::Row;
-use th_html::{write_escaped, write_number};
-use th_picture::{MARKED, group_count};
-use th_reliability::Mistake;
-use th_review_rows::{ObservationRow, PointRow};
+use crate::counts::Counts;
 
 /// What a page says of the sights as a whole.
 #[derive(Clone, Copy, Debug, PartialEq, Eq)]
 pub(crate) enum Verdict {
     /// No sight is marked, but none could be: there are as many sights as new points.
     Unchecked,
+    /// No sight is marked, and no number explains anything; but one sight is far beyond the usual residual.
+    Unlike,
     /// No sight is marked, and no number explains anything.
     Fits,
     /// No sight is marked, but more would fit if a number were another.
@@ -32,89 +26,95 @@ pub(crate) enum Verdict {
     Undecided,
 }
 
-/// Writes the verdict, with the sentences of the explanations.
-#[tactic(auto, unfolding(crate::specs::Verdicts::verdict_text))]
-pub(crate) fn write_verdict(
-    page: &mut Page,
-    points: &[PointRow],
-    sights: &[ObservationRow],
-    rows: &[Row],
-    says: &[&[u8]],
-    limit: i64,
-) -> Result<(), AllocError>
-    ensures { OnOk result (page.new ≡ page.old
-        ++ verdict_text points.now sights.now rows.now (map (λ line. line.now) says.now) limit) }
-{
-    let total = sights.len() as u64;
-    let marks = group_count(limit, MARKED, sights);
-    let verdict = verdict_of(marks, loop_count(points, total), rows);
-    write_start(page, verdict)?;
-    write_marks(page, marks, total)?;
-    write_says(page, says)?;
-    write_unchecked(page, points, sights)?;
-    page.add(b"</div>\n")
+/// How good the heights are.
+#[derive(Clone, Copy, Debug, PartialEq, Eq)]
+pub(crate) enum Tone {
+    /// All fits, and all is checked.
+    Good,
+    /// No height moves by more than the limit, but something is wrong, doubted or unchecked.
+    Care,
+    /// Heights move, or nobody knows by how much.
+    Bad,
 }
 
-/// The verdict, of how many sights are marked, and how many loops close.
-fn verdict_of(marks: u64, loops: u64, rows: &[Row]) -> Verdict
-    ensures { result ≡ verdict_of marks loops (length rows.now) (count_by explains_all rows.now) }
+/// The verdict.
+pub(crate) fn verdict_of(counts: &Counts) -> Verdict
+    ensures { result ≡ verdict_of counts.now }
 {
-    match (marks, loops, rows.len(), explaining_count(rows)) {
-        (0, 0, 0, _) => Verdict::Unchecked,
-        (0, _, 0, _) => Verdict::Fits,
-        (0, _, _, _) => Verdict::Doubted,
-        (_, _, 0, _) => Verdict::Unexplained,
-        (_, _, _, 0) => Verdict::InPart,
-        (_, _, _, 1) => Verdict::Explained,
-        _ => Verdict::Undecided,
+    if counts.marked > 0 {
+        verdict_of_marks(counts)
+    } else if counts.rows > 0 {
+        Verdict::Doubted
+    } else {
+        verdict_of_fit(counts)
     }
 }
 
-/// How many of the rows that explain most leave no blunder.
-fn explaining_count(rows: &[Row]) -> usize
-    ensures { result ≡ count_by explains_all rows.now }
+/// The verdict where no sight is marked and no number explains anything.
+fn verdict_of_fit(counts: &Counts) -> Verdict
+    ensures { result ≡ verdict_of_fit counts.now }
 {
-    let mut count = 0;
-    for row in rows {
-        if row.number == 1 && row.blunders == 0 {
-            count += 1;
-        }
+    if counts.loops == 0 {
+        Verdict::Unchecked
+    } else if counts.has_outlier {
+        Verdict::Unlike
+    } else {
+        Verdict::Fits
     }
-    count
 }
 
-/// Writes the beginning, with the heading.
-#[tactic(auto, unfolding(crate::specs::Verdicts::verdict_start))]
-fn write_start(page: &mut Page, verdict: Verdict) -> Result<(), AllocError>
-    ensures { OnOk result (page.new ≡ page.old ++ verdict_start verdict) }
+/// The verdict where sights are marked.
+fn verdict_of_marks(counts: &Counts) -> Verdict
+    ensures { result ≡ verdict_of_marks counts.now }
 {
-    page.add(b"<div class=\"verdict ")?;
-    page.add(verdict.class())?;
-    page.add(b"\">\n<h2>")?;
-    page.add(verdict.heading())?;
-    page.add(b"</h2>\n")
+    if counts.rows == 0 {
+        Verdict::Unexplained
+    } else if counts.explaining == 0 {
+        Verdict::InPart
+    } else if counts.explaining == 1 {
+        Verdict::Explained
+    } else {
+        Verdict::Undecided
+    }
+}
+
+/// How good the heights are.
+pub(crate) fn tone_of(counts: &Counts) -> Tone
+    ensures { result ≡ tone_of counts.now }
+{
+    if counts.moved > 0 {
+        Tone::Bad
+    } else {
+        verdict_of(counts).tone(all_checked(counts))
+    }
+}
+
+/// Whether something checks each sight and each keyed-in height.
+pub(crate) fn all_checked(counts: &Counts) -> bool
+    ensures { result ≡ all_checked counts.now }
+{
+    counts.unchecked_sights == 0 && counts.unchecked_entries == 0
 }
 
 impl Verdict {
-    /// The class of its element.
-    fn class(self) -> &'static [u8]
-        ensures { result.now ≡ verdict_class self }
+    /// How good the heights are where none moves; whether all is checked.
+    fn tone(self, checked: bool) -> Tone
+        ensures { result ≡ tone_of_verdict checked self }
     {
         match self {
-            Verdict::Fits => b"good",
-            Verdict::Unchecked | Verdict::Doubted => b"care",
-            Verdict::Unexplained | Verdict::InPart | Verdict::Explained | Verdict::Undecided => {
-                b"bad"
-            }
+            Verdict::Fits if checked => Tone::Good,
+            Verdict::Unexplained | Verdict::InPart => Tone::Bad,
+            _ => Tone::Care,
         }
     }
 
     /// Its heading.
-    fn heading(self) -> &'static [u8]
+    pub(crate) fn heading(self) -> &'static [u8]
         ensures { result.now ≡ verdict_heading self }
     {
         match self {
             Verdict::Unchecked => b"Nothing checks these heights.",
+            Verdict::Unlike => b"All sights are within the limit, but not all fit alike.",
             Verdict::Fits => b"All sights fit.",
             Verdict::Doubted => { b"All sights are within the limit, but one number may be wrong." }
             Verdict::Unexplained => b"Sights do not fit, and no one number explains it.",
@@ -127,115 +127,25 @@ impl Verdict {
     }
 }
 
-/// Writes how many of so many sights are marked.
-#[tactic(auto, unfolding(crate::specs::Verdicts::marks_paragraph))]
-fn write_marks(page: &mut Page, count: u64, total: u64) -> Result<(), AllocError>
-    ensures { OnOk result (page.new ≡ page.old ++ marks_paragraph count total) }
-{
-    page.add(b"<p>")?;
-    write_marks_counts(page, count, total)?;
-    page.add(marks_words(count))?;
-    page.add(b"</p>\n")
-}
-
-/// Writes the counts.
-#[tactic(auto, unfolding(crate::specs::Verdicts::marks_counts))]
-fn write_marks_counts(page: &mut Page, count: u64, total: u64) -> Result<(), AllocError>
-    ensures { OnOk result (page.new ≡ page.old ++ marks_counts count total) }
-{
-    page.add(b"<b>")?;
-    write_number(page, count)?;
-    page.add(b" of ")?;
-    write_number(page, total)?;
-    page.add(b" sights marked.</b> ")
-}
-
-/// What it means.
-fn marks_words(count: u64) -> &'static [u8]
-    ensures { result.now ≡ marks_words count }
-{
-    if count == 0 {
-        b"No residual is above the limit."
-    } else {
-        b"Their residuals are above the limit: see <a href=\"#marked\">marked sights</a>. Do not use these heights yet."
-    }
-}
-
-/// Writes the sentences of the explanations.
-fn write_says(page: &mut Page, says: &[&[u8]]) -> Result<(), AllocError>
-    ensures { OnOk result (page.new
-        ≡ page.old ++ flat_map said_paragraph (map (λ line. line.now) says.now)) }
-{
-    for sentence in says {
-        write_said(page, sentence)?;
-    }
-    Ok(())
-}
-
-/// Writes a sentence.
-#[tactic(auto, unfolding(crate::specs::Verdicts::said_paragraph))]
-fn write_said(page: &mut Page, sentence: &[u8]) -> Result<(), AllocError>
-    ensures { OnOk result (page.new ≡ page.old ++ said_paragraph sentence.now) }
-{
-    page.add(b"<p>")?;
-    write_escaped(page, sentence)?;
-    page.add(b"</p>\n")
-}
-
-/// Writes what nothing checks.
-#[tactic(auto, unfolding(crate::specs::Verdicts::unchecked_paragraphs))]
-fn write_unchecked(
-    page: &mut Page,
-    points: &[PointRow],
-    sights: &[ObservationRow],
-) -> Result<(), AllocError>
-    ensures { OnOk result (page.new ≡ page.old ++ unchecked_paragraphs points.now sights.now) }
-{
-    write_alone(page, alone_count(sights))?;
-    write_lone(page, fixed_count(points))
-}
-
-/// How many sights no other checks.
-fn alone_count(sights: &[ObservationRow]) -> u64
-    ensures { result ≡ alone_count sights.now }
-{
-    let mut count = 0;
-    for row in sights {
-        if matches!(row.mistake, Mistake::Unchecked) {
-            count += 1;
+impl Tone {
+    /// The class of the verdict's element.
+    pub(crate) fn class(self) -> &'static [u8]
+        ensures { result.now ≡ tone_class self }
+    {
+        match self {
+            Tone::Good => b"good",
+            Tone::Care => b"care",
+            Tone::Bad => b"bad",
         }
     }
-    count
-}
 
-/// Writes that sights are checked by no other, if some are.
-fn write_alone(page: &mut Page, count: u64) -> Result<(), AllocError>
-    ensures { OnOk result (page.new ≡ page.old ++ alone_paragraph count) }
-{
-    if count == 0 {
-        return Ok(());
-    }
-    write_alone_note(page, count)
-}
-
-/// Writes how many sights no other checks.
-#[tactic(auto, unfolding(crate::specs::Verdicts::alone_note))]
-fn write_alone_note(page: &mut Page, count: u64) -> Result<(), AllocError>
-    ensures { OnOk result (page.new ≡ page.old ++ alone_note count) }
-{
-    page.add(b"<p>Sights that no other checks: ")?;
-    write_number(page, count)?;
-    page.add(b". A mistake there would not show.</p>\n")
-}
-
-/// Writes that there is one benchmark, if there is one.
-#[tactic(auto, unfolding(crate::specs::Verdicts::lone_paragraph))]
-fn write_lone(page: &mut Page, benchmarks: u64) -> Result<(), AllocError>
-    ensures { OnOk result (page.new ≡ page.old ++ lone_paragraph benchmarks) }
-{
-    if benchmarks == 1 {
-        page.add(b"<p>All heights rest on one benchmark: nothing checks its height.</p>\n")
-    } else {
-        Ok(())
+    /// Not to use the heights, if they are bad.
+    pub(crate) fn wait_words(self) -> &'static [u8]
+        ensures { result.now ≡ wait_words self }
+    {
+        match self {
+            Tone::Good | Tone::Care => b"",
+            Tone::Bad => b" Do not use these heights yet.",
+        }
     }
 }

@@ -1,29 +1,11 @@
-//! What is marked, and what a mistake may hide in, or drag.
+//! What a mistake may hide in, or drag.
 ghost use Rattle.std.specs.Prelude.{◌≡◌, IfOk, filter};
-ghost use Rattle.th_picture.specs.Gaps.{marked};
-ghost use Rattle.th_picture.specs.Groups.{is_in};
 ghost use Rattle.th_review_rows.specs.Weak.{is_weak_benchmark, is_weak_entry, is_weak_observation};
 
 use std::alloc::{AllocError, Global};
-use th_picture::{MARKED, is_in};
 use th_review_rows::{
     BenchmarkRow, EntryRow, ObservationRow, is_weak_benchmark, is_weak_entry, is_weak_observation,
 };
-
-/// The marked sights.
-pub(crate) fn marked_sights(
-    alloc: Global,
-    sights: &[ObservationRow],
-    limit: i64,
-) -> Result<Vec<ObservationRow>, AllocError>
-    ensures { IfOk result (λ rows. rows.items ≡ filter (is_in limit marked) sights.now) }
-{
-    sights
-        .iter()
-        .copied()
-        .filter(|sight| is_in(limit, MARKED, sight))
-        .collect(alloc)
-}
 
 /// The sights in which a mistake may stay hidden.
 pub(crate) fn weak_sights(

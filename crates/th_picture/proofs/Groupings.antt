@@ -1,18 +1,17 @@
 -- Each sight is in one group.
-use Rattle.std.proofs.Common.{◌≡◌, ◌==◌, Bool, true, false, refl}
-use Rattle.std.specs.Prelude.{count_by, if◌then◌else◌}
-use Rattle.th_blunders.specs.Blunders.{is_blunder}
-use Rattle.th_reliability.specs.declared.mistakes.Mistake.{Mistake}
-use Rattle.th_reliability.specs.declared.mistakes.Mistake.TheVariants.{Shows, Ties, Hides, Unchecked}
-use Rattle.th_picture.specs.Groups.{groups, mistake_letter}
+use Rattle.std.proofs.Common.{◌≡◌, refl}
+use Rattle.std.specs.Prelude.{count_by, ◌==◌}
+use Rattle.th_answer.specs.declared.answers.Group.{Group}
+use Rattle.th_answer.specs.declared.answers.Group.TheVariants.{Cleared, Fits, Question, Stays, Unlike}
+use Rattle.th_picture.specs.Groups.{groups, letter_of}
 use Rattle.th_picture.specs.Laws.{EachSightOnce}
 
-by_mark : (marked : Bool) (mistake : Mistake) → count_by (λ group. (if marked then 98 else mistake_letter mistake) == group) groups ≡ 1
-by_mark true mistake = refl
-by_mark false Shows = refl
-by_mark false Ties = refl
-by_mark false Hides = refl
-by_mark false Unchecked = refl
+by_group : (own : Group) → count_by (λ group. letter_of own == letter_of group) groups ≡ 1
+by_group Question = refl
+by_group Stays = refl
+by_group Cleared = refl
+by_group Unlike = refl
+by_group Fits = refl
 
 pub each_once : EachSightOnce
-each_once limit sight = by_mark (is_blunder limit sight.residual) sight.mistake
+each_once sight = by_group sight.group

@@ -1,37 +1,36 @@
 -- Heights have their places on the scale.
-use Rattle.std.proofs.Common.{◌≡◌, ◌<◌, ◌≤◌, ◌+◌, ◌-◌, ◌*◌, ◌/◌, ◌%◌, ℕ, Bool, true, false, refl, List, [], ◌∷◌, All, Option, Some, unwrap_or, fold, max, arith}
-use Rattle.std.proofs.Math.Nat.{div-add-mod, div-mul-le_self, lt_of_mul-lt-mul_left, mul-add, mul-le-mul_left}
+use Rattle.std.proofs.Common.{◌≡◌, ◌<◌, ◌≤◌, ◌+◌, ◌-◌, ◌*◌, ◌/◌, ◌%◌, ℕ, Bool, true, false, refl, List, [], ◌∷◌, All, Option, Some, unwrap_or, fold, arith}
+use Rattle.std.proofs.Math.Nat.{div-add-mod, lt_of_mul-lt-mul_left, mul-add, mul-le-mul_left}
 use Rattle.std.proofs.lemmas.Bool.{ltb-true}
 use Rattle.std.proofs.lemmas.List.Elements.{All-cons, All-nil}
-use Rattle.std.proofs.lemmas.Nat.{le-div}
 use Rattle.std.specs.Prelude.{find, if◌then◌else◌}
-use Rattle.th_review_rows.specs.declared.rows.PointRow.{PointRow}
+use Rattle.th_picture.proofs.Places.{higher_up, on_from, on_upto, over_lines, under_lines}
 use Rattle.th_picture.specs.Laws.{IsInOrder, IsOnScale}
-use Rattle.th_picture.specs.Scales.{covers, greatest_of, high_of, higher, least_of, lower, raised, scale_between, scale_of, step_of, steps, y_of}
-use Rattle.th_picture.specs.declared.scales.Scale.{Scale}
+use Rattle.th_picture.specs.Scales.{covers, greatest_of, high_of, higher, least_of, lower, raised, scale_between, scale_of, step_of, steps}
+use Rattle.th_picture.specs.declared.drawn.DrawnPoint.{DrawnPoint}
 
 -- the least of some heights is not above any, and the greatest not below any
-least_below : (start : ℕ) (points : List PointRow) → fold lower start points ≤ start
+least_below : (start : ℕ) (points : List DrawnPoint) → fold lower start points ≤ start
 least_below start [] = omega arith
 least_below start (point ∷ points) = omega (arith, least_below (lower start point) points)
 
-least_of_all : (start : ℕ) (points : List PointRow) → All (λ point. fold lower start points ≤ raised point.low) points
+least_of_all : (start : ℕ) (points : List DrawnPoint) → All (λ point. fold lower start points ≤ raised point.height) points
 least_of_all start [] = All-nil _
 least_of_all start (point ∷ points) =
     let least = fold lower (lower start point) points in
-    let first : least ≤ raised point.low = omega (arith, least_below (lower start point) points) in
-    All-cons (λ (other : PointRow). least ≤ raised other.low) point points first (least_of_all (lower start point) points)
+    let first : least ≤ raised point.height = omega (arith, least_below (lower start point) points) in
+    All-cons (λ (other : DrawnPoint). least ≤ raised other.height) point points first (least_of_all (lower start point) points)
 
-greatest_above : (start : ℕ) (points : List PointRow) → start ≤ fold higher start points
+greatest_above : (start : ℕ) (points : List DrawnPoint) → start ≤ fold higher start points
 greatest_above start [] = omega arith
 greatest_above start (point ∷ points) = omega (arith, greatest_above (higher start point) points)
 
-greatest_of_all : (start : ℕ) (points : List PointRow) → All (λ point. raised point.low ≤ fold higher start points) points
+greatest_of_all : (start : ℕ) (points : List DrawnPoint) → All (λ point. raised point.height ≤ fold higher start points) points
 greatest_of_all start [] = All-nil _
 greatest_of_all start (point ∷ points) =
     let greatest = fold higher (higher start point) points in
-    let first : raised point.low ≤ greatest = omega (arith, greatest_above (higher start point) points) in
-    All-cons (λ (other : PointRow). raised other.low ≤ greatest) point points first (greatest_of_all (higher start point) points)
+    let first : raised point.height ≤ greatest = omega (arith, greatest_above (higher start point) points) in
+    All-cons (λ (other : DrawnPoint). raised other.height ≤ greatest) point points first (greatest_of_all (higher start point) points)
 
 -- the step that is found covers the spread, if the largest does
 step_if : (spread step : ℕ) (rest : Option ℕ) (test : Bool) → covers spread step ≡ test → spread / 8 < unwrap_or rest 50000000000000000
@@ -56,16 +55,16 @@ step_is_positive spread (step ∷ steps) = positive_if spread step (find (covers
 between : (least greatest step at : ℕ) → 0 < step → least ≤ at → at ≤ greatest → IsOnScale (scale_between least greatest step) at
 between least greatest step at some low high = record { from = omega arith; upto = omega arith }
 
-all_on_scale : (points : List PointRow) → All (λ point. IsOnScale (scale_of points) (raised point.low)) points
+all_on_scale : (points : List DrawnPoint) → All (λ point. IsOnScale (scale_of points) (raised point.height)) points
 all_on_scale [] = All-nil _
 all_on_scale (point ∷ points) =
     let least = least_of (point ∷ points) in
     let greatest = greatest_of (point ∷ points) in
-    let start = raised point.low in
-    let lows : All (λ other. least ≤ raised other.low) (point ∷ points) =
-    All-cons (λ (other : PointRow). least ≤ raised other.low) point points (least_below start points) (least_of_all start points) in
-    let highs : All (λ other. raised other.low ≤ greatest) (point ∷ points) =
-    All-cons (λ (other : PointRow). raised other.low ≤ greatest) point points (greatest_above start points) (greatest_of_all start points) in
+    let start = raised point.height in
+    let lows : All (λ other. least ≤ raised other.height) (point ∷ points) =
+    All-cons (λ (other : DrawnPoint). least ≤ raised other.height) point points (least_below start points) (least_of_all start points) in
+    let highs : All (λ other. raised other.height ≤ greatest) (point ∷ points) =
+    All-cons (λ (other : DrawnPoint). raised other.height ≤ greatest) point points (greatest_above start points) (greatest_of_all start points) in
     λ k d within. between least greatest (step_of (greatest - least)) _ (step_is_positive (greatest - least) steps) (lows k d within) (highs k d within)
 
 -- eight steps and one reach from the lowest line to the highest
@@ -80,20 +79,11 @@ nine_steps least greatest step covered =
     let most : step * (greatest / step) ≤ step * (q + 8) = mul-le-mul_left step (omega (arith, few)) in
     omega (arith, most, low, high, mul-add step q 8)
 
-reaches_top : (points : List PointRow) → greatest_of points < least_of points + 400000000000000000
+reaches_top : (points : List DrawnPoint) → greatest_of points < least_of points + 400000000000000000
     → high_of (scale_of points) ≤ (scale_of points).low + 9 * (scale_of points).step
 reaches_top points near =
     let spread = greatest_of points - least_of points in
     nine_steps (least_of points) (greatest_of points) (step_of spread) (step_covers spread steps (omega arith))
 
-quotient_up : (less more divisor : ℕ) → 0 < divisor → less ≤ more → less / divisor ≤ more / divisor
-quotient_up less more divisor some up = le-div (less / divisor) more divisor some (omega (arith, div-mul-le_self less divisor))
-
-higher_up : (scale : Scale) (at other : ℕ) → at ≤ other → y_of scale other ≤ y_of scale at
-higher_up scale at other up =
-    let span = max (high_of scale - scale.low) 1 in
-    let grown : 3000 * (high_of scale - other) / span ≤ 3000 * (high_of scale - at) / span = quotient_up _ _ span (omega arith) (omega arith) in
-    omega arith
-
 pub in_order : IsInOrder
-in_order = record { covers = all_on_scale; reaches = reaches_top; higher = higher_up }
+in_order = record { covers = all_on_scale; reaches = reaches_top; higher = higher_up; on = on_from; upto = on_upto; over = over_lines; under = under_lines }

@@ -1,44 +1,51 @@
--- The groups of sights, by the letters that name them.
-use Rattle.std.specs.Prelude.{ℕ, ℤ, ◌==◌, Bool, List, codes, count_by, if◌then◌else◌, nat_le, sum_by}
-use Rattle.th_blunders.specs.Blunders.{is_blunder}
-use Rattle.th_reliability.specs.declared.mistakes.Mistake.{Mistake}
-use Rattle.th_reliability.specs.declared.mistakes.Mistake.TheVariants.{Shows, Ties, Hides, Unchecked}
-use Rattle.th_review_rows.specs.declared.rows.ObservationRow.{ObservationRow}
+-- The groups of sights.
+use Rattle.std.specs.Prelude.{ℕ, ◌==◌, Bool, ◌&&◌, List, [], ◌∷◌, count_by, if◌then◌else◌, nat_le, nat_lt, sum_by}
+use Rattle.th_answer.specs.declared.answers.Group.{Group}
+use Rattle.th_answer.specs.declared.answers.Group.TheVariants.{Cleared, Fits, Question, Stays, Unlike}
+use Rattle.th_picture.specs.declared.drawn.DrawnSight.{DrawnSight}
 
--- the first letter of a mistake: `s`, `t`, `h` or `u`
-abbrev pub mistake_letter : Mistake → ℕ
-mistake_letter Shows = 115
-mistake_letter Ties = 116
-mistake_letter Hides = 104
-mistake_letter Unchecked = 117
+-- the letter of a group: `a`, `s`, `c`, `v` or `q`
+abbrev pub letter_of : Group → ℕ
+letter_of Question = 97
+letter_of Stays = 115
+letter_of Cleared = 99
+letter_of Unlike = 118
+letter_of Fits = 113
 
--- the group of a sight: `b` if it is marked, else the letter of its mistake
-abbrev pub group_of : ℤ → ObservationRow → ℕ
-group_of limit row = if is_blunder limit row.residual then 98 else mistake_letter row.mistake
-
-abbrev pub is_in : ℤ → ℕ → ObservationRow → Bool
-is_in limit group sight = group_of limit sight == group
+abbrev pub is_in : Group → DrawnSight → Bool
+is_in group sight = letter_of sight.group == letter_of group
 
 -- how many sights a group has
-abbrev pub group_count : ℤ → ℕ → List ObservationRow → ℕ
-group_count limit group sights = count_by (is_in limit group) sights
+abbrev pub group_count : Group → List DrawnSight → ℕ
+group_count group sights = count_by (is_in group) sights
 
--- the letters of the groups, in the order in which they are drawn
-abbrev pub groups : List ℕ
-groups = codes "sthub"
+-- the groups, in the order in which they are drawn: what fits lies under what is in question
+abbrev pub groups : List Group
+groups = Fits ∷ Unlike ∷ Cleared ∷ Stays ∷ Question ∷ []
 
--- a group of at most so many sights has thick lines and signs
+-- a group of at most so many sights has thick lines
 abbrev pub few : ℕ
 few = 60
 
 -- a group with more sights is not drawn
-abbrev pub many : ℕ
-many = 1000
+abbrev pub most_of : Group → ℕ
+most_of Question = 2000
+most_of Stays = 2000
+most_of Cleared = 2000
+most_of Unlike = 2000
+most_of Fits = 4000
+
+-- whether a group has sights, and whether these are drawn
+abbrev pub occurs : List DrawnSight → Group → Bool
+occurs sights group = nat_lt 0 (group_count group sights)
+
+abbrev pub is_drawn : List DrawnSight → Group → Bool
+is_drawn sights group = occurs sights group && nat_le (group_count group sights) (most_of group)
 
 -- how many sights of a group are not drawn
-unfoldable pub undrawn_in : ℤ → List ObservationRow → ℕ → ℕ
-undrawn_in limit sights group = if nat_le (group_count limit group sights) many then 0 else group_count limit group sights
+unfoldable pub undrawn_in : List DrawnSight → Group → ℕ
+undrawn_in sights group = if nat_le (group_count group sights) (most_of group) then 0 else group_count group sights
 
 -- how many sights are not drawn
-abbrev pub undrawn_count : ℤ → List ObservationRow → ℕ
-undrawn_count limit sights = sum_by (undrawn_in limit sights) groups
+abbrev pub undrawn_count : List DrawnSight → ℕ
+undrawn_count sights = sum_by (undrawn_in sights) groups

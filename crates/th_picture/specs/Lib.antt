@@ -1,3 +1,4 @@
+pub mod Drawn
 pub mod Scales
 pub mod Groups
 pub mod Lines
@@ -6,6 +7,7 @@ pub mod Points
 pub mod Gaps
 pub mod Names
 pub mod Pictures
+pub mod Legends
 pub mod Laws
 pub mod Strips
 pub mod StripLaws

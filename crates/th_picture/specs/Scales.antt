@@ -1,7 +1,7 @@
 -- Where points and heights are in the picture, in tenths of a pixel.
 use Rattle.std.specs.Prelude.{ℕ, ℤ, ◌+◌, ◌-◌, ◌*◌, ◌/◌, ◌%◌, Bool, List, [], ◌∷◌, find, fold, if◌then◌else◌, max, min, nat_lt, unsigned_abs, unwrap_or}
 use Rattle.std.specs.Int.{is_negative}
-use Rattle.th_review_rows.specs.declared.rows.PointRow.{PointRow}
+use Rattle.th_picture.specs.declared.drawn.DrawnPoint.{DrawnPoint}
 use Rattle.th_picture.specs.declared.scales.Scale.{Scale}
 
 -- the middle of strip k of n, which stand from left to right; k counts from 0
@@ -35,39 +35,43 @@ covers spread step = nat_lt (spread / 8) step
 abbrev pub step_of : ℕ → ℕ
 step_of spread = unwrap_or (find (covers spread) steps) 50000000000000000
 
--- the least and the greatest of the raised lowest best heights
-abbrev pub lower : ℕ → PointRow → ℕ
-lower least row = min least (raised row.low)
+-- the least and the greatest of the raised heights at which points are drawn
+abbrev pub lower : ℕ → DrawnPoint → ℕ
+lower least point = min least (raised point.height)
 
-abbrev pub higher : ℕ → PointRow → ℕ
-higher greatest row = max greatest (raised row.low)
+abbrev pub higher : ℕ → DrawnPoint → ℕ
+higher greatest point = max greatest (raised point.height)
 
-abbrev pub least_of : List PointRow → ℕ
+abbrev pub least_of : List DrawnPoint → ℕ
 least_of [] = raise
-least_of (row ∷ rows) = fold lower (raised row.low) rows
+least_of (point ∷ points) = fold lower (raised point.height) points
 
-abbrev pub greatest_of : List PointRow → ℕ
+abbrev pub greatest_of : List DrawnPoint → ℕ
 greatest_of [] = raise
-greatest_of (row ∷ rows) = fold higher (raised row.low) rows
+greatest_of (point ∷ points) = fold higher (raised point.height) points
 
 -- the scale between two raised heights: its lowest line is at or below the least, its last but one at or below the greatest
 abbrev pub scale_between : ℕ → ℕ → ℕ → Scale
 scale_between least greatest step = record { low = least - least % step; top = greatest - greatest % step; step = step }
 
-abbrev pub scale_of : List PointRow → Scale
-scale_of rows = scale_between (least_of rows) (greatest_of rows) (step_of (greatest_of rows - least_of rows))
+abbrev pub scale_of : List DrawnPoint → Scale
+scale_of points = scale_between (least_of points) (greatest_of points) (step_of (greatest_of points - least_of points))
 
 -- the highest line of a scale
 abbrev pub high_of : Scale → ℕ
 high_of scale = scale.top + scale.step
 
--- where a raised height is
-abbrev pub y_of : Scale → ℕ → ℕ
-y_of scale at = 300 + min (3000 * (high_of scale - at) / max (high_of scale - scale.low) 1) 3000
+-- how far apart two raised heights are drawn, of which the second is higher; 3000 from the lowest line to the highest
+abbrev pub apart : Scale → ℕ → ℕ → ℕ
+apart scale at other = 3000 * (other - at) / max (high_of scale - scale.low) 1
 
--- where the lowest best height of a point is
-abbrev pub low_y : Scale → ℤ → ℕ
-low_y scale low = y_of scale (raised low)
+-- where a raised height is: at most 100 beyond the lines if the scale does not reach it
+abbrev pub y_of : Scale → ℕ → ℕ
+y_of scale at = 400 + min (apart scale at (high_of scale)) 3100 - min (apart scale (high_of scale) at) 100
+
+-- where a height is
+abbrev pub height_y : Scale → ℤ → ℕ
+height_y scale height = y_of scale (raised height)
 
 -- the lines that a scale may have: those above its highest line are left out
 abbrev pub lines_of : Scale → List ℕ

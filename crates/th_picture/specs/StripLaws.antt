@@ -1,13 +1,17 @@
 -- Laws of the strip.
-use Rattle.std.specs.Prelude.{◌≤◌, ℕ, ℤ, All, List, unsigned_abs}
-use Rattle.th_review_rows.specs.declared.rows.ObservationRow.{ObservationRow}
-use Rattle.th_picture.specs.Strips.{offset, reach_of}
+use Rattle.std.specs.Prelude.{◌≡◌, ◌≤◌, ◌*◌, ℕ, ℤ, false, All, List, unsigned_abs}
+use Rattle.th_blunders.specs.Blunders.{is_blunder}
+use Rattle.th_picture.specs.Strips.{half_of, offset}
+use Rattle.th_picture.specs.declared.drawn.DrawnSight.{DrawnSight}
 
--- the strip reaches as far as what it shows
-pub record ReachesAll : Type 0 where
-  -- all residuals
-  pub residuals : (limit : ℤ) (sights : List ObservationRow) → All (λ sight. offset (unsigned_abs sight.residual) ≤ reach_of limit sights) sights
-  -- the limit
-  pub limit : (limit : ℤ) (sights : List ObservationRow) → offset (unsigned_abs limit) ≤ reach_of limit sights
+-- bars stay inside the strip, and show how large residuals are
+pub record AreToScale : Type 0 where
+  -- a bar of a residual within the limit is at most half as long as the longest
+  pub within : (limit : ℤ) (sights : List DrawnSight)
+      → All (λ sight. is_blunder limit sight.row.residual ≡ false → unsigned_abs sight.row.residual ≤ half_of limit sights) sights
+  pub shown : (half size : ℕ) → size ≤ half → offset half size ≤ 275
+  -- no bar is longer than the longest, and one of twice the size is
+  pub inside : (half size : ℕ) → offset half size ≤ 550
+  pub full : (half size : ℕ) → 1 ≤ half → 2 * half ≤ size → offset half size ≡ 550
   -- and what is larger is not shown shorter
-  pub longer : (size other : ℕ) → size ≤ other → offset size ≤ offset other
+  pub longer : (half size other : ℕ) → size ≤ other → offset half size ≤ offset half other

@@ -1,109 +1,99 @@
 -- The strip of residuals.
-use Rattle.std.specs.Prelude.{ℕ, ℤ, ◌+◌, ◌-◌, ◌*◌, ◌/◌, false, true, List, [], ◌∷◌, ◌++◌, codes, decimal, fold, if◌then◌else◌, length, max, min, nat_le, sum_by, unsigned_abs}
+use Rattle.std.specs.Prelude.{ℕ, ℤ, ◌+◌, ◌-◌, ◌*◌, ◌/◌, false, true, List, [], ◌∷◌, ◌++◌, codes, decimal, fold, if◌then◌else◌, length, max, min, unsigned_abs}
 use Rattle.std.specs.Int.{is_negative}
 use Rattle.std.specs.List.{flat_map}
+use Rattle.th_answer.specs.declared.answers.Group.{Group}
+use Rattle.th_blunders.specs.Blunders.{is_blunder}
 use Rattle.th_html.specs.Lengths.{sized_text}
 use Rattle.th_html.specs.Places.{place_text}
-use Rattle.th_picture.specs.Groups.{groups, is_in}
-use Rattle.th_picture.specs.Lines.{label_end, line_open, pair_text}
+use Rattle.th_observations.specs.Observed.{Observed}
+use Rattle.th_picture.specs.Groups.{groups, is_in, letter_of, occurs}
+use Rattle.th_picture.specs.Lines.{label_end, line_open}
 use Rattle.th_picture.specs.Names.{is_written}
 use Rattle.th_picture.specs.Scales.{x_of}
-use Rattle.th_review_rows.specs.declared.rows.ObservationRow.{ObservationRow}
+use Rattle.th_picture.specs.declared.drawn.DrawnSight.{DrawnSight}
 
--- the sizes at which the strip has lines, in units of 10 nm: 1 mm and its multiples by powers of ten
-abbrev pub powers : List ℕ
-powers =
-    100000 ∷ 1000000 ∷ 10000000 ∷ 100000000 ∷ 1000000000 ∷ 10000000000 ∷ 100000000000 ∷ 1000000000000 ∷ 10000000000000
-    ∷ 100000000000000 ∷ 1000000000000000 ∷ 10000000000000000 ∷ 100000000000000000 ∷ []
+-- the largest size of a residual that is within the limit
+abbrev pub larger : ℤ → ℕ → DrawnSight → ℕ
+larger limit most sight = if is_blunder limit sight.row.residual then most else max most (unsigned_abs sight.row.residual)
 
--- how far a size reaches towards a power: 140 at it and beyond
-abbrev pub ramp : ℕ → ℕ → ℕ
-ramp size power = min (140 * size / max power 1) 140
+abbrev pub largest_of : ℤ → List DrawnSight → ℕ
+largest_of limit sights = fold (larger limit) 0 sights
 
--- how far a size is from the middle
-abbrev pub offset : ℕ → ℕ
-offset size = sum_by (ramp size) powers
+-- the size of which a bar is half as long as the longest: that one, or half a millimetre if it is less
+abbrev pub half_of : ℤ → List DrawnSight → ℕ
+half_of limit sights = max (largest_of limit sights) 50000
 
--- how far the strip reaches from its middle: 0.1 m at least, the limit, and all residuals
-abbrev pub farther : ℕ → ObservationRow → ℕ
-farther most sight = max most (offset (unsigned_abs sight.residual))
+-- how far the bar of a size reaches from the middle: it ends at the frame if it is longer
+abbrev pub offset : ℕ → ℕ → ℕ
+offset half size = min (275 * size / max half 1) 550
 
-abbrev pub reach_of : ℤ → List ObservationRow → ℕ
-reach_of limit sights = fold farther (max (offset (unsigned_abs limit)) 435) sights
+-- the beginning
+abbrev pub open_text : List ℕ
+open_text = codes "<svg viewBox=\"0 0 8000 1420\" role=\"img\" aria-label=\"Residuals of sights\">\n"
 
-abbrev pub middle : ℕ → ℕ
-middle reach = reach + 100
+-- the range within the limit
+unfoldable pub range_text : ℕ → List ℕ
+range_text within = codes "<rect x=\"900\" y=\"" ++ decimal (650 - within) ++ codes "\" width=\"7000\" height=\"" ++ decimal (2 * within) ++ codes "\"/>\n"
 
--- the beginning, with the range within the limit
-unfoldable pub open_text : ℕ → List ℕ
-open_text reach = codes "<svg viewBox=\"0 0 8000 " ++ decimal (2 * reach + 320) ++ codes "\" role=\"img\" aria-label=\"Residuals of sights\">\n"
-
-unfoldable pub range_text : ℕ → ℕ → List ℕ
-range_text reach within =
-    codes "<rect x=\"900\" y=\"" ++ decimal (middle reach - within) ++ codes "\" width=\"7000\" height=\"" ++ decimal (2 * within) ++ codes "\"/>\n"
-
--- the two lines of a power
-unfoldable pub power_lines : ℕ → ℕ → ℕ → List ℕ
-power_lines reach away power =
-    line_open (middle reach - away) ++ codes "+" ++ sized_text false power ++ label_end ++ line_open (middle reach + away) ++ sized_text true power ++ label_end
-
-abbrev pub lines_at : ℕ → ℕ → List ℕ
-lines_at reach power = if nat_le (offset power) reach then power_lines reach (offset power) power else []
-
+-- the lines at which bars are half as long as the longest, and the line in the middle
 unfoldable pub scale_lines : ℕ → List ℕ
-scale_lines reach =
-    codes "<g class=\"n e\">\n" ++ flat_map (lines_at reach) powers ++ codes "</g>\n<path class=\"z\" d=\"M900 " ++ decimal (middle reach) ++ codes "H7900\"/>\n"
+scale_lines half =
+    codes "<g class=\"n e\">\n" ++ line_open 375 ++ codes "+" ++ sized_text false half ++ label_end ++ line_open 925 ++ sized_text true half ++ label_end
+    ++ codes "</g>\n<path class=\"z\" d=\"M900 650H7900\"/>\n"
 
--- the bar of a residual, from x
-unfoldable pub bar_down : ℕ → ℕ → ℕ → List ℕ
-bar_down x reach away = pair_text (codes "M") x (middle reach - 20) ++ codes "V" ++ decimal (middle reach + away)
+-- the bar of a residual, from x: down if it is below zero, else up
+unfoldable pub bar_down : ℕ → ℕ → List ℕ
+bar_down x away = codes "M" ++ decimal x ++ codes " 630V" ++ decimal (650 + away)
 
-unfoldable pub bar_up : ℕ → ℕ → ℕ → List ℕ
-bar_up x reach away = pair_text (codes "M") x (middle reach + 20) ++ codes "V" ++ decimal (middle reach - away)
+unfoldable pub bar_up : ℕ → ℕ → List ℕ
+bar_up x away = codes "M" ++ decimal x ++ codes " 670V" ++ decimal (650 - away)
 
 abbrev pub bar_of : ℕ → ℕ → ℤ → List ℕ
-bar_of x reach residual =
-    if is_negative residual then bar_down x reach (offset (unsigned_abs residual)) else bar_up x reach (offset (unsigned_abs residual))
+bar_of x half residual =
+    if is_negative residual then bar_down x (offset half (unsigned_abs residual)) else bar_up x (offset half (unsigned_abs residual))
 
 -- the place of a sight, from left to right
-abbrev pub sight_x : ℕ → ObservationRow → ℕ
-sight_x count sight = x_of (sight.number - 1) count
+abbrev pub sight_x : ℕ → DrawnSight → ℕ
+sight_x count sight = x_of (sight.row.number - 1) count
 
 -- the bar of a sight, if it is in a group
-abbrev pub bar_in : ℕ → ℤ → ℕ → ℕ → ObservationRow → List ℕ
-bar_in reach limit count group sight = if is_in limit group sight then bar_of (sight_x count sight) reach sight.residual else []
+abbrev pub bar_in : ℕ → ℕ → Group → DrawnSight → List ℕ
+bar_in half count group sight = if is_in group sight then bar_of (sight_x count sight) half sight.row.residual else []
 
-unfoldable pub bar_group : ℕ → ℤ → List ObservationRow → ℕ → List ℕ
-bar_group reach limit sights group =
-    codes "<path class=\"" ++ group ∷ [] ++ codes "\" d=\"" ++ flat_map (bar_in reach limit (length sights) group) sights ++ codes "\"/>\n"
+unfoldable pub bar_group : ℕ → List DrawnSight → Group → List ℕ
+bar_group half sights group =
+    codes "<path class=\"" ++ letter_of group ∷ [] ++ codes "\" d=\"" ++ flat_map (bar_in half (length sights) group) sights ++ codes "\"/>\n"
+
+-- the bars of a group, if it occurs
+abbrev pub bars_of : ℕ → List DrawnSight → Group → List ℕ
+bars_of half sights group = if occurs sights group then bar_group half sights group else []
 
 -- how wide a bar is
 abbrev pub width_of : ℕ → ℕ
 width_of count = max (min (3500 / max count 1) 80) 6
 
-unfoldable pub bar_lines : ℕ → ℤ → List ObservationRow → List ℕ
-bar_lines reach limit sights =
-    codes "<g class=\"bars\" stroke-width=\"" ++ decimal (width_of (length sights)) ++ codes "\">\n" ++ flat_map (bar_group reach limit sights) groups ++ codes "</g>\n"
+unfoldable pub bar_lines : ℕ → List DrawnSight → List ℕ
+bar_lines half sights =
+    codes "<g class=\"bars\" stroke-width=\"" ++ decimal (width_of (length sights)) ++ codes "\">\n" ++ flat_map (bars_of half sights) groups ++ codes "</g>\n"
 
 -- fewer than twice so many places are written
 abbrev pub places : ℕ
 places = 4
 
-unfoldable pub place_label : ℕ → ℕ → ObservationRow → List ℕ
-place_label reach count sight =
-    codes "<text x=\"" ++ decimal (sight_x count sight) ++ codes "\" y=\"" ++ decimal (2 * reach + 250) ++ codes "\">"
-    ++ place_text sight.observation.book sight.observation.line ++ codes "</text>\n"
+unfoldable pub place_label : ℕ → Observed → List ℕ
+place_label x o = codes "<text x=\"" ++ decimal x ++ codes "\" y=\"1350\">" ++ place_text o.book o.line ++ codes "</text>\n"
 
-abbrev pub label_of : ℕ → ℕ → ObservationRow → List ℕ
-label_of reach count sight = if is_written count places (sight.number - 1) then place_label reach count sight else []
+abbrev pub label_of : ℕ → DrawnSight → List ℕ
+label_of count sight = if is_written count places (sight.row.number - 1) then place_label (sight_x count sight) sight.row.observation else []
 
-unfoldable pub label_lines : ℕ → List ObservationRow → List ℕ
-label_lines reach sights = codes "<g class=\"n e\">\n" ++ flat_map (label_of reach (length sights)) sights ++ codes "</g>\n</svg>\n"
+unfoldable pub label_lines : List DrawnSight → List ℕ
+label_lines sights = codes "<g class=\"n e\">\n" ++ flat_map (label_of (length sights)) sights ++ codes "</g>\n</svg>\n"
 
-unfoldable pub strip_at : ℕ → ℤ → List ObservationRow → List ℕ
-strip_at reach limit sights =
-    open_text reach ++ range_text reach (offset (unsigned_abs limit)) ++ scale_lines reach ++ bar_lines reach limit sights ++ label_lines reach sights
+unfoldable pub strip_at : ℕ → ℤ → List DrawnSight → List ℕ
+strip_at half limit sights =
+    open_text ++ range_text (offset half (unsigned_abs limit)) ++ scale_lines half ++ bar_lines half sights ++ label_lines sights
 
 -- the strip of the residuals of sights
-abbrev pub strip_text : List ObservationRow → ℤ → List ℕ
-strip_text sights limit = strip_at (reach_of limit sights) limit sights
+abbrev pub strip_text : List DrawnSight → ℤ → List ℕ
+strip_text sights limit = strip_at (half_of limit sights) limit sights

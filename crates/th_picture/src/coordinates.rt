@@ -1,13 +1,14 @@
 //! Coordinates in the text of a picture.
 ghost use Rattle.std.specs.Prelude.{◌≡◌, ◌++◌, OnOk};
-ghost use Rattle.th_picture.specs.Curves.{end_x, end_y, target_y};
+ghost use Rattle.th_picture.specs.Curves.{end_x, sighted_y, station_y, target_y};
 ghost use Rattle.th_picture.specs.Lines.{pair_text};
 
+use crate::drawn::DrawnSight;
 use crate::scales::{Frame, moved, raised, x_of};
 use std::alloc::AllocError;
 use th_columns::Page;
 use th_html::write_number;
-use th_review_rows::{End, ObservationRow};
+use th_review_rows::End;
 
 /// Writes two coordinates behind a text.
 #[tactic(auto, unfolding(crate::specs::Lines::pair_text))]
@@ -28,17 +29,26 @@ impl Frame {
         x_of(end.place, self.points)
     }
 
-    /// Where an end is, from above.
-    pub(crate) fn end_y(&self, end: &End) -> u32
-        ensures { result ≡ end_y self.now end.now }
+    /// Where the station of a sight is, from above.
+    pub(crate) fn station_y(&self, sight: &DrawnSight) -> u32
+        ensures { result ≡ station_y self.now sight.now }
     {
-        self.scale.low_y(end.low)
+        self.scale.height_y(sight.station_height)
+    }
+
+    /// Where the target of a sight is, from above.
+    pub(crate) fn target_y(&self, sight: &DrawnSight) -> u32
+        ensures { result ≡ target_y self.now sight.now }
+    {
+        self.scale.height_y(sight.target_height)
     }
 
     /// Where a sight puts its target, from above.
-    pub(crate) fn target_y(&self, sight: &ObservationRow) -> u32
-        ensures { result ≡ target_y self.now sight.now }
+    pub(crate) fn sighted_y(&self, sight: &DrawnSight) -> u32
+        ensures { result ≡ sighted_y self.now sight.now }
     {
-        self.scale.y_of(moved(raised(sight.to.low), sight.residual))
+        let station = raised(sight.station_height);
+        self.scale
+            .y_of(moved(station, sight.row.observation.difference()))
     }
 }

@@ -1,41 +1,40 @@
 //! The sights in the picture.
 ghost use Rattle.std.specs.Prelude.{◌≡◌, ◌≤◌, ◌++◌, OnOk};
 ghost use Rattle.std.specs.List.{flat_map};
-ghost use Rattle.th_picture.specs.Curves.{bent, curve_text, drawn_group, few_text, flatness, group_lines, group_text, middle_x, middle_y, path_in, sight_curve, sight_path};
+ghost use Rattle.th_picture.specs.Curves.{bent, curve_text, drawn_group, few_text, flatness, group_lines, group_text, path_in, sight_curve, sight_path};
 
 use crate::coordinates::write_pair;
-use crate::groups::{FEW, GROUPS, MANY, group_count, is_in, mistake_letter};
+use crate::drawn::DrawnSight;
+use crate::groups::{FEW, GROUPS, group_count, is_drawn, is_in, letter_of};
 use crate::scales::Frame;
 use std::alloc::AllocError;
+use th_answer::Group;
 use th_columns::Page;
 use th_html::write_found;
-use th_review_rows::ObservationRow;
 
 /// Writes all groups of sights that are drawn.
 pub(crate) fn write_groups(
     page: &mut Page,
     frame: &Frame,
-    limit: i64,
-    sights: &[ObservationRow],
+    sights: &[DrawnSight],
 ) -> Result<(), AllocError>
-    ensures { OnOk result (page.new ≡ page.old ++ group_lines frame.now limit sights.now) }
+    ensures { OnOk result (page.new ≡ page.old ++ group_lines frame.now sights.now) }
 {
-    write_each(page, frame, limit, sights, &GROUPS)
+    write_each(page, frame, sights, &GROUPS)
 }
 
 /// Writes some groups, as far as they are drawn.
 fn write_each(
     page: &mut Page,
     frame: &Frame,
-    limit: i64,
-    sights: &[ObservationRow],
-    groups: &[u8],
+    sights: &[DrawnSight],
+    groups: &[Group],
 ) -> Result<(), AllocError>
     ensures { OnOk result (page.new
-        ≡ page.old ++ flat_map (drawn_group frame.now limit sights.now) groups.now) }
+        ≡ page.old ++ flat_map (drawn_group frame.now sights.now) groups.now) }
 {
     for group in groups {
-        write_drawn(page, frame, limit, sights, *group)?;
+        write_drawn(page, frame, sights, *group)?;
     }
     Ok(())
 }
@@ -44,14 +43,13 @@ fn write_each(
 fn write_drawn(
     page: &mut Page,
     frame: &Frame,
-    limit: i64,
-    sights: &[ObservationRow],
-    group: u8,
+    sights: &[DrawnSight],
+    group: Group,
 ) -> Result<(), AllocError>
-    ensures { OnOk result (page.new ≡ page.old ++ drawn_group frame.now limit sights.now group) }
+    ensures { OnOk result (page.new ≡ page.old ++ drawn_group frame.now sights.now group) }
 {
-    if group_count(limit, group, sights) <= MANY {
-        write_group(page, frame, limit, sights, group)
+    if is_drawn(sights, group) {
+        write_group(page, frame, sights, group)
     } else {
         Ok(())
     }
@@ -62,17 +60,16 @@ fn write_drawn(
 fn write_group(
     page: &mut Page,
     frame: &Frame,
-    limit: i64,
-    sights: &[ObservationRow],
-    group: u8,
+    sights: &[DrawnSight],
+    group: Group,
 ) -> Result<(), AllocError>
-    ensures { OnOk result (page.new ≡ page.old ++ group_text frame.now limit sights.now group) }
+    ensures { OnOk result (page.new ≡ page.old ++ group_text frame.now sights.now group) }
 {
-    page.add(b"<g class=\"g")?;
-    page.add(&[group])?;
-    page.add(few_text(group_count(limit, group, sights)))?;
+    page.add(b"<g class=\"")?;
+    page.add(&[letter_of(group)])?;
+    page.add(few_text(group_count(group, sights)))?;
     page.add(b"\">\n")?;
-    write_paths(page, frame, limit, sights, group)?;
+    write_paths(page, frame, sights, group)?;
     page.add(b"</g>\n")
 }
 
@@ -87,15 +84,14 @@ fn few_text(count: u64) -> &'static [u8]
 fn write_paths(
     page: &mut Page,
     frame: &Frame,
-    limit: i64,
-    sights: &[ObservationRow],
-    group: u8,
+    sights: &[DrawnSight],
+    group: Group,
 ) -> Result<(), AllocError>
     ensures { OnOk result (page.new
-        ≡ page.old ++ flat_map (path_in frame.now limit group) sights.now) }
+        ≡ page.old ++ flat_map (path_in frame.now group) sights.now) }
 {
     for sight in sights {
-        write_path_in(page, frame, limit, sight, group)?;
+        write_path_in(page, frame, sight, group)?;
     }
     Ok(())
 }
@@ -104,60 +100,42 @@ fn write_paths(
 fn write_path_in(
     page: &mut Page,
     frame: &Frame,
-    limit: i64,
-    sight: &ObservationRow,
-    group: u8,
+    sight: &DrawnSight,
+    group: Group,
 ) -> Result<(), AllocError>
-    ensures { OnOk result (page.new ≡ page.old ++ path_in frame.now limit group sight.now) }
+    ensures { OnOk result (page.new ≡ page.old ++ path_in frame.now group sight.now) }
 {
-    if is_in(limit, group, sight) {
+    if is_in(group, sight) {
         write_path(page, frame, sight)
     } else {
         Ok(())
     }
 }
 
-/// Writes a sight, in the class of its mistake.
+/// Writes a sight.
 #[tactic(auto, unfolding(crate::specs::Curves::sight_path))]
-fn write_path(page: &mut Page, frame: &Frame, sight: &ObservationRow) -> Result<(), AllocError>
+fn write_path(page: &mut Page, frame: &Frame, sight: &DrawnSight) -> Result<(), AllocError>
     ensures { OnOk result (page.new ≡ page.old ++ sight_path frame.now sight.now) }
 {
-    page.add(b"<path class=\"")?;
-    page.add(&[mistake_letter(&sight.mistake)])?;
-    page.add(b"\" d=\"")?;
+    page.add(b"<path d=\"")?;
     write_sight_curve(page, frame, sight)?;
     page.add(b"\"><title>")?;
-    write_found(page, sight)?;
+    write_found(page, &sight.row)?;
     page.add(b"</title></path>\n")
 }
 
-/// Writes the curve of a sight.
-fn write_sight_curve(
-    page: &mut Page,
-    frame: &Frame,
-    sight: &ObservationRow,
-) -> Result<(), AllocError>
+/// Writes the curve of a sight, from its station to where it puts its target.
+fn write_sight_curve(page: &mut Page, frame: &Frame, sight: &DrawnSight) -> Result<(), AllocError>
     ensures { OnOk result (page.new ≡ page.old ++ sight_curve frame.now sight.now) }
 {
     write_curve(
         page,
-        flatness(sight.number),
-        frame.end_x(&sight.from),
-        frame.end_y(&sight.from),
-        frame.end_x(&sight.to),
-        frame.target_y(sight),
+        flatness(sight.row.number),
+        frame.end_x(&sight.row.from),
+        frame.station_y(sight),
+        frame.end_x(&sight.row.to),
+        frame.sighted_y(sight),
     )
-}
-
-/// The middle of a sight's curve, from left to right and from above.
-pub(crate) fn middle_of(frame: &Frame, sight: &ObservationRow) -> (u64, u64)
-    ensures x { result.0 ≡ middle_x frame.now sight.now }
-    ensures y { result.1 ≡ middle_y frame.now sight.now }
-{
-    let (x, u) = (frame.end_x(&sight.from), frame.end_x(&sight.to));
-    let half = (u64::from(frame.end_y(&sight.from)) + u64::from(frame.target_y(sight))) / 2;
-    let y = bent(half, x, u, flatness(sight.number));
-    ((u64::from(x) + u64::from(u)) / 2, y)
 }
 
 /// What a sight's bend divides by.

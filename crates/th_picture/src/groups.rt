@@ -1,82 +1,101 @@
-//! The groups of sights, by the letters that name them.
+//! The groups of sights.
 ghost use Rattle.std.specs.Prelude.{◌≡◌, ◌≤◌, length};
-ghost use Rattle.th_picture.specs.Groups.{group_count, group_of, is_in, mistake_letter, undrawn_count, undrawn_in};
+ghost use Rattle.th_picture.specs.Groups.{group_count, is_drawn, is_in, letter_of, most_of, occurs, undrawn_count, undrawn_in};
 
-use th_blunders::is_blunder;
-use th_reliability::Mistake;
-use th_review_rows::ObservationRow;
+use crate::drawn::DrawnSight;
+use th_answer::Group;
 
-/// The letter of the marked sights.
-pub const MARKED: u8 = b'b';
+/// The groups, in the order in which they are drawn: what fits lies under what is in question.
+pub(crate) const GROUPS: [Group; 5] = [
+    Group::Fits,
+    Group::Unlike,
+    Group::Cleared,
+    Group::Stays,
+    Group::Question,
+];
 
-/// The letters of the groups, in the order in which they are drawn.
-pub const GROUPS: [u8; 5] = [b's', b't', b'h', b'u', b'b'];
-
-/// A group of at most so many sights has thick lines and signs.
+/// A group of at most so many sights has thick lines.
 pub(crate) const FEW: u64 = 60;
 
 /// A group with more sights is not drawn.
-pub(crate) const MANY: u64 = 1_000;
+const MANY: u64 = 2_000;
 
-/// The first letter of a mistake.
-pub(crate) fn mistake_letter(mistake: &Mistake) -> u8
-    ensures { result ≡ mistake_letter mistake.now }
+/// Nor are sights that fit, if there are more.
+const MANY_FIT: u64 = 4_000;
+
+/// The letter that names a group.
+pub(crate) fn letter_of(group: Group) -> u8
+    ensures { result ≡ letter_of group }
 {
-    match mistake {
-        Mistake::Shows => b's',
-        Mistake::Ties => b't',
-        Mistake::Hides => b'h',
-        Mistake::Unchecked => b'u',
+    match group {
+        Group::Question => b'a',
+        Group::Stays => b's',
+        Group::Cleared => b'c',
+        Group::Unlike => b'v',
+        Group::Fits => b'q',
     }
 }
 
-/// The group of a sight.
-fn group_of(limit: i64, row: &ObservationRow) -> u8
-    ensures { result ≡ group_of limit row.now }
+/// Whether a sight is in a group.
+pub fn is_in(group: Group, sight: &DrawnSight) -> bool
+    ensures { result ≡ is_in group sight.now }
 {
-    if is_blunder(row.residual, limit) {
-        MARKED
-    } else {
-        mistake_letter(&row.mistake)
-    }
-}
-
-/// Whether a sight is in a group. The limit of blunders is in units of 10 nm.
-pub fn is_in(limit: i64, group: u8, sight: &ObservationRow) -> bool
-    ensures { result ≡ is_in limit group sight.now }
-{
-    group_of(limit, sight) == group
+    letter_of(sight.group) == letter_of(group)
 }
 
 /// How many sights a group has.
-pub fn group_count(limit: i64, group: u8, sights: &[ObservationRow]) -> u64
-    ensures { result ≡ group_count limit group sights.now }
+pub fn group_count(group: Group, sights: &[DrawnSight]) -> u64
+    ensures { result ≡ group_count group sights.now }
 {
     let mut count = 0;
     for sight in sights {
-        if is_in(limit, group, sight) {
+        if is_in(group, sight) {
             count += 1;
         }
     }
     count
 }
 
+/// The most sights of a group that are drawn.
+fn most_of(group: Group) -> u64
+    ensures { result ≡ most_of group }
+{
+    match group {
+        Group::Question | Group::Stays | Group::Cleared | Group::Unlike => MANY,
+        Group::Fits => MANY_FIT,
+    }
+}
+
+/// Whether a group has sights.
+pub(crate) fn occurs(sights: &[DrawnSight], group: Group) -> bool
+    ensures { result ≡ occurs sights.now group }
+{
+    0 < group_count(group, sights)
+}
+
+/// Whether a group has sights, and not too many to be drawn.
+pub(crate) fn is_drawn(sights: &[DrawnSight], group: Group) -> bool
+    ensures { result ≡ is_drawn sights.now group }
+{
+    occurs(sights, group) && group_count(group, sights) <= most_of(group)
+}
+
 /// How many sights of a group are not drawn.
 #[tactic(auto, unfolding(crate::specs::Groups::undrawn_in))]
-fn undrawn_in(limit: i64, group: u8, sights: &[ObservationRow]) -> u64
-    ensures { result ≡ undrawn_in limit sights.now group }
+fn undrawn_in(sights: &[DrawnSight], group: Group) -> u64
+    ensures { result ≡ undrawn_in sights.now group }
 {
-    let count = group_count(limit, group, sights);
-    if count <= MANY { 0 } else { count }
+    let count = group_count(group, sights);
+    if count <= most_of(group) { 0 } else { count }
 }
 
 /// How many sights are not drawn, because their groups have too many.
-pub fn undrawn_count(limit: i64, sights: &[ObservationRow]) -> u128
-    ensures { result ≡ undrawn_count limit sights.now }
+pub fn undrawn_count(sights: &[DrawnSight]) -> u128
+    ensures { result ≡ undrawn_count sights.now }
 {
-    u128::from(undrawn_in(limit, b's', sights))
-        + u128::from(undrawn_in(limit, b't', sights))
-        + u128::from(undrawn_in(limit, b'h', sights))
-        + u128::from(undrawn_in(limit, b'u', sights))
-        + u128::from(undrawn_in(limit, b'b', sights))
+    u128::from(undrawn_in(sights, Group::Fits))
+        + u128::from(undrawn_in(sights, Group::Unlike))
+        + u128::from(undrawn_in(sights, Group::Cleared))
+        + u128::from(undrawn_in(sights, Group::Stays))
+        + u128::from(undrawn_in(sights, Group::Question))
 }

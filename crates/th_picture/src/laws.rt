@@ -1,6 +1,6 @@
 //! Laws of the definitions.
 ghost use Rattle.th_picture.specs.Laws.{EachSightOnce, IsInOrder, IsInsideFrame, NamesDoNotTouch};
-ghost use Rattle.th_picture.specs.StripLaws.{ReachesAll};
+ghost use Rattle.th_picture.specs.StripLaws.{AreToScale};
 
 /// Each sight is in exactly one of the groups. So it is drawn at most once, and its residual has one
 /// bar.
@@ -8,8 +8,8 @@ pub fn each_sight_is_in_one_group()
     ensures { EachSightOnce }
 {}
 
-/// The scale covers the lowest best heights of all points, its lines reach its top, and what is higher
-/// is not drawn lower.
+/// The scale covers the heights at which points are drawn, and its lines reach its top. What is higher is not
+/// drawn lower, and what the scale does not reach is drawn beyond its lines.
 pub fn heights_are_in_order()
     ensures { IsInOrder }
 {}
@@ -24,8 +24,8 @@ pub fn names_do_not_touch()
     ensures { NamesDoNotTouch }
 {}
 
-/// The bars and the range within the limit are inside the frame, and what is larger is not shown
-/// shorter.
-pub fn strip_reaches_all()
-    ensures { ReachesAll }
+/// The bars and the range within the limit are inside the strip. A residual within the limit is shown at its
+/// full size, and what is larger is not shown shorter.
+pub fn bars_are_to_scale()
+    ensures { AreToScale }
 {}

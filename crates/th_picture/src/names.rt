@@ -4,11 +4,11 @@ ghost use Rattle.std.specs.List.{enumerate_from, flat_map};
 ghost use Rattle.th_picture.specs.Names.{depth_of, is_written, level_open, longer, longest_of, name_lines, name_of, name_open, name_text, turn_of, upright_open};
 
 use crate::coordinates::write_pair;
+use crate::drawn::DrawnPoint;
 use crate::scales::{Frame, x_of};
 use std::alloc::AllocError;
 use th_columns::Page;
 use th_html::{write_escaped, write_number};
-use th_review_rows::PointRow;
 
 /// Fewer than twice so many names are written.
 const NAMES: u64 = 30;
@@ -21,7 +21,7 @@ pub(crate) enum Turn {
 }
 
 /// The length of the longest name, in bytes.
-pub(crate) fn longest_of(points: &[PointRow]) -> u64
+pub(crate) fn longest_of(points: &[DrawnPoint]) -> u64
     ensures value { result ≡ longest_of points.now }
     ensures small { result ≤ 16 }
 {
@@ -29,12 +29,12 @@ pub(crate) fn longest_of(points: &[PointRow]) -> u64
 }
 
 /// The length of the longest name.
-fn longest(points: &[PointRow]) -> u64
+fn longest(points: &[DrawnPoint]) -> u64
     ensures { result ≡ fold longer 0 points.now }
 {
     let mut most = 0;
     for point in points {
-        most = most.max(point.name.as_bytes().len() as u64);
+        most = most.max(point.row.name.as_bytes().len() as u64);
     }
     most
 }
@@ -76,7 +76,7 @@ pub(crate) fn write_names(
     page: &mut Page,
     frame: &Frame,
     turn: Turn,
-    points: &[PointRow],
+    points: &[DrawnPoint],
 ) -> Result<(), AllocError>
     ensures { OnOk result (page.new ≡ page.old ++ name_lines frame.now turn points.now) }
 {
@@ -90,7 +90,7 @@ fn write_each(
     page: &mut Page,
     frame: &Frame,
     turn: Turn,
-    points: &[PointRow],
+    points: &[DrawnPoint],
 ) -> Result<(), AllocError>
     ensures { OnOk result (page.new
         ≡ page.old ++ flat_map (name_of frame.now turn) (enumerate_from 0 points.now)) }
@@ -107,13 +107,13 @@ fn write_name_of(
     frame: &Frame,
     turn: Turn,
     k: u64,
-    point: &PointRow,
+    point: &DrawnPoint,
 ) -> Result<(), AllocError>
     ensures { OnOk result (page.new ≡ page.old ++ name_of frame.now turn (k, point.now)) }
 {
     if is_written(frame.points, NAMES, k) {
         let x = x_of(k, frame.points);
-        let y = frame.scale.low_y(point.low);
+        let y = frame.scale.height_y(point.height);
         write_name(page, turn, x, y, point)
     } else {
         Ok(())
@@ -127,14 +127,14 @@ fn write_name(
     turn: Turn,
     x: u32,
     y: u32,
-    point: &PointRow,
+    point: &DrawnPoint,
 ) -> Result<(), AllocError>
     ensures { OnOk result (page.new ≡ page.old ++ name_text turn x y point.now) }
 {
     write_pair(page, b"<path class=\"d\" d=\"M", u64::from(x), u64::from(y))?;
-    page.add(b"V3300\"/>")?;
+    page.add(b"V3500\"/>")?;
     write_open(page, turn, x)?;
-    write_escaped(page, point.name.as_bytes())?;
+    write_escaped(page, point.row.name.as_bytes())?;
     page.add(b"</text>\n")
 }
 
@@ -153,9 +153,9 @@ fn write_open(page: &mut Page, turn: Turn, x: u32) -> Result<(), AllocError>
 fn write_level(page: &mut Page, x: u64) -> Result<(), AllocError>
     ensures { OnOk result (page.new ≡ page.old ++ level_open x) }
 {
-    page.add(b"<text class=\"c\" x=\"")?;
+    page.add(b"<text class=\"m\" x=\"")?;
     write_number(page, x)?;
-    page.add(b"\" y=\"3450\">")
+    page.add(b"\" y=\"3650\">")
 }
 
 /// Writes the beginning of an upright name, whose foot is at y.
@@ -163,7 +163,7 @@ fn write_level(page: &mut Page, x: u64) -> Result<(), AllocError>
 fn write_upright(page: &mut Page, y: u64) -> Result<(), AllocError>
     ensures { OnOk result (page.new ≡ page.old ++ upright_open y) }
 {
-    page.add(b"<text class=\"e\" x=\"-3360\" y=\"")?;
+    page.add(b"<text class=\"e\" x=\"-3560\" y=\"")?;
     write_number(page, y)?;
     page.add(b"\" transform=\"rotate(-90)\">")
 }

@@ -2,9 +2,10 @@
 ghost use Rattle.std.specs.Prelude.{◌≡◌, ◌≤◌, ◌<◌, ◌^◌, ◌++◌, OnOk};
 ghost use Rattle.std.specs.List.{flat_map};
 ghost use Rattle.th_picture.specs.Lines.{label_end, line_open};
-ghost use Rattle.th_picture.specs.Pictures.{drawing, frame_of, open_text, picture_text, scale_lines, sign_text, signs, tick_at, tick_text, turned_picture};
+ghost use Rattle.th_picture.specs.Pictures.{drawing, frame_of, open_text, picture_text, scale_lines, tick_at, tick_text, turned_picture};
 
 use crate::curves::write_groups;
+use crate::drawn::{DrawnPoint, DrawnSight};
 use crate::gaps::write_gaps;
 use crate::names::{Turn, depth_of, longest_of, turn_of, write_names};
 use crate::points::write_points;
@@ -12,26 +13,23 @@ use crate::scales::{Frame, RAISE, Scale};
 use std::alloc::AllocError;
 use th_columns::Page;
 use th_html::{write_number, write_sized};
-use th_review_rows::{ObservationRow, PointRow};
 
-/// Writes the picture of points, in point order, and of sights. The limit of blunders is in units of
-/// 10 nm.
+/// Writes the picture of points, in point order, and of sights.
 pub fn write_picture(
     page: &mut Page,
-    points: &[PointRow],
-    sights: &[ObservationRow],
-    limit: i64,
+    points: &[DrawnPoint],
+    sights: &[DrawnSight],
 ) -> Result<(), AllocError>
-    ensures { OnOk result (page.new ≡ page.old ++ picture_text points.now sights.now limit) }
+    ensures { OnOk result (page.new ≡ page.old ++ picture_text points.now sights.now) }
 {
     let frame = frame_of(points);
     let longest = longest_of(points);
     let turn = turn_of(frame.points, longest);
-    write_turned(page, &frame, longest, turn, limit, points, sights)
+    write_turned(page, &frame, longest, turn, points, sights)
 }
 
 /// What the picture of some points is placed in.
-fn frame_of(points: &[PointRow]) -> Frame
+fn frame_of(points: &[DrawnPoint]) -> Frame
     ensures { result ≡ frame_of points.now }
 {
     Frame {
@@ -47,16 +45,15 @@ fn write_turned(
     frame: &Frame,
     longest: u64,
     turn: Turn,
-    limit: i64,
-    points: &[PointRow],
-    sights: &[ObservationRow],
+    points: &[DrawnPoint],
+    sights: &[DrawnSight],
 ) -> Result<(), AllocError>
     requires { longest ≤ 16 }
     ensures { OnOk result (page.new
-        ≡ page.old ++ turned_picture frame.now longest turn limit points.now sights.now) }
+        ≡ page.old ++ turned_picture frame.now longest turn points.now sights.now) }
 {
-    write_open(page, 3_360 + depth_of(turn, longest))?;
-    write_drawing(page, frame, turn, limit, points, sights)
+    write_open(page, 3_560 + depth_of(turn, longest))?;
+    write_drawing(page, frame, turn, points, sights)
 }
 
 /// Writes what is drawn in a frame.
@@ -65,18 +62,17 @@ fn write_drawing(
     page: &mut Page,
     frame: &Frame,
     turn: Turn,
-    limit: i64,
-    points: &[PointRow],
-    sights: &[ObservationRow],
+    points: &[DrawnPoint],
+    sights: &[DrawnSight],
 ) -> Result<(), AllocError>
     ensures { OnOk result (page.new
-        ≡ page.old ++ drawing frame.now turn limit points.now sights.now) }
+        ≡ page.old ++ drawing frame.now turn points.now sights.now) }
 {
     write_scale(page, &frame.scale)?;
     write_names(page, frame, turn, points)?;
-    write_groups(page, frame, limit, sights)?;
+    write_groups(page, frame, sights)?;
     write_points(page, frame, points)?;
-    write_gaps(page, frame, limit, sights)?;
+    write_gaps(page, frame, sights)?;
     page.add(b"</svg>\n")
 }
 
@@ -87,36 +83,7 @@ fn write_open(page: &mut Page, height: u64) -> Result<(), AllocError>
 {
     page.add(b"<svg viewBox=\"0 0 8000 ")?;
     write_number(page, height)?;
-    page.add(b"\" role=\"img\" aria-label=\"Heights of points and sights\">\n")?;
-    write_signs(page)
-}
-
-/// Writes the signs of lines.
-#[tactic(auto, unfolding(crate::specs::Pictures::signs))]
-fn write_signs(page: &mut Page) -> Result<(), AllocError>
-    ensures { OnOk result (page.new ≡ page.old ++ signs) }
-{
-    page.add(b"<defs>\n")?;
-    write_sign(page, b"t", b"=")?;
-    write_sign(page, b"h", b"&lt;")?;
-    write_sign(page, b"u", b"0")?;
-    page.add(b"</defs>\n")
-}
-
-/// Writes a sign.
-#[tactic(auto, unfolding(crate::specs::Pictures::sign_text))]
-fn write_sign(page: &mut Page, letter: &[u8], sign: &[u8]) -> Result<(), AllocError>
-    ensures { OnOk result (page.new ≡ page.old ++ sign_text letter.now sign.now) }
-{
-    page.add(b"<marker id=\"")?;
-    page.add(letter)?;
-    page.add(
-        b"\" viewBox=\"0 0 160 160\" refX=\"80\" refY=\"80\" markerWidth=\"160\" markerHeight=\"160\" markerUnits=\"userSpaceOnUse\"><circle class=\"",
-    )?;
-    page.add(letter)?;
-    page.add(b"\" cx=\"80\" cy=\"80\" r=\"72\"/><text x=\"80\" y=\"118\">")?;
-    page.add(sign)?;
-    page.add(b"</text></marker>\n")
+    page.add(b"\" role=\"img\" aria-label=\"Heights of points and sights\">\n")
 }
 
 /// Writes the scale.
@@ -125,7 +92,7 @@ fn write_scale(page: &mut Page, scale: &Scale) -> Result<(), AllocError>
     ensures { OnOk result (page.new ≡ page.old ++ scale_lines scale.now) }
 {
     let lines = scale.lines();
-    page.add(b"<g class=\"n e\">\n<text x=\"840\" y=\"160\">metres</text>\n")?;
+    page.add(b"<g class=\"n e\">\n<text x=\"840\" y=\"260\">metres</text>\n")?;
     write_ticks(page, scale, &lines)?;
     page.add(b"</g>\n")
 }
@@ -154,6 +121,7 @@ fn write_tick(page: &mut Page, scale: &Scale, at: u128) -> Result<(), AllocError
 /// Writes the line at a raised height.
 #[tactic(auto, unfolding(crate::specs::Pictures::tick_text))]
 fn write_shown(page: &mut Page, scale: &Scale, at: u128) -> Result<(), AllocError>
+    requires { at < 2 ^ 65 }
     ensures { OnOk result (page.new ≡ page.old ++ tick_text scale.now at) }
 {
     let raise = u128::from(RAISE);

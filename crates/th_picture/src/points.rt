@@ -1,22 +1,25 @@
 //! The points in the picture.
 ghost use Rattle.std.specs.Prelude.{◌≡◌, ◌++◌, OnOk};
 ghost use Rattle.std.specs.List.{enumerate_from, flat_map};
-ghost use Rattle.th_picture.specs.Points.{benchmark_shape, circle_text, dot_shape, play_of, play_shape, point_lines, point_shape, radius_text, title_text};
+ghost use Rattle.th_picture.specs.Points.{benchmark_shape, circle_text, dot_shape, has_play, is_lowest, low_if, low_text, play_of, play_shape, point_lines, point_shape, radius_text, title_text};
 
 use crate::coordinates::write_pair;
+use crate::drawn::DrawnPoint;
 use crate::groups::FEW;
 use crate::scales::{Frame, x_of};
 use std::alloc::AllocError;
 use th_columns::Page;
 use th_html::{write_escaped, write_height, write_number};
-use th_review_rows::PointRow;
+
+/// Dots of more points would hide the sights, and are small.
+const MANY: u64 = 1_000;
 
 /// Writes all points, in point order.
 #[tactic(auto, unfolding(crate::specs::Points::point_lines))]
 pub(crate) fn write_points(
     page: &mut Page,
     frame: &Frame,
-    points: &[PointRow],
+    points: &[DrawnPoint],
 ) -> Result<(), AllocError>
     ensures { OnOk result (page.new ≡ page.old ++ point_lines frame.now points.now) }
 {
@@ -26,7 +29,7 @@ pub(crate) fn write_points(
 }
 
 /// Writes the shape of each point.
-fn write_shapes(page: &mut Page, frame: &Frame, points: &[PointRow]) -> Result<(), AllocError>
+fn write_shapes(page: &mut Page, frame: &Frame, points: &[DrawnPoint]) -> Result<(), AllocError>
     ensures { OnOk result (page.new
         ≡ page.old ++ flat_map (point_shape frame.now) (enumerate_from 0 points.now)) }
 {
@@ -37,12 +40,12 @@ fn write_shapes(page: &mut Page, frame: &Frame, points: &[PointRow]) -> Result<(
 }
 
 /// Writes the shape of point `k`, from 0.
-fn write_shape(page: &mut Page, frame: &Frame, k: u64, point: &PointRow) -> Result<(), AllocError>
+fn write_shape(page: &mut Page, frame: &Frame, k: u64, point: &DrawnPoint) -> Result<(), AllocError>
     ensures { OnOk result (page.new ≡ page.old ++ point_shape frame.now (k, point.now)) }
 {
     let x = x_of(k, frame.points);
-    let y = frame.scale.low_y(point.low);
-    match point.strength {
+    let y = frame.scale.height_y(point.height);
+    match point.row.strength {
         Some(_) => write_dot(page, frame, x, y, point),
         None => write_benchmark(page, x, y, point),
     }
@@ -50,7 +53,7 @@ fn write_shape(page: &mut Page, frame: &Frame, k: u64, point: &PointRow) -> Resu
 
 /// Writes a benchmark.
 #[tactic(auto, unfolding(crate::specs::Points::benchmark_shape))]
-fn write_benchmark(page: &mut Page, x: u32, y: u32, point: &PointRow) -> Result<(), AllocError>
+fn write_benchmark(page: &mut Page, x: u32, y: u32, point: &DrawnPoint) -> Result<(), AllocError>
     ensures { OnOk result (page.new ≡ page.old ++ benchmark_shape x y point.now) }
 {
     write_pair(
@@ -71,7 +74,7 @@ fn write_dot(
     frame: &Frame,
     x: u32,
     y: u32,
-    point: &PointRow,
+    point: &DrawnPoint,
 ) -> Result<(), AllocError>
     ensures { OnOk result (page.new ≡ page.old ++ dot_shape frame.now x y point.now) }
 {
@@ -81,21 +84,35 @@ fn write_dot(
     page.add(b"</circle>\n")
 }
 
-/// Writes how high the best heights of a point reach, if they differ.
+/// Writes how high the best heights of a point reach, if it is drawn at the lowest of them and they differ.
 fn write_play_of(
     page: &mut Page,
     frame: &Frame,
     x: u32,
     y: u32,
-    point: &PointRow,
+    point: &DrawnPoint,
 ) -> Result<(), AllocError>
     ensures { OnOk result (page.new ≡ page.old ++ play_of frame.now x y point.now) }
 {
-    if point.low < point.high {
-        write_play(page, x, y, frame.scale.low_y(point.high))
+    if has_play(point) {
+        write_play(page, x, y, frame.scale.height_y(point.row.high))
     } else {
         Ok(())
     }
+}
+
+/// Whether a point is drawn at the lowest of its best heights.
+fn is_lowest(point: &DrawnPoint) -> bool
+    ensures { result ≡ is_lowest point.now }
+{
+    point.height == point.row.low
+}
+
+/// Whether a point is drawn at the lowest of its best heights, and these differ.
+fn has_play(point: &DrawnPoint) -> bool
+    ensures { result ≡ has_play point.now }
+{
+    is_lowest(point) && point.row.low < point.row.high
 }
 
 /// Writes how high the best heights of a point reach.
@@ -113,7 +130,13 @@ fn write_play(page: &mut Page, x: u32, y: u32, high: u32) -> Result<(), AllocErr
 fn radius_text(count: u64) -> &'static [u8]
     ensures { result.now ≡ radius_text count }
 {
-    if count <= FEW { b"38" } else { b"20" }
+    if count <= FEW {
+        b"38"
+    } else if count <= MANY {
+        b"20"
+    } else {
+        b"6"
+    }
 }
 
 /// Writes the beginning of a dot.
@@ -130,14 +153,33 @@ fn write_circle(page: &mut Page, x: u32, y: u32, radius: &[u8]) -> Result<(), Al
     page.add(b"\">")
 }
 
-/// Writes the name and the lowest best height of a point.
+/// Writes the name of a point, with its height if it is drawn there.
 #[tactic(auto, unfolding(crate::specs::Points::title_text))]
-fn write_title(page: &mut Page, point: &PointRow) -> Result<(), AllocError>
+fn write_title(page: &mut Page, point: &DrawnPoint) -> Result<(), AllocError>
     ensures { OnOk result (page.new ≡ page.old ++ title_text point.now) }
 {
     page.add(b"<title>")?;
-    write_escaped(page, point.name.as_bytes())?;
-    page.add(b" ")?;
-    write_height(page, point.low)?;
+    write_escaped(page, point.row.name.as_bytes())?;
+    write_low_if(page, point)?;
     page.add(b"</title>")
+}
+
+/// Writes the lowest best height of a point behind a name, if the point is drawn there.
+fn write_low_if(page: &mut Page, point: &DrawnPoint) -> Result<(), AllocError>
+    ensures { OnOk result (page.new ≡ page.old ++ low_if point.now) }
+{
+    if is_lowest(point) {
+        write_low(page, point)
+    } else {
+        Ok(())
+    }
+}
+
+/// Writes the lowest best height of a point behind a name.
+#[tactic(auto, unfolding(crate::specs::Points::low_text))]
+fn write_low(page: &mut Page, point: &DrawnPoint) -> Result<(), AllocError>
+    ensures { OnOk result (page.new ≡ page.old ++ low_text point.now) }
+{
+    page.add(b" ")?;
+    write_height(page, point.row.low)
 }

@@ -1,8 +1,8 @@
 //! Where points and heights are in the picture.
 ghost use Rattle.std.specs.Prelude.{◌≡◌, ◌≤◌, ◌<◌, ◌^◌, IfSome, find, fold};
-ghost use Rattle.th_picture.specs.Scales.{covers, greatest_of, high_of, higher, least_of, lines_of, low_y, lower, moved, raise, raised, scale_between, scale_of, step_of, x_of, y_of};
+ghost use Rattle.th_picture.specs.Scales.{apart, covers, greatest_of, height_y, high_of, higher, least_of, lines_of, lower, moved, raise, raised, scale_between, scale_of, step_of, x_of, y_of};
 
-use th_review_rows::PointRow;
+use crate::drawn::DrawnPoint;
 
 /// What heights are raised by, so that none is below zero.
 pub(crate) const RAISE: u64 = 1_000_000_000_000_000_000;
@@ -76,7 +76,8 @@ pub fn x_of(k: u64, n: u64) -> u32
 
 /// A raised height moved by a length.
 pub(crate) fn moved(from: u64, by: i64) -> u128
-    ensures { result ≡ moved from by }
+    ensures value { result ≡ moved from by }
+    ensures small { result < 2 ^ 65 }
 {
     let size = u128::from(by.unsigned_abs());
     if by < 0 {
@@ -117,44 +118,44 @@ fn first_covering(steps: &[u64], spread: u64) -> Option<u64>
     steps.iter().copied().find(|step| spread / 8 < *step)
 }
 
-/// The least of the raised lowest best heights.
-fn least_of(points: &[PointRow]) -> u64
+/// The least of the raised heights at which points are drawn.
+fn least_of(points: &[DrawnPoint]) -> u64
     ensures { result ≡ least_of points.now }
 {
     match points.split_first() {
-        Some((point, others)) => lowest(raised(point.low), others),
+        Some((point, others)) => lowest(raised(point.height), others),
         None => RAISE,
     }
 }
 
 /// The least of a raised height and those of some points.
-fn lowest(start: u64, points: &[PointRow]) -> u64
+fn lowest(start: u64, points: &[DrawnPoint]) -> u64
     ensures { result ≡ fold lower start points.now }
 {
     let mut least = start;
     for point in points {
-        least = least.min(raised(point.low));
+        least = least.min(raised(point.height));
     }
     least
 }
 
-/// The greatest of the raised lowest best heights.
-fn greatest_of(points: &[PointRow]) -> u64
+/// The greatest of the raised heights at which points are drawn.
+fn greatest_of(points: &[DrawnPoint]) -> u64
     ensures { result ≡ greatest_of points.now }
 {
     match points.split_first() {
-        Some((point, others)) => highest(raised(point.low), others),
+        Some((point, others)) => highest(raised(point.height), others),
         None => RAISE,
     }
 }
 
 /// The greatest of a raised height and those of some points.
-fn highest(start: u64, points: &[PointRow]) -> u64
+fn highest(start: u64, points: &[DrawnPoint]) -> u64
     ensures { result ≡ fold higher start points.now }
 {
     let mut greatest = start;
     for point in points {
-        greatest = greatest.max(raised(point.low));
+        greatest = greatest.max(raised(point.height));
     }
     greatest
 }
@@ -172,8 +173,8 @@ fn scale_between(least: u64, greatest: u64, step: u64) -> Scale
 }
 
 impl Scale {
-    /// The scale of the lowest best heights of some points.
-    pub(crate) fn of(points: &[PointRow]) -> Scale
+    /// The scale of the heights at which some points are drawn.
+    pub(crate) fn of(points: &[DrawnPoint]) -> Scale
         ensures { result ≡ scale_of points.now }
     {
         let least = least_of(points);
@@ -189,21 +190,31 @@ impl Scale {
         u128::from(self.top) + u128::from(self.step)
     }
 
-    /// Where a raised height is.
+    /// How far apart two raised heights are drawn, of which the second is higher.
+    fn apart(&self, at: u128, other: u128) -> u128
+        requires { other < 2 ^ 65 }
+        ensures { result ≡ apart self.now at other }
+    {
+        let span = self.high().saturating_sub(u128::from(self.low)).max(1);
+        3_000 * other.saturating_sub(at) / span
+    }
+
+    /// Where a raised height is: at most 100 beyond the lines if the scale does not reach it.
     pub(crate) fn y_of(&self, at: u128) -> u32
+        requires { at < 2 ^ 65 }
         ensures { result ≡ y_of self.now at }
     {
         let high = self.high();
-        let span = high.saturating_sub(u128::from(self.low)).max(1);
-        let below = 3_000 * high.saturating_sub(at) / span;
-        300 + below.min(3_000) as u32
+        let below = self.apart(at, high).min(3_100) as u32;
+        let above = self.apart(high, at).min(100) as u32;
+        400 + below - above
     }
 
     /// Where a height is.
-    pub(crate) fn low_y(&self, low: i64) -> u32
-        ensures { result ≡ low_y self.now low }
+    pub(crate) fn height_y(&self, height: i64) -> u32
+        ensures { result ≡ height_y self.now height }
     {
-        self.y_of(u128::from(raised(low)))
+        self.y_of(u128::from(raised(height)))
     }
 
     /// The lines that it may have.

@@ -1,242 +1,171 @@
 //! The strip of residuals.
 ghost use Rattle.std.specs.Prelude.{◌≡◌, ◌≤◌, ◌<◌, ◌^◌, ◌++◌, OnOk, fold, unsigned_abs};
 ghost use Rattle.std.specs.List.{flat_map};
-ghost use Rattle.th_picture.specs.Strips.{farther, label_lines, label_of, lines_at, middle, offset, open_text, place_label, power_lines, ramp, range_text, reach_of, scale_lines, sight_x, strip_at, strip_text};
+ghost use Rattle.th_picture.specs.Strips.{half_of, label_lines, label_of, larger, largest_of, offset, open_text, place_label, range_text, scale_lines, sight_x, strip_at, strip_text};
 
 use crate::bars::write_bars;
+use crate::drawn::DrawnSight;
 use crate::names::is_written;
 use crate::pictures::{write_label_end, write_line};
 use crate::scales::x_of;
 use std::alloc::AllocError;
+use th_blunders::is_blunder;
 use th_columns::Page;
 use th_html::{write_number, write_place, write_sized};
-use th_review_rows::ObservationRow;
+use th_observations::Observation;
 
-/// The sizes at which the strip has lines, in units of 10 nm: from 1 mm on.
-const POWERS: [u64; 13] = [
-    100_000,
-    1_000_000,
-    10_000_000,
-    100_000_000,
-    1_000_000_000,
-    10_000_000_000,
-    100_000_000_000,
-    1_000_000_000_000,
-    10_000_000_000_000,
-    100_000_000_000_000,
-    1_000_000_000_000_000,
-    10_000_000_000_000_000,
-    100_000_000_000_000_000,
-];
+/// Half a millimetre, in units of 10 nm.
+const HALF_MILLIMETRE: u64 = 50_000;
 
 /// Fewer than twice so many places are written.
 const PLACES: u64 = 4;
 
 /// Writes the strip of the residuals of sights. The limit of blunders is in units of 10 nm.
-pub fn write_strip(page: &mut Page, sights: &[ObservationRow], limit: i64) -> Result<(), AllocError>
+pub fn write_strip(page: &mut Page, sights: &[DrawnSight], limit: i64) -> Result<(), AllocError>
     ensures { OnOk result (page.new ≡ page.old ++ strip_text sights.now limit) }
 {
-    write_strip_at(page, reach_of(limit, sights), limit, sights)
+    write_strip_at(page, half_of(limit, sights), limit, sights)
 }
 
-/// Writes the strip that reaches so far from its middle.
+/// Writes the strip in which the bar of a size is half as long as the longest.
 #[tactic(auto, unfolding(crate::specs::Strips::strip_at))]
 fn write_strip_at(
     page: &mut Page,
-    reach: u32,
+    half: u64,
     limit: i64,
-    sights: &[ObservationRow],
+    sights: &[DrawnSight],
 ) -> Result<(), AllocError>
-    ensures { OnOk result (page.new ≡ page.old ++ strip_at reach limit sights.now) }
+    ensures { OnOk result (page.new ≡ page.old ++ strip_at half limit sights.now) }
 {
-    write_open(page, reach)?;
-    write_range(page, reach, offset(limit.unsigned_abs()))?;
-    write_scale(page, reach)?;
-    write_bars(page, reach, limit, sights)?;
-    write_labels(page, reach, sights)
+    write_open(page)?;
+    write_range(page, offset(half, limit.unsigned_abs()))?;
+    write_scale(page, half)?;
+    write_bars(page, half, sights)?;
+    write_labels(page, sights)
 }
 
-/// How far the strip reaches from its middle.
-fn reach_of(limit: i64, sights: &[ObservationRow]) -> u32
-    ensures { result ≡ reach_of limit sights.now }
+/// The size of which a bar is half as long as the longest.
+fn half_of(limit: i64, sights: &[DrawnSight]) -> u64
+    ensures { result ≡ half_of limit sights.now }
 {
-    farthest(offset(limit.unsigned_abs()).max(435), sights)
+    largest_of(limit, sights).max(HALF_MILLIMETRE)
 }
 
-/// The farthest of a reach and of the residuals of some sights.
-fn farthest(start: u32, sights: &[ObservationRow]) -> u32
-    ensures { result ≡ fold farther start sights.now }
+/// The largest size of a residual that is within the limit, both in units of 10 nm; 0 if there is none.
+pub fn largest_of(limit: i64, sights: &[DrawnSight]) -> u64
+    ensures { result ≡ largest_of limit sights.now }
 {
-    let mut most = start;
+    let mut most = 0;
     for sight in sights {
-        most = most.max(offset(sight.residual.unsigned_abs()));
+        most = larger(limit, most, sight);
     }
     most
 }
 
-/// How far a size is from the middle.
-pub(crate) fn offset(size: u64) -> u32
-    ensures { result ≡ offset size }
+/// The larger of a size and that of a residual, if this is within the limit.
+fn larger(limit: i64, most: u64, sight: &DrawnSight) -> u64
+    ensures { result ≡ larger limit most sight.now }
 {
-    let mut total = 0;
-    for power in &POWERS {
-        total += ramp(size, *power);
+    if is_blunder(sight.row.residual, limit) {
+        most
+    } else {
+        most.max(sight.row.residual.unsigned_abs())
     }
-    total
 }
 
-/// How far a size reaches towards a power.
-fn ramp(size: u64, power: u64) -> u32
-    ensures value { result ≡ ramp size power }
-    ensures small { result ≤ 140 }
+/// How far the bar of a size reaches from the middle.
+pub(crate) fn offset(half: u64, size: u64) -> u32
+    ensures value { result ≡ offset half size }
+    ensures small { result ≤ 550 }
 {
-    let part = 140 * u128::from(size) / u128::from(power).max(1);
-    part.min(140) as u32
-}
-
-/// The middle of the strip.
-pub(crate) fn middle(reach: u32) -> u64
-    ensures { result ≡ middle reach }
-{
-    u64::from(reach) + 100
+    let part = 275 * u128::from(size) / u128::from(half).max(1);
+    part.min(550) as u32
 }
 
 /// Where a sight is, from left to right.
-pub(crate) fn sight_x(count: u64, sight: &ObservationRow) -> u32
+pub(crate) fn sight_x(count: u64, sight: &DrawnSight) -> u32
     ensures { result ≡ sight_x count sight.now }
 {
-    x_of(u64::from(sight.number.saturating_sub(1)), count)
+    x_of(u64::from(sight.row.number.saturating_sub(1)), count)
 }
 
 /// Writes the beginning.
-#[tactic(auto, unfolding(crate::specs::Strips::open_text))]
-fn write_open(page: &mut Page, reach: u32) -> Result<(), AllocError>
-    ensures { OnOk result (page.new ≡ page.old ++ open_text reach) }
+fn write_open(page: &mut Page) -> Result<(), AllocError>
+    ensures { OnOk result (page.new ≡ page.old ++ open_text) }
 {
-    page.add(b"<svg viewBox=\"0 0 8000 ")?;
-    write_number(page, 2 * u64::from(reach) + 320)?;
-    page.add(b"\" role=\"img\" aria-label=\"Residuals of sights\">\n")
+    page.add(b"<svg viewBox=\"0 0 8000 1420\" role=\"img\" aria-label=\"Residuals of sights\">\n")
 }
 
 /// Writes the range within the limit.
 #[tactic(auto, unfolding(crate::specs::Strips::range_text))]
-fn write_range(page: &mut Page, reach: u32, within: u32) -> Result<(), AllocError>
-    ensures { OnOk result (page.new ≡ page.old ++ range_text reach within) }
+fn write_range(page: &mut Page, within: u32) -> Result<(), AllocError>
+    ensures { OnOk result (page.new ≡ page.old ++ range_text within) }
 {
+    let within = u64::from(within);
     page.add(b"<rect x=\"900\" y=\"")?;
-    write_number(page, middle(reach).saturating_sub(u64::from(within)))?;
+    write_number(page, 650u64.saturating_sub(within))?;
     page.add(b"\" width=\"7000\" height=\"")?;
-    write_number(page, 2 * u64::from(within))?;
+    write_number(page, 2 * within)?;
     page.add(b"\"/>\n")
 }
 
-/// Writes the lines of the strip.
+/// Writes the lines of the strip, at half the longest bars and in the middle.
 #[tactic(auto, unfolding(crate::specs::Strips::scale_lines))]
-fn write_scale(page: &mut Page, reach: u32) -> Result<(), AllocError>
-    ensures { OnOk result (page.new ≡ page.old ++ scale_lines reach) }
+fn write_scale(page: &mut Page, half: u64) -> Result<(), AllocError>
+    ensures { OnOk result (page.new ≡ page.old ++ scale_lines half) }
 {
+    let size = u128::from(half);
     page.add(b"<g class=\"n e\">\n")?;
-    write_powers(page, reach, &POWERS)?;
-    page.add(b"</g>\n<path class=\"z\" d=\"M900 ")?;
-    write_number(page, middle(reach))?;
-    page.add(b"H7900\"/>\n")
-}
-
-/// Writes the lines of some powers.
-fn write_powers(page: &mut Page, reach: u32, powers: &[u64]) -> Result<(), AllocError>
-    ensures { OnOk result (page.new ≡ page.old ++ flat_map (lines_at reach) powers.now) }
-{
-    for power in powers {
-        write_lines_at(page, reach, *power)?;
-    }
-    Ok(())
-}
-
-/// Writes the lines of a power, if it is in reach.
-fn write_lines_at(page: &mut Page, reach: u32, power: u64) -> Result<(), AllocError>
-    ensures { OnOk result (page.new ≡ page.old ++ lines_at reach power) }
-{
-    let away = offset(power);
-    if away <= reach {
-        write_power(page, reach, away, power)
-    } else {
-        Ok(())
-    }
-}
-
-/// Writes the two lines of a power.
-#[tactic(auto, unfolding(crate::specs::Strips::power_lines))]
-fn write_power(page: &mut Page, reach: u32, away: u32, power: u64) -> Result<(), AllocError>
-    ensures { OnOk result (page.new ≡ page.old ++ power_lines reach away power) }
-{
-    let size = u128::from(power);
-    write_line(page, middle(reach).saturating_sub(u64::from(away)))?;
+    write_line(page, 375)?;
     page.add(b"+")?;
     write_sized(page, false, size)?;
     write_label_end(page)?;
-    write_line(page, middle(reach) + u64::from(away))?;
+    write_line(page, 925)?;
     write_sized(page, true, size)?;
-    write_label_end(page)
+    write_label_end(page)?;
+    page.add(b"</g>\n<path class=\"z\" d=\"M900 650H7900\"/>\n")
 }
 
 /// Writes the places of sights.
 #[tactic(auto, unfolding(crate::specs::Strips::label_lines))]
-fn write_labels(page: &mut Page, reach: u32, sights: &[ObservationRow]) -> Result<(), AllocError>
-    ensures { OnOk result (page.new ≡ page.old ++ label_lines reach sights.now) }
+fn write_labels(page: &mut Page, sights: &[DrawnSight]) -> Result<(), AllocError>
+    ensures { OnOk result (page.new ≡ page.old ++ label_lines sights.now) }
 {
     page.add(b"<g class=\"n e\">\n")?;
-    write_each(page, reach, sights.len() as u64, sights)?;
+    write_each(page, sights.len() as u64, sights)?;
     page.add(b"</g>\n</svg>\n")
 }
 
 /// Writes the place of each sight that has one.
-fn write_each(
-    page: &mut Page,
-    reach: u32,
-    count: u64,
-    sights: &[ObservationRow],
-) -> Result<(), AllocError>
-    ensures { OnOk result (page.new
-        ≡ page.old ++ flat_map (label_of reach count) sights.now) }
+fn write_each(page: &mut Page, count: u64, sights: &[DrawnSight]) -> Result<(), AllocError>
+    ensures { OnOk result (page.new ≡ page.old ++ flat_map (label_of count) sights.now) }
 {
     for sight in sights {
-        write_label_of(page, reach, count, sight)?;
+        write_label_of(page, count, sight)?;
     }
     Ok(())
 }
 
 /// Writes the place of a sight, if it is written.
-fn write_label_of(
-    page: &mut Page,
-    reach: u32,
-    count: u64,
-    sight: &ObservationRow,
-) -> Result<(), AllocError>
-    ensures { OnOk result (page.new ≡ page.old ++ label_of reach count sight.now) }
+fn write_label_of(page: &mut Page, count: u64, sight: &DrawnSight) -> Result<(), AllocError>
+    ensures { OnOk result (page.new ≡ page.old ++ label_of count sight.now) }
 {
-    let k = u64::from(sight.number.saturating_sub(1));
+    let k = u64::from(sight.row.number.saturating_sub(1));
     if is_written(count, PLACES, k) {
-        write_label(page, reach, count, sight)
+        write_label(page, sight_x(count, sight), &sight.row.observation)
     } else {
         Ok(())
     }
 }
 
-/// Writes the place of a sight.
+/// Writes the place of a sight at x.
 #[tactic(auto, unfolding(crate::specs::Strips::place_label))]
-fn write_label(
-    page: &mut Page,
-    reach: u32,
-    count: u64,
-    sight: &ObservationRow,
-) -> Result<(), AllocError>
-    ensures { OnOk result (page.new ≡ page.old ++ place_label reach count sight.now) }
+fn write_label(page: &mut Page, x: u32, o: &Observation) -> Result<(), AllocError>
+    ensures { OnOk result (page.new ≡ page.old ++ place_label x o.now) }
 {
     page.add(b"<text x=\"")?;
-    write_number(page, u64::from(sight_x(count, sight)))?;
-    page.add(b"\" y=\"")?;
-    write_number(page, 2 * u64::from(reach) + 250)?;
-    page.add(b"\">")?;
-    write_place(page, sight.observation.book, sight.observation.line)?;
+    write_number(page, u64::from(x))?;
+    page.add(b"\" y=\"1350\">")?;
+    write_place(page, o.book, o.line)?;
     page.add(b"</text>\n")
 }

@@ -13,8 +13,7 @@ use Rattle.th_network.specs.Networks.{Survey}
 use Rattle.th_observations.specs.Observed.{Observed}
 use Rattle.th_report.specs.Lists.{list_text}
 use Rattle.th_commands.specs.Asked.{Asked, Files, adjust, book, book_of_heights, check, check_with_inputs, explain, list, mend, page, review}
-use Rattle.th_commands.specs.PlanLimits.{max_books}
-use Rattle.th_commands.specs.Plans.{AreTaken, IsFaultOf, IsPlanOf, asked, books_named, name_no_files, said_by}
+use Rattle.th_commands.specs.Plans.{AreTaken, IsFaultOf, IsPlanOf, argument_fault, asked, said_by}
 use Rattle.th_commands.specs.Commands.{command_line}
 use Rattle.th_commands.specs.declared.faults.PlanFault.{PlanFault}
 use Rattle.th_commands.specs.declared.faults.PlanFault.TheVariants as fault
@@ -50,7 +49,7 @@ DoneAs tells old new status (Some (list name)) = (status ≡ 0) × IsListed tell
 DoneAs tells old new status (Some (adjust from limit prefix)) = Unit {0}
 DoneAs tells old new status (Some (review from limit prefix)) = (status ≡ 0) × IsReviewed tells old new from limit prefix None
 DoneAs tells old new status (Some (explain from limit table)) = (status ≡ 0) × IsExplained tells old new from limit (form_of table)
-DoneAs tells old new status (Some (page from limit prefix)) = (status ≡ 0) × IsPagedFile tells old new from limit prefix None
+DoneAs tells old new status (Some (page from limit prefix title)) = (status ≡ 0) × IsPagedFile tells old new from limit prefix title None
 DoneAs tells old new status (Some (check from certificate)) = Unit {0}
 DoneAs tells old new status (Some (check_with_inputs from certificate)) = Unit {0}
 DoneAs tells old new status (Some (book table)) = (status ≡ 0) × IsBooked tells old new Differences table
@@ -63,7 +62,7 @@ RefusedAs tells failing old new own (Some (list name)) = IsRefusedList failing o
 RefusedAs tells failing old new own (Some (adjust from limit prefix)) = Unit {0}
 RefusedAs tells failing old new own (Some (review from limit prefix)) = IsRefusedReview tells failing old new from limit prefix own
 RefusedAs tells failing old new own (Some (explain from limit table)) = IsRefusedExplain failing old from own
-RefusedAs tells failing old new own (Some (page from limit prefix)) = IsRefusedPage tells failing old new from limit prefix own
+RefusedAs tells failing old new own (Some (page from limit prefix title)) = IsRefusedPage tells failing old new from limit prefix title own
 RefusedAs tells failing old new own (Some (check from certificate)) = Unit {0}
 RefusedAs tells failing old new own (Some (check_with_inputs from certificate)) = Unit {0}
 RefusedAs tells failing old new own (Some (book table)) = IsRefusedBook failing old Differences table own
@@ -76,7 +75,7 @@ StoppedAs tells (Some (list name)) = ⊥
 StoppedAs tells (Some (adjust from limit prefix)) = Unit {0}
 StoppedAs tells (Some (review from limit prefix)) = tells ≡ true → OutputsSpare reviewing.outputs from prefix → ⊥
 StoppedAs tells (Some (explain from limit table)) = ⊥
-StoppedAs tells (Some (page from limit prefix)) = tells ≡ true → OutputsSpare paging.outputs from prefix → ⊥
+StoppedAs tells (Some (page from limit prefix title)) = tells ≡ true → OutputsSpare paging.outputs from prefix → ⊥
 StoppedAs tells (Some (check from certificate)) = Unit {0}
 StoppedAs tells (Some (check_with_inputs from certificate)) = Unit {0}
 StoppedAs tells (Some (book table)) = ⊥
@@ -103,8 +102,8 @@ module _ {F : Type 0} (tells : Bool) (held : F → Told) (has_failed : F → Spo
   carried (plan.Review inputs limit prefix) (inr (own, run)) = inr (inl (own, run.status_is, run.refused))
   carried (plan.Explain inputs limit table) (inl run) = inl run.done
   carried (plan.Explain inputs limit table) (inr (own, run)) = inr (inl (own, run.status_is, run.refused))
-  carried (plan.Page inputs limit prefix) (inl run) = inl run.done
-  carried (plan.Page inputs limit prefix) (inr (own, run)) = inr (inl (own, run.status_is, run.refused))
+  carried (plan.Page inputs limit prefix title) (inl run) = inl run.done
+  carried (plan.Page inputs limit prefix title) (inr (own, run)) = inr (inl (own, run.status_is, run.refused))
   carried (plan.Check inputs certificate true) run = inl tt
   carried (plan.Check inputs certificate false) run = inl tt
   carried (plan.Book table) (inl run) = inl run.done
@@ -121,7 +120,7 @@ module _ {F : Type 0} (tells : Bool) (held : F → Told) (has_failed : F → Spo
   stopped (plan.Review inputs limit prefix) written which name would =
       λ telling spare. spare which name would.is_read (subst (λ (own : List ℕ). Contains (spots_of prefix.now reviewing.outputs) (file own)) (would.same telling) would.is_written)
   stopped (plan.Explain inputs limit table) written which name would = no_file written would.is_written
-  stopped (plan.Page inputs limit prefix) written which name would =
+  stopped (plan.Page inputs limit prefix title) written which name would =
       λ telling spare. spare which name would.is_read (subst (λ (own : List ℕ). Contains (spots_of prefix.now paging.outputs) (file own)) (would.same telling) would.is_written)
   stopped (plan.Check inputs certificate true) written which name would = tt
   stopped (plan.Check inputs certificate false) written which name would = tt
@@ -140,7 +139,7 @@ module _ {F : Type 0} (tells : Bool) (held : F → Told) (has_failed : F → Spo
   said_is words (plan.Adjust inputs limit prefix) wanted is asks = sym is.2 ∙ asks.2
   said_is words (plan.Review inputs limit prefix) wanted is asks = sym is.2 ∙ asks.2
   said_is words (plan.Explain inputs limit table) wanted is asks = sym is.2 ∙ asks.2
-  said_is words (plan.Page inputs limit prefix) wanted is asks = sym is.2 ∙ asks.2
+  said_is words (plan.Page inputs limit prefix title) wanted is asks = sym is.2 ∙ asks.2
   said_is words (plan.Check inputs certificate with_inputs) wanted is asks = sym is.2 ∙ asks.2
   said_is words (plan.Book table) wanted is asks = sym is.2 ∙ asks.2
   said_is words (plan.BookOfHeights name) wanted is asks = sym is.2 ∙ asks.2
@@ -149,11 +148,10 @@ module _ {F : Type 0} (tells : Bool) (held : F → Told) (has_failed : F → Spo
   no_plan : (words : List (List ℕ)) (own : PlanFault) (wanted : Asked) → IsFaultOf words own → AskFor words wanted → IsUsage held old new own status → status ≡ 4
   no_plan words (fault.Line error) wanted is asks usage = absurd (by is.2)
     where
-      by : IsAmong (kind_of error) (fault_of command_line words) ⊎ (AreTaken words × (asked words ≡ None) × (books_named words ≤ max_books) × (name_no_files words ≡ false)) → ⊥
+      by : IsAmong (kind_of error) (fault_of command_line words) ⊎ (AreTaken words × (asked words ≡ None) × (argument_fault words ≡ None)) → ⊥
       by (inl among) = subst (IsAmong (kind_of error)) asks.1 among
       by (inr none) = let bad : None ≡ Some wanted = sym none.1 ∙ asks.2 in cc
-  no_plan words fault.TooManyBooks wanted is asks usage = let bad : None ≡ Some wanted = sym is.2 ∙ asks.2 in cc
-  no_plan words fault.NamesNoFiles wanted is asks usage = let bad : None ≡ Some wanted = sym is.2 ∙ asks.2 in cc
+  no_plan words (fault.Argument fault) wanted is asks usage = let bad : None ≡ Some wanted = sym is.2 ∙ asks.2 in cc
   no_plan words fault.NoMemory wanted is asks usage = usage.status_is
 
   ran : (words : List (List ℕ)) (wanted : Asked) → AreDone tells held has_failed failing old new words status → AskFor words wanted → Became (Some wanted)
@@ -299,15 +297,15 @@ module _ {F : Type 0} (tells : Bool) (held : F → Told) (has_failed : F → Spo
       by (inr (inr (inl never))) = absurd never
       by (inr (inr (inr memory))) = inr memory
 
-  pub paged : RefusesForMemory → (from : Files) (limit : ℤ) (prefix : List ℕ) (survey : Survey) → AreDone tells held has_failed failing old new words status → AskFor words (page from limit prefix)
+  pub paged : RefusesForMemory → (from : Files) (limit : ℤ) (prefix title : List ℕ) (survey : Survey) → AreDone tells held has_failed failing old new words status → AskFor words (page from limit prefix title)
       → IsAccepted (held old) from survey → OutputsSpare paging.outputs from prefix → NoneMayFail (failing old) (IsInFiles from) (spots_of prefix paging.outputs)
-      → ((status ≡ 0) × IsPagedFile tells (held old) (held new) from limit prefix None) ⊎ (status ≡ 4)
-  paged law from limit prefix survey done asks accepted spare none = by (ran tells held has_failed failing old new status words (page from limit prefix) done asks)
+      → ((status ≡ 0) × IsPagedFile tells (held old) (held new) from limit prefix title None) ⊎ (status ≡ 4)
+  paged law from limit prefix title survey done asks accepted spare none = by (ran tells held has_failed failing old new status words (page from limit prefix title) done asks)
     where
-      by : BecameAs tells (failing old) (held old) (held new) status (Some (page from limit prefix)) → ((status ≡ 0) × IsPagedFile tells (held old) (held new) from limit prefix None) ⊎ (status ≡ 4)
+      by : BecameAs tells (failing old) (held old) (held new) status (Some (page from limit prefix title)) → ((status ≡ 0) × IsPagedFile tells (held old) (held new) from limit prefix title None) ⊎ (status ≡ 4)
       by (inl well) = inl well
       by (inr (inl (own, is, refused))) =
-          inr (over_files law paging from (held old) (IsPagedFile tells (held old) (held new) from limit prefix) (failing old) prefix survey own status accepted none refused is)
+          inr (over_files law paging from (held old) (IsPagedFile tells (held old) (held new) from limit prefix title) (failing old) prefix survey own status accepted none refused is)
       by (inr (inr (inl stopped))) = absurd (spared from survey (OutputsSpare paging.outputs from prefix) accepted spare stopped)
       by (inr (inr (inr memory))) = inr memory
 

@@ -10,8 +10,7 @@ use Rattle.th_devices.specs.Spots.{Spot, file, output}
 use Rattle.th_devices.specs.Folders.{Failing}
 use Rattle.th_network.specs.Networks.{Survey}
 use Rattle.th_commands.specs.Asked.{Asked, Files, adjust, check}
-use Rattle.th_commands.specs.PlanLimits.{max_books}
-use Rattle.th_commands.specs.Plans.{AreTaken, IsFaultOf, IsPlanOf, asked, books_named, name_no_files, said_by}
+use Rattle.th_commands.specs.Plans.{AreTaken, IsFaultOf, IsPlanOf, argument_fault, asked, said_by}
 use Rattle.th_commands.specs.Commands.{command_line}
 use Rattle.th_commands.specs.declared.faults.PlanFault.{PlanFault}
 use Rattle.th_commands.specs.declared.faults.PlanFault.TheVariants as fault
@@ -43,7 +42,7 @@ said_is words (plan.List book) wanted is asks = sym is.2 ∙ asks.2
 said_is words (plan.Adjust inputs limit prefix) wanted is asks = sym is.2 ∙ asks.2
 said_is words (plan.Review inputs limit prefix) wanted is asks = sym is.2 ∙ asks.2
 said_is words (plan.Explain inputs limit table) wanted is asks = sym is.2 ∙ asks.2
-said_is words (plan.Page inputs limit prefix) wanted is asks = sym is.2 ∙ asks.2
+said_is words (plan.Page inputs limit prefix title) wanted is asks = sym is.2 ∙ asks.2
 said_is words (plan.Check inputs certificate with_inputs) wanted is asks = sym is.2 ∙ asks.2
 said_is words (plan.Book table) wanted is asks = sym is.2 ∙ asks.2
 said_is words (plan.BookOfHeights book) wanted is asks = sym is.2 ∙ asks.2
@@ -54,15 +53,12 @@ only_memory : {F : Type 0} (held : F → Told) (old new : F) (words : List (List
     → IsFaultOf words own → AskFor words wanted → IsUsage held old new own status → status ≡ 4
 only_memory held old new words (fault.Line error) status wanted is asks usage = absurd (by is.2)
   where
-    by : IsAmong (kind_of error) (fault_of command_line words) ⊎ (AreTaken words × (asked words ≡ None) × (books_named words ≤ max_books) × (name_no_files words ≡ false)) → ⊥
+    by : IsAmong (kind_of error) (fault_of command_line words) ⊎ (AreTaken words × (asked words ≡ None) × (argument_fault words ≡ None)) → ⊥
     by (inl among) = subst (IsAmong (kind_of error)) asks.1 among
     by (inr none) =
         let bad : None ≡ Some wanted = sym none.1 ∙ asks.2 in
         cc
-only_memory held old new words fault.TooManyBooks status wanted is asks usage =
-    let bad : None ≡ Some wanted = sym is.2 ∙ asks.2 in
-    cc
-only_memory held old new words fault.NamesNoFiles status wanted is asks usage =
+only_memory held old new words (fault.Argument fault) status wanted is asks usage =
     let bad : None ≡ Some wanted = sym is.2 ∙ asks.2 in
     cc
 only_memory held old new words fault.NoMemory status wanted is asks usage = usage.status_is
@@ -180,7 +176,7 @@ ended_plan tells held has_failed failing old new (plan.Adjust inputs limit prefi
 ended_plan tells held has_failed failing old new (plan.Adjust inputs limit prefix) status (inr (inr (is, begun))) = inr (inr (inr is))
 ended_plan tells held has_failed failing old new (plan.Review inputs limit prefix) status run = tt
 ended_plan tells held has_failed failing old new (plan.Explain inputs limit table) status run = tt
-ended_plan tells held has_failed failing old new (plan.Page inputs limit prefix) status run = tt
+ended_plan tells held has_failed failing old new (plan.Page inputs limit prefix title) status run = tt
 ended_plan tells held has_failed failing old new (plan.Check inputs certificate false) status (inl (keeps, inl run)) = inl run.done
 ended_plan tells held has_failed failing old new (plan.Check inputs certificate false) status (inl (keeps, inr (own, run))) = inr (inl (own, run.status_is, run.refused))
 ended_plan tells held has_failed failing old new (plan.Check inputs certificate false) status (inr (inl (is, (written, which, name, would, begun)))) =

@@ -53,7 +53,7 @@ refused-after tells failing before after later (plan.Adjust inputs limit prefix)
 refused-after tells failing before after later (plan.Review inputs limit prefix) own same is =
     refused-for-map reviewing (files inputs) _ (survey_owed before (Some own) (files inputs)) _ _ _ own
     (printed_after tells before after later (files inputs) prefix.now reviewing.outputs _ (all_files prefix.now (map ending_of reviewing.outputs) refl) same) is
-refused-after tells failing before after later (plan.Page inputs limit prefix) own same is =
+refused-after tells failing before after later (plan.Page inputs limit prefix title) own same is =
     refused-for-map paging (files inputs) _ (survey_owed before (Some own) (files inputs)) _ _ _ own
     (printed_after tells before after later (files inputs) prefix.now paging.outputs _ (all_files prefix.now (map ending_of paging.outputs) refl) same) is
 refused-after tells failing before after later (plan.Explain inputs limit table) own same is = is
@@ -91,7 +91,7 @@ done-after tells before after later (plan.Adjust inputs limit prefix) status sam
     (is.0, printed_after tells before after later (files inputs) prefix.now adjusting.outputs _ (all_files prefix.now (map ending_of adjusting.outputs) refl) same None is.1)
 done-after tells before after later (plan.Review inputs limit prefix) status same is =
     (is.0, printed_after tells before after later (files inputs) prefix.now reviewing.outputs _ (all_files prefix.now (map ending_of reviewing.outputs) refl) same None is.1)
-done-after tells before after later (plan.Page inputs limit prefix) status same is =
+done-after tells before after later (plan.Page inputs limit prefix title) status same is =
     (is.0, printed_after tells before after later (files inputs) prefix.now paging.outputs _ (all_files prefix.now (map ending_of paging.outputs) refl) same None is.1)
 done-after tells before after later (plan.Explain inputs limit table) status same is = (
   is.0,
@@ -159,7 +159,7 @@ none_among spots files (place, within, is) =
 pub errors_apart : (asked : Plan) → IsOutputOf asked errors → ⊥
 errors_apart (plan.Adjust inputs limit prefix) is = none_among (spots_of prefix.now adjusting.outputs) (all_files prefix.now (map ending_of adjusting.outputs) refl) is
 errors_apart (plan.Review inputs limit prefix) is = none_among (spots_of prefix.now reviewing.outputs) (all_files prefix.now (map ending_of reviewing.outputs) refl) is
-errors_apart (plan.Page inputs limit prefix) is = none_among (spots_of prefix.now paging.outputs) (all_files prefix.now (map ending_of paging.outputs) refl) is
+errors_apart (plan.Page inputs limit prefix title) is = none_among (spots_of prefix.now paging.outputs) (all_files prefix.now (map ending_of paging.outputs) refl) is
 errors_apart plan.Standard is = cc
 errors_apart (plan.List book) is = cc
 errors_apart (plan.Explain inputs limit table) is = cc

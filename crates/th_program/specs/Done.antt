@@ -1,5 +1,5 @@
 -- What the program does, in terms of what a folder reports before and after.
-use Rattle.th_messages.specs.Said.{IsReported, IsSaid, overwrite_text}
+use Rattle.th_messages.specs.Said.{IsReported, IsSaid, overwrite_lines}
 use Rattle.std.specs.Prelude.{◌⊎◌, ◌≢◌, ◌≡◌, ◌∷◌, [], ℕ, ℤ, Bool, true, false, List, Option, Some, None, Ok, codes, is_some, length, map}
 use Rattle.std.specs.List.{Contains}
 use Rattle.clap.specs.Words.{kind_of}
@@ -87,10 +87,10 @@ abbrev pub IsReviewed : Bool → Told → Told → Files → ℤ → List ℕ �
 IsReviewed tells old new from limit prefix =
     IsPrinted tells old new from prefix reviewing.outputs (AreOfReview (all_names from) (tolds_in old from) limit)
 
--- the file of a page has its text: of the survey in the named files, of what else their books contain, and of the names and sums of all these files
-abbrev pub IsPagedFile : Bool → Told → Told → Files → ℤ → List ℕ → Option Refusal → Type 0
-IsPagedFile tells old new from limit prefix =
-    IsPrinted tells old new from prefix paging.outputs (AreOfPage (all_names from) (tolds_in old from) limit)
+-- the file of a page has its text: with this title, of the survey in the named files, of what else their books contain, and of the names and sums of all these files
+abbrev pub IsPagedFile : Bool → Told → Told → Files → ℤ → List ℕ → List ℕ → Option Refusal → Type 0
+IsPagedFile tells old new from limit prefix title =
+    IsPrinted tells old new from prefix paging.outputs (AreOfPage title (all_names from) (tolds_in old from) limit)
 
 -- the form in which a plan requests explanations
 abbrev pub form_of : Bool → Form
@@ -138,7 +138,7 @@ IsDone tells old new (plan.List book) status = (status ≡ 0) × IsListed tells 
 IsDone tells old new (plan.Adjust inputs limit prefix) status = (status ≡ 0) × IsAdjusted tells old new (files inputs) limit prefix.now None
 IsDone tells old new (plan.Review inputs limit prefix) status = (status ≡ 0) × IsReviewed tells old new (files inputs) limit prefix.now None
 IsDone tells old new (plan.Explain inputs limit table) status = (status ≡ 0) × IsExplained tells old new (files inputs) limit (form_of table)
-IsDone tells old new (plan.Page inputs limit prefix) status = (status ≡ 0) × IsPagedFile tells old new (files inputs) limit prefix.now None
+IsDone tells old new (plan.Page inputs limit prefix title) status = (status ≡ 0) × IsPagedFile tells old new (files inputs) limit prefix.now title.now None
 IsDone tells old new (plan.Check inputs certificate with_inputs) status =
     (verdict : Verdict) × (status ≡ status_of_verdict verdict) × IsCheckedAs with_inputs tells old new (files inputs) certificate.now verdict
 IsDone tells old new (plan.Book table) status = (status ≡ 0) × IsBooked tells old new Differences table.now
@@ -197,9 +197,9 @@ IsRefusedExplain failing old from own =
     IsRefusedFor explaining from (λ survey. survey) (survey_owed old (Some own) from) (λ answer. Unit {0})
     (HasCause failing (IsInFiles from) []) own
 
-abbrev pub IsRefusedPage : Bool → Failing → Told → Told → Files → ℤ → List ℕ → Refusal → Type 0
-IsRefusedPage tells failing old new from limit prefix own =
-    IsRefusedFor paging from (λ survey. survey) (survey_owed old (Some own) from) (IsPagedFile tells old new from limit prefix)
+abbrev pub IsRefusedPage : Bool → Failing → Told → Told → Files → ℤ → List ℕ → List ℕ → Refusal → Type 0
+IsRefusedPage tells failing old new from limit prefix title own =
+    IsRefusedFor paging from (λ survey. survey) (survey_owed old (Some own) from) (IsPagedFile tells old new from limit prefix title)
     (HasCause failing (IsInFiles from) prefix) own
 
 abbrev pub IsRefusedCheck : Failing → Told → Files → List ℕ → Refusal → Type 0
@@ -214,7 +214,7 @@ IsRefused tells failing old new (plan.List book) own = IsRefusedList failing old
 IsRefused tells failing old new (plan.Adjust inputs limit prefix) own = IsRefusedAdjust tells failing old new (files inputs) limit prefix.now own
 IsRefused tells failing old new (plan.Review inputs limit prefix) own = IsRefusedReview tells failing old new (files inputs) limit prefix.now own
 IsRefused tells failing old new (plan.Explain inputs limit table) own = IsRefusedExplain failing old (files inputs) own
-IsRefused tells failing old new (plan.Page inputs limit prefix) own = IsRefusedPage tells failing old new (files inputs) limit prefix.now own
+IsRefused tells failing old new (plan.Page inputs limit prefix title) own = IsRefusedPage tells failing old new (files inputs) limit prefix.now title.now own
 IsRefused tells failing old new (plan.Check inputs certificate with_inputs) own = IsRefusedCheck failing old (files inputs) certificate.now own
 IsRefused tells failing old new (plan.Book table) own = IsRefusedBook failing old Differences table.now own
 IsRefused tells failing old new (plan.BookOfHeights book) own = IsRefusedBook failing old Heights book.now own
@@ -272,7 +272,7 @@ IsPageOutput prefix spot = Contains (spots_of prefix paging.outputs) spot
 abbrev pub IsOutputOf : Plan → Spot → Type 0
 IsOutputOf (plan.Adjust inputs limit prefix) spot = IsAdjustOutput prefix.now spot
 IsOutputOf (plan.Review inputs limit prefix) spot = IsReviewOutput prefix.now spot
-IsOutputOf (plan.Page inputs limit prefix) spot = IsPageOutput prefix.now spot
+IsOutputOf (plan.Page inputs limit prefix title) spot = IsPageOutput prefix.now spot
 IsOutputOf other spot = spot ≡ output
 
 -- a plan reads this input from the file of this name
@@ -282,7 +282,7 @@ IsInputOf (plan.List book) which name = (which ≡ source.Book 1) × (name ≡ b
 IsInputOf (plan.Adjust inputs limit prefix) which name = HasName (files inputs) which name
 IsInputOf (plan.Review inputs limit prefix) which name = HasName (files inputs) which name
 IsInputOf (plan.Explain inputs limit table) which name = HasName (files inputs) which name
-IsInputOf (plan.Page inputs limit prefix) which name = HasName (files inputs) which name
+IsInputOf (plan.Page inputs limit prefix title) which name = HasName (files inputs) which name
 IsInputOf (plan.Check inputs certificate with_inputs) which name = HasName (files inputs) which name ⊎ ((which ≡ source.Certificate) × (name ≡ certificate.now))
 IsInputOf (plan.Book table) which name = (which ≡ source.Differences) × (name ≡ table.now)
 IsInputOf (plan.BookOfHeights book) which name = (which ≡ source.Book 1) × (name ≡ book.now)
@@ -324,7 +324,7 @@ abbrev pub IsCarriedOut : {F : Type 0} → Bool → (F → Told) → (F → Spot
 IsCarriedOut tells held has_failed failing old new asked status =
     IsDoneRun tells held has_failed old new asked status ⊎ ((own : Refusal) × IsRefusedRun tells held has_failed failing old new asked status own)
 
--- a plan was not begun: this line is on standard error, unless that failed, and nothing else changed
+-- a plan was not begun: this is on standard error, unless that failed, and nothing else changed
 pub record IsNotBegun {F : Type 0} (tells : Bool) (held : F → Told) (has_failed : F → Spot → Bool) (old new : F) (line : List ℕ) : Type 0 where
   pub reported : has_failed new errors ≡ false → IsSaid tells (held new) line
   pub untouched : (spot : Spot) → spot ≢ errors → held new spot ≡ held old spot
@@ -335,7 +335,7 @@ abbrev pub IsRun : {F : Type 0} → Bool → (F → Told) → (F → Spot → Bo
 IsRun tells held has_failed failing old new asked status =
     ((tells ≡ true → KeepsInputs asked) × IsCarriedOut tells held has_failed failing old new asked status)
     ⊎ ((status ≡ 3) × ((written : List ℕ) × (which : Input) × (name : List ℕ) × WouldOverwrite tells asked written which name
-    × IsNotBegun tells held has_failed old new (overwrite_text written which name)))
+    × IsNotBegun tells held has_failed old new (overwrite_lines written which name)))
     ⊎ ((status ≡ 4) × IsNotBegun tells held has_failed old new (codes "out of memory"))
 
 -- the status after arguments that are no plan: 4 if memory ran out, else 3

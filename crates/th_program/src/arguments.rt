@@ -109,6 +109,6 @@ fn is_help(fault: &PlanFault) -> bool
 {
     match fault {
         PlanFault::Line(error) => !error.use_stderr(),
-        PlanFault::TooManyBooks | PlanFault::NamesNoFiles | PlanFault::NoMemory => false,
+        PlanFault::Argument(_) | PlanFault::NoMemory => false,
     }
 }

@@ -158,13 +158,13 @@ pub fn accepted_inputs_are_explained<F: Folder>()
 /// and the page is no input.
 pub fn accepted_inputs_are_paged<F: Folder>()
     ensures { (old new : _) (words : List (List ℕ)) (status : ℕ)
-        (from : Files) (limit : ℤ) (prefix : List ℕ) (survey : Survey)
+        (from : Files) (limit : ℤ) (prefix title : List ℕ) (survey : Survey)
         → AreDone F.tells F.held F.has_failed F.failing old new words status
-        → AskFor words (page from limit prefix)
+        → AskFor words (page from limit prefix title)
         → IsAccepted (F.held old) from survey
         → OutputsSpare paging.outputs from prefix
         → NoneMayFail (F.failing old) (IsInFiles from) (spots_of prefix paging.outputs)
-        → ((status ≡ 0) × IsPagedFile F.tells (F.held old) (F.held new) from limit prefix None)
+        → ((status ≡ 0) × IsPagedFile F.tells (F.held old) (F.held new) from limit prefix title None)
         ⊎ (status ≡ 4) }
 {
     accepted_inputs_are_refused_for_memory_alone();

@@ -90,7 +90,8 @@ fn carry_out<F: Folder>(
             inputs,
             limit,
             prefix,
-        } => page(alloc, folder, inputs, *limit, *prefix)?,
+            title,
+        } => page(alloc, folder, inputs, *limit, *prefix, *title)?,
         Plan::Check {
             inputs,
             certificate,

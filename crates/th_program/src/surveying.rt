@@ -91,19 +91,20 @@ pub(crate) fn review<F: Folder>(
     )
 }
 
-/// Writes the page of the network of the named files, whose name is the prefix and `.html`. That it is
-/// none of the inputs, the caller has made sure.
+/// Writes the page of the network of the named files, with this title. The name of its file is the prefix
+/// and `.html`. That it is none of the inputs, the caller has made sure.
 pub(crate) fn page<F: Folder>(
     alloc: Global,
     folder: &mut F,
     inputs: &Inputs<'_>,
     limit: Limit,
     prefix: &str,
+    title: &[u8],
 ) -> Result<(), Refusal>
     ensures paged { OnOk result (IsPagedFile F.tells (F.held folder.old) (F.held folder.new)
-        (files inputs.now) limit prefix.now None) }
+        (files inputs.now) limit prefix.now title.now None) }
     ensures refused { IfErr result (IsRefusedPage F.tells (F.failing folder.old)
-        (F.held folder.old) (F.held folder.new) (files inputs.now) limit prefix.now) }
+        (F.held folder.old) (F.held folder.new) (files inputs.now) limit prefix.now title.now) }
     ensures untouched { IfErr result (λ own. UnlessWrite own (folder.new ≡ folder.old)) }
     ensures others { (spot : _) → (IsPageOutput prefix.now spot → ⊥)
         → F.held folder.new spot ≡ F.held folder.old spot }
@@ -111,6 +112,7 @@ pub(crate) fn page<F: Folder>(
     let names = names_of(alloc, inputs)?;
     let command = MakePage {
         limit: limit.get(),
+        title,
         names: names.as_slice(),
     };
     let mut reader = ReviewReader::new(alloc);

@@ -37,9 +37,10 @@ use Rattle.th_review_rows.specs.Found.{FoundNumbers, found_rows}
 use Rattle.th_review_rows.specs.Rows.{benchmark_row, entry_row, entry_rows, observation_row}
 use Rattle.th_review_rows.specs.declared.rows.BenchmarkRow.{BenchmarkRow}
 use Rattle.th_page.specs.Laws.{Given, PagesAreOfPieces, benchmark_named, entry_named, explanation_named, input_named, point_named, shown_named, sight_named}
-use Rattle.th_page.specs.Pages.{ShownRows, page_text}
-use Rattle.th_page.specs.Shown.{shown_of}
-use Rattle.th_runs.specs.Paged.{IsPaged, said}
+use Rattle.th_page.specs.Contents.{ShownRows}
+use Rattle.th_page.specs.Pages.{page_text}
+use Rattle.th_page.specs.Shown.{ExplainedRows, shown_of}
+use Rattle.th_runs.specs.Paged.{IsPaged, explained_with, shown_in}
 use Rattle.th_runs.specs.Reviewed.{AreFound}
 
 -- what laws of points, of best heights, of mistakes and of pages say
@@ -147,6 +148,7 @@ same_name (Some name) = refl
 
 same_shown : (shown : ShownRows) → shown_named as_is shown ≡ shown
 same_shown shown = λ i. record {
+  title = shown.title;
   inputs = kept (input_named as_is) (λ input. refl) shown.inputs i;
   points = kept (point_named as_is) (λ row. refl) shown.points i;
   sights = kept (sight_named as_is) (λ row. refl) shown.sights i;
@@ -157,6 +159,7 @@ same_shown shown = λ i. record {
   notes = kept (λ text. text) (λ text. refl) shown.notes i;
   cost = shown.cost;
   limit = shown.limit;
+  answer = shown.answer;
 }
 
 bare_text : PagesAreOfPieces → (shown : ShownRows) → page_text shown ≡ page_text (shown_named bare shown)
@@ -210,11 +213,11 @@ benchmarks_shown laws survey (row ∷ rows) (a ∷ as') (b ∷ bs) one other =
     (benchmarks_shown laws survey rows as' bs one.1 other.1)
 
 -- ---- a page
-one_page : Laws → (survey : Survey) (inputs : List NamedInput) (books : List BookReview) (spellings : Listed Spelling) (limit : ℤ) (cost : ℕ) (rows : List Row) (says : List ℕ) (best answer : Best) (first second : FoundNumbers)
+one_page : Laws → (survey : Survey) (title : List ℕ) (inputs : List NamedInput) (books : List BookReview) (spellings : Listed Spelling) (explained : ExplainedRows) (best answer : Best) (first second : FoundNumbers)
     → IsBest survey best → IsBest survey answer → AreFound survey books first → AreFound survey books second
-    → shown_named bare (shown_of (found_rows survey (at_points_of survey best.low) (at_points_of survey best.high) first books spellings) inputs cost rows says limit)
-    ≡ shown_named bare (shown_of (found_rows survey (at_points_of survey answer.low) (at_points_of survey answer.high) second books spellings) inputs cost rows says limit)
-one_page laws survey inputs books spellings limit cost rows says best answer first second is other_is finds other_finds =
+    → shown_named bare (shown_of title (found_rows survey (at_points_of survey best.low) (at_points_of survey best.high) first books spellings) inputs explained)
+    ≡ shown_named bare (shown_of title (found_rows survey (at_points_of survey answer.low) (at_points_of survey answer.high) second books spellings) inputs explained)
+one_page laws survey title inputs books spellings explained best answer first second is other_is finds other_finds =
     ap₂ (λ low high. page low high first) (one_low laws survey best answer is other_is) (one_high laws survey best answer is other_is)
     ∙ ap₂ (λ strengths units. page answer.low answer.high (record first { strengths = strengths; unit_strengths = units }))
     (one_strengths survey first.strengths second.strengths finds.strengths other_finds.strengths) (one_strengths (record survey { weights = [] }) first.unit_strengths second.unit_strengths finds.unit_strengths other_finds.unit_strengths)
@@ -228,12 +231,12 @@ one_page laws survey inputs books spellings limit cost rows says best answer fir
     (benchmarks_shown laws survey survey.benchmarks first.benchmarks second.benchmarks finds.benchmarks other_finds.benchmarks)
   where
     page : List ℤ → List ℤ → FoundNumbers → ShownRows
-    page low high found = shown_named bare (shown_of (found_rows survey (at_points_of survey low) (at_points_of survey high) found books spellings) inputs cost rows says limit)
+    page low high found = shown_named bare (shown_of title (found_rows survey (at_points_of survey low) (at_points_of survey high) found books spellings) inputs explained)
 
-pub shown_is_one : Laws → (survey : Survey) (inputs : List NamedInput) (books : List BookReview) (spellings : Listed Spelling) (limit : ℤ) (text : List ℕ) (page : IsPaged survey inputs books spellings limit text)
+pub shown_is_one : Laws → (survey : Survey) (title : List ℕ) (inputs : List NamedInput) (books : List BookReview) (spellings : Listed Spelling) (limit : ℤ) (text : List ℕ) (page : IsPaged survey title inputs books spellings limit text)
     (answer : Best) (found : FoundNumbers) → IsBest survey answer → AreFound survey books found
-    → text ≡ page_text (shown_of (found_rows survey (at_points_of survey answer.low) (at_points_of survey answer.high) found books spellings) inputs page.explained.summary.cost page.explained.rows.items (said page.explained) limit)
-shown_is_one laws survey inputs books spellings limit text page answer found is finds =
-    page.printed ∙ bare_text laws.pages _
-    ∙ ap page_text (one_page laws survey inputs books spellings limit page.explained.summary.cost page.explained.rows.items (said page.explained) page.answer answer page.found found page.answers is page.finds finds)
-    ∙ sym (bare_text laws.pages _)
+    → text ≡ page_text (shown_of title (found_rows survey (at_points_of survey answer.low) (at_points_of survey answer.high) found books spellings) inputs (explained_with page.explained page.meaning limit))
+shown_is_one laws survey title inputs books spellings limit text page answer found is finds =
+    page.printed ∙ bare_text laws.pages (shown_in survey title inputs books spellings limit text page)
+    ∙ ap page_text (one_page laws survey title inputs books spellings (explained_with page.explained page.meaning limit) page.answer answer page.found found page.answers is page.finds finds)
+    ∙ sym (bare_text laws.pages (shown_of title (found_rows survey (at_points_of survey answer.low) (at_points_of survey answer.high) found books spellings) inputs (explained_with page.explained page.meaning limit)))

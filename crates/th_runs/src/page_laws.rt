@@ -1,16 +1,17 @@
 //! Laws of a page beside other runs. A law is its contract: it computes nothing.
 
-ghost use Rattle.std.specs.Prelude.{◌≡◌, ℕ, ℤ, List};
+ghost use Rattle.std.specs.Prelude.{◌≡◌, ℕ, ℤ, true, List};
 ghost use Rattle.th_circulation.specs.Best.{Best, IsBest};
 ghost use Rattle.th_entries.specs.declared.listed.Listed.{Listed};
 ghost use Rattle.th_entries.specs.declared.reviews.BookReview.{BookReview};
 ghost use Rattle.th_entries.specs.declared.spellings.Spelling.{Spelling};
 ghost use Rattle.th_inputs.specs.Inputs.{NamedInput};
 ghost use Rattle.th_network.specs.Networks.{Survey, at_points_of};
+ghost use Rattle.th_page.specs.Laws.{are_reasoned};
 ghost use Rattle.th_page.specs.Pages.{page_text};
 ghost use Rattle.th_page.specs.Shown.{shown_of};
 ghost use Rattle.th_review_rows.specs.Found.{FoundNumbers, found_rows};
-ghost use Rattle.th_runs.specs.Paged.{IsPaged, said};
+ghost use Rattle.th_runs.specs.Paged.{IsPaged, explained_with, shown_in};
 ghost use Rattle.th_runs.specs.Reviewed.{AreFound};
 
 use th_circulation::laws::lowest_and_highest_are_one;
@@ -24,17 +25,29 @@ use th_points::laws::points_are_ends_and_benchmarks;
 /// prints, the page is the page of these: best heights, strengths, controls and words are one. Only of
 /// several sets that a mistake may move a review counts one, and no page shows which.
 pub fn page_shows_what_others_print()
-    ensures { (survey : Survey) (inputs : List NamedInput) (books : List BookReview)
+    ensures { (survey : Survey) (title : List ℕ) (inputs : List NamedInput) (books : List BookReview)
         (spellings : Listed Spelling) (limit : ℤ) (text : List ℕ)
-        (page : IsPaged survey inputs books spellings limit text) (answer : Best) (found : FoundNumbers)
+        (page : IsPaged survey title inputs books spellings limit text) (answer : Best) (found : FoundNumbers)
         → IsBest survey answer
         → AreFound survey books found
-        → text ≡ page_text (shown_of (found_rows survey (at_points_of survey answer.low)
+        → text ≡ page_text (shown_of title (found_rows survey (at_points_of survey answer.low)
         (at_points_of survey answer.high) found books spellings) inputs
-        page.explained.summary.cost page.explained.rows.items (said page.explained) limit) }
+        (explained_with page.explained page.meaning limit)) }
 {
     points_are_ends_and_benchmarks();
     lowest_and_highest_are_one();
     control_decides_shared_mistake();
     no_name_is_markup();
+}
+
+/// Red means something: each page that is made accuses a sight for a reason. A sight is in question only where a row
+/// explains most, and else accused only if it is marked. So `th_page::laws::good_pages_have_no_red` speaks of it.
+pub fn pages_accuse_for_a_reason()
+    ensures { (survey : Survey) (title : List ℕ) (inputs : List NamedInput) (books : List BookReview)
+        (spellings : Listed Spelling) (limit : ℤ) (text : List ℕ)
+        (page : IsPaged survey title inputs books spellings limit text)
+        → are_reasoned (shown_in survey title inputs books spellings limit text page) ≡ true }
+{
+    points_are_ends_and_benchmarks();
+    lowest_and_highest_are_one();
 }

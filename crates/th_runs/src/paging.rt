@@ -1,8 +1,12 @@
 //! The command that makes a page of the height network of books.
 ghost use Rattle.std.specs.Prelude.{◌≡◌, ◌≤◌, ◌∷◌, [], All, IfErr, IfOk, length};
+ghost use Rattle.th_answer.specs.Answers.{IsAnswer};
+ghost use Rattle.th_blunders.specs.Fits.{IsFit};
+ghost use Rattle.th_circulation.specs.Best.{IsBest};
 ghost use Rattle.th_entries.specs.Stations.{HasOneStation};
 ghost use Rattle.th_inputs.specs.Inputs.{inputs_of};
 ghost use Rattle.th_limits.specs.Limits.{max_books};
+ghost use Rattle.th_network.specs.Networks.{at_points_of};
 ghost use Rattle.th_review_rows.specs.Entries.{entries_of};
 ghost use Rattle.th_run_parts.specs.Inputs.{MakesNetwork};
 ghost use Rattle.th_runs.specs.Paged.{IsPaged, said};
@@ -12,8 +16,10 @@ use crate::commands::SurveyCommand;
 use crate::findings::findings_of;
 use crate::reviews::{ReviewReader, all_sums};
 use std::alloc::{AllocError, Global};
+use th_answer::{Answer, Explaining, answer_of};
 use th_blunders::Fit;
-use th_circulation::best_heights;
+use th_changes::Case;
+use th_circulation::{BestHeights, best_heights};
 use th_entries::laws::entry_of_several_books_has_one_station;
 use th_entries::{BookReview, Listed, Spelling};
 use th_explain_rows::{Explanations, explained_by};
@@ -33,6 +39,8 @@ pub const PAGED: [Output; 1] = [Output::Page];
 pub struct MakePage<'a> {
     /// Residuals above this size are marked as blunders, in units of 10 nm.
     pub limit: i64,
+    /// The title of the page.
+    pub title: &'a [u8],
     /// The names of the books, of the benchmarks, and of the weights if there are any.
     pub names: &'a [&'a str],
 }
@@ -49,7 +57,7 @@ impl SurveyCommand for MakePage<'_> {
 
     ghost is_new = { IsNewReader };
 
-    ghost are_of = { λ own tolds. AreOfPage (map (λ name. name.now) own.names.now) tolds own.limit };
+    ghost are_of = { λ own tolds. AreOfPage own.title.now (map (λ name. name.now) own.names.now) tolds own.limit };
 
     ghost has_noted = { λ own tolds survey reader. ⊤ };
 
@@ -73,9 +81,14 @@ impl SurveyCommand for MakePage<'_> {
         };
         let reviews = reader.reviews.as_slice();
         let spellings = reader.names.found();
-        let page = page_of_network(
-            alloc, network, inputs, reviews, spellings, self.limit, progress,
-        )?;
+        let subject = Subject {
+            title: self.title,
+            inputs,
+            reviews,
+            spellings,
+            limit: self.limit,
+        };
+        let page = page_of_network(alloc, network, subject, progress)?;
         Ok(only(alloc, page)?)
     }
 
@@ -91,38 +104,76 @@ fn only(alloc: Global, page: Vec<u8>) -> Result<Vec<OutputText>, AllocError>
     Ok(Vec::from_array(alloc, [OutputText::new(Output::Page, page)])?)
 }
 
-/// The page of a network.
-fn page_of_network<P: Progress>(
-    alloc: Global,
-    network: &Network,
-    inputs: NamedInputs<'_>,
-    reviews: &[BookReview],
-    spellings: &Listed<Spelling>,
+/// What a page is about, beside its network.
+#[derive(Clone, Copy)]
+struct Subject<'a> {
+    title: &'a [u8],
+    inputs: NamedInputs<'a>,
+    /// The reviews of the books.
+    reviews: &'a [BookReview],
+    /// The names that are spelled in more than one way.
+    spellings: &'a Listed<Spelling>,
+    /// The limit of blunders, in units of 10 nm.
     limit: i64,
+}
+
+/// The page of a network.
+fn page_of_network<'a, P: Progress>(
+    alloc: Global,
+    network: &'a Network,
+    subject: Subject<'a>,
     progress: &mut P,
 ) -> Result<Vec<u8>, Refusal>
     requires network { MakesNetwork network.now }
     requires weights { AreWeights network.now.weights }
-    requires few { length reviews.now ≤ max_books }
-    requires stations { All (HasOneStation network.now.observations) (entries_of reviews.now) }
-    ensures page { IfOk result (λ page. IsPaged network.now (inputs_of inputs.entry)
-        reviews.now spellings.now limit page.items) }
+    requires few { length subject.reviews.now ≤ max_books }
+    requires stations { All (HasOneStation network.now.observations) (entries_of subject.reviews.now) }
+    ensures page { IfOk result (λ page. IsPaged network.now subject.entry.title.now
+        (inputs_of subject.entry.inputs) subject.entry.reviews.now subject.entry.spellings.now
+        subject.entry.limit page.items) }
     ensures refused { IfErr result (λ own. own ≡ Refusal.NoMemory) }
 {
+    let reviews = subject.reviews;
+    let limit = subject.limit;
     let best = best_heights(alloc, network)?;
     let fit = Fit::of(alloc, network, best.low())?;
     let explained = explained_by(alloc, network, reviews, &best, &fit, limit, progress)?;
+    let rows = explained.rows.as_slice();
+    let explaining = Explaining {
+        reviews,
+        rows,
+        limit,
+    };
+    let answer = meaning_of(alloc, network, &best, &fit, explaining)?;
     let sentences = sentences_of(alloc, &explained)?;
     let findings = findings_of(alloc, network, reviews, progress)?;
-    let found = found_of(alloc, &findings, &best, spellings)?;
+    let found = found_of(alloc, &findings, &best, subject.spellings)?;
     let explained = Explained {
         cost: explained.summary.cost,
         limit,
-        rows: &explained.rows,
+        rows,
         sentences: &sentences,
+        answer: &answer,
     };
-    let page = page_of(alloc, &found, inputs, explained)?;
+    let page = page_of(alloc, subject.title, &found, subject.inputs, explained)?;
     Ok(page)
+}
+
+/// What explanations mean for a network, given its best heights and how these fit.
+fn meaning_of(
+    alloc: Global,
+    network: &Network,
+    best: &BestHeights,
+    fit: &Fit,
+    explaining: Explaining<'_>,
+) -> Result<Answer, AllocError>
+    requires best { IsBest network.now best.now }
+    requires fit { IsFit network.now (at_points_of network.now best.now.low) fit.now }
+    ensures { IfOk result (IsAnswer network.now explaining.entry.reviews.now
+        explaining.entry.rows.now explaining.entry.limit) }
+{
+    let case = Case::of(network, best, fit.cost);
+    answer_of(alloc, &case, fit, explaining)
 }
 
 /// What explanations say, in sentences of a line each.

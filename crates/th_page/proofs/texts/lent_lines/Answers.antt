@@ -1,6 +1,5 @@
-use Rattle.std.proofs.Common.{arith, ◌≡◌, map, ℕ, ◌+◌, ◌<◌, ◌≤◌, length, List, [], ◌∷◌, ◌++◌, get_or, drop, take, ap}
+use Rattle.std.proofs.Common.{arith, ◌+◌}
 use Rattle.std.proofs.lemmas.Grind.{common_steps}
-use Rattle.th_page.specs.Shown.{lines_behind, lines_in}
 use Rattle.th_page.proofs.LineLemmas.{lines_step, range_none}
 use Rattle.th_page.proofs.texts.lent_lines.Goals.{then-byte-eq10+in_ok-push, else-byte-eq10}
 use Rattle.th_page.proofs.texts.lent_lines.Goals as goal

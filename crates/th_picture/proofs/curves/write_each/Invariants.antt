@@ -4,4 +4,4 @@ use Rattle.th_picture.specs.Curves.{drawn_group}
 use Rattle.th_picture.proofs.curves.write_each.Given as goal
 
 abbrev pub invariant-loop-group : goal.invariant-loop-group
-invariant-loop-group l = l.page ++ flat_map (drawn_group l.frame l.limit l.sights) (drop l.group-index l.groups) ≡ l.fn.page ++ flat_map (drawn_group l.frame l.limit l.sights) l.groups
+invariant-loop-group l = l.page ++ flat_map (drawn_group l.frame l.sights) (drop l.group-index l.groups) ≡ l.fn.page ++ flat_map (drawn_group l.frame l.sights) l.groups

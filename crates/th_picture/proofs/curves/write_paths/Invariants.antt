@@ -4,4 +4,4 @@ use Rattle.th_picture.specs.Curves.{path_in}
 use Rattle.th_picture.proofs.curves.write_paths.Given as goal
 
 abbrev pub invariant-loop-sight : goal.invariant-loop-sight
-invariant-loop-sight l = l.page ++ flat_map (path_in l.frame l.limit l.group) (drop l.sight-index l.sights) ≡ l.fn.page ++ flat_map (path_in l.frame l.limit l.group) l.sights
+invariant-loop-sight l = l.page ++ flat_map (path_in l.frame l.group) (drop l.sight-index l.sights) ≡ l.fn.page ++ flat_map (path_in l.frame l.group) l.sights

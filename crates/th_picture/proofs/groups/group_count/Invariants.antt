@@ -5,6 +5,6 @@ use Rattle.th_picture.proofs.groups.group_count.Given as goal
 
 abbrev pub invariant-loop-sight : goal.invariant-loop-sight
 invariant-loop-sight l = record {
-  count : l.count ≡ count_by (is_in l.limit l.group) (take l.sight-index l.sights);
+  count : l.count ≡ count_by (is_in l.group) (take l.sight-index l.sights);
   few : l.count ≤ l.sight-index;
 }

@@ -9,7 +9,7 @@ pub returns : goal.returns
 unfolding scale_lines
 returns c =
     let p = c.args.page.now in
-    let part1 = codes "<g class=\"n e\">\n<text x=\"840\" y=\"160\">metres</text>\n" in
+    let part1 = codes "<g class=\"n e\">\n<text x=\"840\" y=\"260\">metres</text>\n" in
     let part2 = flat_map (tick_at c.args.scale.now) (lines_of c.args.scale.now) in
     let part3 = codes "</g>\n" in
     let front2 = part1 ++ part2 in

@@ -4,4 +4,4 @@ use Rattle.th_picture.specs.Strips.{label_of}
 use Rattle.th_picture.proofs.strips.write_each.Given as goal
 
 abbrev pub invariant-loop-sight : goal.invariant-loop-sight
-invariant-loop-sight l = l.page ++ flat_map (label_of l.reach l.count) (drop l.sight-index l.sights) ≡ l.fn.page ++ flat_map (label_of l.reach l.count) l.sights
+invariant-loop-sight l = l.page ++ flat_map (label_of l.count) (drop l.sight-index l.sights) ≡ l.fn.page ++ flat_map (label_of l.count) l.sights

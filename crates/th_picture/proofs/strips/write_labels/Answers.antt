@@ -9,7 +9,7 @@ unfolding label_lines
 returns c =
     let p = c.args.page.now in
     let part1 = codes "<g class=\"n e\">\n" in
-    let part2 = flat_map (label_of c.args.reach (length c.args.sights.now)) c.args.sights.now in
+    let part2 = flat_map (label_of (length c.args.sights.now)) c.args.sights.now in
     let part3 = codes "</g>\n</svg>\n" in
     let front2 = part1 ++ part2 in
     let step1 : c.add.new.self ≡ p ++ part1 = c.in_ok-add.ensures in

@@ -44,6 +44,6 @@ pub returns-in-Page-clause-stopped : goal.returns-in-Page-clause-stopped
 returns-in-Page-clause-stopped g c =
     subst (λ (own : Plan). IfErr c.keep_all-in-Page.result (IsStopOf g.F.Folder.tells own)) (sym c.in-Page.is)
     (IfErr-weaker c.keep_all-in-Page.result _ _
-    (stop_of g.F.Folder.tells (plan.Page c.in-Page.inputs c.in-Page.limit c.in-Page.prefix) (files c.in-Page.inputs) (spots_of c.in-Page.prefix.now paging.outputs)
+    (stop_of g.F.Folder.tells (plan.Page c.in-Page.inputs c.in-Page.limit c.in-Page.prefix _) (files c.in-Page.inputs) (spots_of c.in-Page.prefix.now paging.outputs)
     (λ name has. has) (λ which name read. read))
     c.keep_all-in-Page.ensures.stopped)

@@ -1,5 +1,5 @@
 use Rattle.std.proofs.Common.{◌≡◌, ◌∙◌, Err, ap, rules, subst, sym}
-use Rattle.th_program.specs.Done.{IsCut, IsOutputOf}
+use Rattle.th_program.specs.Done.{IsCut, IsOutputOf, IsRefused}
 use Rattle.th_program.proofs.plans.carry_out.Goals as goal
 use Rattle.th_program.proofs.plans.carry_out.Goals.{in-Standard+in_ok-list-in-Standard, in-List+in_ok-list-in-List, in-Adjust+in_ok-adjust-in-Adjust, in-Review+in_ok-review-in-Review, in-Explain+in_ok-explain-in-Explain, in-Page+in_ok-page-in-Page, in-Book+in_ok-make_book-in-Book, in-BookOfHeights+in_ok-make_book-in-BookOfHeights, in-Mend+in_ok-mend-in-Mend}
 
@@ -40,3 +40,9 @@ returns-in_err-explain-in-Explain-clause-left g c =
     rw is (λ write.
     subst (λ own. IsCut g.F.Folder.tells (g.F.Folder.held c.args.folder.now) (g.F.Folder.held c.explain.new.folder) own c.in_err-explain-in-Explain.field-0.0) (sym c.in-Explain.is)
     (rw c.form_of.ensures at c.in_err-explain-in-Explain.ensures.left write))
+
+pub returns-in_err-page-in-Page-clause-refused : goal.returns-in_err-page-in-Page-clause-refused
+returns-in_err-page-in-Page-clause-refused g c =
+    let is : c.from_residual-in_err-page-in-Page.result ≡ Err c.in_err-page-in-Page.field-0.0 = search rules in
+    rw is (subst (λ own. IsRefused g.F.Folder.tells (g.F.Folder.failing c.args.folder.now) (g.F.Folder.held c.args.folder.now) (g.F.Folder.held c.page.new.folder) own c.in_err-page-in-Page.field-0.0) (sym c.in-Page.is)
+    c.in_err-page-in-Page.ensures.refused)
