@@ -281,9 +281,9 @@ def could_hide(page: Page) -> bytes:
     body += details(b"Weak benchmarks", short_table(WEAK_BENCHMARK_HEAD, weak)) if weak else b""
     body += details(b"Weak keyed-in heights", short_table(ENTRY_HEAD, entries)) if entries else b""
     return section(b"hide", b"What could hide",
-                   b"Where a single mistake would not show as its own residual. This is no fault that was found: nearly every survey has such "
-                   b"numbers, and another sight or benchmark checks them. Ties: it or another sight is marked. Hides: other sights are marked. "
-                   b"Drags: points move, and other sights are marked, or none. Unchecked: nothing is marked.", body)
+                   b"Where a single mistake would not show as its own residual. This is no fault that was found: one more sight or "
+                   b"benchmark can check such a number. Ties: it or another sight is marked. Hides: other sights are marked. Drags: points "
+                   b"move, and other sights are marked, or none. Unchecked: nothing is marked.", body)
 
 
 def notes(page: Page) -> bytes:
