@@ -116,7 +116,7 @@ def page_of(book: str) -> bytes:
     names = [book.encode(), b"marks.csv", b"weights.csv"]
     inputs = office.Inputs([INPUTS[book]], INPUTS["marks.csv"], INPUTS["weights.csv"], names)
     explained = office.explain(inputs, LIMIT, csv_text)[0]
-    return office.page(office.review(inputs, LIMIT), explained, names[:1]).files[".html"]
+    return office.page(office.review(inputs, LIMIT), explained, inputs, b"own", names[:1]).files[".html"]
 
 
 class Answer(NamedTuple):
