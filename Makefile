@@ -196,6 +196,7 @@ planted: built
 	@tests/planted/sentences.py --program $(PROGRAM) --tries $(TRIES)
 	@tests/planted/noted.py --program $(PROGRAM)
 	@tests/planted/verdicts.py --program $(PROGRAM) --tries $(TRIES)
+	@tests/planted/one_more.py --program $(PROGRAM)
 
 memory: built
 	@tests/refused_memory/run.py --program $(PROGRAM) --calls $(CALLS)
