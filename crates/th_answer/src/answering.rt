@@ -15,8 +15,8 @@ use crate::remedies::remedies_of;
 use crate::telling::others_of;
 use std::alloc::{AllocError, Global};
 use th_blunders::{Fit, blunder_count};
-use th_changes::Case;
 use th_entries::BookReview;
+use th_explain::Mending;
 use th_explain_texts::{Row, firsts_of};
 use th_network::Network;
 use th_numbers::Kinds;
@@ -37,29 +37,31 @@ pub struct Explaining<'a> {
 /// What the rows that explain mean for the sights, heights and benchmarks of a survey, given how its lowest best
 /// heights fit.
 ///
-/// Each row with number 1 is put right, one after another, and the survey is adjusted again.
+/// Each row with number 1 is put right, one after another, and the survey is adjusted again where no heights with
+/// that change are kept.
 pub fn answer_of(
     alloc: Global,
-    case: &Case<'_>,
+    mending: &mut Mending<'_>,
     fit: &Fit,
     explaining: Explaining<'_>,
 ) -> Result<Answer, AllocError>
-    requires best { IsBest case.now.network.now case.now.best.now }
-    requires fit { IsFit case.now.network.now (at_points_of case.now.network.now case.now.best.now.low) fit.now }
-    ensures answer { IfOk result (IsAnswer case.now.network.now explaining.entry.reviews.now explaining.entry.rows.now explaining.entry.limit) }
+    requires best { IsBest mending.old.case.now.network.now mending.old.case.now.best.now }
+    requires fit { IsFit mending.old.case.now.network.now (at_points_of mending.old.case.now.network.now mending.old.case.now.best.now.low) fit.now }
+    ensures answer { IfOk result (IsAnswer mending.old.case.now.network.now explaining.entry.reviews.now explaining.entry.rows.now explaining.entry.limit) }
 {
     let Explaining {
         reviews,
         rows,
         limit,
     } = explaining;
+    let case = mending.case;
     let network = case.network;
     let low = case.best.low();
     let entries = entries_of(alloc, reviews)?;
     let kinds = Kinds::of(alloc, &entries)?;
     let firsts = firsts_of(alloc, rows)?;
     let remedies = remedies_of(alloc, &entries, &firsts)?;
-    let corrected = all_readjusted(alloc, network, &kinds, &firsts, limit)?;
+    let corrected = all_readjusted(alloc, mending, &kinds, &firsts, limit)?;
     let is_quiet = is_nothing_wrong(network, &fit.residuals, limit, firsts.len());
     let usual = usual_of(alloc, network, &fit.residuals)?;
     let judge = Judge {

@@ -3,6 +3,7 @@ ghost use Rattle.std.specs.Prelude.{◌≡◌, ◌++◌, ◌≤◌, List, IfOk, 
 ghost use Rattle.std.specs.Prelude.{◌*ℤ◌};
 ghost use Rattle.th_blunders.specs.Blunders.{is_blunder};
 ghost use Rattle.th_changes.specs.Numbers.{lift};
+ghost use Rattle.th_circulation.specs.Extremes.{AreLowest};
 ghost use Rattle.th_entries.specs.declared.entries.Entry.{Entry};
 ghost use Rattle.th_network.specs.Networks.{AreAtPoints, at_points_of, points_of};
 ghost use Rattle.th_observations.specs.Observed.{largest_difference};
@@ -15,6 +16,7 @@ use std::alloc::{AllocError, Global};
 use th_blunders::{Fit, is_blunder};
 use th_changes::{Number, reach_of, tilted};
 use th_circulation::best_heights;
+use th_explain::Mending;
 use th_explain_texts::{Row, Values, mildest_value};
 use th_network::Network;
 use th_numbers::Kinds;
@@ -32,16 +34,17 @@ pub(crate) struct Readjusted {
 /// The survey with each of some rows put right, one after another, where it can be.
 pub(crate) fn all_readjusted(
     alloc: Global,
-    network: &Network,
+    mending: &mut Mending<'_>,
     kinds: &Kinds<'_>,
     rows: &[Row],
     limit: i64,
 ) -> Result<Vec<Readjusted>, AllocError>
-    ensures { IfOk result (λ listed. AreReadjusted network.now kinds.now.entries.now limit rows.now listed.items) }
+    ensures listed { IfOk result (λ listed. AreReadjusted mending.old.case.now.network.now kinds.now.entries.now limit rows.now listed.items) }
+    ensures case { mending.new.case.now ≡ mending.old.case.now }
 {
     let mut listed = Vec::with_capacity(alloc, rows.len())?;
     for row in rows {
-        let own = row_readjusted(alloc, network, kinds, row, limit)?;
+        let own = row_readjusted(alloc, mending, kinds, row, limit)?;
         add_readjusted(&mut listed, own)?;
     }
     Ok(listed)
@@ -60,15 +63,16 @@ fn add_readjusted(listed: &mut Vec<Readjusted>, own: Option<Readjusted>) -> Resu
 /// The survey with a row put right, if it can be.
 fn row_readjusted(
     alloc: Global,
-    network: &Network,
+    mending: &mut Mending<'_>,
     kinds: &Kinds<'_>,
     row: &Row,
     limit: i64,
 ) -> Result<Option<Readjusted>, AllocError>
-    ensures { IfOk result (IsReadjustedOrNone network.now kinds.now.entries.now limit row.now) }
+    ensures own { IfOk result (IsReadjustedOrNone mending.old.case.now.network.now kinds.now.entries.now limit row.now) }
+    ensures case { mending.new.case.now ≡ mending.old.case.now }
 {
     match remedy_of(kinds.entries, row) {
-        Some(remedy) => with_remedy(alloc, network, kinds, &remedy, limit),
+        Some(remedy) => with_remedy(alloc, mending, kinds, &remedy, limit),
         None => Ok(None),
     }
 }
@@ -76,35 +80,39 @@ fn row_readjusted(
 /// The survey with this remedy, if it is possible.
 fn with_remedy(
     alloc: Global,
-    network: &Network,
+    mending: &mut Mending<'_>,
     kinds: &Kinds<'_>,
     remedy: &Remedy,
     limit: i64,
 ) -> Result<Option<Readjusted>, AllocError>
-    ensures { IfOk result (IsWithOrNone network.now kinds.now.entries.now limit remedy.now) }
+    ensures own { IfOk result (IsWithOrNone mending.old.case.now.network.now kinds.now.entries.now limit remedy.now) }
+    ensures case { mending.new.case.now ≡ mending.old.case.now }
 {
     match remedy {
-        Remedy::Change(number, values) => changed(alloc, network, number, values, limit),
-        Remedy::MarkToMark(book) => reread(alloc, network, kinds, *book, limit),
+        Remedy::Change(number, values) => changed(alloc, mending, number, values, limit),
+        Remedy::MarkToMark(book) => reread(alloc, mending.case.network, kinds, *book, limit),
     }
 }
 
 /// The survey in which a number has the mildest of its values, if that is within reach.
 fn changed(
     alloc: Global,
-    network: &Network,
+    mending: &mut Mending<'_>,
     number: &Number,
     values: &Values,
     limit: i64,
 ) -> Result<Option<Readjusted>, AllocError>
-    ensures { IfOk result (λ own. (entries : List Entry)
-        → IsWithOrNone network.now entries limit (Remedy.Change number.now values.now) own) }
+    ensures own { IfOk result (λ own. (entries : List Entry)
+        → IsWithOrNone mending.old.case.now.network.now entries limit (Remedy.Change number.now values.now) own) }
+    ensures case { mending.new.case.now ≡ mending.old.case.now }
 {
+    let network = mending.case.network;
     let Some(growth) = growth_within(network, number, values) else {
         return Ok(None);
     };
     let own = tilted(alloc, network, number, growth)?;
-    let Readjusted { heights, marks } = adjusted(alloc, &own, limit)?;
+    let low = mending.lowest(alloc, &own, number, growth)?;
+    let Readjusted { heights, marks } = marked(alloc, &own, &low, limit)?;
     let heights = raised(alloc, &own, number, growth, &heights)?;
     Ok(Some(Readjusted { heights, marks }))
 }
@@ -141,7 +149,20 @@ fn adjusted(alloc: Global, network: &Network, limit: i64) -> Result<Readjusted, 
     ensures { IfOk result (IsAdjusted network.now limit) }
 {
     let best = best_heights(alloc, network)?;
-    let low = best.low();
+    marked(alloc, network, best.low(), limit)
+}
+
+/// The lowest best heights of a network, with the marks at them.
+fn marked(
+    alloc: Global,
+    network: &Network,
+    low: &[i64],
+    limit: i64,
+) -> Result<Readjusted, AllocError>
+    requires at_points { AreAtPoints network.now low.now }
+    requires lowest { AreLowest network.now (at_points_of network.now low.now) }
+    ensures { IfOk result (IsAdjusted network.now limit) }
+{
     let fit = Fit::of(alloc, network, low)?;
     let heights = Vec::from_slice(alloc, low)?;
     let marks = marks_of(alloc, &fit.residuals, limit)?;

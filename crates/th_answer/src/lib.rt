@@ -27,4 +27,3 @@ pub mod laws;
 pub use answering::{Explaining, answer_of};
 pub use answers::{Answer, Group, Moved, Others};
 pub use limits::MOST_BENCHMARKS;
-pub use th_changes::Case;

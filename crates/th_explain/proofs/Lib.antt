@@ -2,4 +2,5 @@ pub mod BracketLemmas
 pub mod ExplainLemmas
 pub mod ReachLemmas
 pub mod MendedLemmas
+pub mod PushLemmas
 pub mod MistakeLemmas

@@ -30,7 +30,7 @@ pub mod laws;
 
 pub use explaining::{explanation, explanation_or_more, shown};
 pub use freed::Freed;
-pub use mended::blunders_left;
+pub use mended::{Mending, blunders_left};
 pub use reaching::{least_in_reach, least_left};
 pub use sieve::Sieve;
 pub use th_changes::{Case, Number};

@@ -1,6 +1,5 @@
 -- Numbers that pass, and those that may be missing.
-use Rattle.std.proofs.Common.{◌≡◌, ◌⊎◌, inl, inr, ℕ, zero, suc, ◌<◌, ◌≤◌, ◌+◌, ◌∙◌, ℤ, Bool, true, false, if◌then◌else◌, List, [], ◌∷◌, ◌++◌, All, Option, None, Some, drop, length, take, replicate, subst, sym, ap, get_or, map, arith}
-use Rattle.std.proofs.lemmas.List.Elements.{All-push}
+use Rattle.std.proofs.Common.{◌≡◌, ◌⊎◌, inl, inr, ℕ, zero, suc, ◌<◌, ◌≤◌, ◌+◌, ◌∙◌, ℤ, false, List, [], ◌∷◌, ◌++◌, Option, None, Some, drop, length, take, replicate, subst, sym, ap, get_or, map, arith}
 use Rattle.std.proofs.lemmas.List.FromFn.{get_or-enumerate_from}
 use Rattle.std.specs.List.{AllZip, enumerate_from}
 use Rattle.th_explain.specs.Explained.{Explains, IsAtLeast, IsExplainedOrMore, IsLeastInReach}
@@ -170,8 +169,3 @@ explained_in before after limit size number own least found case same_limit same
     subst (λ (case : Case). IsExplainedOrMore case.network.now size least own found) case
     (subst (λ (size : ℕ). IsExplainedOrMore before.network.now size least own found) same_limit
     (subst (λ (own : Number). IsExplainedOrMore before.network.now limit least own found) same_number is))
-
--- a list that may have grown by one
-pub pushed : {A : Type 0} (P : A → Type 0) (xs ys : List A) (x : A) (b : Bool) → ys ≡ (if b then xs ++ x ∷ [] else xs) → All P xs → P x → All P ys
-pushed P xs ys x true same all one = subst (All P) (sym same) (All-push P xs x all one)
-pushed P xs ys x false same all one = subst (All P) (sym same) all

@@ -18,9 +18,9 @@ use crate::rows::{Cutoff, rows_ahead};
 use crate::sifting::{Sifted, filtered, is_settled};
 use std::alloc::{AllocError, Global};
 use th_blunders::{Fit, blunder_count};
-use th_circulation::{BestHeights, best_heights};
+use th_circulation::best_heights;
 use th_entries::BookReview;
-use th_explain::Case;
+use th_explain::{Case, Mending};
 use th_explain_texts::{MOST_ROWS, Named, Row, Summary, ranked};
 use th_named::heights_named;
 use th_network::Network;
@@ -54,24 +54,28 @@ pub fn explanations_of<P: Progress>(
 {
     let best = best_heights(alloc, network)?;
     let fit = Fit::of(alloc, network, best.low())?;
-    explained_by(alloc, network, reviews, &best, &fit, limit, progress)
+    let case = Case::of(network, &best, fit.cost);
+    let mut mending = Mending::of(alloc, &case);
+    explained_by(alloc, &mut mending, reviews, &fit, limit, progress)
 }
 
-/// The same, given the best heights of the network and how they fit.
+/// The same, given how the best heights of the network fit.
 pub fn explained_by<P: Progress>(
     alloc: Global,
-    network: &Network,
+    mending: &mut Mending<'_>,
     reviews: &[BookReview],
-    best: &BestHeights,
     fit: &Fit,
     limit: i64,
     progress: &mut P,
 ) -> Result<Explanations, AllocError>
     requires few { length reviews.now ≤ max_books }
-    requires best { IsBest network.now best.now }
-    requires fit { IsFit network.now (at_points_of network.now best.now.low) fit.now }
-    ensures explained { IfOk result (AreExplained network.now reviews.now limit) }
+    requires best { IsBest mending.old.case.now.network.now mending.old.case.now.best.now }
+    requires fit { IsFit mending.old.case.now.network.now (at_points_of mending.old.case.now.network.now mending.old.case.now.best.now.low) fit.now }
+    ensures explained { IfOk result (AreExplained mending.old.case.now.network.now reviews.now limit) }
+    ensures case { mending.new.case.now ≡ mending.old.case.now }
 {
+    let case = mending.case;
+    let network = case.network;
     let all_entries = entries_of(alloc, reviews)?;
     let entries = all_entries.as_slice();
     let all_books = books_of(alloc, reviews)?;
@@ -82,10 +86,9 @@ pub fn explained_by<P: Progress>(
     let summary = summary_with(fit.cost, marked, &listing, books.len(), limit);
     let all = in_order(alloc, listing)?;
     let candidates = all.as_slice();
-    let case = Case::of(network, best, fit.cost);
-    let mut finder = Finder::of(alloc, &case, fit, limit)?;
+    let mut finder = Finder::of(alloc, case, fit, limit)?;
     let first = first_freed(alloc, network, fit, candidates)?;
-    let mut found = rows_of(alloc, &mut finder, &first, candidates, progress)?;
+    let mut found = rows_of(alloc, &mut finder, mending, &first, candidates, progress)?;
     let read = book_rows(alloc, network, &kinds, fit.cost, books, limit)?;
     add_rows(&mut found, read.as_slice())?;
     let rows = ranked(alloc, found.as_slice())?;
@@ -101,16 +104,19 @@ pub fn explained_by<P: Progress>(
 fn rows_of<P: Progress>(
     alloc: Global,
     finder: &mut Finder<'_>,
+    mending: &mut Mending<'_>,
     first: &[Candidate],
     candidates: &[Candidate],
     progress: &mut P,
 ) -> Result<Vec<Row>, AllocError>
+    requires { finder.old.misfit.case.now ≡ mending.old.case.now }
     ensures rows { IfOk result (λ rows.
-        AreOwnRows finder.old.misfit.case.now.network.now finder.old.misfit.case.now.cost finder.old.misfit.limit candidates.now rows.items) }
+        AreOwnRows mending.old.case.now.network.now mending.old.case.now.cost finder.old.misfit.limit candidates.now rows.items) }
+    ensures case { mending.new.case.now ≡ mending.old.case.now }
 {
-    match rows_before_cutoff(alloc, finder, first, candidates, progress)? {
+    match rows_before_cutoff(alloc, finder, mending, first, candidates, progress)? {
         Some(rows) => Ok(rows),
-        None => rows_of_all(alloc, finder, candidates, progress),
+        None => rows_of_all(alloc, finder, mending, candidates, progress),
     }
 }
 
@@ -118,21 +124,23 @@ fn rows_of<P: Progress>(
 fn rows_before_cutoff<P: Progress>(
     alloc: Global,
     finder: &mut Finder<'_>,
+    mending: &mut Mending<'_>,
     first: &[Candidate],
     candidates: &[Candidate],
     progress: &mut P,
 ) -> Result<Option<Vec<Row>>, AllocError>
+    requires { finder.old.misfit.case.now ≡ mending.old.case.now }
     ensures rows { IfOk result (λ found. IfSome found (λ rows.
-        AreOwnRows finder.old.misfit.case.now.network.now finder.old.misfit.case.now.cost finder.old.misfit.limit candidates.now rows.items)) }
+        AreOwnRows mending.old.case.now.network.now mending.old.case.now.cost finder.old.misfit.limit candidates.now rows.items)) }
     ensures misfit { OnOk result (finder.new.misfit ≡ finder.old.misfit) }
+    ensures case { mending.new.case.now ≡ mending.old.case.now }
 {
-    let case = finder.misfit.case;
     let found = passed_before_cutoff(alloc, finder, first, candidates, progress)?;
     if !is_settled(&found) {
         return Ok(None);
     }
     let own = filtered(alloc, finder, candidates, found, progress)?;
-    let rows = rows_in(alloc, case, candidates, &own)?;
+    let rows = rows_in(alloc, mending, candidates, &own)?;
     if is_enough(own.cutoff, rows.len()) {
         Ok(Some(rows))
     } else {
@@ -144,16 +152,18 @@ fn rows_before_cutoff<P: Progress>(
 fn rows_of_all<P: Progress>(
     alloc: Global,
     finder: &mut Finder<'_>,
+    mending: &mut Mending<'_>,
     candidates: &[Candidate],
     progress: &mut P,
 ) -> Result<Vec<Row>, AllocError>
+    requires { finder.old.misfit.case.now ≡ mending.old.case.now }
     ensures rows { IfOk result (λ rows.
-        AreOwnRows finder.old.misfit.case.now.network.now finder.old.misfit.case.now.cost finder.old.misfit.limit candidates.now rows.items) }
+        AreOwnRows mending.old.case.now.network.now mending.old.case.now.cost finder.old.misfit.limit candidates.now rows.items) }
+    ensures case { mending.new.case.now ≡ mending.old.case.now }
 {
-    let case = finder.misfit.case;
     let all = all_passed(alloc, finder, candidates, progress)?;
     let own = filtered(alloc, finder, candidates, all, progress)?;
-    let rows = rows_in(alloc, case, candidates, &own)?;
+    let rows = rows_in(alloc, mending, candidates, &own)?;
     Ok(rows)
 }
 
@@ -170,16 +180,17 @@ fn is_enough(cutoff: Option<Cutoff>, count: usize) -> bool
 /// The rows of numbers that pass a filter.
 fn rows_in(
     alloc: Global,
-    case: &Case<'_>,
+    mending: &mut Mending<'_>,
     candidates: &[Candidate],
     found: &Sifted,
 ) -> Result<Vec<Row>, AllocError>
-    requires { AllZip (IsSiftedOrBehind case.now.network.now found.now.filter found.now.cutoff) (enumerate_from 0 candidates.now) found.now.freed.items }
-    ensures { IfOk result (λ rows. (own : List (Option Row))
-        × AllZip (IsRowOrBehind case.now.network.now case.now.cost found.now.filter found.now.cutoff) (enumerate_from 0 candidates.now) own
+    requires { AllZip (IsSiftedOrBehind mending.old.case.now.network.now found.now.filter found.now.cutoff) (enumerate_from 0 candidates.now) found.now.freed.items }
+    ensures rows { IfOk result (λ rows. (own : List (Option Row))
+        × AllZip (IsRowOrBehind mending.old.case.now.network.now mending.old.case.now.cost found.now.filter found.now.cutoff) (enumerate_from 0 candidates.now) own
         × (rows.items ≡ flat_map option_to_list own)) }
+    ensures case { mending.new.case.now ≡ mending.old.case.now }
 {
-    let own = rows_ahead(alloc, case, candidates, found)?;
+    let own = rows_ahead(alloc, mending, candidates, found)?;
     let mut rows = Vec::new(alloc);
     add_rows(&mut rows, own.as_slice())?;
     Ok(rows)

@@ -9,7 +9,7 @@ ghost use Rattle.th_explain_rows.specs.Rows.{IsBehind, IsRow, IsRowOrBehind, Pas
 use crate::sifting::Sifted;
 use std::alloc::{AllocError, Global};
 use th_explain::laws::{freed_is_one, mistake_explains};
-use th_explain::{Case, Freed, blunders_left};
+use th_explain::{Freed, Mending, blunders_left};
 use th_explain_texts::{Row, Values};
 use th_network::Network;
 use th_numbers::{Candidate, Label, sight_count};
@@ -35,19 +35,20 @@ pub struct Cutoff {
 /// For each number its row, where it passes and is ahead of the cutoff, given what is left if it is freed.
 pub(crate) fn rows_ahead(
     alloc: Global,
-    case: &Case<'_>,
+    mending: &mut Mending<'_>,
     candidates: &[Candidate],
     found: &Sifted,
 ) -> Result<Vec<Option<Row>>, AllocError>
-    requires { AllZip (IsSiftedOrBehind case.now.network.now found.now.filter found.now.cutoff) (enumerate_from 0 candidates.now) found.now.freed.items }
-    ensures { IfOk result (λ rows.
-        AllZip (IsRowOrBehind case.now.network.now case.now.cost found.now.filter found.now.cutoff) (enumerate_from 0 candidates.now) rows.items) }
+    requires { AllZip (IsSiftedOrBehind mending.old.case.now.network.now found.now.filter found.now.cutoff) (enumerate_from 0 candidates.now) found.now.freed.items }
+    ensures rows { IfOk result (λ rows.
+        AllZip (IsRowOrBehind mending.old.case.now.network.now mending.old.case.now.cost found.now.filter found.now.cutoff) (enumerate_from 0 candidates.now) rows.items) }
+    ensures case { mending.new.case.now ≡ mending.old.case.now }
 {
     freed_is_one();
     let mut rows = Vec::with_capacity(alloc, candidates.len())?;
     for k in 0..candidates.len() {
         let own = ahead(found.cutoff, k, &found.freed[k]);
-        let row = row_of_found(alloc, case, found.filter, &candidates[k], &own)?;
+        let row = row_of_found(alloc, mending, found.filter, &candidates[k], &own)?;
         add_found(&mut rows, row)?;
     }
     Ok(rows)
@@ -76,16 +77,20 @@ pub(crate) fn is_behind(cutoff: Option<Cutoff>, place: usize, left: u128) -> boo
 /// The row of what was found of a number.
 fn row_of_found(
     alloc: Global,
-    case: &Case<'_>,
+    mending: &mut Mending<'_>,
     filter: Filter,
     candidate: &Candidate,
     found: &Option<Freed>,
 ) -> Result<Option<Row>, AllocError>
-    requires { IfSome found.now (Passes case.now.network.now filter candidate.now) }
-    ensures { IfOk result (IsRowOfFound case.now.network.now case.now.cost filter candidate.now found.now) }
+    requires { IfSome found.now (Passes mending.old.case.now.network.now filter candidate.now) }
+    ensures row { IfOk result (IsRowOfFound mending.old.case.now.network.now mending.old.case.now.cost filter candidate.now found.now) }
+    ensures case { mending.new.case.now ≡ mending.old.case.now }
 {
     match found {
-        Some(freed) => Ok(Some(row_if_passed(alloc, case, filter, candidate, freed)?)),
+        Some(freed) => {
+            let row = row_if_passed(alloc, mending, filter, candidate, freed)?;
+            Ok(Some(row))
+        }
         None => Ok(None),
     }
 }
@@ -93,19 +98,21 @@ fn row_of_found(
 /// The row of a number that passes.
 fn row_if_passed(
     alloc: Global,
-    case: &Case<'_>,
+    mending: &mut Mending<'_>,
     filter: Filter,
     candidate: &Candidate,
     freed: &Freed,
 ) -> Result<Row, AllocError>
-    requires { Passes case.now.network.now filter candidate.now freed.now }
-    ensures row { IfOk result (IsRow case.now.network.now case.now.cost filter candidate.now) }
+    requires { Passes mending.old.case.now.network.now filter candidate.now freed.now }
+    ensures row { IfOk result (IsRow mending.old.case.now.network.now mending.old.case.now.cost filter candidate.now) }
     ensures left { IfOk result (λ row. row.left ≡ freed.now.left) }
+    ensures case { mending.new.case.now ≡ mending.old.case.now }
 {
     mistake_explains();
+    let case = mending.case;
     let number = candidate.number();
     let change = mildest_change(freed);
-    let blunders = blunders_left(alloc, case.network, &number, change, filter.limit)?;
+    let blunders = blunders_left(alloc, mending, &number, change, filter.limit)?;
     Ok(row_of(case.network, case.cost, candidate, freed, blunders))
 }
 

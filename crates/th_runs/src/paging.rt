@@ -1,12 +1,8 @@
 //! The command that makes a page of the height network of books.
 ghost use Rattle.std.specs.Prelude.{◌≡◌, ◌≤◌, ◌∷◌, [], All, IfErr, IfOk, length};
-ghost use Rattle.th_answer.specs.Answers.{IsAnswer};
-ghost use Rattle.th_blunders.specs.Fits.{IsFit};
-ghost use Rattle.th_circulation.specs.Best.{IsBest};
 ghost use Rattle.th_entries.specs.Stations.{HasOneStation};
 ghost use Rattle.th_inputs.specs.Inputs.{inputs_of};
 ghost use Rattle.th_limits.specs.Limits.{max_books};
-ghost use Rattle.th_network.specs.Networks.{at_points_of};
 ghost use Rattle.th_review_rows.specs.Entries.{entries_of};
 ghost use Rattle.th_run_parts.specs.Inputs.{MakesNetwork};
 ghost use Rattle.th_runs.specs.Paged.{IsPaged, said};
@@ -16,12 +12,13 @@ use crate::commands::SurveyCommand;
 use crate::findings::findings_of;
 use crate::reviews::{ReviewReader, all_sums};
 use std::alloc::{AllocError, Global};
-use th_answer::{Answer, Explaining, answer_of};
+use th_answer::{Explaining, answer_of};
 use th_blunders::Fit;
 use th_changes::Case;
-use th_circulation::{BestHeights, best_heights};
+use th_circulation::best_heights;
 use th_entries::laws::entry_of_several_books_has_one_station;
 use th_entries::{BookReview, Listed, Spelling};
+use th_explain::Mending;
 use th_explain_rows::{Explanations, explained_by};
 use th_explain_texts::sentences_text;
 use th_inputs::{NamedInputs, Sum};
@@ -137,14 +134,16 @@ fn page_of_network<'a, P: Progress>(
     let limit = subject.limit;
     let best = best_heights(alloc, network)?;
     let fit = Fit::of(alloc, network, best.low())?;
-    let explained = explained_by(alloc, network, reviews, &best, &fit, limit, progress)?;
+    let case = Case::of(network, &best, fit.cost);
+    let mut mending = Mending::of(alloc, &case);
+    let explained = explained_by(alloc, &mut mending, reviews, &fit, limit, progress)?;
     let rows = explained.rows.as_slice();
     let explaining = Explaining {
         reviews,
         rows,
         limit,
     };
-    let answer = meaning_of(alloc, network, &best, &fit, explaining)?;
+    let answer = answer_of(alloc, &mut mending, &fit, explaining)?;
     let sentences = sentences_of(alloc, &explained)?;
     let findings = findings_of(alloc, network, reviews, progress)?;
     let found = found_of(alloc, &findings, &best, subject.spellings)?;
@@ -157,23 +156,6 @@ fn page_of_network<'a, P: Progress>(
     };
     let page = page_of(alloc, subject.title, &found, subject.inputs, explained)?;
     Ok(page)
-}
-
-/// What explanations mean for a network, given its best heights and how these fit.
-fn meaning_of(
-    alloc: Global,
-    network: &Network,
-    best: &BestHeights,
-    fit: &Fit,
-    explaining: Explaining<'_>,
-) -> Result<Answer, AllocError>
-    requires best { IsBest network.now best.now }
-    requires fit { IsFit network.now (at_points_of network.now best.now.low) fit.now }
-    ensures { IfOk result (IsAnswer network.now explaining.entry.reviews.now
-        explaining.entry.rows.now explaining.entry.limit) }
-{
-    let case = Case::of(network, best, fit.cost);
-    answer_of(alloc, &case, fit, explaining)
 }
 
 /// What explanations say, in sentences of a line each.

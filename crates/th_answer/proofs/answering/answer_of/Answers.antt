@@ -29,40 +29,40 @@ use Rattle.th_answer.proofs.answering.answer_of.Goals as goal
 
 pub groups_of-requires-clause-marks : goal.groups_of-requires-clause-marks
 groups_of-requires-clause-marks c =
-    let survey = c.args.case.now.network.now in
+    let survey = c.args.mending.now.case.now.network.now in
     let limit : ℤ = to_z w64 (of_z w64 c.args.explaining.limit) in
     let listed : List Readjusted = c.in_ok-corrected.corrected.items in
-    let all : AreReadjusted survey c.in_ok-kinds.kinds.entries.now limit c.deref-4.result.now listed = c.in_ok-corrected.ensures in
+    let all : AreReadjusted survey c.in_ok-kinds.kinds.entries.now limit c.deref-4.result.now listed = c.in_ok-corrected.ensures.listed in
     subst (All (λ own. length own.marks.items ≡ length survey.observations)) (sym c.deref-9.ensures.value) (marks_are_long survey limit (those_corrected all.corrected) listed all.are_listed)
 
 pub all_moved-requires-clause-each : goal.all_moved-requires-clause-each
 all_moved-requires-clause-each c =
-    let survey = c.args.case.now.network.now in
+    let survey = c.args.mending.now.case.now.network.now in
     let limit : ℤ = to_z w64 (of_z w64 c.args.explaining.limit) in
     let listed : List Readjusted = c.in_ok-corrected.corrected.items in
-    let all : AreReadjusted survey c.in_ok-kinds.kinds.entries.now limit c.deref-4.result.now listed = c.in_ok-corrected.ensures in
+    let all : AreReadjusted survey c.in_ok-kinds.kinds.entries.now limit c.deref-4.result.now listed = c.in_ok-corrected.ensures.listed in
     let long : length c.low-low.result.now ≡ length (points_of survey) = ap (λ (low : List ℤ). length low) c.low-low.ensures ∙ c.requires.best.low_at_points.each in
     subst (λ (n : ℕ). All (λ own. length own.heights.items ≡ n) c.deref-10.result.now) (sym long)
     (subst (All (λ own. length own.heights.items ≡ length (points_of survey))) (sym c.deref-10.ensures.value) (heights_are_long survey limit (those_corrected all.corrected) listed all.are_listed))
 
 pub all_moved-requires-clause-in_range : goal.all_moved-requires-clause-in_range
 all_moved-requires-clause-in_range c =
-    let survey = c.args.case.now.network.now in
+    let survey = c.args.mending.now.case.now.network.now in
     let limit : ℤ = to_z w64 (of_z w64 c.args.explaining.limit) in
     let listed : List Readjusted = c.in_ok-corrected.corrected.items in
-    let all : AreReadjusted survey c.in_ok-kinds.kinds.entries.now limit c.deref-4.result.now listed = c.in_ok-corrected.ensures in
+    let all : AreReadjusted survey c.in_ok-kinds.kinds.entries.now limit c.deref-4.result.now listed = c.in_ok-corrected.ensures.listed in
     subst (All (λ own. All (λ height. unsigned_abs height < 2 * height_limit) own.heights.items)) (sym c.deref-10.ensures.value) (heights_are_low survey limit (those_corrected all.corrected) listed all.are_listed)
 
 pub returns : goal.returns
 returns c =
-    let survey = c.args.case.now.network.now in
+    let survey = c.args.mending.now.case.now.network.now in
     let reviews = c.args.explaining.reviews.now in
     let rows : List Row = c.args.explaining.rows.now in
     let limit : ℤ = c.args.explaining.limit in
     let bits : ℤ = to_z w64 (of_z w64 limit) in
     let fits : FitsSigned w64 limit = search rules in
     let plain : bits ≡ limit = to_z-of_z w64 limit fits in
-    let low : List ℤ = c.args.case.now.best.now.low in
+    let low : List ℤ = c.args.mending.now.case.now.best.now.low in
     let heights : List ℕ → ℤ = at_points_of survey low in
     let left : List ℤ = c.args.fit.now.residuals.items in
     let listed : List Readjusted = c.in_ok-corrected.corrected.items in
@@ -71,7 +71,7 @@ returns c =
     let all : AreReadjusted survey (entries_of reviews) limit (firsts rows) listed =
     subst (λ (own : List Row). AreReadjusted survey (entries_of reviews) limit own listed) leading
     (subst (λ (limit : ℤ). AreReadjusted survey (entries_of reviews) limit c.deref-4.result.now listed) plain
-    (subst (λ (own : List Entry). AreReadjusted survey own bits c.deref-4.result.now listed) entries c.in_ok-corrected.ensures)) in
+    (subst (λ (own : List Entry). AreReadjusted survey own bits c.deref-4.result.now listed) entries c.in_ok-corrected.ensures.listed)) in
     let after : List Corrected = those_corrected all.corrected in
     let remedies : List Remedy = c.deref-8.result.now in
     let remedied : remedies ≡ filter_map (remedy_of (entries_of reviews)) (firsts rows) =

@@ -1,4 +1,4 @@
-use Rattle.std.proofs.Common.{◌≡◌, ◌∙◌, ℕ, ℤ, Err, IfOk, List, Option, ap, length, of_z, rules, subst, sym, to_z, w64}
+use Rattle.std.proofs.Common.{◌≡◌, ◌∙◌, ℕ, ℤ, List, Option, ap, length, of_z, subst, sym, to_z, w64}
 use Rattle.std.proofs.lemmas.Int.{to_z-of_z}
 use Rattle.std.proofs.lemmas.List.{length-map}
 use Rattle.std.specs.List.{AllZip, count_by}
@@ -7,14 +7,13 @@ use Rattle.th_entries.specs.declared.entries.Entry.{Entry}
 use Rattle.th_changes.specs.Freed.{cost_of}
 use Rattle.th_changes.specs.declared.cases.Case.{Case}
 use Rattle.th_explain_texts.specs.Ranks.{ranked}
-use Rattle.th_network.specs.Networks.{Survey}
 use Rattle.th_numbers.specs.declared.candidates.Candidate.{Candidate}
 use Rattle.th_explain_rows.specs.declared.finder.Misfit.{Misfit}
 use Rattle.th_blunders.specs.Blunders.{blunders_at}
 use Rattle.th_explain_texts.specs.declared.rows.Row.{Row}
 use Rattle.th_network.specs.Heights.{residual}
 use Rattle.th_network.specs.Networks.{at_points_of}
-use Rattle.th_explain_rows.specs.Explanations.{AreExplained, summary_with}
+use Rattle.th_explain_rows.specs.Explanations.{summary_with}
 use Rattle.th_explain_rows.specs.Inside.Passing.{AreOwnRows}
 use Rattle.th_named.specs.Meant.{AreNamedIn}
 use Rattle.th_numbers.specs.Lists.{listed_in, listed_of}
@@ -24,13 +23,15 @@ use Rattle.th_explain_rows.proofs.findings.explained_by.Goals as goal
 
 pub blunder_count-marked-requires-clause-each : goal.blunder_count-marked-requires-clause-each
 blunder_count-marked-requires-clause-each g c =
-    let survey = c.args.network.now in
-    ap length (c.deref.ensures.value ∙ c.requires.fit.residuals) ∙ length-map survey.observations (λ o. residual o (at_points_of survey c.args.best.now.low)) ∙ sym (ap length c.observations.ensures.observations)
+    let case : Case = c.args.mending.now.case.now in
+    let survey = case.network.now in
+    ap length (c.deref.ensures.value ∙ c.requires.fit.residuals) ∙ length-map survey.observations (λ o. residual o (at_points_of survey case.best.now.low)) ∙ sym (ap length c.observations.ensures.observations)
 
-pub returns : goal.returns
-returns g c =
-    let survey = c.args.network.now in
-    let heights = at_points_of survey c.args.best.now.low in
+pub returns-clause-explained : goal.returns-clause-explained
+returns-clause-explained g c =
+    let given : Case = c.args.mending.now.case.now in
+    let survey = given.network.now in
+    let heights = at_points_of survey given.best.now.low in
     let (tied, are, listed) = c.in_ok-listing.ensures in
     let limit = to_z-of_z w64 c.args.limit c.ranges.limit in
     let entries = c.as_slice-entries.result.now in
@@ -43,33 +44,21 @@ returns g c =
     ∙ ap (count_by (is_blunder c.args.limit)) (c.deref.ensures.value ∙ c.requires.fit.residuals) in
     let candidates : List Candidate = c.as_slice-candidates.result.now in
     let misfit : Misfit = c.in_ok-finder.finder.misfit in
-    let case : Case = misfit.case.now in
-    let network : case.network.now ≡ survey = ap (λ (case : Case). case.network.now) c.in_ok-finder.ensures.case ∙ c.of-case.ensures.network in
-    let total : case.cost ≡ c.args.fit.now.cost = ap (λ (case : Case). case.cost) c.in_ok-finder.ensures.case ∙ c.of-case.ensures.cost in
     let size : misfit.limit ≡ c.args.limit = c.in_ok-finder.ensures.limit ∙ limit in
     let found : List Row = c.in_ok-found.found.items in
     let rows : AreOwnRows survey c.args.fit.now.cost c.args.limit candidates found =
     subst (λ (limit : ℤ). AreOwnRows survey c.args.fit.now.cost limit candidates found) size
-    (subst (λ (cost : ℕ). AreOwnRows survey cost misfit.limit candidates found) total
-    (subst (λ (survey : Survey). AreOwnRows survey case.cost misfit.limit candidates found) network c.in_ok-found.ensures.rows)) in
-    record {
-      explained =
-          explained_of survey c.args.reviews.now c.args.limit (record { summary = c.summary_with-summary.result; rows = c.in_ok-rows.rows; named = c.in_ok-named.named }) heights tied entries all c.args.fit.now.cost
-          candidates books found read c.requires.best.low are
-          (c.as_slice-entries.ensures.value ∙ c.in_ok-all_entries.ensures) (listed ∙ ap (λ (own : List Entry). listed_of survey own tied) c.in_ok-kinds.ensures) cost (c.as_slice-candidates.ensures.value ∙ c.in_ok-all.ensures) (c.as_slice-books.ensures.value ∙ c.in_ok-all_books.ensures)
-          rows
-          (subst (λ (z : ℤ). AllZip (IsBookRowOrNone survey entries c.args.fit.now.cost z) books read) limit
-          (subst (λ (own : List Entry). AllZip (IsBookRowOrNone survey own c.args.fit.now.cost (to_z w64 (of_z w64 c.args.limit))) books read) c.in_ok-kinds.ensures
-          (subst (λ (found : List (Option Row)). AllZip (IsBookRowOrNone survey c.in_ok-kinds.kinds.entries.now c.args.fit.now.cost (to_z w64 (of_z w64 c.args.limit))) books found) (sym c.as_slice.ensures.value) c.in_ok-read.ensures.rows)))
-          (c.summary_with-summary.ensures ∙ ap (λ (own : ℤ). summary_with c.args.fit.now.cost c.blunder_count-marked.result all (length books) own) limit
-          ∙ ap (λ (own : ℕ). summary_with own c.blunder_count-marked.result all (length books) c.args.limit) cost
-          ∙ ap (λ (own : ℕ). summary_with (cost_of survey heights) own all (length books) c.args.limit) marked)
-          (c.in_ok-rows.ensures ∙ ap ranked (c.as_slice-2.ensures.value ∙ c.in_ok-add_rows.ensures))
-          (subst (λ (own : List Row). AreNamedIn entries c.args.limit own c.in_ok-named.named.items) c.as_slice-3.ensures.value
-          (subst (λ (own : ℤ). AreNamedIn entries own c.as_slice-3.result.now c.in_ok-named.named.items) limit c.in_ok-named.ensures));
-    }
-
-pub returns-in_err-add_rows : goal.returns-in_err-add_rows
-returns-in_err-add_rows g c =
-    let is : c.from_residual-in_err-add_rows.result ≡ Err c.in_err-add_rows.field-0.0 = search rules in
-    record { explained = subst (λ own. IfOk own (AreExplained c.args.network.now c.args.reviews.now c.args.limit)) (sym is) tt }
+    (subst (λ (cost : ℕ). AreOwnRows survey cost misfit.limit candidates found) (given.least ∙ sym cost) c.in_ok-found.ensures.rows) in
+    explained_of survey c.args.reviews.now c.args.limit (record { summary = c.summary_with-summary.result; rows = c.in_ok-rows.rows; named = c.in_ok-named.named }) heights tied entries all c.args.fit.now.cost
+    candidates books found read c.requires.best.low are
+    (c.as_slice-entries.ensures.value ∙ c.in_ok-all_entries.ensures) (listed ∙ ap (λ (own : List Entry). listed_of survey own tied) c.in_ok-kinds.ensures) cost (c.as_slice-candidates.ensures.value ∙ c.in_ok-all.ensures) (c.as_slice-books.ensures.value ∙ c.in_ok-all_books.ensures)
+    rows
+    (subst (λ (z : ℤ). AllZip (IsBookRowOrNone survey entries c.args.fit.now.cost z) books read) limit
+    (subst (λ (own : List Entry). AllZip (IsBookRowOrNone survey own c.args.fit.now.cost (to_z w64 (of_z w64 c.args.limit))) books read) c.in_ok-kinds.ensures
+    (subst (λ (found : List (Option Row)). AllZip (IsBookRowOrNone survey c.in_ok-kinds.kinds.entries.now c.args.fit.now.cost (to_z w64 (of_z w64 c.args.limit))) books found) (sym c.as_slice.ensures.value) c.in_ok-read.ensures.rows)))
+    (c.summary_with-summary.ensures ∙ ap (λ (own : ℤ). summary_with c.args.fit.now.cost c.blunder_count-marked.result all (length books) own) limit
+    ∙ ap (λ (own : ℕ). summary_with own c.blunder_count-marked.result all (length books) c.args.limit) cost
+    ∙ ap (λ (own : ℕ). summary_with (cost_of survey heights) own all (length books) c.args.limit) marked)
+    (c.in_ok-rows.ensures ∙ ap ranked (c.as_slice-2.ensures.value ∙ c.in_ok-add_rows.ensures))
+    (subst (λ (own : List Row). AreNamedIn entries c.args.limit own c.in_ok-named.named.items) c.as_slice-3.ensures.value
+    (subst (λ (own : ℤ). AreNamedIn entries own c.as_slice-3.result.now c.in_ok-named.named.items) limit c.in_ok-named.ensures))

@@ -11,20 +11,20 @@ use Rattle.th_explain_rows.specs.declared.rows.Filter.{Filter}
 use Rattle.th_explain_rows.proofs.rows.row_if_passed.Goals as goal
 
 pub row_of-requires-clause-low : goal.row_of-requires-clause-low
-row_of-requires-clause-low c = omega (arith, c.requires.explains.low_in_reach, reach_small (number_of c.args.candidate.now) c.args.case.now.network.now.observations)
+row_of-requires-clause-low c = omega (arith, c.requires.explains.low_in_reach, reach_small (number_of c.args.candidate.now) c.args.mending.now.case.now.network.now.observations)
 
 pub row_of-requires-clause-high : goal.row_of-requires-clause-high
-row_of-requires-clause-high c = omega (arith, c.requires.explains.high_in_reach, reach_small (number_of c.args.candidate.now) c.args.case.now.network.now.observations)
+row_of-requires-clause-high c = omega (arith, c.requires.explains.high_in_reach, reach_small (number_of c.args.candidate.now) c.args.mending.now.case.now.network.now.observations)
 
 pub row_of-requires-clause-less : goal.row_of-requires-clause-less
 row_of-requires-clause-less c =
-    let case : Case = c.args.case.now in
+    let case : Case = c.args.mending.now.case.now in
     let less = c.mistake_explains.ensures.unchanged case.network.now (number_of c.args.candidate.now) (at_points_of case.network.now case.best.now.low) c.args.freed.now.left c.requires.explains.exact.left case.keep in
     omega (arith, less, case.least)
 
 pub returns-clause-row : goal.returns-clause-row
 returns-clause-row c =
-    let case : Case = c.args.case.now in
+    let case : Case = c.args.mending.now.case.now in
     let survey = case.network.now in
     let candidate = c.args.candidate.now in
     let filter : Filter = c.args.filter in

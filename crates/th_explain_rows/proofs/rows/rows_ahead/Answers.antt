@@ -1,13 +1,15 @@
-use Rattle.std.proofs.Common.{◌<◌, ℕ, List, length, subst, sym, arith}
+use Rattle.std.proofs.Common.{◌<◌, ◌∙◌, ℕ, List, length, subst, sym, arith}
 use Rattle.std.proofs.lemmas.List.{take_all}
 use Rattle.std.proofs.lemmas.List.FromFn.{length-enumerate_from}
 use Rattle.std.proofs.lemmas.Slice.Zip.{AllZip-long}
 use Rattle.std.specs.List.{AllZip, enumerate_from}
+use Rattle.std.specs.Prelude.{IfSome}
 use Rattle.th_reliability.proofs.ZipLemmas.{zip_next}
 use Rattle.th_changes.specs.declared.cases.Case.{Case}
 use Rattle.th_numbers.specs.declared.candidates.Candidate.{Candidate}
+use Rattle.th_explain_rows.specs.Inside.Passing.{IsRowOfFound}
 use Rattle.th_explain_rows.specs.Inside.Sifting.{IsSiftedOrBehind}
-use Rattle.th_explain_rows.specs.Rows.{IsRowOrBehind}
+use Rattle.th_explain_rows.specs.Rows.{IsRowOrBehind, Passes}
 use Rattle.th_explain_rows.specs.declared.rows.Filter.{Filter}
 use Rattle.th_explain_rows.proofs.PassLemmas.{numbered, zip_at}
 use Rattle.th_explain_rows.proofs.RowLemmas.{ahead_passes, row_or_behind}
@@ -21,31 +23,38 @@ index-requires c =
 
 pub row_of_found-requires : goal.row_of_found-requires
 row_of_found-requires c =
-    let survey = c.args.case.now.network.now in
+    let case : Case = c.args.mending.now.case.now in
+    let survey = case.network.now in
     let filter : Filter = c.args.found.now.filter in
     let candidates = c.args.candidates.now in
     let k : ℕ = c.loop-k.k in
     let within : k < length (enumerate_from 0 candidates) = omega (arith, c.loop-k-test.true, length-enumerate_from 0 candidates) in
-    ahead_passes survey c.args.case.now.cost filter c.args.found.now.cutoff k c.index-candidates-k.result c.index.result.now c.ahead-own.result
+    subst (λ (own : Case). IfSome c.ahead-own.result (Passes own.network.now filter c.index-candidates-k.result)) (sym c.loop-k.invariant.case)
+    (ahead_passes survey case.cost filter c.args.found.now.cutoff k c.index-candidates-k.result c.index.result.now c.ahead-own.result
     (subst (IsSiftedOrBehind survey filter c.args.found.now.cutoff (k, c.index-candidates-k.result)) (sym c.index.ensures)
     (zip_at (IsSiftedOrBehind survey filter c.args.found.now.cutoff) (enumerate_from 0 candidates) c.args.found.now.freed.items k (k, c.index-candidates-k.result) c.index.result.now c.requires within (numbered candidates k c.index-candidates-k.result c.loop-k-test.true c.index-candidates-k.is)))
-    c.ahead-own.ensures
+    c.ahead-own.ensures)
 
 pub loop-k-preserved : goal.loop-k-preserved
 loop-k-preserved c =
-    let case : Case = c.args.case.now in
+    let case : Case = c.args.mending.now.case.now in
     let survey = case.network.now in
     let filter : Filter = c.args.found.now.filter in
     let candidates = c.args.candidates.now in
     let k : ℕ = c.loop-k.k in
     let here = numbered candidates k c.index-candidates-k.result c.loop-k-test.true c.index-candidates-k.is in
     let within : k < length (enumerate_from 0 candidates) = omega (arith, c.loop-k-test.true, length-enumerate_from 0 candidates) in
-    zip_next (IsRowOrBehind survey case.cost filter c.args.found.now.cutoff) (enumerate_from 0 candidates) c.loop-k.rows.items c.add_found.new.rows.items k (k, c.index-candidates-k.result) c.in_ok-row.row within here c.in_ok-add_found.ensures c.loop-k.invariant
-    (row_or_behind survey case.cost filter c.args.found.now.cutoff k c.index-candidates-k.result c.freed_is_one.ensures c.index.result.now c.ahead-own.result c.in_ok-row.row
-    (subst (IsSiftedOrBehind survey filter c.args.found.now.cutoff (k, c.index-candidates-k.result)) (sym c.index.ensures)
-    (zip_at (IsSiftedOrBehind survey filter c.args.found.now.cutoff) (enumerate_from 0 candidates) c.args.found.now.freed.items k (k, c.index-candidates-k.result) c.index.result.now c.requires within here)) c.ahead-own.ensures c.in_ok-row.ensures)
+    let row = subst (λ (own : Case). IsRowOfFound own.network.now own.cost filter c.index-candidates-k.result c.ahead-own.result c.in_ok-row.row) c.loop-k.invariant.case c.in_ok-row.ensures.row in
+    record {
+      rows = zip_next (IsRowOrBehind survey case.cost filter c.args.found.now.cutoff) (enumerate_from 0 candidates) c.loop-k.rows.items c.add_found.new.rows.items k (k, c.index-candidates-k.result) c.in_ok-row.row within here c.in_ok-add_found.ensures c.loop-k.invariant.rows
+          (row_or_behind survey case.cost filter c.args.found.now.cutoff k c.index-candidates-k.result c.freed_is_one.ensures c.index.result.now c.ahead-own.result c.in_ok-row.row
+          (subst (IsSiftedOrBehind survey filter c.args.found.now.cutoff (k, c.index-candidates-k.result)) (sym c.index.ensures)
+          (zip_at (IsSiftedOrBehind survey filter c.args.found.now.cutoff) (enumerate_from 0 candidates) c.args.found.now.freed.items k (k, c.index-candidates-k.result) c.index.result.now c.requires within here)) c.ahead-own.ensures row);
+      case = c.in_ok-row.ensures.case ∙ c.loop-k.invariant.case;
+    }
 
-pub returns : goal.returns
-returns c =
-    subst (λ (own : List (ℕ × Candidate)). AllZip (IsRowOrBehind c.args.case.now.network.now c.args.case.now.cost c.args.found.now.filter c.args.found.now.cutoff) own c.loop-k.rows.items)
-    (take_all c.loop-k.k (enumerate_from 0 c.args.candidates.now) (omega (arith, c.loop-k-test.false, length-enumerate_from 0 c.args.candidates.now))) c.loop-k.invariant
+pub returns-clause-rows : goal.returns-clause-rows
+returns-clause-rows c =
+    let case : Case = c.args.mending.now.case.now in
+    subst (λ (own : List (ℕ × Candidate)). AllZip (IsRowOrBehind case.network.now case.cost c.args.found.now.filter c.args.found.now.cutoff) own c.loop-k.rows.items)
+    (take_all c.loop-k.k (enumerate_from 0 c.args.candidates.now) (omega (arith, c.loop-k-test.false, length-enumerate_from 0 c.args.candidates.now))) c.loop-k.invariant.rows

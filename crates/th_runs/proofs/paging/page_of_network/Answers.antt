@@ -1,9 +1,10 @@
-use Rattle.std.proofs.Common.{FitsSigned, ◌≡◌, ◌∙◌, ℕ, ℤ, List, ap₂, rules, subst, w64, to_z, of_z}
+use Rattle.std.proofs.Common.{FitsSigned, ◌≡◌, ◌∙◌, ℕ, ℤ, List, ap, ap₂, rules, subst, sym, w64, to_z, of_z}
 use Rattle.std.proofs.lemmas.Int.{to_z-of_z}
 use Rattle.th_answer.specs.Answers.{IsAnswer}
 use Rattle.th_answer.specs.declared.answers.Answer.{Answer}
 use Rattle.th_blunders.specs.Fits.{IsFit}
-use Rattle.th_circulation.specs.Best.{Best}
+use Rattle.th_changes.specs.declared.cases.Case.{Case}
+use Rattle.th_circulation.specs.Best.{Best, IsBest}
 use Rattle.th_entries.specs.declared.reviews.BookReview.{BookReview}
 use Rattle.th_explain_rows.specs.Explanations.{AreExplained}
 use Rattle.th_explain_texts.specs.declared.rows.Row.{Row}
@@ -16,15 +17,41 @@ use Rattle.th_review_rows.specs.Found.{FoundRows, found_rows, numbers_in, rows_i
 use Rattle.th_runs.specs.Paged.{said}
 use Rattle.th_runs.proofs.paging.page_of_network.Goals as goal
 
+pub explained_by-requires-clause-best : goal.explained_by-requires-clause-best
+explained_by-requires-clause-best g c =
+    let own : Case = c.of-mending.result.case.now in
+    let network : own.network.now ≡ c.args.network.now = ap (λ (own : Case). own.network.now) c.of-mending.ensures ∙ c.of-case.ensures.network in
+    let best : own.best.now ≡ c.in_ok-best.best = ap (λ (own : Case). own.best.now) c.of-mending.ensures ∙ c.of-case.ensures.best in
+    subst (λ (survey : Survey). IsBest survey own.best.now) (sym network) (subst (IsBest c.args.network.now) (sym best) c.in_ok-best.ensures)
+
 pub explained_by-requires-clause-fit : goal.explained_by-requires-clause-fit
 explained_by-requires-clause-fit g c =
     let survey = c.args.network.now in
-    subst (λ (low : List ℤ). IsFit survey (at_points_of survey low) c.in_ok-fit.fit) c.low.ensures c.in_ok-fit.ensures
+    let own : Case = c.of-mending.result.case.now in
+    let network : own.network.now ≡ survey = ap (λ (own : Case). own.network.now) c.of-mending.ensures ∙ c.of-case.ensures.network in
+    let best : own.best.now ≡ c.in_ok-best.best = ap (λ (own : Case). own.best.now) c.of-mending.ensures ∙ c.of-case.ensures.best in
+    subst (λ (survey : Survey). IsFit survey (at_points_of survey own.best.now.low) c.in_ok-fit.fit) (sym network)
+    (subst (λ (best : Best). IsFit survey (at_points_of survey best.low) c.in_ok-fit.fit) (sym best)
+    (subst (λ (low : List ℤ). IsFit survey (at_points_of survey low) c.in_ok-fit.fit) c.low.ensures c.in_ok-fit.ensures))
 
-pub meaning_of-requires-clause-fit : goal.meaning_of-requires-clause-fit
-meaning_of-requires-clause-fit g c =
+pub answer_of-requires-clause-best : goal.answer_of-requires-clause-best
+answer_of-requires-clause-best g c =
+    let own : Case = c.explained_by.new.mending.case.now in
+    let given : own ≡ c.of-case.result = c.in_ok-explained.ensures.case ∙ c.of-mending.ensures in
+    let network : own.network.now ≡ c.args.network.now = ap (λ (own : Case). own.network.now) given ∙ c.of-case.ensures.network in
+    let best : own.best.now ≡ c.in_ok-best.best = ap (λ (own : Case). own.best.now) given ∙ c.of-case.ensures.best in
+    subst (λ (survey : Survey). IsBest survey own.best.now) (sym network) (subst (IsBest c.args.network.now) (sym best) c.in_ok-best.ensures)
+
+pub answer_of-requires-clause-fit : goal.answer_of-requires-clause-fit
+answer_of-requires-clause-fit g c =
     let survey = c.args.network.now in
-    subst (λ (low : List ℤ). IsFit survey (at_points_of survey low) c.in_ok-fit.fit) c.low.ensures c.in_ok-fit.ensures
+    let own : Case = c.explained_by.new.mending.case.now in
+    let given : own ≡ c.of-case.result = c.in_ok-explained.ensures.case ∙ c.of-mending.ensures in
+    let network : own.network.now ≡ survey = ap (λ (own : Case). own.network.now) given ∙ c.of-case.ensures.network in
+    let best : own.best.now ≡ c.in_ok-best.best = ap (λ (own : Case). own.best.now) given ∙ c.of-case.ensures.best in
+    subst (λ (survey : Survey). IsFit survey (at_points_of survey own.best.now.low) c.in_ok-fit.fit) (sym network)
+    (subst (λ (best : Best). IsFit survey (at_points_of survey best.low) c.in_ok-fit.fit) (sym best)
+    (subst (λ (low : List ℤ). IsFit survey (at_points_of survey low) c.in_ok-fit.fit) c.low.ensures c.in_ok-fit.ensures))
 
 pub returns-clause-page : goal.returns-clause-page
 returns-clause-page g c =
@@ -36,6 +63,9 @@ returns-clause-page g c =
     let survey = c.args.network.now in
     let fits : FitsSigned w64 subject.limit = search rules in
     let limit_is = to_z-of_z w64 subject.limit fits in
+    let given : c.explained_by.new.mending.case.now ≡ c.of-case.result = c.in_ok-explained.ensures.case ∙ c.of-mending.ensures in
+    let explained_in : c.of-mending.result.case.now.network.now ≡ survey = ap (λ (own : Case). own.network.now) c.of-mending.ensures ∙ c.of-case.ensures.network in
+    let answered_in : c.explained_by.new.mending.case.now.network.now ≡ survey = ap (λ (own : Case). own.network.now) given ∙ c.of-case.ensures.network in
     let rows : c.as_slice-rows.result.now ≡ explained.rows.items = search rules in
     let says : c.deref.result.now ≡ said explained = search rules in
     let text_of : FoundRows → ExplainedRows → List ℕ = λ found own. page_text (shown_of subject.title.now found (inputs_of subject.inputs) own) in
@@ -47,8 +77,11 @@ returns-clause-page g c =
       found = numbers_in findings;
       finds = c.in_ok-findings.ensures.found;
       explained = explained;
-      explains = subst (λ (limit : ℤ). AreExplained survey subject.reviews.now limit explained) limit_is c.in_ok-explained.ensures.explained;
+      explains = subst (λ (limit : ℤ). AreExplained survey subject.reviews.now limit explained) limit_is
+          (subst (λ (survey : Survey). AreExplained survey subject.reviews.now (to_z w64 (of_z w64 subject.limit)) explained) explained_in c.in_ok-explained.ensures.explained);
       meaning = meaning;
-      means = subst (λ (limit : ℤ). IsAnswer survey subject.reviews.now explained.rows.items limit meaning) limit_is (subst (λ (own : List Row). IsAnswer survey subject.reviews.now own (to_z w64 (of_z w64 subject.limit)) meaning) rows c.in_ok-answer.ensures);
+      means = subst (λ (limit : ℤ). IsAnswer survey subject.reviews.now explained.rows.items limit meaning) limit_is
+          (subst (λ (own : List Row). IsAnswer survey subject.reviews.now own (to_z w64 (of_z w64 subject.limit)) meaning) rows
+          (subst (λ (survey : Survey). IsAnswer survey subject.reviews.now c.as_slice-rows.result.now (to_z w64 (of_z w64 subject.limit)) meaning) answered_in c.in_ok-answer.ensures.answer));
       printed = c.in_ok-page.ensures ∙ (λ i. text_of (same i) (record { cost = explained.summary.cost; limit = limit_is i; rows = rows i; sentences = says i; answer = answered meaning }));
     }

@@ -1,10 +1,11 @@
 use Rattle.std.proofs.Common.{◌∙◌, subst}
 use Rattle.th_changes.specs.declared.cases.Case.{Case}
 use Rattle.th_explain.specs.Explained.{IsLeastInReach}
+use Rattle.th_explain.proofs.PushLemmas.{pushed}
 use Rattle.th_explain_rows.specs.Inside.Passing.{IsMostOf}
 use Rattle.th_explain_rows.specs.declared.finder.Misfit.{Misfit}
 use Rattle.th_explain_rows.specs.declared.finder.Whole.{Whole}
-use Rattle.th_explain_rows.proofs.PassLemmas.{most_of, pushed}
+use Rattle.th_explain_rows.proofs.PassLemmas.{most_of}
 use Rattle.th_explain_rows.proofs.finder.Finder.least_of.Goals as goal
 
 pub invariant_of-self-2 : goal.invariant_of-self-2
