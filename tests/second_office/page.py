@@ -84,7 +84,8 @@ def class_of(page: Page) -> bytes:
 
 def meaning(page: Page) -> bytes:
     marked = sum(is_marked(page, sight) for sight in page.sights)
-    text = b'Their residuals are above the limit: see <a href="#residuals">residuals</a>.' if marked else b"No residual is above the limit."
+    whose = b"Its residual is" if marked == 1 else b"Their residuals are"
+    text = whose + b' above the limit: see <a href="#residuals">residuals</a>.' if marked else b"No residual is above the limit."
     wait = b" Do not use these heights yet." if class_of(page) == b"bad" else b""
     return paragraph(b"<b>%d of %d sights marked.</b> %s%s" % (marked, len(page.sights), text, wait))
 
@@ -218,7 +219,8 @@ def table(head: bytes, rows: List[bytes], box: bytes = b"w") -> bytes:
 
 
 def short_table(head: bytes, rows: List[bytes]) -> bytes:
-    more = paragraph(b"%d more rows are in the tables of height_office review." % (len(rows) - ROWS)) if len(rows) > ROWS else b""
+    left = count(len(rows) - ROWS, b"more row is", b"more rows are")
+    more = paragraph(b"%s in the tables of height_office review." % left) if len(rows) > ROWS else b""
     return table(head, rows[:ROWS]) + more
 
 

@@ -113,7 +113,8 @@ def dot(page: Page, scale: Scale, k: int) -> bytes:
     if point.strength is None:
         return b'<path class="k" d="M%d %dl70 120h-140z">%s</path>\n' % (x, y - 75, title)
     play = b'<path class="p" d="M%d %dV%d"/>' % (x, y, y_of(scale, raised(point.high))) if is_low and point.high > point.low else b""
-    return play + b'<circle cx="%d" cy="%d" r="%d">%s</circle>\n' % (x, y, radius(len(page.points)), title)
+    own = title if len(page.points) <= MANY else b""
+    return play + b'<circle cx="%d" cy="%d" r="%d">%s</circle>\n' % (x, y, radius(len(page.points)), own)
 
 
 def gap_lines(page: Page, scale: Scale, group: str) -> bytes:

@@ -36,7 +36,7 @@ const CALLS: [(Device, u8); 5] = [
 const LINES: [&str; 15] = [
     "<title>&lt;i&gt;site: heights</title>\n",
     "<h1>&lt;i&gt;site</h1>\n<p class=\"of\">Heights from <bdi>&lt;b&gt; &amp; &#39;so&#39;.gsi</bdi>, <bdi>marks.csv</bdi>, <bdi>weights.csv</bdi> &middot; limit 20.0 mm</p>\n",
-    "<div class=\"verdict care\">\n<h2>One wrong number explains all that does not fit.</h2>\n<p><b>1 of 3 sights marked.</b> Their residuals are above the limit: see <a href=\"#residuals\">residuals</a>.</p>\n<p>One wrong number explains this: the sight of line 4.</p>\n<p>The sight of line 4: given 3.54500000, fits from 2.54500000 to 2.54600000.</p>\n<p>No height moves by more than 20.0 mm then.</p>\n<p>Nothing checks 2 keyed-in heights: a mistake there would not show.</p>\n",
+    "<div class=\"verdict care\">\n<h2>One wrong number explains all that does not fit.</h2>\n<p><b>1 of 3 sights marked.</b> Its residual is above the limit: see <a href=\"#residuals\">residuals</a>.</p>\n<p>One wrong number explains this: the sight of line 4.</p>\n<p>The sight of line 4: given 3.54500000, fits from 2.54500000 to 2.54600000.</p>\n<p>No height moves by more than 20.0 mm then.</p>\n<p>Nothing checks 2 keyed-in heights: a mistake there would not show.</p>\n",
     "<path d=\"M2650 3400Q3525 2726 4400 2090T6150 854\"><title>1:3 A to B, 0.0000</title></path>\n",
     "<g class=\"a few\">\n<path d=\"M2650 3400Q3525 2515 4400 1740T6150 300\"><title>1:4 A to B, +0.9990</title></path>\n",
     "<circle cx=\"6150\" cy=\"854\" r=\"38\"><title>B 102.5460</title></circle>\n",

@@ -7,6 +7,7 @@ use Rattle.th_reliability.specs.declared.mistakes.SharedMistake.{SharedMistake}
 use Rattle.th_review_rows.specs.declared.rows.BenchmarkRow.{BenchmarkRow}
 use Rattle.th_review_rows.specs.declared.rows.EntryRow.{EntryRow}
 use Rattle.th_review_rows.specs.declared.rows.ObservationRow.{ObservationRow}
+use Rattle.th_answer.specs.Limits.{most_benchmarks}
 use Rattle.th_html.specs.Cells.{height_cell, name_cell, number_cell, optional_cell, optional_height_cell, place_cell, signed_cell, words_cell}
 use Rattle.th_html.specs.Lengths.{sized_text}
 use Rattle.th_html.specs.Places.{place_text}
@@ -14,9 +15,9 @@ use Rattle.th_html.specs.Texts.{escaped}
 use Rattle.th_html.specs.Words.{entry_words, number_words}
 use Rattle.th_review_rows.specs.Words.{mistake_word, shared_mistake_word}
 
--- the most rows of a table
+-- the most rows of a table: as many as benchmarks are compared with the others
 abbrev pub most_rows : ℕ
-most_rows = 100
+most_rows = most_benchmarks
 
 -- the beginning of a table, with its head
 unfoldable pub table_start : List ℕ
@@ -33,8 +34,13 @@ unfoldable pub table_close : List ℕ
 table_close = codes "</tbody></table></div>\n"
 
 -- how many rows were left out
+abbrev pub more_words : ℕ → List ℕ
+more_words count =
+    if count == 1 then codes " more row is in the tables of height_office review.</p>\n"
+    else codes " more rows are in the tables of height_office review.</p>\n"
+
 unfoldable pub more_text : ℕ → List ℕ
-more_text count = codes "<p>" ++ decimal count ++ codes " more rows are in the tables of height_office review.</p>\n"
+more_text count = codes "<p>" ++ decimal count ++ more_words count
 
 abbrev pub left_out : ℕ → List ℕ
 left_out count = if nat_lt most_rows count then more_text (count - most_rows) else []

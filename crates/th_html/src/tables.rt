@@ -1,13 +1,14 @@
 //! What all tables have.
 ghost use Rattle.std.specs.Prelude.{◌≡◌, ◌++◌, OnOk, take};
-ghost use Rattle.th_html.specs.Tables.{head_end, left_out, more_text, most_rows, row_open, table_close, table_open, table_start};
+ghost use Rattle.th_html.specs.Tables.{head_end, left_out, more_text, more_words, most_rows, row_open, table_close, table_open, table_start};
 
 use crate::texts::write_number;
 use std::alloc::AllocError;
+use th_answer::MOST_BENCHMARKS;
 use th_columns::Page;
 
-/// The most rows of a table.
-const MOST_ROWS: usize = 100;
+/// The most rows of a table: as many as benchmarks are compared with the others.
+const MOST_ROWS: usize = MOST_BENCHMARKS;
 
 /// The first rows, as many as a table has.
 pub fn first_rows<T>(rows: &[T]) -> &[T]
@@ -83,5 +84,16 @@ fn write_more(page: &mut Page, count: u64) -> Result<(), AllocError>
 {
     page.add(b"<p>")?;
     write_number(page, count)?;
-    page.add(b" more rows are in the tables of height_office review.</p>\n")
+    page.add(more_words(count))
+}
+
+/// What is said of so many rows.
+fn more_words(count: u64) -> &'static [u8]
+    ensures { result.now ≡ more_words count }
+{
+    if count == 1 {
+        b" more row is in the tables of height_office review.</p>\n"
+    } else {
+        b" more rows are in the tables of height_office review.</p>\n"
+    }
 }

@@ -16,7 +16,7 @@ use Rattle.th_picture.specs.Curves.{drawn_group, few_text, group_text, path_in, 
 use Rattle.th_picture.specs.Gaps.{gap_count, gap_lines, gap_of, gaps_of, has_gap, most_gaps, shows_gaps}
 use Rattle.th_picture.specs.Legends.{legend_groups, legend_text, sample_of, sample_text, words_of}
 use Rattle.th_picture.specs.Names.{depth_of, is_written, longer, longest_of, name_lines, name_of, name_open, name_text, names, turn_of}
-use Rattle.th_picture.specs.Points.{benchmark_shape, circle_text, dot_shape, low_if, low_text, play_of, point_lines, point_shape, radius_text, shape_of, title_text}
+use Rattle.th_picture.specs.Points.{benchmark_shape, circle_text, dot_shape, low_if, low_text, many, play_of, point_lines, point_shape, radius_text, shape_of, title_text}
 use Rattle.th_picture.specs.Pictures.{drawing, frame_of, open_text, picture_text, scale_lines, turned_picture}
 use Rattle.th_picture.specs.Strips as strip
 use Rattle.th_picture.specs.declared.drawn.DrawnPoint.{DrawnPoint}
@@ -48,7 +48,7 @@ of_title point = still (codes "<title>") ⊕ name point.row.name ⊕ still (low_
 of_shape : (frame : _) (x y : ℕ) (point : DrawnPoint) (strength : Option ℕ) → IsFilled (λ given. shape_of frame x y (dot_named given point) strength)
 unfolding benchmark_shape dot_shape
 of_shape frame x y point None = still (pair_text (codes "<path class=\"k\" d=\"M") x (y - 75) ++ codes "l70 120h-140z\">") ⊕ of_title point ⊕ still (codes "</path>\n")
-of_shape frame x y point (Some strength) = still (play_of frame x y point ++ circle_text x y (radius_text frame.points)) ⊕ of_title point ⊕ still (codes "</circle>\n")
+of_shape frame x y point (Some strength) = still (play_of frame x y point ++ circle_text x y (radius_text frame.points)) ⊕ chosen (nat_le frame.points many) (of_title point) (still []) ⊕ still (codes "</circle>\n")
 
 shapes : (frame : _) (points : List DrawnPoint) → IsFilled (λ given. point_lines frame (map (dot_named given) points))
 unfolding point_lines

@@ -45,7 +45,8 @@ marks_counts count total = codes "<b>" ++ decimal count ++ codes " of " ++ decim
 abbrev pub marks_words : ℕ → List ℕ
 marks_words count =
     if count == 0 then codes "No residual is above the limit."
-    else codes "Their residuals are above the limit: see <a href=\"#residuals\">residuals</a>."
+    else (if count == 1 then codes "Its residual is above the limit: see <a href=\"#residuals\">residuals</a>."
+    else codes "Their residuals are above the limit: see <a href=\"#residuals\">residuals</a>.")
 
 -- not to use the heights, if they are bad
 abbrev pub wait_words : Tone → List ℕ

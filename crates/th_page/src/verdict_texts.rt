@@ -82,6 +82,8 @@ fn marks_words(count: u64) -> &'static [u8]
 {
     if count == 0 {
         b"No residual is above the limit."
+    } else if count == 1 {
+        b"Its residual is above the limit: see <a href=\"#residuals\">residuals</a>."
     } else {
         b"Their residuals are above the limit: see <a href=\"#residuals\">residuals</a>."
     }

@@ -38,16 +38,24 @@ has_play point = is_lowest point && int_lt point.row.low point.row.high
 abbrev pub play_of : Frame → ℕ → ℕ → DrawnPoint → List ℕ
 play_of frame x y point = if has_play point then play_shape x y (height_y frame.scale point.row.high) else []
 
--- the radius of a dot, among so many points: more would hide the sights if they were not small
+-- dots of more points would hide the sights, and are too small to be pointed at
+abbrev pub many : ℕ
+many = 1000
+
+-- the radius of a dot, among so many points
 abbrev pub radius_text : ℕ → List ℕ
-radius_text count = if nat_le count few then codes "38" else if nat_le count 1000 then codes "20" else codes "6"
+radius_text count = if nat_le count few then codes "38" else if nat_le count many then codes "20" else codes "6"
 
 unfoldable pub circle_text : ℕ → ℕ → List ℕ → List ℕ
 circle_text x y radius = codes "<circle cx=\"" ++ decimal x ++ codes "\" cy=\"" ++ decimal y ++ codes "\" r=\"" ++ radius ++ codes "\">"
 
+-- the title of a dot, among so many points
+abbrev pub dot_title : ℕ → DrawnPoint → List ℕ
+dot_title count point = if nat_le count many then title_text point else []
+
 -- another point
 unfoldable pub dot_shape : Frame → ℕ → ℕ → DrawnPoint → List ℕ
-dot_shape frame x y point = play_of frame x y point ++ circle_text x y (radius_text frame.points) ++ title_text point ++ codes "</circle>\n"
+dot_shape frame x y point = play_of frame x y point ++ circle_text x y (radius_text frame.points) ++ dot_title frame.points point ++ codes "</circle>\n"
 
 -- a benchmark has no strength
 abbrev pub shape_of : Frame → ℕ → ℕ → DrawnPoint → Option ℕ → List ℕ

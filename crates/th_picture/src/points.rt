@@ -1,7 +1,7 @@
 //! The points in the picture.
 ghost use Rattle.std.specs.Prelude.{◌≡◌, ◌++◌, OnOk};
 ghost use Rattle.std.specs.List.{enumerate_from, flat_map};
-ghost use Rattle.th_picture.specs.Points.{benchmark_shape, circle_text, dot_shape, has_play, is_lowest, low_if, low_text, play_of, play_shape, point_lines, point_shape, radius_text, title_text};
+ghost use Rattle.th_picture.specs.Points.{benchmark_shape, circle_text, dot_shape, dot_title, has_play, is_lowest, low_if, low_text, play_of, play_shape, point_lines, point_shape, radius_text, title_text};
 
 use crate::coordinates::write_pair;
 use crate::drawn::DrawnPoint;
@@ -11,7 +11,7 @@ use std::alloc::AllocError;
 use th_columns::Page;
 use th_html::{write_escaped, write_height, write_number};
 
-/// Dots of more points would hide the sights, and are small.
+/// Dots of more points would hide the sights, and are too small to be pointed at.
 const MANY: u64 = 1_000;
 
 /// Writes all points, in point order.
@@ -80,8 +80,19 @@ fn write_dot(
 {
     write_play_of(page, frame, x, y, point)?;
     write_circle(page, x, y, radius_text(frame.points))?;
-    write_title(page, point)?;
+    write_dot_title(page, frame.points, point)?;
     page.add(b"</circle>\n")
+}
+
+/// Writes the title of a dot, among so many points.
+fn write_dot_title(page: &mut Page, count: u64, point: &DrawnPoint) -> Result<(), AllocError>
+    ensures { OnOk result (page.new ≡ page.old ++ dot_title count point.now) }
+{
+    if count <= MANY {
+        write_title(page, point)
+    } else {
+        Ok(())
+    }
 }
 
 /// Writes how high the best heights of a point reach, if it is drawn at the lowest of them and they differ.
