@@ -21,8 +21,8 @@ struct Mended {
     heights: Vec<i64>,
 }
 
-/// A network with its best heights, and the heights after the changes that were looked at first: nobody adjusts
-/// it twice with the same change.
+/// A network with its best heights, and the heights after the changes that were looked at first: it is not
+/// adjusted twice with one of them.
 #[derive(Drop)]
 pub struct Mending<'a> {
     pub case: &'a Case<'a>,
