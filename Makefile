@@ -116,6 +116,7 @@ statuses: built
 	@tests/first_contact --program $(PROGRAM)
 	@tests/shown_bytes --program $(PROGRAM)
 	@tests/books_of_tables --program $(PROGRAM)
+	@tests/large_pages --program $(PROGRAM)
 
 RUNS ?= 100
 killed: built

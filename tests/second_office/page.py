@@ -175,17 +175,23 @@ def weak_benchmark_row(row: Benchmark) -> bytes:
 
 def off_by(row: Benchmark) -> int:
     """How far the given height is outside what the others say."""
-    low, high = row.others.differ or (row.height, row.height)
+    low, high = row.others and row.others.differ or (row.height, row.height)
     return max(0, low - row.height, row.height - high)
 
 
 def benchmark_row(page: Page, row: Benchmark) -> bytes:
     off = off_by(row)
-    says = span(row.others.differ) if row.others.differ else b""
-    cells = b"<td>%s<td>%s" % (says, size(off) if off else b"fits")
+    return row_start(off > page.limit) + b"<th>%s<td>%s<td>%d%s\n" % (escaped(row.name), height(row.height), row.sights, said_of(page, row))
+
+
+def said_of(page: Page, row: Benchmark) -> bytes:
+    """The cells of what the others say, and how far the given height is off."""
+    if row.others is None:
+        return b"<td><td>"
     if not row.others.speak:
-        cells = b"<td>nothing%s<td>" % (b": it is the only one" if len(page.benchmarks) == 1 else b"")
-    return row_start(off > page.limit) + b"<th>%s<td>%s<td>%d%s\n" % (escaped(row.name), height(row.height), row.sights, cells)
+        return b"<td>nothing%s<td>" % (b": it is the only one" if len(page.benchmarks) == 1 else b"")
+    off = off_by(row)
+    return b"<td>%s<td>%s" % (span(row.others.differ) if row.others.differ else b"", size(off) if off else b"fits")
 
 
 def height_row(point: Point, has_moved: bool) -> bytes:
@@ -250,7 +256,8 @@ def heights(page: Page) -> bytes:
 
 def benchmarks(page: Page) -> bytes:
     rows = [benchmark_row(page, row) for row in page.benchmarks[:ROWS]] + [b""] * max(0, len(page.benchmarks) - ROWS)
-    return section(b"benchmarks", b"Benchmarks", b"The given heights, and what the other benchmarks say of each by the sights that lead there.",
+    return section(b"benchmarks", b"Benchmarks", b"The given heights, and what the other benchmarks say of each by the sights that lead there. "
+                   b"With more than 4,000 sights that is asked of the first rows alone.",
                    short_table(BENCHMARK_HEAD, rows)) if rows else b""
 
 

@@ -157,7 +157,7 @@ fn compare(rt: &impl Abort, alloc: Global, sample: &Sample, limit: u64) -> usize
     );
     let best = best_heights(alloc, &network).expect(rt, "memory");
     let fit = Fit::of(alloc, &network, best.low()).expect(rt, "memory");
-    let case = Case::of(&network, &best, fit.cost);
+    let case = Case::of(&network, &best, &fit);
     let found = explained(rt, alloc, &network, &sample.numbers, limit, None);
     assert_eq!(rt; found.len(), sample.numbers.len());
     let half = fit.cost / 2;

@@ -17,8 +17,8 @@ pub fn explained(
 ) -> Vec<Option<Freed>> {
     let best = best_heights(alloc, network).expect(rt, "memory");
     let fit = Fit::of(alloc, network, best.low()).expect(rt, "memory");
-    let case = Case::of(network, &best, fit.cost);
-    let mut sieve = Sieve::of(alloc, &case, &fit).expect(rt, "memory");
+    let case = Case::of(network, &best, &fit);
+    let mut sieve = Sieve::of(alloc, &case).expect(rt, "memory");
     let mut found = Vec::with_capacity(alloc, numbers.len()).expect(rt, "memory");
     for number in numbers {
         let own = explanation_or_more(alloc, &mut sieve, number, limit, least).expect(rt, "memory");

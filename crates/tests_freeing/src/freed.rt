@@ -3,7 +3,7 @@ use crate::networks::{Network, Number};
 use crate::references::{is_circulation, is_slack, net, parted, settled, value};
 use std::alloc::Global;
 use std::process::Abort;
-use th_freeing::{Found, Seed, Simplex, Task};
+use th_freeing::{Found, Seed, Simplex, Start, Task};
 
 /// Flows that were found for a number, and where the simplex goes on from them.
 #[derive(Drop)]
@@ -46,8 +46,12 @@ impl Case {
         }
         match kept {
             Some(kept) => {
+                let start = Start {
+                    flows: &kept.flows,
+                    seed: &kept.seed,
+                };
                 self.simplex
-                    .free_from(number.group, number.base, task, &kept.flows, &kept.seed)
+                    .free_from(number.group, number.base, task, start)
             }
             None => self.simplex.free(number.group, number.base, task),
         }

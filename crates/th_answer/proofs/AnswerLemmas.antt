@@ -14,7 +14,7 @@ use Rattle.th_answer.specs.Answers.{IsAnswer, those_corrected}
 use Rattle.th_answer.specs.Corrected.{Corrected}
 use Rattle.th_answer.specs.Groups.{Judged, group_of, nothing_is_wrong}
 use Rattle.th_answer.specs.Inside.Readjusted.{AreReadjusted}
-use Rattle.th_answer.specs.Limits.{most_benchmarks}
+use Rattle.th_answer.specs.Limits.{asked_benchmarks}
 use Rattle.th_answer.specs.Moved.{drawn_by, moved_of}
 use Rattle.th_answer.specs.Others.{IsSaid}
 use Rattle.th_answer.specs.Remedies.{remedy_of}
@@ -31,7 +31,7 @@ pub answered : (survey : Survey) (reviews : List BookReview) (rows : List Row) (
     → (remedies : List Remedy) → remedies ≡ filter_map (remedy_of (entries_of reviews)) (firsts rows) → (is_quiet : Bool) → is_quiet ≡ nothing_is_wrong survey heights limit (length (firsts rows))
     → (answer : Answer) → answer.groups.items ≡ map (group_of (judged survey heights limit remedies (those_corrected all.corrected) is_quiet usual)) survey.observations
     → answer.moved.items ≡ map (moved_of limit heights (those_corrected all.corrected)) (points_of survey) → answer.drawn.items ≡ map (drawn_by heights all.corrected) (points_of survey)
-    → AllZip (IsSaid survey) (take most_benchmarks survey.benchmarks) answer.others.items → IsOutlierNote survey left limit answer.outlier → IsAnswer survey reviews rows limit answer
+    → AllZip (IsSaid survey) (take (asked_benchmarks (length survey.observations)) survey.benchmarks) answer.others.items → IsOutlierNote survey left limit answer.outlier → IsAnswer survey reviews rows limit answer
 answered survey reviews rows limit heights lowest left are listed all usual is_usual remedies same is_quiet quiet answer groups moved drawn others outlier = record {
   heights = heights;
   lowest = lowest;

@@ -11,7 +11,7 @@ use Rattle.th_remarks.specs.Outliers.{IsOutlierNote, IsUsualOrNone, weighed}
 use Rattle.th_review_rows.specs.Entries.{entries_of}
 use Rattle.th_answer.specs.Corrected.{Corrected, IsCorrectedOrNone}
 use Rattle.th_answer.specs.Groups.{Judged, group_of, nothing_is_wrong}
-use Rattle.th_answer.specs.Limits.{most_benchmarks}
+use Rattle.th_answer.specs.Limits.{asked_benchmarks}
 use Rattle.th_answer.specs.Moved.{drawn_by, moved_of}
 use Rattle.th_answer.specs.Others.{IsSaid}
 use Rattle.th_answer.specs.Remedies.{remedy_of}
@@ -44,5 +44,5 @@ pub record IsAnswer (survey : Survey) (reviews : List BookReview) (rows : List R
   pub groups : answer.groups.items ≡ map (group_of (judged_by survey heights limit reviews rows corrected usual)) survey.observations
   pub moved : answer.moved.items ≡ map (moved_of limit heights (those_corrected corrected)) (points_of survey)
   pub drawn : answer.drawn.items ≡ map (drawn_by heights corrected) (points_of survey)
-  pub others : AllZip (IsSaid survey) (take most_benchmarks survey.benchmarks) answer.others.items
+  pub others : AllZip (IsSaid survey) (take (asked_benchmarks (length survey.observations)) survey.benchmarks) answer.others.items
   pub outlier : IsOutlierNote survey (residuals survey.observations heights) limit answer.outlier

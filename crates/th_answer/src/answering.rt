@@ -1,9 +1,6 @@
 //! What explanations mean for a survey.
 ghost use Rattle.std.specs.Prelude.{◌≡◌, ◌&&◌, ◌==◌, IfOk, count_by, length};
 ghost use Rattle.th_blunders.specs.Blunders.{is_blunder};
-ghost use Rattle.th_blunders.specs.Fits.{IsFit};
-ghost use Rattle.th_circulation.specs.Best.{IsBest};
-ghost use Rattle.th_network.specs.Networks.{at_points_of};
 ghost use Rattle.th_answer.specs.Answers.{IsAnswer};
 
 use crate::answers::Answer;
@@ -14,7 +11,7 @@ use crate::moving::{all_moved, drawn_of};
 use crate::remedies::remedies_of;
 use crate::telling::others_of;
 use std::alloc::{AllocError, Global};
-use th_blunders::{Fit, blunder_count};
+use th_blunders::blunder_count;
 use th_entries::BookReview;
 use th_explain::Mending;
 use th_explain_texts::{Row, firsts_of};
@@ -34,20 +31,17 @@ pub struct Explaining<'a> {
     pub limit: i64,
 }
 
-/// What the rows that explain mean for the sights, heights and benchmarks of a survey, given how its lowest best
-/// heights fit.
+/// What the rows that explain mean for the sights, heights and benchmarks of a survey.
 ///
 /// Each row with number 1 is put right, one after another, and the survey is adjusted again where no heights with
 /// that change are kept.
 pub fn answer_of(
     alloc: Global,
     mending: &mut Mending<'_>,
-    fit: &Fit,
     explaining: Explaining<'_>,
 ) -> Result<Answer, AllocError>
-    requires best { IsBest mending.old.case.now.network.now mending.old.case.now.best.now }
-    requires fit { IsFit mending.old.case.now.network.now (at_points_of mending.old.case.now.network.now mending.old.case.now.best.now.low) fit.now }
     ensures answer { IfOk result (IsAnswer mending.old.case.now.network.now explaining.entry.reviews.now explaining.entry.rows.now explaining.entry.limit) }
+    ensures case { mending.new.case.now ≡ mending.old.case.now }
 {
     let Explaining {
         reviews,
@@ -56,6 +50,7 @@ pub fn answer_of(
     } = explaining;
     let case = mending.case;
     let network = case.network;
+    let fit = case.fit;
     let low = case.best.low();
     let entries = entries_of(alloc, reviews)?;
     let kinds = Kinds::of(alloc, &entries)?;
@@ -77,7 +72,7 @@ pub fn answer_of(
         groups: groups_of(alloc, &judge)?,
         moved: all_moved(alloc, network, low, &corrected, limit)?,
         drawn: drawn_of(alloc, low, firsts.len(), &corrected)?,
-        others: others_of(alloc, case, fit)?,
+        others: others_of(alloc, case)?,
         outlier: outlier_of(alloc, network, &fit.residuals, limit)?,
     })
 }

@@ -3,15 +3,16 @@ ghost use Rattle.std.specs.Prelude.{◌≡◌, ◌↔◌, ◌<ℤ◌, ◌-ℤ◌
 ghost use Rattle.th_observations.specs.Observed.{Observed};
 ghost use Rattle.th_answer.specs.Corrected.{Corrected};
 ghost use Rattle.th_answer.specs.Groups.{Judged, group_of, is_in_question, is_marked};
-ghost use Rattle.th_answer.specs.Limits.{most_benchmarks};
+ghost use Rattle.th_answer.specs.Limits.{most_asked, most_benchmarks};
 ghost use Rattle.th_answer.specs.Moved.{moved_of};
 
 use crate::answers::Group;
-use crate::limits::MOST_BENCHMARKS;
+use crate::limits::{MOST_ASKED, MOST_BENCHMARKS};
 
 /// The constants are the limits that contracts cite.
 pub fn constants_are_the_limits()
     ensures benchmarks { MOST_BENCHMARKS ≡ most_benchmarks }
+    ensures asked { MOST_ASKED ≡ most_asked }
 {}
 
 /// A sight that fits, or that is only unlike the others, is not marked, and none of the numbers that explain most has it.

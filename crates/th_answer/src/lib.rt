@@ -26,4 +26,4 @@ pub mod laws;
 
 pub use answering::{Explaining, answer_of};
 pub use answers::{Answer, Group, Moved, Others};
-pub use limits::MOST_BENCHMARKS;
+pub use limits::{MOST_ASKED, MOST_BENCHMARKS};

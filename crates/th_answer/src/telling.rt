@@ -3,29 +3,26 @@ ghost use Rattle.std.specs.Prelude.{◌≡◌, ◌<◌, ◌≤◌, ◌+ℤ◌, �
 ghost use Rattle.std.specs.List.{AllZip};
 ghost use Rattle.th_limits.specs.Limits.{largest_difference, max_len};
 ghost use Rattle.th_numbers.specs.Ties.{AreTiedRows, IsTold};
-ghost use Rattle.th_answer.specs.Limits.{most_benchmarks};
+ghost use Rattle.th_answer.specs.Limits.{asked_benchmarks};
 ghost use Rattle.th_answer.specs.Others.{IsSaid};
 
 use crate::answers::Others;
-use crate::limits::MOST_BENCHMARKS;
+use crate::limits::asked_benchmarks;
 use std::alloc::{AllocError, Global};
-use th_blunders::Fit;
 use th_changes::{Case, Number};
 use th_explain::{Freed, Sieve, explanation_or_more};
 use th_numbers::{TiedRow, tied_rows};
 
-/// What the others say of the first rows of the benchmarks' table, given how the best heights fit.
-pub(crate) fn others_of(
-    alloc: Global,
-    case: &Case<'_>,
-    fit: &Fit,
-) -> Result<Vec<Others>, AllocError>
+/// What the others say of the first rows of the benchmarks' table.
+pub(crate) fn others_of(alloc: Global, case: &Case<'_>) -> Result<Vec<Others>, AllocError>
     ensures { IfOk result (λ others. AllZip (IsSaid case.now.network.now)
-        (take most_benchmarks case.now.network.now.benchmarks) others.items) }
+        (take (asked_benchmarks (length case.now.network.now.observations)) case.now.network.now.benchmarks)
+        others.items) }
 {
     let rows = tied_rows(alloc, case.network)?;
-    let mut sieve = Sieve::of(alloc, case, fit)?;
-    let count = rows.len().min(MOST_BENCHMARKS);
+    let mut sieve = Sieve::of(alloc, case)?;
+    let most = asked_benchmarks(case.network.observations().len());
+    let count = rows.len().min(most);
     let mut others = Vec::with_capacity(alloc, count)?;
     for place in 0..count {
         let said = said_of_row(alloc, &mut sieve, &rows, place)?;

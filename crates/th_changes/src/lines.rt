@@ -18,6 +18,30 @@ pub struct Line {
     pub net: i64,
 }
 
+/// How many units of two lines are level together, if one rises as the other falls. Nothing is promised: it is
+/// checked.
+#[derive(Clone, Copy)]
+struct Shares {
+    own: u64,
+    others: u64,
+}
+
+impl Shares {
+    /// Of lines that rise so much.
+    fn of(net: i64, other: i64) -> Shares {
+        if net == 0 {
+            Shares { own: 1, others: 0 }
+        } else if other == 0 {
+            Shares { own: 0, others: 1 }
+        } else {
+            Shares {
+                own: other.unsigned_abs(),
+                others: net.unsigned_abs(),
+            }
+        }
+    }
+}
+
 impl Line {
     /// Whether this line and another one show that at least so much is left, whatever the number is changed
     /// by. The network costs `cost`.
@@ -25,8 +49,8 @@ impl Line {
         ensures { result ≡ true → (survey : Survey) (number : Number) → IsLine survey number cost self.now
             → IsLine survey number cost other.now → LeavesAtLeast survey number least }
     {
-        let (own, others) = shares(self.net, other.net);
-        match self.are_paid(own, other, others, cost, least) {
+        let shares = Shares::of(self.net, other.net);
+        match self.are_paid(other, shares, cost, least) {
             Some(()) => true,
             None => false,
         }
@@ -34,9 +58,10 @@ impl Line {
 
     /// Whether so many units of this line and of another one are level together, and are paid by what a cost
     /// is above another one.
-    fn are_paid(&self, own: u64, other: &Line, others: u64, cost: u128, least: u128) -> Option<()>
-        ensures { IfSome result (λ done. ArePaid self.now own other.now others cost least) }
+    fn are_paid(&self, other: &Line, shares: Shares, cost: u128, least: u128) -> Option<()>
+        ensures { IfSome result (λ done. ArePaid self.now shares.own other.now shares.others cost least) }
     {
+        let Shares { own, others } = shares;
         let room = cost.checked_sub(least)?;
         let all = sum_of_level(own, self.net, others, other.net)?;
         let price = price_of(own, self.lost, others, other.lost)?;
@@ -83,18 +108,6 @@ fn is_either_below(line: &Line, other: &Line, limit: u64) -> bool
     ensures { result ≡ true → IsPaidBelow limit line.now ⊎ IsPaidBelow limit other.now }
 {
     line.is_paid_below(limit) || other.is_paid_below(limit)
-}
-
-/// How many units of two lines are level together, if one rises as the other falls. Nothing is promised: it
-/// is checked.
-fn shares(net: i64, other: i64) -> (u64, u64) {
-    if net == 0 {
-        (1, 0)
-    } else if other == 0 {
-        (0, 1)
-    } else {
-        (other.unsigned_abs(), net.unsigned_abs())
-    }
 }
 
 /// How many units of two lines there are, if so many of each rise and fall equally, and there are some.

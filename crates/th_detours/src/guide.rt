@@ -320,9 +320,8 @@ impl Guide {
 
     /// Searches for a path from the base to the spare vertex, or back.
     fn search_for(&mut self, need: i64, bounds: Bounds) -> Option<()> {
-        let (from, to) = self.course(need);
-        self.search
-            .run(&mut self.path, &self.network, from, to, bounds)
+        let ends = self.course(need);
+        self.search.run(&mut self.path, &self.network, ends, bounds)
     }
 
     /// How long the path is.

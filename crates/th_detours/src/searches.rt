@@ -47,10 +47,10 @@ impl Search {
         &mut self,
         path: &mut Vec<ResidualArc>,
         network: &Parted,
-        from: u32,
-        to: u32,
+        ends: (u32, u32),
         bounds: Bounds,
     ) -> Option<()> {
+        let (from, to) = ends;
         let ground = network.ground(bounds.toll);
         self.out.clear();
         self.into.clear();

@@ -29,13 +29,13 @@ pub(crate) struct Detours<'a> {
 }
 
 impl<'a> Detours<'a> {
-    /// The best flows of a case, given how its best heights fit.
-    pub fn of(alloc: Global, case: &'a Case<'a>, fit: &Fit) -> Result<Detours<'a>, AllocError>
+    /// The best flows of a case.
+    pub fn of(alloc: Global, case: &'a Case<'a>) -> Result<Detours<'a>, AllocError>
         ensures { IfOk result (λ own. own.rerouted.case.now ≡ case.now) }
     {
         Ok(Detours {
             rerouted: Rerouted::of(alloc, case)?,
-            guide: guide_of(alloc, case, fit)?,
+            guide: guide_of(alloc, case)?,
         })
     }
 
@@ -132,12 +132,12 @@ impl<'a> Detours<'a> {
 }
 
 /// The guide for a network with its best flows.
-fn guide_of(alloc: Global, case: &Case<'_>, fit: &Fit) -> Result<Guide, AllocError> {
+fn guide_of(alloc: Global, case: &Case<'_>) -> Result<Guide, AllocError> {
     let network = case.network;
     let links = network.arcs().len();
     let mut guide = Guide::new(alloc, network.vertices(), links)?;
     for place in 0..links {
-        if let Some(link) = link_at(case, fit, place) {
+        if let Some(link) = link_at(case, place) {
             guide.set_link(place, link);
         }
     }

@@ -52,7 +52,7 @@ pub(crate) fn freed_between(
     'narrow: while right.change - left.change > 1 {
         let own = slope_at(alloc, network, number, between(&left, &right))?;
         if own.slope == 0 {
-            return flat_at(alloc, network, number, &left, &own, &right);
+            return flat_at(alloc, network, number, &own, (left, right));
         }
         if own.slope < 0 {
             left = own;
@@ -110,21 +110,20 @@ fn from_to(low: &Sloped, high: &Sloped) -> Freed
     }
 }
 
-/// What is left where the cost neither falls nor rises at a change between the two.
+/// What is left where the cost neither falls nor rises at a change between two others.
 fn flat_at(
     alloc: Global,
     network: &Network,
     number: &Number,
-    left: &Sloped,
     flat: &Sloped,
-    right: &Sloped,
+    round: (Sloped, Sloped),
 ) -> Result<Freed, AllocError>
-    requires below { IsBelow network.now number.now left.now flat.now }
-    requires above { IsAbove network.now number.now flat.now right.now }
+    requires below { IsBelow network.now number.now round.0 flat.now }
+    requires above { IsAbove network.now number.now flat.now round.1 }
     ensures exact { IfOk result (IsExact network.now number.now) }
 {
-    let low = lowest(alloc, network, number, *left, flat)?;
-    let high = highest(alloc, network, number, flat, *right)?;
+    let low = lowest(alloc, network, number, round.0, flat)?;
+    let high = highest(alloc, network, number, flat, round.1)?;
     Ok(from_to(&low, &high))
 }
 

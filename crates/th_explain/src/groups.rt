@@ -1,6 +1,5 @@
 //! The observations of a case as links, and the ends of them that a number has. Nothing is promised of them.
 use gsi_word::Name;
-use th_blunders::Fit;
 use th_changes::{Case, Number, Run};
 use th_detours::{End, Group, Link};
 use th_network::Network;
@@ -15,7 +14,7 @@ pub(crate) struct Ends {
 }
 
 /// The observation at a place as a link with its best flow; its length is the size of its residual.
-pub(crate) fn link_at(case: &Case<'_>, fit: &Fit, place: usize) -> Option<Link> {
+pub(crate) fn link_at(case: &Case<'_>, place: usize) -> Option<Link> {
     let arc = case.network.arcs().get(place)?;
     Some(Link {
         tail: arc.tail,
@@ -23,7 +22,7 @@ pub(crate) fn link_at(case: &Case<'_>, fit: &Fit, place: usize) -> Option<Link> 
         weight: *case.network.weights().get(place)?,
         flow: *case.best.flows().get(place)?,
         difference: arc.diff,
-        length: fit.residuals.get(place)?.unsigned_abs(),
+        length: case.fit.residuals.get(place)?.unsigned_abs(),
     })
 }
 

@@ -13,6 +13,7 @@ mod gains;
 mod groups;
 mod pairs;
 mod sieve;
+mod touching;
 mod turns;
 mod unshown;
 // What a simplex shows of a number.

@@ -7,9 +7,9 @@ use crate::detours::{Detours, Worth};
 use crate::gains::Gains;
 use crate::groups::link_at;
 use crate::pairs::{Pair, best_pair, costly_line, is_nearer, nearest_line};
+use crate::touching::Touching;
 use crate::unshown::Unshown;
 use std::alloc::{AllocError, Global};
-use th_blunders::Fit;
 use th_changes::{Case, KeptFlows, Line, Number, Rerouted, Run, run_of};
 use th_freeing::{Seed, Simplex};
 use th_reliability::Runs;
@@ -38,8 +38,10 @@ pub struct Sieve<'a> {
     pub(crate) runs: Runs<'a>,
     pub(crate) simplex: Simplex,
     /// What the kept circulations say of one number. Nothing is promised of it.
-    lines: Vec<Line>,
+    pub(crate) lines: Vec<Line>,
     lines_of: Option<Number>,
+    /// Where that number is, if it is a benchmark.
+    touching: Touching,
     /// What numbers gain if all heights stay. Nothing is promised of that either.
     gains: Gains,
     /// What was not shown of the number that was asked for last. It only spares the same search.
@@ -52,25 +54,26 @@ pub struct Sieve<'a> {
 }
 
 impl<'a> Sieve<'a> {
-    /// The sieve of a network, given how its best heights fit.
-    pub fn of(alloc: Global, case: &'a Case<'a>, fit: &Fit) -> Result<Sieve<'a>, AllocError>
+    /// The sieve of a network.
+    pub fn of(alloc: Global, case: &'a Case<'a>) -> Result<Sieve<'a>, AllocError>
         ensures { IfOk result (λ own. own.case.now ≡ case.now) }
     {
-        let best = Detours::of(alloc, case, fit)?;
+        let best = Detours::of(alloc, case)?;
         let turned = copies_of(alloc, &best.rerouted)?;
         Ok(Sieve {
             case,
             best,
-            near: Detours::of(alloc, case, fit)?,
+            near: Detours::of(alloc, case)?,
             near_place: None,
             kept: Vec::with_capacity(alloc, MOST_KEPT)?,
             seeds: Vec::with_capacity(alloc, MOST_KEPT)?,
             turned,
             runs: Runs::of(case.network.observations()),
-            simplex: simplex_of(alloc, case, fit)?,
+            simplex: simplex_of(alloc, case)?,
             lines: Vec::with_capacity(alloc, MOST_KEPT + MOST_TURNED)?,
             lines_of: None,
-            gains: Gains::of(alloc, fit)?,
+            touching: Touching::new(alloc, case.network)?,
+            gains: Gains::of(alloc, case.fit)?,
             unshown: Unshown::new(),
         })
     }
@@ -298,7 +301,7 @@ impl<'a> Sieve<'a> {
     }
 
     /// Lists what the kept circulations say of a number, unless that is listed. Nothing is promised.
-    fn list_lines(&mut self, number: &Number) -> Option<()>
+    pub(crate) fn list_lines(&mut self, number: &Number) -> Option<()>
         ensures { self.new.case.now ≡ self.old.case.now }
     {
         if self.lines_of == Some(*number) {
@@ -306,13 +309,27 @@ impl<'a> Sieve<'a> {
         }
         self.lines_of = None;
         self.lines.clear();
+        let network = self.case.network;
+        if let Number::Benchmark(name) = number {
+            self.touching.find(network, name)?;
+        }
         let run = run_of(number, &self.runs);
         for place in 0..self.count() {
-            let line = self.kept_line(place, number, run)?;
+            let line = self.listed_line(place, number, run)?;
             self.lines.push(line).ok()?;
         }
         self.lines_of = Some(*number);
         Some(())
+    }
+
+    /// A line of one of the circulations that are kept, as it is listed. Nothing is promised.
+    fn listed_line(&self, place: usize, number: &Number, run: Run) -> Option<Line>
+        requires { HoldsNumber self.now.runs.observations.now number.now run }
+    {
+        match number {
+            Number::Benchmark(_) => self.touching.line(self.kept_at(place)?),
+            _ => self.kept_line(place, number, run),
+        }
     }
 
     /// A line of the best flows.
@@ -327,26 +344,25 @@ impl<'a> Sieve<'a> {
         self.kept.len().saturating_add(self.turned.len())
     }
 
-    /// A line of one of the circulations that are kept: of those that went other ways behind the others.
+    /// A line of one of the circulations that are kept.
     pub(crate) fn kept_line(&self, place: usize, number: &Number, run: Run) -> Option<Line>
         requires { HoldsNumber self.now.runs.observations.now number.now run }
         ensures { IfSome result (IsLine self.now.case.now.network.now number.now self.now.case.now.cost) }
     {
-        if place >= self.kept.len() {
-            return self.turned_line(place - self.kept.len(), number, run);
-        }
-        Some(self.kept[place].line(number, run))
+        let kept = self.kept_at(place)?;
+        Some(kept.line(number, run))
     }
 
-    /// A line of one of those that went other ways.
-    fn turned_line(&self, place: usize, number: &Number, run: Run) -> Option<Line>
-        requires { HoldsNumber self.now.runs.observations.now number.now run }
-        ensures { IfSome result (IsLine self.now.case.now.network.now number.now self.now.case.now.cost) }
+    /// One of the circulations that are kept: those that went other ways behind the others.
+    fn kept_at(&self, place: usize) -> Option<&KeptFlows<'a>>
+        ensures { IfSome result (λ own. own.now.case.now ≡ self.now.case.now) }
     {
-        if place >= self.turned.len() {
-            return None;
+        let kept = self.kept.len();
+        if place < kept {
+            self.kept.get(place)
+        } else {
+            self.turned.get(place - kept)
         }
-        Some(self.turned[place].line(number, run))
     }
 
     /// A line of the best flows where they go round all walks that were proposed.
@@ -479,12 +495,12 @@ fn copies_of<'a>(alloc: Global, flows: &Rerouted<'a>) -> Result<Vec<KeptFlows<'a
 }
 
 /// The simplex for a network with its best flows.
-fn simplex_of(alloc: Global, case: &Case<'_>, fit: &Fit) -> Result<Simplex, AllocError> {
+fn simplex_of(alloc: Global, case: &Case<'_>) -> Result<Simplex, AllocError> {
     let network = case.network;
     let links = network.arcs().len();
     let mut simplex = Simplex::new(alloc, network.vertices(), links)?;
     for place in 0..links {
-        if let Some(link) = link_at(case, fit, place) {
+        if let Some(link) = link_at(case, place) {
             simplex.set_link(place, link);
         }
     }

@@ -11,7 +11,7 @@ use crate::sieve::Sieve;
 use crate::turns::{Level, Turn, change_of, freed_by_turn};
 use std::alloc::{AllocError, Global};
 use th_changes::{KeptFlows, Line, Number, Sloped, run_of, slope_as_given, sloped};
-use th_freeing::{Found, Seed, Task};
+use th_freeing::{Found, Seed, Start, Task};
 use th_network::Network;
 
 /// What is shown of a number.
@@ -87,21 +87,27 @@ impl<'a> Sieve<'a> {
         }
         match self.level(number) {
             Some(place) => {
-                let flows = self.kept.get(place)?.flows();
-                let seed = self.seeds.get(place)?;
-                self.simplex.free_from(group, base, task, flows, seed)
+                let start = Start {
+                    flows: self.kept.get(place)?.flows(),
+                    seed: self.seeds.get(place)?,
+                };
+                self.simplex.free_from(group, base, task, start)
             }
             None => self.simplex.free(group, base, task),
         }
     }
 
     /// The place of the kept flows of which nothing flows through a number and that lose least, if there are any.
-    fn level(&self, number: &Number) -> Option<usize> {
-        let run = run_of(number, &self.runs);
+    fn level(&mut self, number: &Number) -> Option<usize>
+        ensures { self.new.case.now ≡ self.old.case.now }
+    {
+        self.list_lines(number)?;
         let mut best: Option<(i64, usize)> = None;
-        for place in 0..self.kept.len() {
-            let line = self.kept_line(place, number, run)?;
-            if line.net == 0 && best.is_none_or(|(lost, _)| line.lost < lost) {
+        for (place, line) in self.lines.iter().enumerate() {
+            if place < self.kept.len()
+                && line.net == 0
+                && best.is_none_or(|(lost, _)| line.lost < lost)
+            {
                 best = Some((line.lost, place));
             }
         }

@@ -6,7 +6,6 @@ ghost use Rattle.th_explain_rows.specs.Inside.Passing.{IsAtMostOrNone, IsFinding
 ghost use Rattle.th_explain_rows.specs.Rows.{LeavesNoMore, half_of, limit_size};
 
 use std::alloc::{AllocError, Global};
-use th_blunders::Fit;
 use th_explain::laws::freed_is_one;
 use th_explain::{Case, Freed, Number, Sieve, explanation_or_more, least_left, shown};
 use th_numbers::Candidate;
@@ -50,19 +49,14 @@ pub(crate) struct Finder<'a> {
 }
 
 impl<'a> Finder<'a> {
-    /// For a network, given how its best heights fit. The limit of blunders is in units of 10 nm.
-    pub fn of(
-        alloc: Global,
-        case: &'a Case<'a>,
-        fit: &Fit,
-        limit: i64,
-    ) -> Result<Finder<'a>, AllocError>
+    /// For a network. The limit of blunders is in units of 10 nm.
+    pub fn of(alloc: Global, case: &'a Case<'a>, limit: i64) -> Result<Finder<'a>, AllocError>
         ensures case { IfOk result (λ own. own.misfit.case.now ≡ case.now) }
         ensures limit { IfOk result (λ own. own.misfit.limit ≡ limit) }
     {
         Ok(Finder {
             misfit: Misfit { case, limit },
-            sieve: Sieve::of(alloc, case, fit)?,
+            sieve: Sieve::of(alloc, case)?,
             wholes: Vec::new(alloc),
         })
     }

@@ -1,12 +1,9 @@
 //! The rows of all numbers, and how many were looked at.
 ghost use Rattle.std.specs.Prelude.{◌≡◌, ◌≤◌, ◌++◌, ℕ, List, Option, IfOk, IfSome, OnOk, length, option_to_list, true};
 ghost use Rattle.std.specs.List.{AllZip, enumerate_from, flat_map};
-ghost use Rattle.th_blunders.specs.Fits.{IsFit};
-ghost use Rattle.th_circulation.specs.Best.{IsBest};
 ghost use Rattle.th_limits.specs.Limits.{max_books};
-ghost use Rattle.th_network.specs.Networks.{at_points_of};
 ghost use Rattle.th_explain_rows.specs.Explanations.{AreExplained, IsEnough, summary_with};
-ghost use Rattle.th_explain_rows.specs.Inside.Passing.{AreOwnRows};
+ghost use Rattle.th_explain_rows.specs.Inside.Passing.{AreRowsOf};
 ghost use Rattle.th_explain_rows.specs.Inside.Sifting.{IsSiftedOrBehind};
 ghost use Rattle.th_explain_rows.specs.Rows.{IsRowOrBehind};
 ghost use Rattle.th_numbers.specs.Lists.{in_order, listed_in};
@@ -26,7 +23,7 @@ use th_named::heights_named;
 use th_network::Network;
 use th_numbers::{Candidate, Kinds, Listing, books_of, listing_of};
 use th_progress::Progress;
-use th_readings::book_rows;
+use th_readings::Reading;
 use th_review_rows::entries_of;
 
 /// What was looked at, the rows of the numbers that explain most, and the heights that may have been meant where those with
@@ -54,28 +51,26 @@ pub fn explanations_of<P: Progress>(
 {
     let best = best_heights(alloc, network)?;
     let fit = Fit::of(alloc, network, best.low())?;
-    let case = Case::of(network, &best, fit.cost);
+    let case = Case::of(network, &best, &fit);
     let mut mending = Mending::of(alloc, &case);
-    explained_by(alloc, &mut mending, reviews, &fit, limit, progress)
+    explained_by(alloc, &mut mending, reviews, limit, progress)
 }
 
-/// The same, given how the best heights of the network fit.
+/// The same, of a network that was adjusted.
 pub fn explained_by<P: Progress>(
     alloc: Global,
     mending: &mut Mending<'_>,
     reviews: &[BookReview],
-    fit: &Fit,
     limit: i64,
     progress: &mut P,
 ) -> Result<Explanations, AllocError>
-    requires few { length reviews.now ≤ max_books }
-    requires best { IsBest mending.old.case.now.network.now mending.old.case.now.best.now }
-    requires fit { IsFit mending.old.case.now.network.now (at_points_of mending.old.case.now.network.now mending.old.case.now.best.now.low) fit.now }
+    requires { length reviews.now ≤ max_books }
     ensures explained { IfOk result (AreExplained mending.old.case.now.network.now reviews.now limit) }
     ensures case { mending.new.case.now ≡ mending.old.case.now }
 {
     let case = mending.case;
     let network = case.network;
+    let fit = case.fit;
     let all_entries = entries_of(alloc, reviews)?;
     let entries = all_entries.as_slice();
     let all_books = books_of(alloc, reviews)?;
@@ -86,10 +81,20 @@ pub fn explained_by<P: Progress>(
     let summary = summary_with(fit.cost, marked, &listing, books.len(), limit);
     let all = in_order(alloc, listing)?;
     let candidates = all.as_slice();
-    let mut finder = Finder::of(alloc, case, fit, limit)?;
-    let first = first_freed(alloc, network, fit, candidates)?;
-    let mut found = rows_of(alloc, &mut finder, mending, &first, candidates, progress)?;
-    let read = book_rows(alloc, network, &kinds, fit.cost, books, limit)?;
+    let mut finder = Finder::of(alloc, case, limit)?;
+    let first = first_freed(alloc, case, candidates)?;
+    let numbers = Numbers {
+        all: candidates,
+        first: &first,
+    };
+    let mut found = rows_of(alloc, &mut finder, mending, numbers, progress)?;
+    let reading = Reading {
+        network,
+        kinds: &kinds,
+        cost: fit.cost,
+        limit,
+    };
+    let read = reading.rows(alloc, books)?;
     add_rows(&mut found, read.as_slice())?;
     let rows = ranked(alloc, found.as_slice())?;
     let named = heights_named(alloc, entries, limit, rows.as_slice())?;
@@ -100,23 +105,30 @@ pub fn explained_by<P: Progress>(
     })
 }
 
-/// The rows of numbers that may be printed. Those that are looked at first only make others quicker.
+/// The numbers that are looked at.
+#[derive(Clone, Copy)]
+struct Numbers<'a> {
+    all: &'a [Candidate],
+    /// Those of them that are looked at first, which only makes others quicker.
+    first: &'a [Candidate],
+}
+
+/// The rows of numbers that may be printed.
 fn rows_of<P: Progress>(
     alloc: Global,
     finder: &mut Finder<'_>,
     mending: &mut Mending<'_>,
-    first: &[Candidate],
-    candidates: &[Candidate],
+    numbers: Numbers<'_>,
     progress: &mut P,
 ) -> Result<Vec<Row>, AllocError>
     requires { finder.old.misfit.case.now ≡ mending.old.case.now }
     ensures rows { IfOk result (λ rows.
-        AreOwnRows mending.old.case.now.network.now mending.old.case.now.cost finder.old.misfit.limit candidates.now rows.items) }
+        AreRowsOf mending.old.case.now finder.old.misfit.limit numbers.entry.all.now rows.items) }
     ensures case { mending.new.case.now ≡ mending.old.case.now }
 {
-    match rows_before_cutoff(alloc, finder, mending, first, candidates, progress)? {
+    match rows_before_cutoff(alloc, finder, mending, numbers, progress)? {
         Some(rows) => Ok(rows),
-        None => rows_of_all(alloc, finder, mending, candidates, progress),
+        None => rows_of_all(alloc, finder, mending, numbers.all, progress),
     }
 }
 
@@ -125,17 +137,17 @@ fn rows_before_cutoff<P: Progress>(
     alloc: Global,
     finder: &mut Finder<'_>,
     mending: &mut Mending<'_>,
-    first: &[Candidate],
-    candidates: &[Candidate],
+    numbers: Numbers<'_>,
     progress: &mut P,
 ) -> Result<Option<Vec<Row>>, AllocError>
     requires { finder.old.misfit.case.now ≡ mending.old.case.now }
     ensures rows { IfOk result (λ found. IfSome found (λ rows.
-        AreOwnRows mending.old.case.now.network.now mending.old.case.now.cost finder.old.misfit.limit candidates.now rows.items)) }
+        AreRowsOf mending.old.case.now finder.old.misfit.limit numbers.entry.all.now rows.items)) }
     ensures misfit { OnOk result (finder.new.misfit ≡ finder.old.misfit) }
     ensures case { mending.new.case.now ≡ mending.old.case.now }
 {
-    let found = passed_before_cutoff(alloc, finder, first, candidates, progress)?;
+    let candidates = numbers.all;
+    let found = passed_before_cutoff(alloc, finder, numbers.first, candidates, progress)?;
     if !is_settled(&found) {
         return Ok(None);
     }
@@ -158,7 +170,7 @@ fn rows_of_all<P: Progress>(
 ) -> Result<Vec<Row>, AllocError>
     requires { finder.old.misfit.case.now ≡ mending.old.case.now }
     ensures rows { IfOk result (λ rows.
-        AreOwnRows mending.old.case.now.network.now mending.old.case.now.cost finder.old.misfit.limit candidates.now rows.items) }
+        AreRowsOf mending.old.case.now finder.old.misfit.limit candidates.now rows.items) }
     ensures case { mending.new.case.now ≡ mending.old.case.now }
 {
     let all = all_passed(alloc, finder, candidates, progress)?;

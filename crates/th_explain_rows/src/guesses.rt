@@ -2,7 +2,7 @@
 use std::alloc::{AllocError, Global};
 use th_blunders::Fit;
 use th_changes::{Run, run_of};
-use th_explain::Number;
+use th_explain::{Case, Number};
 use th_network::Network;
 use th_numbers::Candidate;
 use th_reliability::Runs;
@@ -14,10 +14,11 @@ const FIRST_FREED: usize = 60;
 /// forgotten, and so many of these. What a change gains is reckoned by squares, which need no median.
 pub(crate) fn first_freed(
     alloc: Global,
-    network: &Network,
-    fit: &Fit,
+    case: &Case<'_>,
     candidates: &[Candidate],
 ) -> Result<Vec<Candidate>, AllocError> {
+    let network = case.network;
+    let fit = case.fit;
     let runs = Runs::of(network.observations());
     let sums = Sums::of(alloc, network, fit)?;
     let mut residuals = Vec::new(alloc);

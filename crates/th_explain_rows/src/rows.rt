@@ -4,7 +4,7 @@ ghost use Rattle.std.specs.List.{AllZip, enumerate_from};
 ghost use Rattle.th_observations.specs.Observed.{largest_difference};
 ghost use Rattle.th_explain_rows.specs.Inside.Passing.{IsAheadOrNone, IsRowOfFound};
 ghost use Rattle.th_explain_rows.specs.Inside.Sifting.{IsSiftedOrBehind};
-ghost use Rattle.th_explain_rows.specs.Rows.{IsBehind, IsRow, IsRowOrBehind, Passes, mildest_change, row_of, row_with, values_of};
+ghost use Rattle.th_explain_rows.specs.Rows.{IsBehind, IsRow, IsRowOrBehind, Passes, mildest_change, row_of, values_of};
 
 use crate::sifting::Sifted;
 use std::alloc::{AllocError, Global};
@@ -123,16 +123,30 @@ fn row_of(network: &Network, cost: u128, candidate: &Candidate, freed: &Freed, b
     requires less { freed.now.left ≤ cost }
     ensures { result ≡ row_of network.now cost candidate.now freed.now blunders }
 {
+    let Label {
+        kind,
+        book,
+        line,
+        last,
+        from,
+        to,
+    } = candidate.label();
     let sights = sight_count(network, &candidate.number());
     let values = values_of(candidate.given(network.benchmarks()), freed);
-    row_with(
-        candidate.label(),
+    Row {
+        number: 0,
+        kind,
+        book,
+        line,
+        last,
+        from,
+        to,
         sights,
-        values,
-        cost,
-        freed.left,
+        values: Some(values),
+        explains: cost - freed.left,
+        left: freed.left,
         blunders,
-    )
+    }
 }
 
 /// A given value, with the lowest and the highest value that are proposed.
@@ -146,35 +160,6 @@ fn values_of(given: i64, freed: &Freed) -> Values
         given,
         low: given + freed.low,
         high: given + freed.high,
-    }
-}
-
-/// A row from its columns.
-fn row_with(label: Label, sights: u32, values: Values, cost: u128, left: u128, blunders: u32) -> Row
-    requires { left ≤ cost }
-    ensures { result ≡ row_with label sights values cost left blunders }
-{
-    let Label {
-        kind,
-        book,
-        line,
-        last,
-        from,
-        to,
-    } = label;
-    Row {
-        number: 0,
-        kind,
-        book,
-        line,
-        last,
-        from,
-        to,
-        sights,
-        values: Some(values),
-        explains: cost - left,
-        left,
-        blunders,
     }
 }
 

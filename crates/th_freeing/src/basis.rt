@@ -2,7 +2,7 @@
 use crate::arcs::{Arcs, Tie};
 use crate::forests::Forest;
 use crate::pricing::{Entering, Pricing, gain_of};
-use crate::trees::Tree;
+use crate::trees::{Tree, WayUp};
 use std::alloc::{AllocError, Global};
 use th_detours::Parted;
 use th_guide::{ResidualArc, push_if_room};
@@ -176,18 +176,30 @@ impl Basis {
             self.send_round(entering.arc, join, leaving.room)?;
         }
         match leaving.side {
-            Side::Tail => self.exchange(leaving.vertex, tail, head, entering.arc)?,
-            Side::Head => self.exchange(leaving.vertex, head, tail, entering.arc.reversed())?,
+            Side::Tail => {
+                let way = WayUp {
+                    parent: head,
+                    arc: entering.arc,
+                };
+                self.exchange(leaving.vertex, tail, way)?;
+            }
+            Side::Head => {
+                let way = WayUp {
+                    parent: tail,
+                    arc: entering.arc.reversed(),
+                };
+                self.exchange(leaving.vertex, head, way)?;
+            }
             Side::Entering => {}
         }
         let gain = i128::from(leaving.room).checked_mul(i128::from(entering.gain))?;
         Some(Step::Gained(gain))
     }
 
-    /// Hangs the branch of a vertex below another one, from one of its vertices, by this way up.
-    fn exchange(&mut self, top: u32, inner: u32, parent: u32, up: ResidualArc) -> Option<()> {
+    /// Hangs the branch of a vertex up by this way, from one of its vertices.
+    fn exchange(&mut self, top: u32, inner: u32, way: WayUp) -> Option<()> {
         self.pricing.leave(self.tree.node(top)?.up);
-        self.tree.exchange(&self.arcs, top, inner, parent, up)
+        self.tree.exchange(&self.arcs, top, inner, way)
     }
 
     /// What leaves the tree if an arc enters it: the last on the cycle, from the join on in the direction of the arc,

@@ -35,6 +35,6 @@ mod tasks;
 // The whole.
 mod simplex;
 
-pub use seeds::Seed;
+pub use seeds::{Seed, Start};
 pub use simplex::Simplex;
 pub use tasks::{Found, Task};

@@ -3,7 +3,7 @@ use crate::arcs::Places;
 use crate::basis::{Basis, Step};
 use crate::nets::Net;
 use crate::proposals::Proposal;
-use crate::seeds::Seed;
+use crate::seeds::{Seed, Start};
 use crate::tasks::{Found, Task};
 use std::alloc::{AllocError, Global};
 use th_detours::{End, Group, Link, Parted};
@@ -101,16 +101,16 @@ impl Simplex {
         self.solve(task, net)
     }
 
-    /// Frees a number with these ends, all of them at a vertex, from other flows, with the tree that was theirs. The
+    /// Frees a number with these ends, all of them at a vertex, from other flows than the best ones. The
     /// limit of the task is not tried.
     pub fn free_from(
         &mut self,
         group: Group,
         base: u32,
         task: &Task,
-        flows: &[i64],
-        seed: &Seed,
+        start: Start<'_>,
     ) -> Option<Found> {
+        let Start { flows, seed } = start;
         if flows.len() != self.given.len() {
             return None;
         }

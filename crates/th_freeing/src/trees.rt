@@ -31,6 +31,13 @@ impl Node {
     };
 }
 
+/// The way up from a vertex.
+#[derive(Clone, Copy)]
+pub(crate) struct WayUp {
+    pub parent: u32,
+    pub arc: ResidualArc,
+}
+
 /// A spanning tree from vertex 0.
 #[derive(Drop)]
 pub(crate) struct Tree {
@@ -109,36 +116,31 @@ impl Tree {
         None
     }
 
-    /// Hangs the branch of `top` below a parent, from its vertex `inner`, by the residual arc from there up: what led
-    /// from there up to the top leads down afterwards.
-    pub fn exchange(
-        &mut self,
-        arcs: &Arcs,
-        top: u32,
-        inner: u32,
-        parent: u32,
-        up: ResidualArc,
-    ) -> Option<()> {
-        let height = self.node(parent)?.height.checked_sub(arcs.difference(up)?)?;
+    /// Hangs the branch of `top` up by another way, from its vertex `inner`: what led from there up to the top leads
+    /// down afterwards.
+    pub fn exchange(&mut self, arcs: &Arcs, top: u32, inner: u32, way: WayUp) -> Option<()> {
+        let above = self.node(way.parent)?.height;
+        let height = above.checked_sub(arcs.difference(way.arc)?)?;
         let rise = height.checked_sub(self.node(inner)?.height)?;
-        self.turn_round(top, inner, parent, up)?;
+        self.turn_round(top, inner, way)?;
         self.raise(inner, rise)
     }
 
     /// Turns round what leads from `inner` up to `top`.
-    fn turn_round(&mut self, top: u32, inner: u32, parent: u32, up: ResidualArc) -> Option<()> {
+    fn turn_round(&mut self, top: u32, inner: u32, way: WayUp) -> Option<()> {
         let mut vertex = inner;
-        let mut parent = parent;
-        let mut up = up;
+        let mut way = way;
         for _ in 0..self.nodes.len() {
             let old = *self.node(vertex)?;
             self.detach(vertex)?;
-            self.attach(vertex, parent, up)?;
+            self.attach(vertex, way.parent, way.arc)?;
             if vertex == top {
                 return Some(());
             }
-            parent = vertex;
-            up = old.up.reversed();
+            way = WayUp {
+                parent: vertex,
+                arc: old.up.reversed(),
+            };
             vertex = old.parent;
         }
         None

@@ -4,4 +4,4 @@
 
 mod readings;
 
-pub use readings::{add_found, book_rows, reread_network};
+pub use readings::{Reading, add_found, reread_network};

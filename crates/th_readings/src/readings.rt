@@ -16,26 +16,63 @@ use th_numbers::{Kinds, SightedBook, is_kind};
 use th_observations::Observation;
 use th_review_rows::sights_of;
 
-/// For each book its row, where it fits much better if it is read from mark to mark.
-///
-/// `cost` is the least cost of the network. The limit of blunders is in units of 10 nm.
-pub fn book_rows(
-    alloc: Global,
-    network: &Network,
-    kinds: &Kinds<'_>,
-    cost: u128,
-    books: &[SightedBook],
-    limit: i64,
-) -> Result<Vec<Option<Row>>, AllocError>
-    ensures rows { IfOk result (λ rows.
-        AllZip (IsBookRowOrNone network.now kinds.now.entries.now cost limit) books.now rows.items) }
-{
-    let mut rows = Vec::with_capacity(alloc, books.len())?;
-    for book in books {
-        let found = book_row(alloc, network, kinds, cost, book, limit)?;
-        add_found(&mut rows, found)?;
+/// Books that are read from mark to mark, one at a time.
+#[derive(Clone, Copy)]
+pub struct Reading<'a> {
+    pub network: &'a Network<'a>,
+    /// The entries of its books.
+    pub kinds: &'a Kinds<'a>,
+    /// The least cost of the network, in units of 10 nm times weight.
+    pub cost: u128,
+    /// The limit of blunders, in units of 10 nm.
+    pub limit: i64,
+}
+
+impl Reading<'_> {
+    /// For each book its row, where it fits much better if it is read from mark to mark.
+    pub fn rows(&self, alloc: Global, books: &[SightedBook]) -> Result<Vec<Option<Row>>, AllocError>
+        ensures rows { IfOk result (λ rows.
+            AllZip (IsBookRowOrNone self.now.network.now self.now.kinds.now.entries.now self.now.cost self.now.limit) books.now rows.items) }
+    {
+        let mut rows = Vec::with_capacity(alloc, books.len())?;
+        for book in books {
+            let found = self.row(alloc, book)?;
+            add_found(&mut rows, found)?;
+        }
+        Ok(rows)
     }
-    Ok(rows)
+
+    /// The row of a book, where it fits much better if it is read from mark to mark.
+    fn row(&self, alloc: Global, book: &SightedBook) -> Result<Option<Row>, AllocError>
+        ensures row { IfOk result (IsBookRowOrNone self.now.network.now self.now.kinds.now.entries.now self.now.cost self.now.limit book.now) }
+    {
+        let read = reread(alloc, self.network.observations(), self.kinds, book.number)?;
+        match read {
+            Some(read) => self.row_if_cheaper(alloc, read, book),
+            None => Ok(None),
+        }
+    }
+
+    /// The row of a book whose observations are these if it is read from mark to mark, where these fit much better.
+    fn row_if_cheaper(
+        &self,
+        alloc: Global,
+        read: Vec<Observation>,
+        book: &SightedBook,
+    ) -> Result<Option<Row>, AllocError>
+        requires read { read.items
+            ≡ map (read_observation self.now.kinds.now.entries.now book.now.number) self.now.network.now.observations }
+        ensures row { IfOk result (IsBookRowOrNone self.now.network.now self.now.kinds.now.entries.now self.now.cost self.now.limit book.now) }
+    {
+        let own = self.network.with_differences(alloc, read)?;
+        let best = best_heights(alloc, &own)?;
+        let fit = Fit::of(alloc, &own, best.low())?;
+        if !is_cheaper(self.cost, fit.cost) {
+            return Ok(None);
+        }
+        let blunders = blunder_count(own.observations(), &fit.residuals, self.limit);
+        Ok(Some(row_of_book(self.cost, book, fit.cost, blunders)))
+    }
 }
 
 /// Adds what was found of one more book or number.
@@ -43,49 +80,6 @@ pub fn add_found(rows: &mut Vec<Option<Row>>, found: Option<Row>) -> Result<(), 
     ensures { OnOk result (rows.new.items ≡ rows.old.items ++ found ∷ []) }
 {
     rows.extend_from_slice(&[found])
-}
-
-/// The row of a book, where it fits much better if it is read from mark to mark.
-fn book_row(
-    alloc: Global,
-    network: &Network,
-    kinds: &Kinds<'_>,
-    cost: u128,
-    book: &SightedBook,
-    limit: i64,
-) -> Result<Option<Row>, AllocError>
-    ensures row { IfOk result (IsBookRowOrNone network.now kinds.now.entries.now cost limit book.now) }
-{
-    let read = reread(alloc, network.observations(), kinds, book.number)?;
-    match read {
-        Some(read) => row_if_cheaper(alloc, network, kinds, read, cost, book, limit),
-        None => Ok(None),
-    }
-}
-
-/// The row of a book whose observations are these if it is read from mark to mark, where these fit much
-/// better.
-fn row_if_cheaper(
-    alloc: Global,
-    network: &Network,
-    kinds: &Kinds<'_>,
-    read: Vec<Observation>,
-    cost: u128,
-    book: &SightedBook,
-    limit: i64,
-) -> Result<Option<Row>, AllocError>
-    requires read { read.items
-        ≡ map (read_observation kinds.now.entries.now book.now.number) network.now.observations }
-    ensures row { IfOk result (IsBookRowOrNone network.now kinds.now.entries.now cost limit book.now) }
-{
-    let own = network.with_differences(alloc, read)?;
-    let best = best_heights(alloc, &own)?;
-    let fit = Fit::of(alloc, &own, best.low())?;
-    if !is_cheaper(cost, fit.cost) {
-        return Ok(None);
-    }
-    let blunders = blunder_count(own.observations(), &fit.residuals, limit);
-    Ok(Some(row_of_book(cost, book, fit.cost, blunders)))
 }
 
 /// The network in which the book with this number is read from mark to mark; none if a difference is then

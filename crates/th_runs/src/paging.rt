@@ -134,16 +134,16 @@ fn page_of_network<'a, P: Progress>(
     let limit = subject.limit;
     let best = best_heights(alloc, network)?;
     let fit = Fit::of(alloc, network, best.low())?;
-    let case = Case::of(network, &best, fit.cost);
+    let case = Case::of(network, &best, &fit);
     let mut mending = Mending::of(alloc, &case);
-    let explained = explained_by(alloc, &mut mending, reviews, &fit, limit, progress)?;
+    let explained = explained_by(alloc, &mut mending, reviews, limit, progress)?;
     let rows = explained.rows.as_slice();
     let explaining = Explaining {
         reviews,
         rows,
         limit,
     };
-    let answer = answer_of(alloc, &mut mending, &fit, explaining)?;
+    let answer = answer_of(alloc, &mut mending, explaining)?;
     let sentences = sentences_of(alloc, &explained)?;
     let findings = findings_of(alloc, network, reviews, progress)?;
     let found = found_of(alloc, &findings, &best, subject.spellings)?;

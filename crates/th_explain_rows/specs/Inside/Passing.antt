@@ -3,6 +3,7 @@ use Rattle.std.specs.Prelude.{◌≡◌, ℕ, ◌<◌, ◌≤◌, ℤ, Bool, tru
 use Rattle.th_explain.specs.Explained.{IsAtLeast}
 use Rattle.std.specs.List.{AllZip, enumerate_from, flat_map}
 use Rattle.th_explain.specs.declared.freed.Freed.{Freed}
+use Rattle.th_changes.specs.declared.cases.Case.{Case}
 use Rattle.th_changes.specs.declared.numbers.Number.{Number}
 use Rattle.th_explain_texts.specs.declared.rows.Row.{Row}
 use Rattle.th_network.specs.Networks.{Survey}
@@ -91,3 +92,7 @@ pub record AreOwnRows (survey : Survey) (cost : ℕ) (limit : ℤ) (candidates :
   pub numbers : AllZip (IsRowOrBehind survey cost (sifting limit best) cutoff) (enumerate_from 0 candidates) own
   pub enough : IsEnough cutoff (length rows)
   pub all : rows ≡ flat_map option_to_list own
+
+-- the same, of numbers of a case
+abbrev pub AreRowsOf : Case → ℤ → List Candidate → List Row → Type 0
+AreRowsOf case limit candidates rows = AreOwnRows case.network.now case.cost limit candidates rows

@@ -3,6 +3,7 @@ use Rattle.std.proofs.lemmas.Int.{to_z-of_z}
 use Rattle.std.proofs.lemmas.Slice.Zip.{AllZip-long}
 use Rattle.std.specs.List.{AllZip, count_by, filter_map}
 use Rattle.th_blunders.specs.Blunders.{is_blunder}
+use Rattle.th_changes.specs.declared.cases.Case.{Case}
 use Rattle.th_entries.specs.declared.entries.Entry.{Entry}
 use Rattle.th_explain_texts.specs.Sentences.{firsts}
 use Rattle.th_explain_texts.specs.declared.rows.Row.{Row}
@@ -41,7 +42,7 @@ all_moved-requires-clause-each c =
     let limit : ℤ = to_z w64 (of_z w64 c.args.explaining.limit) in
     let listed : List Readjusted = c.in_ok-corrected.corrected.items in
     let all : AreReadjusted survey c.in_ok-kinds.kinds.entries.now limit c.deref-4.result.now listed = c.in_ok-corrected.ensures.listed in
-    let long : length c.low-low.result.now ≡ length (points_of survey) = ap (λ (low : List ℤ). length low) c.low-low.ensures ∙ c.requires.best.low_at_points.each in
+    let long : length c.low-low.result.now ≡ length (points_of survey) = ap (λ (low : List ℤ). length low) c.low-low.ensures ∙ c.args.mending.now.case.now.at_points.each in
     subst (λ (n : ℕ). All (λ own. length own.heights.items ≡ n) c.deref-10.result.now) (sym long)
     (subst (All (λ own. length own.heights.items ≡ length (points_of survey))) (sym c.deref-10.ensures.value) (heights_are_long survey limit (those_corrected all.corrected) listed all.are_listed))
 
@@ -53,18 +54,19 @@ all_moved-requires-clause-in_range c =
     let all : AreReadjusted survey c.in_ok-kinds.kinds.entries.now limit c.deref-4.result.now listed = c.in_ok-corrected.ensures.listed in
     subst (All (λ own. All (λ height. unsigned_abs height < 2 * height_limit) own.heights.items)) (sym c.deref-10.ensures.value) (heights_are_low survey limit (those_corrected all.corrected) listed all.are_listed)
 
-pub returns : goal.returns
-returns c =
-    let survey = c.args.mending.now.case.now.network.now in
+pub returns-clause-answer : goal.returns-clause-answer
+returns-clause-answer c =
+    let case : Case = c.args.mending.now.case.now in
+    let survey = case.network.now in
     let reviews = c.args.explaining.reviews.now in
     let rows : List Row = c.args.explaining.rows.now in
     let limit : ℤ = c.args.explaining.limit in
     let bits : ℤ = to_z w64 (of_z w64 limit) in
     let fits : FitsSigned w64 limit = search rules in
     let plain : bits ≡ limit = to_z-of_z w64 limit fits in
-    let low : List ℤ = c.args.mending.now.case.now.best.now.low in
+    let low : List ℤ = case.best.now.low in
     let heights : List ℕ → ℤ = at_points_of survey low in
-    let left : List ℤ = c.args.fit.now.residuals.items in
+    let left : List ℤ = case.fit.now.residuals.items in
     let listed : List Readjusted = c.in_ok-corrected.corrected.items in
     let entries : c.in_ok-kinds.kinds.entries.now ≡ entries_of reviews = c.in_ok-kinds.ensures ∙ c.deref.ensures.value ∙ c.in_ok-entries.ensures in
     let leading : c.deref-4.result.now ≡ firsts rows = c.deref-4.ensures.value ∙ c.in_ok-firsts.ensures in
@@ -81,11 +83,11 @@ returns c =
     let drawn_count : c.len-2.result ≡ length c.in_ok-firsts.firsts.items = omega (arith, c.len-2.ensures, c.in_ok-firsts.firsts.ok) in
     let quiet : c.is_nothing_wrong-is_quiet.result ≡ nothing_is_wrong survey heights limit (length (firsts rows)) =
     c.is_nothing_wrong-is_quiet.ensures ∙ ap (λ (n : ℕ). n == 0 && count_by (is_blunder bits) c.deref-5.result.now == 0) (first_count ∙ ap (λ (own : List Row). length own) c.in_ok-firsts.ensures)
-    ∙ ap (λ (limit : ℤ). length (firsts rows) == 0 && count_by (is_blunder limit) c.deref-5.result.now == 0) plain ∙ ap (λ (left : List ℤ). length (firsts rows) == 0 && count_by (is_blunder limit) left == 0) (c.deref-5.ensures.value ∙ c.requires.fit.residuals) in
+    ∙ ap (λ (limit : ℤ). length (firsts rows) == 0 && count_by (is_blunder limit) c.deref-5.result.now == 0) plain ∙ ap (λ (left : List ℤ). length (firsts rows) == 0 && count_by (is_blunder limit) left == 0) (c.deref-5.ensures.value ∙ case.fits.residuals) in
     let usual = subst (λ (left : List ℤ). IsUsualOrNone (weighed survey left) c.in_ok-usual.usual) c.deref-6.ensures.value c.in_ok-usual.ensures.usual in
     let groups : c.in_ok-groups_of.field-0.items ≡ map (group_of (judged survey heights limit remedies after c.is_nothing_wrong-is_quiet.result c.in_ok-usual.usual)) survey.observations =
     subst (λ (limit : ℤ). AllZip (IsListed survey limit) after c.deref-9.result.now → c.in_ok-groups_of.field-0.items ≡ map (group_of (judged survey heights limit remedies after c.is_nothing_wrong-is_quiet.result c.in_ok-usual.usual)) survey.observations) plain
-    (λ are. c.in_ok-groups_of.ensures heights after (record { residuals = c.deref-7.ensures.value ∙ c.requires.fit.residuals; listed = are }))
+    (λ are. c.in_ok-groups_of.ensures heights after (record { residuals = c.deref-7.ensures.value ∙ case.fits.residuals; listed = are }))
     (subst (AllZip (IsListed survey limit) after) (sym c.deref-9.ensures.value) all.are_listed) in
     let moved : c.in_ok-all_moved.field-0.items ≡ map (moved_of limit heights after) (points_of survey) =
     subst (λ (limit : ℤ). AllZip (IsListed survey limit) after c.deref-10.result.now → c.in_ok-all_moved.field-0.items ≡ map (moved_of limit heights after) (points_of survey)) plain
@@ -95,7 +97,7 @@ returns c =
     let drawn : c.in_ok-drawn_of.field-0.items ≡ map (drawn_by heights all.corrected) (points_of survey) =
     c.in_ok-drawn_of.ensures ∙ ap (λ (low : List ℤ). drawn_heights low c.len-2.result c.deref-11.result.now) c.low-low.ensures
     ∙ ap (λ (n : ℕ). drawn_heights low n c.deref-11.result.now) (drawn_count ∙ ap (λ (own : List Row). length own) c.in_ok-firsts.ensures ∙ sym count) ∙ ap (drawn_heights low (length all.corrected)) c.deref-11.ensures.value
-    ∙ drawn_listed survey limit heights low (listed_heights (points_of survey) low (points_distinct survey.observations survey.benchmarks) c.requires.best.low_at_points.each) all.corrected listed all.are_listed in
+    ∙ drawn_listed survey limit heights low (listed_heights (points_of survey) low (points_distinct survey.observations survey.benchmarks) case.at_points.each) all.corrected listed all.are_listed in
     let outlier = subst (λ (limit : ℤ). IsOutlierNote survey left limit c.in_ok-outlier_of.field-0) plain (subst (λ (left : List ℤ). IsOutlierNote survey left bits c.in_ok-outlier_of.field-0) c.deref-12.ensures.value c.in_ok-outlier_of.ensures.note) in
     let answer : Answer = record {
       groups = c.in_ok-groups_of.field-0;
@@ -104,6 +106,4 @@ returns c =
       others = c.in_ok-others_of.field-0;
       outlier = c.in_ok-outlier_of.field-0;
     } in
-    record {
-      answer = answered survey reviews rows limit heights c.requires.best.low left c.requires.fit.residuals listed all c.in_ok-usual.usual usual remedies remedied c.is_nothing_wrong-is_quiet.result quiet answer groups moved drawn c.in_ok-others_of.ensures outlier;
-    }
+    answered survey reviews rows limit heights case.lowest left case.fits.residuals listed all c.in_ok-usual.usual usual remedies remedied c.is_nothing_wrong-is_quiet.result quiet answer groups moved drawn c.in_ok-others_of.ensures outlier

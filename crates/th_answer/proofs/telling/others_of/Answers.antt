@@ -8,7 +8,7 @@ use Rattle.th_changes.specs.declared.cases.Case.{Case}
 use Rattle.th_numbers.specs.Ties.{IsTold}
 use Rattle.th_reliability.proofs.ZipLemmas.{zip_next}
 use Rattle.th_tables.specs.Rows.{BenchmarkRows}
-use Rattle.th_answer.specs.Limits.{most_benchmarks}
+use Rattle.th_answer.specs.Limits.{asked_benchmarks}
 use Rattle.th_answer.specs.Others.{IsSaid}
 use Rattle.th_answer.proofs.telling.others_of.Goals as goal
 
@@ -18,7 +18,7 @@ loop-place-preserved c =
     let benchmarks : BenchmarkRows = survey.benchmarks in
     let place : ℕ = c.loop-place.place in
     let as_many = AllZip-long (IsTold survey) benchmarks c.in_ok-rows.rows.items c.in_ok-rows.ensures.rows in
-    let within : place < length benchmarks = omega (arith, c.loop-place-test.true, c.min-count.ensures, c.len.ensures, as_many) in
+    let within : place < length benchmarks = omega (arith, c.loop-place-test.true, c.min-count.ensures, c.len-2.ensures, as_many) in
     let none : List ℕ × ℤ = ([], pos 0) in
     let row : List ℕ × ℤ = get_or benchmarks place none in
     let says : IsSaid survey row c.in_ok-said.said =
@@ -33,5 +33,7 @@ returns c =
     let survey = c.args.case.now.network.now in
     let benchmarks : BenchmarkRows = survey.benchmarks in
     let as_many = AllZip-long (IsTold survey) benchmarks c.in_ok-rows.rows.items c.in_ok-rows.ensures.rows in
-    let there : c.loop-place.place ≡ min most_benchmarks (length benchmarks) = omega (arith, c.loop-place-test.false, c.loop-place.auto.place-end, c.min-count.ensures, c.len.ensures, as_many) in
-    subst (λ (rows : BenchmarkRows). AllZip (IsSaid survey) rows c.loop-place.others.items) (ap (λ (n : ℕ). take n benchmarks) there ∙ take_min most_benchmarks benchmarks) c.loop-place.invariant.said
+    let most : ℕ = asked_benchmarks (length survey.observations) in
+    let asked : c.asked_benchmarks-most.result ≡ most = c.asked_benchmarks-most.ensures ∙ ap asked_benchmarks (c.len.ensures ∙ ap length c.observations.ensures.observations) in
+    let there : c.loop-place.place ≡ min most (length benchmarks) = omega (arith, c.loop-place-test.false, c.loop-place.auto.place-end, c.min-count.ensures, c.len-2.ensures, as_many, asked) in
+    subst (λ (rows : BenchmarkRows). AllZip (IsSaid survey) rows c.loop-place.others.items) (ap (λ (n : ℕ). take n benchmarks) there ∙ take_min most benchmarks) c.loop-place.invariant.said

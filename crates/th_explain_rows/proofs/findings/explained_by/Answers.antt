@@ -25,7 +25,7 @@ pub blunder_count-marked-requires-clause-each : goal.blunder_count-marked-requir
 blunder_count-marked-requires-clause-each g c =
     let case : Case = c.args.mending.now.case.now in
     let survey = case.network.now in
-    ap length (c.deref.ensures.value ∙ c.requires.fit.residuals) ∙ length-map survey.observations (λ o. residual o (at_points_of survey case.best.now.low)) ∙ sym (ap length c.observations.ensures.observations)
+    ap length (c.deref.ensures.value ∙ case.fits.residuals) ∙ length-map survey.observations (λ o. residual o (at_points_of survey case.best.now.low)) ∙ sym (ap length c.observations.ensures.observations)
 
 pub returns-clause-explained : goal.returns-clause-explained
 returns-clause-explained g c =
@@ -38,25 +38,25 @@ returns-clause-explained g c =
     let books = c.as_slice-books.result.now in
     let read : List (Option Row) = c.as_slice.result.now in
     let all = listed_in c.in_ok-listing.listing in
-    let cost : c.args.fit.now.cost ≡ cost_of survey heights = c.requires.fit.cost in
+    let cost : given.fit.now.cost ≡ cost_of survey heights = given.fits.cost in
     let marked : c.blunder_count-marked.result ≡ blunders_at c.args.limit survey heights =
     c.blunder_count-marked.ensures ∙ ap (λ (own : ℤ). count_by (is_blunder own) c.deref.result.now) limit
-    ∙ ap (count_by (is_blunder c.args.limit)) (c.deref.ensures.value ∙ c.requires.fit.residuals) in
+    ∙ ap (count_by (is_blunder c.args.limit)) (c.deref.ensures.value ∙ given.fits.residuals) in
     let candidates : List Candidate = c.as_slice-candidates.result.now in
     let misfit : Misfit = c.in_ok-finder.finder.misfit in
     let size : misfit.limit ≡ c.args.limit = c.in_ok-finder.ensures.limit ∙ limit in
     let found : List Row = c.in_ok-found.found.items in
-    let rows : AreOwnRows survey c.args.fit.now.cost c.args.limit candidates found =
-    subst (λ (limit : ℤ). AreOwnRows survey c.args.fit.now.cost limit candidates found) size
+    let rows : AreOwnRows survey given.fit.now.cost c.args.limit candidates found =
+    subst (λ (limit : ℤ). AreOwnRows survey given.fit.now.cost limit candidates found) size
     (subst (λ (cost : ℕ). AreOwnRows survey cost misfit.limit candidates found) (given.least ∙ sym cost) c.in_ok-found.ensures.rows) in
-    explained_of survey c.args.reviews.now c.args.limit (record { summary = c.summary_with-summary.result; rows = c.in_ok-rows.rows; named = c.in_ok-named.named }) heights tied entries all c.args.fit.now.cost
-    candidates books found read c.requires.best.low are
+    explained_of survey c.args.reviews.now c.args.limit (record { summary = c.summary_with-summary.result; rows = c.in_ok-rows.rows; named = c.in_ok-named.named }) heights tied entries all given.fit.now.cost
+    candidates books found read given.lowest are
     (c.as_slice-entries.ensures.value ∙ c.in_ok-all_entries.ensures) (listed ∙ ap (λ (own : List Entry). listed_of survey own tied) c.in_ok-kinds.ensures) cost (c.as_slice-candidates.ensures.value ∙ c.in_ok-all.ensures) (c.as_slice-books.ensures.value ∙ c.in_ok-all_books.ensures)
     rows
-    (subst (λ (z : ℤ). AllZip (IsBookRowOrNone survey entries c.args.fit.now.cost z) books read) limit
-    (subst (λ (own : List Entry). AllZip (IsBookRowOrNone survey own c.args.fit.now.cost (to_z w64 (of_z w64 c.args.limit))) books read) c.in_ok-kinds.ensures
-    (subst (λ (found : List (Option Row)). AllZip (IsBookRowOrNone survey c.in_ok-kinds.kinds.entries.now c.args.fit.now.cost (to_z w64 (of_z w64 c.args.limit))) books found) (sym c.as_slice.ensures.value) c.in_ok-read.ensures.rows)))
-    (c.summary_with-summary.ensures ∙ ap (λ (own : ℤ). summary_with c.args.fit.now.cost c.blunder_count-marked.result all (length books) own) limit
+    (subst (λ (z : ℤ). AllZip (IsBookRowOrNone survey entries given.fit.now.cost z) books read) limit
+    (subst (λ (own : List Entry). AllZip (IsBookRowOrNone survey own given.fit.now.cost (to_z w64 (of_z w64 c.args.limit))) books read) c.in_ok-kinds.ensures
+    (subst (λ (found : List (Option Row)). AllZip (IsBookRowOrNone survey c.in_ok-kinds.kinds.entries.now given.fit.now.cost (to_z w64 (of_z w64 c.args.limit))) books found) (sym c.as_slice.ensures.value) c.in_ok-read.ensures.rows)))
+    (c.summary_with-summary.ensures ∙ ap (λ (own : ℤ). summary_with given.fit.now.cost c.blunder_count-marked.result all (length books) own) limit
     ∙ ap (λ (own : ℕ). summary_with own c.blunder_count-marked.result all (length books) c.args.limit) cost
     ∙ ap (λ (own : ℕ). summary_with (cost_of survey heights) own all (length books) c.args.limit) marked)
     (c.in_ok-rows.ensures ∙ ap ranked (c.as_slice-2.ensures.value ∙ c.in_ok-add_rows.ensures))

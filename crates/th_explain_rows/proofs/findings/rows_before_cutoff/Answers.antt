@@ -11,14 +11,14 @@ use Rattle.th_explain_rows.proofs.findings.rows_before_cutoff.Goals as goal
 pub rows_in-requires : goal.rows_in-requires
 rows_in-requires g c =
     let own = c.in_ok-own.own in
-    subst (λ (case : Case). AllZip (IsSiftedOrBehind case.network.now own.filter own.cutoff) (enumerate_from 0 c.args.candidates.now) own.freed.items)
+    subst (λ (case : Case). AllZip (IsSiftedOrBehind case.network.now own.filter own.cutoff) (enumerate_from 0 c.args.numbers.all.now) own.freed.items)
     (ap (λ (own : Misfit). own.case.now) c.in_ok-found.ensures.misfit ∙ c.requires) c.in_ok-own.ensures.found
 
 pub returns-then-is_enough-clause-rows : goal.returns-then-is_enough-clause-rows
 returns-then-is_enough-clause-rows g c =
     let misfit : Misfit = c.args.finder.now.misfit in
     let case : Case = c.args.mending.now.case.now in
-    let candidates = c.args.candidates.now in
+    let candidates = c.args.numbers.all.now in
     let filter = c.in_ok-own.own.filter in
     let cutoff = c.in_ok-own.own.cutoff in
     let (own, numbers, all) = c.in_ok-rows.ensures.rows in

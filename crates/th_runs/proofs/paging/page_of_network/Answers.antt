@@ -4,7 +4,7 @@ use Rattle.th_answer.specs.Answers.{IsAnswer}
 use Rattle.th_answer.specs.declared.answers.Answer.{Answer}
 use Rattle.th_blunders.specs.Fits.{IsFit}
 use Rattle.th_changes.specs.declared.cases.Case.{Case}
-use Rattle.th_circulation.specs.Best.{Best, IsBest}
+use Rattle.th_circulation.specs.Best.{Best}
 use Rattle.th_entries.specs.declared.reviews.BookReview.{BookReview}
 use Rattle.th_explain_rows.specs.Explanations.{AreExplained}
 use Rattle.th_explain_texts.specs.declared.rows.Row.{Row}
@@ -17,41 +17,10 @@ use Rattle.th_review_rows.specs.Found.{FoundRows, found_rows, numbers_in, rows_i
 use Rattle.th_runs.specs.Paged.{said}
 use Rattle.th_runs.proofs.paging.page_of_network.Goals as goal
 
-pub explained_by-requires-clause-best : goal.explained_by-requires-clause-best
-explained_by-requires-clause-best g c =
-    let own : Case = c.of-mending.result.case.now in
-    let network : own.network.now ≡ c.args.network.now = ap (λ (own : Case). own.network.now) c.of-mending.ensures ∙ c.of-case.ensures.network in
-    let best : own.best.now ≡ c.in_ok-best.best = ap (λ (own : Case). own.best.now) c.of-mending.ensures ∙ c.of-case.ensures.best in
-    subst (λ (survey : Survey). IsBest survey own.best.now) (sym network) (subst (IsBest c.args.network.now) (sym best) c.in_ok-best.ensures)
-
-pub explained_by-requires-clause-fit : goal.explained_by-requires-clause-fit
-explained_by-requires-clause-fit g c =
+pub of-case-requires-clause-fit : goal.of-case-requires-clause-fit
+of-case-requires-clause-fit g c =
     let survey = c.args.network.now in
-    let own : Case = c.of-mending.result.case.now in
-    let network : own.network.now ≡ survey = ap (λ (own : Case). own.network.now) c.of-mending.ensures ∙ c.of-case.ensures.network in
-    let best : own.best.now ≡ c.in_ok-best.best = ap (λ (own : Case). own.best.now) c.of-mending.ensures ∙ c.of-case.ensures.best in
-    subst (λ (survey : Survey). IsFit survey (at_points_of survey own.best.now.low) c.in_ok-fit.fit) (sym network)
-    (subst (λ (best : Best). IsFit survey (at_points_of survey best.low) c.in_ok-fit.fit) (sym best)
-    (subst (λ (low : List ℤ). IsFit survey (at_points_of survey low) c.in_ok-fit.fit) c.low.ensures c.in_ok-fit.ensures))
-
-pub answer_of-requires-clause-best : goal.answer_of-requires-clause-best
-answer_of-requires-clause-best g c =
-    let own : Case = c.explained_by.new.mending.case.now in
-    let given : own ≡ c.of-case.result = c.in_ok-explained.ensures.case ∙ c.of-mending.ensures in
-    let network : own.network.now ≡ c.args.network.now = ap (λ (own : Case). own.network.now) given ∙ c.of-case.ensures.network in
-    let best : own.best.now ≡ c.in_ok-best.best = ap (λ (own : Case). own.best.now) given ∙ c.of-case.ensures.best in
-    subst (λ (survey : Survey). IsBest survey own.best.now) (sym network) (subst (IsBest c.args.network.now) (sym best) c.in_ok-best.ensures)
-
-pub answer_of-requires-clause-fit : goal.answer_of-requires-clause-fit
-answer_of-requires-clause-fit g c =
-    let survey = c.args.network.now in
-    let own : Case = c.explained_by.new.mending.case.now in
-    let given : own ≡ c.of-case.result = c.in_ok-explained.ensures.case ∙ c.of-mending.ensures in
-    let network : own.network.now ≡ survey = ap (λ (own : Case). own.network.now) given ∙ c.of-case.ensures.network in
-    let best : own.best.now ≡ c.in_ok-best.best = ap (λ (own : Case). own.best.now) given ∙ c.of-case.ensures.best in
-    subst (λ (survey : Survey). IsFit survey (at_points_of survey own.best.now.low) c.in_ok-fit.fit) (sym network)
-    (subst (λ (best : Best). IsFit survey (at_points_of survey best.low) c.in_ok-fit.fit) (sym best)
-    (subst (λ (low : List ℤ). IsFit survey (at_points_of survey low) c.in_ok-fit.fit) c.low.ensures c.in_ok-fit.ensures))
+    subst (λ (low : List ℤ). IsFit survey (at_points_of survey low) c.in_ok-fit.fit) c.low.ensures c.in_ok-fit.ensures
 
 pub returns-clause-page : goal.returns-clause-page
 returns-clause-page g c =
