@@ -2,13 +2,12 @@
 use std::process::Abort;
 use th_book::BookFault;
 use th_book::BookKind::SightToItself;
+use th_mend::ChangeKind::{BadLength, BadLine, BadName, BadWord, FieldCount, GivenValue};
 use th_mend::MendFault::{Book, Mended, Row};
 use th_mend::MendKind::{
     BeginsSetup, Clash, LongName, NoHeight, NoLine, NoSetup, NoSight, NotWhole, TooManyDigits,
 };
-use th_mend::{MendFault, RowFault, mended};
-use th_mend_table::ChangeKind::{BadLength, BadLine, BadName, BadWord, FieldCount, GivenValue};
-use th_mend_table::{ChangeFault, read_changes};
+use th_mend::{ChangeFault, MendFault, RowFault, mended, read_changes};
 
 /// A table of changes, a book, and the mended book.
 const MENDED: [(&[u8], &[u8], &[u8]); 6] = [

@@ -17,7 +17,7 @@ use Rattle.th_explain_texts.specs.declared.rows.Values.{Values}
 use Rattle.th_network.proofs.EndLemmas.{same_points}
 use Rattle.th_network.specs.Limits.{height_limit}
 use Rattle.th_network.specs.Networks.{HaveSameEnds, Survey, at_points_of, points_between, points_of}
-use Rattle.th_readings.specs.Readings.{IsReadable, read_difference, read_observation, reread}
+use Rattle.th_numbers.specs.Readings.{IsReadable, read_difference, read_observation, reread}
 use Rattle.th_reliability.proofs.ZipLemmas.{zip_more}
 use Rattle.th_answer.specs.Answers.{those_corrected}
 use Rattle.th_answer.specs.Corrected.{IsCorrectedOrNone}

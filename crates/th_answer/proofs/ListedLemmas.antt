@@ -15,7 +15,7 @@ use Rattle.th_changes.proofs.Changes.{raised}
 use Rattle.th_changes.proofs.TiltLemmas.{residual_moved}
 use Rattle.th_network.specs.Heights.{heights_at, residual}
 use Rattle.th_network.specs.Limits.{height_limit}
-use Rattle.th_readings.specs.Readings.{read_observation}
+use Rattle.th_numbers.specs.Readings.{read_observation}
 use Rattle.th_answer.specs.Groups.{is_marked_then}
 use Rattle.th_answer.specs.Inside.Raised.{AreRaised}
 use Rattle.th_answer.proofs.ListLemmas.{map_next}

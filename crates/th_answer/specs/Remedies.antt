@@ -17,7 +17,7 @@ use Rattle.th_network.specs.Networks.{Survey}
 use Rattle.th_numbers.specs.Candidates.{number_of, touches}
 use Rattle.th_numbers.specs.Lists.{is_kind}
 use Rattle.th_numbers.specs.declared.candidates.Candidate.TheVariants.{Entered, Since}
-use Rattle.th_readings.specs.Readings.{IsReadable, read_observation, reread}
+use Rattle.th_numbers.specs.Readings.{IsReadable, read_observation, reread}
 use Rattle.th_answer.specs.declared.remedies.Remedy.{Remedy}
 use Rattle.th_answer.specs.declared.remedies.Remedy.TheVariants.{Change, MarkToMark}
 

@@ -19,8 +19,7 @@ use th_circulation::best_heights;
 use th_explain::Mending;
 use th_explain_texts::{Row, Values, mildest_value};
 use th_network::Network;
-use th_numbers::Kinds;
-use th_readings::reread_network;
+use th_numbers::{Kinds, reread_network};
 
 /// What is listed of a survey with a row put right.
 #[derive(Drop)]

@@ -13,7 +13,7 @@ use Rattle.gsi_block.specs.Blocks.{BlockParts}
 use Rattle.gsi_block.specs.Spelled.{AreSpelled}
 use Rattle.th_columns.proofs.DigitLemmas.{digit_is_data, last_digits-all}
 use Rattle.th_conversions.specs.Printed.{longer}
-use Rattle.th_new_words.specs.NewWords.{info_of}
+use Rattle.th_mend.specs.NewWords.{info_of}
 use Rattle.th_conversions.specs.Words.{Written, number_of, word_of, zero_height, zero_unless}
 use Rattle.th_conversions.specs.declared.running.Running.{Running}
 

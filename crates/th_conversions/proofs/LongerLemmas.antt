@@ -30,7 +30,7 @@ use Rattle.th_book.specs.Due.{latest}
 use Rattle.th_book.specs.Lines.{counts_for, holds, is_sight, length_in}
 use Rattle.th_columns.proofs.DigitLemmas.{last_digits-all}
 use Rattle.th_conversions.specs.Printed.{longer}
-use Rattle.th_new_words.specs.NewWords.{info_of}
+use Rattle.th_mend.specs.NewWords.{info_of}
 use Rattle.th_conversions.specs.Words.{Written, number_of, word_of, zero_height, zero_unless}
 use Rattle.th_conversions.specs.declared.running.Running.{Running}
 use Rattle.th_conversions.proofs.HeightWordLemmas.{length-digits}

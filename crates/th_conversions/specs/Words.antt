@@ -8,7 +8,7 @@ use Rattle.th_units.specs.declared.units.Unit.{Unit}
 use Rattle.th_units.specs.declared.units.Unit.TheVariants.{HundredthMm, TenMilliFoot}
 use Rattle.gsi_word.specs.Words.{Parts, data_len, parts}
 use Rattle.gsi_word.specs.declared.words.Width.{Width}
-use Rattle.th_new_words.specs.NewWords.{info_of}
+use Rattle.th_mend.specs.NewWords.{info_of}
 use Rattle.th_conversions.specs.declared.height_faults.HeightKind.{HeightKind}
 use Rattle.th_conversions.specs.declared.height_faults.HeightKind.TheVariants.{FarTarget, NoUnit}
 

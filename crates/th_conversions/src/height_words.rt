@@ -6,7 +6,7 @@ use crate::height_faults::HeightKind;
 use gsi_word::{Width, Word};
 use std::marker::Model;
 use th_columns::last_digits;
-use th_new_words::{info_of, numbers_of, units_in};
+use th_mend::{info_of, numbers_of, units_in};
 use th_units::{MAX_LEN, Unit};
 
 /// A length as a word writes it: its sign, and its number in a unit, in the data of each width.

@@ -5,7 +5,7 @@ ghost use Rattle.th_book.specs.Due.{latest};
 
 use crate::sights::{is_setup, length_in};
 use gsi_word::{INSTRUMENT_HEIGHT, REFLECTOR_HEIGHT, STATION_HEIGHT, Word};
-use th_new_words::holds;
+use th_mend::holds;
 use th_units::Len;
 
 /// The heights of the running setup: of its station, and the last ones of instrument and reflector.

@@ -13,7 +13,7 @@ use gsi_word::{
     TARGET_HEIGHT, VERTICAL_ANGLE, Word, length_of,
 };
 use th_book::BookKind;
-use th_new_words::{counts_for, holds};
+use th_mend::{counts_for, holds};
 use th_units::Len;
 
 /// Whether two words count for an index.

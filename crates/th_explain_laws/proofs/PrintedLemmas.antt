@@ -18,7 +18,7 @@ use Rattle.th_numbers.specs.Candidates.{number_of}
 use Rattle.th_explain_rows.specs.Explanations.{AreExplained, IsEnough, all_rows}
 use Rattle.th_numbers.specs.Lists.{books_of, in_order, listed_of}
 use Rattle.th_explain_laws.specs.Printed.{IsAmongRows, IsLed, IsOfBook, IsOfNumber, filter_of}
-use Rattle.th_readings.specs.Readings.{IsBookRowOrNone}
+use Rattle.th_numbers.specs.Readings.{IsBookRowOrNone}
 use Rattle.th_explain_rows.specs.Rows.{IsBehind, IsBestBeyond, IsRowOrBehind, Passes, beyond, half_of, limit_size, sifting}
 use Rattle.th_explain_rows.proofs.SiftLemmas.{half_passes, is_no_more, passes_each, passes_whole}
 use Rattle.th_numbers.specs.declared.candidates.Candidate.{Candidate}

@@ -25,7 +25,7 @@ use Rattle.th_entries.specs.Several.{AreObserved, entries_of_books, numbered}
 use Rattle.th_reliability.specs.Sights.{in_sights}
 use Rattle.th_review_rows.specs.Entries.{sights_of, entries_of as entries_in}
 use Rattle.th_numbers.specs.Lists.{is_kind, is_used}
-use Rattle.th_readings.specs.Readings.{height_in, word_33}
+use Rattle.th_numbers.specs.Readings.{height_in, word_33}
 use Rattle.th_explain_laws.specs.Word33.{AreReviews, IsWord33}
 
 -- what laws of books and of entries say

@@ -7,7 +7,7 @@ use Rattle.th_explain_texts.specs.Ranks.{with_number}
 use Rattle.th_explain_texts.specs.declared.rows.Row.{Row}
 use Rattle.th_network.specs.Networks.{Survey}
 use Rattle.th_numbers.specs.Lists.{books_of}
-use Rattle.th_readings.specs.Readings.{IsBookRow}
+use Rattle.th_numbers.specs.Readings.{IsBookRow}
 use Rattle.th_explain_rows.specs.Explanations.{AreExplained}
 use Rattle.th_explain_rows.specs.Rows.{IsRow, Passes, beyond, sifting}
 use Rattle.th_explain_rows.specs.declared.findings.Explanations.{Explanations}

@@ -22,8 +22,8 @@ ghost use Rattle.th_explain_texts.specs.Ranks.{ranked, with_number};
 ghost use Rattle.th_explain_texts.specs.Sentences.{most_rows};
 ghost use Rattle.th_explain_texts.specs.declared.rows.Row.{Row};
 ghost use Rattle.th_explain_rows.specs.Explanations.{AreExplained};
-ghost use Rattle.th_named.specs.Doubted.{IsMeant};
-ghost use Rattle.th_named.specs.Keyed.{tolerance_of};
+ghost use Rattle.th_meant.specs.Doubted.{IsMeant};
+ghost use Rattle.th_meant.specs.Keyed.{tolerance_of};
 ghost use Rattle.th_numbers.specs.Lists.{in_order, listed_of};
 ghost use Rattle.th_explain_laws.specs.Printed.{IsAmongRows, IsLed, IsOfBook, IsOfNumber, filter_of};
 ghost use Rattle.th_explain_rows.specs.Rows.{IsRow, LeavesNoMore, Passes, beyond, half_of, limit_size};
@@ -35,13 +35,13 @@ ghost use Rattle.th_explain_laws.specs.OneWrong.{IsMended};
 ghost use Rattle.th_explain_laws.specs.Word33.{AreReviews, IsWord33};
 ghost use Rattle.th_numbers.specs.declared.candidates.Candidate.{Candidate};
 ghost use Rattle.th_explain_rows.specs.declared.findings.Explanations.{Explanations};
-ghost use Rattle.th_readings.specs.Readings.{word_33};
+ghost use Rattle.th_numbers.specs.Readings.{word_33};
 ghost use Rattle.th_review_rows.specs.Entries.{entries_of};
 
 use th_book::laws::observation_is_of_a_sight;
 use th_entries::laws::{entry_has_the_height_of_its_sights, sights_from_line_to_last_use_it};
 use th_explain::laws::freed_is_one;
-use th_named::laws::named_may_have_been_meant;
+use th_meant::row_laws::named_may_have_been_meant;
 
 /// Changes of a number add up, and a change by 0 is none.
 pub fn changes_add_up()

@@ -13,8 +13,8 @@ use Rattle.th_review_rows.specs.Entries.{entries_of}
 use Rattle.th_explain_rows.specs.Explanations.{AreExplained, IsEnough, summary_of}
 use Rattle.th_explain_rows.specs.Inside.Passing.{AreOwnRows}
 use Rattle.th_numbers.specs.Lists.{Listed, books_of, in_order, listed_of}
-use Rattle.th_named.specs.Meant.{AreNamedIn}
-use Rattle.th_readings.specs.Readings.{IsBookRowOrNone}
+use Rattle.th_meant.specs.Named.{AreNamedIn}
+use Rattle.th_numbers.specs.Readings.{IsBookRowOrNone}
 use Rattle.th_explain_rows.specs.Rows.{IsBestBeyond, IsRowOrBehind, sifting}
 use Rattle.th_numbers.specs.Ties.{AreTiedRows}
 use Rattle.th_numbers.specs.declared.books.SightedBook.{SightedBook}

@@ -19,11 +19,10 @@ use th_circulation::best_heights;
 use th_entries::BookReview;
 use th_explain::{Case, Mending};
 use th_explain_texts::{MOST_ROWS, Named, Row, Summary, ranked};
-use th_named::heights_named;
+use th_meant::heights_named;
 use th_network::Network;
-use th_numbers::{Candidate, Kinds, Listing, books_of, listing_of};
+use th_numbers::{Candidate, Kinds, Listing, Reading, books_of, listing_of};
 use th_progress::Progress;
-use th_readings::Reading;
 use th_review_rows::entries_of;
 
 /// What was looked at, the rows of the numbers that explain most, and the heights that may have been meant where those with

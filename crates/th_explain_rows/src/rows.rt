@@ -12,8 +12,7 @@ use th_explain::laws::{freed_is_one, mistake_explains};
 use th_explain::{Freed, Mending, blunders_left};
 use th_explain_texts::{Row, Values};
 use th_network::Network;
-use th_numbers::{Candidate, Label, sight_count};
-use th_readings::add_found;
+use th_numbers::{Candidate, Label, add_found, sight_count};
 
 /// Which numbers are rows: those whose mildest change is beyond the limit of blunders, in units of 10 nm; and where
 /// there are such numbers, those whose mildest change is beyond half of the limit and which leave no more than `best`,

@@ -1,9 +1,9 @@
 -- What a run over a folder must return, given what is in the folder.
 use Rattle.std.specs.Prelude.{◌≡◌, ◌+◌, ◌++◌, ℕ, List, [], ◌∷◌, Option, Some, map, option_map, option_to_list, slice_get}
 use Rattle.th_observations.specs.Observed.{Observed}
-use Rattle.th_run_book.specs.Booked.{converted, input_of}
-use Rattle.th_run_book.specs.Mended.{owed_for_mended}
-use Rattle.th_run_book.specs.declared.conversions.Conversion.{Conversion}
+use Rattle.th_run_parts.specs.Booked.{converted, input_of}
+use Rattle.th_run_parts.specs.Mended.{owed_for_mended}
+use Rattle.th_run_parts.specs.declared.conversions.Conversion.{Conversion}
 use Rattle.th_devices.specs.Spots.{Spot, file}
 use Rattle.th_network.specs.Networks.{Survey}
 use Rattle.th_commands.specs.Asked.{Files}

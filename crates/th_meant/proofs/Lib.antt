@@ -7,3 +7,5 @@ mod SlipLemmas
 mod NamedLemmas
 mod LawLemmas
 mod PlainLemmas
+mod RowLemmas
+mod RowLawLemmas

@@ -4,6 +4,9 @@
 //! two neighbouring digits exchanged. Or it is a height that is in force elsewhere, as where a pole was
 //! not keyed in again. `meant_of` looks for such heights among those that fit the observations, and
 //! names them where they are few.
+//!
+//! A row of `explain` with number 1 is a height that was keyed in, or a sight that uses a pole and perhaps an
+//! instrument height of its own. `heights_named` looks for what may have been meant by each of these heights.
 #![tactic(auto)]
 
 // How many heights are named.
@@ -20,10 +23,19 @@ mod proposed;
 // The heights that may have been meant.
 mod meant;
 
-// Laws of the definitions.
+// Laws of these heights.
 pub mod laws;
 
+// The heights of rows that were keyed in, what fits in their place, and what may have been meant by each of them.
+mod keyed;
+mod named;
+
+// Laws of the heights that are named for rows.
+pub mod row_laws;
+
+pub use keyed::Keyed;
 pub use limits::MAX_NAMED;
 pub use meant::meant_of;
+pub use named::heights_named;
 pub use proposed::Proposed;
 pub use typed::Typed;

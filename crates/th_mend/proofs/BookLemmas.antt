@@ -8,7 +8,7 @@ use Rattle.th_book.specs.Witnesses.{IsReadTo, IsSeeing}
 use Rattle.th_book.specs.declared.faults.BookFault.{BookFault}
 use Rattle.th_book.specs.declared.faults.BookKind.{BookKind}
 use Rattle.th_book.specs.declared.faults.BookKind.TheVariants as book_kind
-use Rattle.th_mend_table.specs.declared.changes.Change.{Change}
+use Rattle.th_mend.specs.declared.changes.Change.{Change}
 use Rattle.th_mend.specs.Edits.{edits_of}
 use Rattle.th_mend.specs.Inside.Forces.{IsLocating}
 use Rattle.th_mend.specs.Inside.Located.{edits_then}

@@ -1,3 +1,7 @@
+pub mod TableLemmas
+pub mod BodyLemmas
+pub mod LengthLemmas
+pub mod NameLemmas
 pub mod LastLemmas
 pub mod EndLemmas
 pub mod ForceLemmas

@@ -10,9 +10,9 @@ use Rattle.th_entries.specs.Entries.{index_of}
 use Rattle.th_entries.specs.declared.entries.HeightKind.{HeightKind}
 use Rattle.th_entries.specs.declared.entries.HeightKind.TheVariants.{Reflector, Instrument}
 use Rattle.th_mend.proofs.LastLemmas.{last-none}
-use Rattle.th_mend_table.specs.declared.changes.Change.{Change}
-use Rattle.th_mend_table.specs.declared.changes.What.{What}
-use Rattle.th_mend_table.specs.declared.changes.What.TheVariants.{Height, LeftOut, OtherSign, Sighted, Station, Target}
+use Rattle.th_mend.specs.declared.changes.Change.{Change}
+use Rattle.th_mend.specs.declared.changes.What.{What}
+use Rattle.th_mend.specs.declared.changes.What.TheVariants.{Height, LeftOut, OtherSign, Sighted, Station, Target}
 use Rattle.th_mend.specs.Edits.{edit_of, edit_then, edits_after, edits_of, unless_clash}
 use Rattle.th_mend.specs.Reached.{are_one, home, own_fault, place_of, spot_at, spot_below}
 use Rattle.th_mend.specs.Inside.Forces.{AreForces, IsLocating, force_at, force_of, home_in, seen_all, seen_one, sought_below, spot_here, spot_later, unknown}

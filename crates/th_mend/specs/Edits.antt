@@ -4,10 +4,10 @@ use Rattle.std.specs.List.{list_any}
 use Rattle.gsi_word.specs.Indexes.{height_difference, point_number}
 use Rattle.th_book.specs.Lines.{ParsedLine}
 use Rattle.th_entries.specs.Entries.{index_of}
-use Rattle.th_mend_table.specs.declared.changes.Change.{Change}
-use Rattle.th_mend_table.specs.declared.changes.Reach.TheVariants.{Since, Whole}
-use Rattle.th_mend_table.specs.declared.changes.What.{What}
-use Rattle.th_mend_table.specs.declared.changes.What.TheVariants.{Height, LeftOut, OtherSign, Sighted, Station, Target}
+use Rattle.th_mend.specs.declared.changes.Change.{Change}
+use Rattle.th_mend.specs.declared.changes.Reach.TheVariants.{Since, Whole}
+use Rattle.th_mend.specs.declared.changes.What.{What}
+use Rattle.th_mend.specs.declared.changes.What.TheVariants.{Height, LeftOut, OtherSign, Sighted, Station, Target}
 use Rattle.th_mend.specs.Reached.{place_of, spot_below}
 use Rattle.th_mend.specs.declared.edits.Edit.{Edit}
 use Rattle.th_mend.specs.declared.faults.MendKind.{MendKind}

@@ -1,3 +1,5 @@
+pub mod Appended
+pub mod Bodies
 pub mod Stops
 pub mod Ends
 pub mod Forces

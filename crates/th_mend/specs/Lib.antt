@@ -1,3 +1,8 @@
+pub mod Limits
+pub mod Fields
+pub mod Tables
+pub mod Texts
+pub mod NewWords
 pub mod Faults
 pub mod Reached
 pub mod Edits

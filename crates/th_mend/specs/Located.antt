@@ -1,7 +1,7 @@
 -- What is known of the changes of a book after some of its lines.
 use Rattle.std.specs.Prelude.{ℕ, List}
 use Rattle.th_book.specs.Lines.{ParsedLine}
-use Rattle.th_mend_table.specs.declared.changes.Change.{Change}
+use Rattle.th_mend.specs.declared.changes.Change.{Change}
 use Rattle.th_mend.specs.Inside.Forces.{IsLocating}
 use Rattle.th_mend.specs.declared.sought.Locating.{Locating}
 

@@ -3,7 +3,7 @@ use Rattle.std.specs.Prelude.{ℕ, ◌+◌, List, [], ◌∷◌, ◌++◌, Resul
 use Rattle.th_book.specs.Books.{book_answer, parsed_of}
 use Rattle.th_book.specs.declared.faults.BookFault.{BookFault}
 use Rattle.th_observations.specs.Observed.{Observed}
-use Rattle.th_mend_table.specs.declared.changes.Change.{Change}
+use Rattle.th_mend.specs.declared.changes.Change.{Change}
 use Rattle.th_mend.specs.Edits.{edits_of}
 use Rattle.th_mend.specs.Ends.{Ended, ended_lines}
 use Rattle.th_mend.specs.MendedLines.{mended_line}

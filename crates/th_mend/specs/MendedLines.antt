@@ -5,12 +5,12 @@ use Rattle.gsi_block.specs.Blocks.{BlockParts, block_at, mark}
 use Rattle.gsi_block.specs.Writing.{block_line}
 use Rattle.th_book.specs.Lines.{ParsedLine, counts_for, holds}
 use Rattle.th_entries.specs.Entries.{index_of}
-use Rattle.th_mend_table.specs.declared.changes.Reach.TheVariants.{Since, Whole}
-use Rattle.th_mend_table.specs.declared.changes.What.{What}
-use Rattle.th_mend_table.specs.declared.changes.What.TheVariants.{Height, LeftOut, OtherSign, Sighted, Station, Target}
-use Rattle.th_new_words.specs.NewWords.{added_word, with_length, with_name, with_other_sign}
-use Rattle.th_new_words.specs.declared.misfits.Misfit.{Misfit}
-use Rattle.th_new_words.specs.declared.misfits.Misfit.TheVariants as misfit
+use Rattle.th_mend.specs.declared.changes.Reach.TheVariants.{Since, Whole}
+use Rattle.th_mend.specs.declared.changes.What.{What}
+use Rattle.th_mend.specs.declared.changes.What.TheVariants.{Height, LeftOut, OtherSign, Sighted, Station, Target}
+use Rattle.th_mend.specs.NewWords.{added_word, with_length, with_name, with_other_sign}
+use Rattle.th_mend.specs.declared.misfits.Misfit.{Misfit}
+use Rattle.th_mend.specs.declared.misfits.Misfit.TheVariants as misfit
 use Rattle.th_mend.specs.Edits.{covers, index_changed, is_named}
 use Rattle.th_mend.specs.declared.edits.Edit.{Edit}
 use Rattle.th_mend.specs.declared.faults.MendKind.{MendKind}

@@ -5,9 +5,9 @@ use Rattle.gsi_word.specs.Words.{Parts}
 use Rattle.th_book.specs.Lines.{ParsedLine, holds, is_setup, is_sight}
 use Rattle.th_book.specs.Places.{last_below, words_at}
 use Rattle.th_entries.specs.Entries.{entry_behind, index_of}
-use Rattle.th_mend_table.specs.declared.changes.Change.{Change}
-use Rattle.th_mend_table.specs.declared.changes.What.{What}
-use Rattle.th_mend_table.specs.declared.changes.What.TheVariants.{Height, LeftOut, OtherSign, Sighted, Station, Target}
+use Rattle.th_mend.specs.declared.changes.Change.{Change}
+use Rattle.th_mend.specs.declared.changes.What.{What}
+use Rattle.th_mend.specs.declared.changes.What.TheVariants.{Height, LeftOut, OtherSign, Sighted, Station, Target}
 use Rattle.th_mend.specs.declared.faults.MendKind.{MendKind}
 use Rattle.th_mend.specs.declared.faults.MendKind.TheVariants.{BeginsSetup, NoHeight, NoSetup, NoSight}
 use Rattle.th_mend.specs.declared.spots.Spot.{Spot}

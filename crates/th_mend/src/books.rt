@@ -1,12 +1,13 @@
 //! The mended book of a book in memory.
 ghost use Rattle.std.specs.Prelude.{◌≡◌, ◌≢◌, ◌≤◌, Err, IfErr, IfOk, Ok, length};
 ghost use Rattle.th_book.specs.Limits.{max_book};
-ghost use Rattle.th_mend_table.specs.Limits.{max_changes};
+ghost use Rattle.th_mend.specs.Limits.{max_changes};
 ghost use Rattle.th_mend.specs.Inside.Stops.{IsStopOf};
 ghost use Rattle.th_mend.specs.Inside.Texts.{IsRead};
 ghost use Rattle.th_mend.specs.MendedBooks.{checked, mended, mended_text};
 ghost use Rattle.th_mend.specs.declared.faults.MendFault.TheVariants.{NoMemory};
 
+use crate::changes::Change;
 use crate::edits::Edit;
 use crate::ends::split_line;
 use crate::faults::MendFault;
@@ -15,13 +16,12 @@ use crate::sought::Locating;
 use crate::stops::Stop;
 use std::alloc::Global;
 use th_book::{BookFault, BookFeed, BookKind, MAX_BOOK, read_book};
-use th_mend_table::Change;
 
 /// The mended book of a book, or why there is none: a fault of the book, then that of the first record
 /// that has one, then that of the first line where a change has no place, then a fault of the mended
 /// book.
 ///
-/// Changes are those of `th_mend_table::read_changes`. `NoMemory` may occur for any book that is not
+/// Changes are those of `crate::read_changes`. `NoMemory` may occur for any book that is not
 /// too long.
 pub fn mended(alloc: Global, changes: &[Change], bytes: &[u8]) -> Result<Vec<u8>, MendFault>
     requires { length changes.now ≤ max_changes }

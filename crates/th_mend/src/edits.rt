@@ -4,9 +4,9 @@ ghost use Rattle.gsi_word.specs.Words.{parts_of};
 ghost use Rattle.th_entries.specs.Entries.{index_of};
 ghost use Rattle.th_mend.specs.Edits.{clash, covers, index_changed, is_named};
 
+use crate::changes::What;
 use gsi_word::{HEIGHT_DIFFERENCE, INSTRUMENT_HEIGHT, POINT_NUMBER, REFLECTOR_HEIGHT};
 use th_entries::HeightKind;
-use th_mend_table::What;
 
 /// What a record changes, in each of the lines from one place to another. Places count lines from 0,
 /// records from 1.

@@ -2,10 +2,10 @@
 ghost use Rattle.std.specs.Prelude.{◌≡◌, is_some};
 ghost use Rattle.th_mend.specs.Inside.Forces.{force_of, force_with, forces_with, height_of, home_in, is_same, none_if, setup_on};
 
+use crate::changes::What;
 use gsi_word::Name;
 use th_book::{Entered, Setup};
 use th_entries::HeightKind;
-use th_mend_table::What;
 use th_units::Len;
 
 /// The lines of the entries that are in force: that of the reflector's height and that of the

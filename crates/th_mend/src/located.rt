@@ -4,20 +4,20 @@ ghost use Rattle.th_mend.specs.Edits.{edit_from, edit_unless, edit_with, first_o
 ghost use Rattle.th_mend.specs.Inside.Located.{edits_then, in_row, some_clash};
 ghost use Rattle.th_mend.specs.Inside.Stops.{IsStopOf};
 
+use crate::changes::{Change, Reach, What};
 use crate::edits::Edit;
 use crate::faults::{MendKind, RowFault};
 use crate::sought::{Locating, Sought};
 use crate::spots::Spot;
 use crate::stops::Stop;
 use std::alloc::Global;
-use th_mend_table::{Change, Reach, What};
 
 impl Locating {
     ghost use Rattle.std.specs.Prelude.{ℕ, IfOk, List};
     ghost use Rattle.th_book.specs.Lines.{ParsedLine};
     ghost use Rattle.th_mend.specs.Edits.{edits_of};
     ghost use Rattle.th_mend.specs.Located.{HasLocated};
-    ghost use Rattle.th_mend_table.specs.declared.changes.Change.{Change};
+    ghost use Rattle.th_mend.specs.declared.changes.Change.{Change};
 
     /// The edits of the changes of a book without a fault, whose lines were all seen, in the order of
     /// their records; or the fault of the first record that has one.

@@ -1,10 +1,11 @@
 //! The changes that are sought in a book while it is read.
 ghost use Rattle.std.specs.Prelude.{◌≡◌, ◌≤◌, ◌==◌, ◌++◌, ◌∷◌, [], OnOk, length, map};
-ghost use Rattle.th_mend_table.specs.Limits.{max_changes};
+ghost use Rattle.th_mend.specs.Limits.{max_changes};
 ghost use Rattle.gsi_word.specs.Words.{parts_of};
 ghost use Rattle.th_mend.specs.Inside.Forces.{seen_all, spot_here, spot_later, unknown};
 ghost use Rattle.th_mend.specs.Reached.{are_one, height_fault, own_fault, place_of, setup_fault, unless_sight};
 
+use crate::changes::{Change, What};
 use crate::faults::MendKind;
 use crate::forces::Forces;
 use crate::sights::{has_coordinate, is_setup, is_sight};
@@ -14,7 +15,6 @@ use gsi_word::Word;
 use std::alloc::{AllocError, Global};
 use th_book::laws::faultless_book_is_sound;
 use th_book::{Entered, Setup, Witness};
-use th_mend_table::{Change, What};
 
 impl Locating {
     ghost use Rattle.std.specs.Prelude.{ℕ, IfOk, List};
@@ -22,7 +22,7 @@ impl Locating {
     ghost use Rattle.th_mend.specs.Located.{HasLocated};
 
     /// What is known of changes before the first line of a book. Changes are those of
-    /// `th_mend_table::read_changes`.
+    /// `crate::read_changes`.
     pub fn new(alloc: Global, changes: &[Change]) -> Result<Locating, AllocError>
         requires { length changes.now ≤ max_changes }
         ensures { IfOk result (λ locating. (number : ℕ) (parsed : List ParsedLine) →
@@ -68,7 +68,7 @@ fn push_sought(change: Change, sought: &mut Vec<Sought>) -> Result<(), AllocErro
 impl Witness for Locating {
     ghost use Rattle.std.specs.Prelude.{List};
     ghost use Rattle.th_mend.specs.Located.{HasLocated};
-    ghost use Rattle.th_mend_table.specs.declared.changes.Change.{Change};
+    ghost use Rattle.th_mend.specs.declared.changes.Change.{Change};
 
     ghost Start = { List Change };
 

@@ -4,8 +4,8 @@ ghost use Rattle.gsi_word.specs.Words.{parts_of};
 ghost use Rattle.th_book.specs.Lines.{is_setup, is_sight};
 ghost use Rattle.th_mend.specs.Reached.{has_coordinate};
 
+use crate::counting::holds;
 use gsi_word::{HEIGHT_DIFFERENCE, STATION_EASTING, STATION_HEIGHT, STATION_NORTHING, Word};
-use th_new_words::holds;
 
 /// Whether a block is a sight.
 pub(crate) fn is_sight(words: &[Word<'_>]) -> bool

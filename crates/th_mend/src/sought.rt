@@ -1,10 +1,10 @@
 //! The changes that are sought in a book, and what is known of them.
 ghost use Rattle.std.specs.Prelude.{◌≤◌, length};
-ghost use Rattle.th_mend_table.specs.Limits.{max_changes};
+ghost use Rattle.th_mend.specs.Limits.{max_changes};
 
+use crate::changes::Change;
 use crate::forces::Forces;
 use crate::spots::Spot;
-use th_mend_table::Change;
 
 /// A change, and what is known of it once its line was seen.
 #[derive(Clone, Copy, Debug)]

@@ -5,20 +5,20 @@ ghost use Rattle.gsi_block.specs.Blocks.{block_parts};
 ghost use Rattle.gsi_word.specs.Words.{closed, parts_of};
 ghost use Rattle.th_mend.specs.Inside.Stops.{AreWritten, IsStopOf};
 ghost use Rattle.th_mend.specs.MendedLines.{added_by, added_words, changed, changed_by, is_name, is_of_word, kind_of, later_words, made, name_edit, or_else, own_words, word_edit};
-ghost use Rattle.th_new_words.specs.declared.misfits.Misfit.{Misfit};
+ghost use Rattle.th_mend.specs.declared.misfits.Misfit.{Misfit};
 
+use crate::changes::{Reach, What};
+use crate::counting::{counts_for, holds};
 use crate::edits::{Edit, index_changed, index_of};
 use crate::faults::{MendKind, RowFault};
+use crate::misfits::Misfit;
+use crate::new_words::{NewWord, added_word, with_length, with_name, with_other_sign};
 use crate::stops::Stop;
 use arrayvec::ArrayVec;
 use gsi_block::Block;
 use gsi_word::{Word, write_word};
 use std::alloc::AllocError;
 use th_entries::HeightKind;
-use th_mend_table::{Reach, What};
-use th_new_words::{
-    Misfit, NewWord, added_word, counts_for, holds, with_length, with_name, with_other_sign,
-};
 
 /// Appends the words of a block, of which the first may hold a name, as the edits of a place change
 /// them.

@@ -1,7 +1,7 @@
 -- What helps against a fault of a table of changes, and where a change has no place in a book.
 use Rattle.std.specs.Prelude.{ℕ, List, codes}
-use Rattle.th_mend_table.specs.declared.faults.ChangeKind.{ChangeKind}
-use Rattle.th_mend_table.specs.declared.faults.ChangeKind.TheVariants.{BadHeader, FieldCount, BadLine, BadWord, BadLength, GivenValue, BadName, TableTooLong, NoMemory}
+use Rattle.th_mend.specs.declared.change_faults.ChangeKind.{ChangeKind}
+use Rattle.th_mend.specs.declared.change_faults.ChangeKind.TheVariants.{BadHeader, FieldCount, BadLine, BadWord, BadLength, GivenValue, BadName, TableTooLong, NoMemory}
 use Rattle.th_mend.specs.declared.faults.MendKind.{MendKind}
 use Rattle.th_mend.specs.declared.faults.MendKind.TheVariants.{NoLine, NoSight, NoSetup, NoHeight, BeginsSetup, Clash, NoUnit, NotWhole, TooManyDigits, LongName}
 

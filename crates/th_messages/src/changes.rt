@@ -2,8 +2,7 @@
 ghost use Rattle.std.specs.Prelude.{◌≡◌};
 ghost use Rattle.th_messages.specs.Changes.{changes_help, unfit_help};
 
-use th_mend::MendKind;
-use th_mend_table::ChangeKind;
+use th_mend::{ChangeKind, MendKind};
 
 /// What helps against a fault of a table of changes.
 pub fn changes_help(kind: ChangeKind) -> &'static str

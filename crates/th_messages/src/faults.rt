@@ -6,7 +6,7 @@ ghost use Rattle.th_conversions.specs.HeightFaults.{fault_text as height_text, k
 ghost use Rattle.th_conversions.specs.Texts.{fault_text as difference_text};
 ghost use Rattle.th_messages.specs.Lines.{HasRoom, IsPut};
 ghost use Rattle.th_mend.specs.Faults.{row_text};
-ghost use Rattle.th_mend_table.specs.Texts.{fault_text as change_text};
+ghost use Rattle.th_mend.specs.Texts.{fault_text as change_text};
 ghost use Rattle.th_network.specs.Texts.{fault_text as network_text};
 ghost use Rattle.th_tables.specs.Texts.{fault_text as table_text};
 
@@ -16,8 +16,7 @@ use th_book::{BookFault, BookKind};
 use th_certificate::CertFault;
 use th_conversions::{DifferenceFault, HeightFault, HeightKind};
 use th_devices::{Failed, Sink};
-use th_mend::RowFault;
-use th_mend_table::ChangeFault;
+use th_mend::{ChangeFault, RowFault};
 use th_network::NetFault;
 use th_tables::TableFault;
 

@@ -4,3 +4,5 @@ mod ListLemmas
 mod CountLemmas
 pub mod KindLemmas
 mod FewLemmas
+mod RereadLemmas
+mod BookLemmas

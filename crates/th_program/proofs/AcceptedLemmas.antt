@@ -3,10 +3,10 @@ use Rattle.std.proofs.Common.{◌≡◌, ◌≤◌, ◌+◌, ◌⊎◌, ◌∷�
 use Rattle.std.specs.Prelude.{◌≢◌, Result, is_some, length, option_map}
 use Rattle.std.specs.List.{Contains}
 use Rattle.clap.specs.Words.{IsAmong, fault_of, kind_of}
-use Rattle.th_run_book.specs.Booked.{IsOfBooking, booking, converted, input_of}
-use Rattle.th_run_book.specs.Mended.{IsOfMending, owed_for_mended}
-use Rattle.th_run_book.specs.declared.conversions.Conversion.{Conversion}
-use Rattle.th_run_book.specs.declared.conversions.Conversion.TheVariants.{Differences, Heights}
+use Rattle.th_run_parts.specs.Booked.{IsOfBooking, booking, converted, input_of}
+use Rattle.th_run_parts.specs.Mended.{IsOfMending, owed_for_mended}
+use Rattle.th_run_parts.specs.declared.conversions.Conversion.{Conversion}
+use Rattle.th_run_parts.specs.declared.conversions.Conversion.TheVariants.{Differences, Heights}
 use Rattle.th_devices.specs.Spots.{Spot, file, output}
 use Rattle.th_devices.specs.Folders.{Failing}
 use Rattle.th_network.specs.Networks.{Survey}

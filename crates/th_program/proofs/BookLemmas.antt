@@ -2,7 +2,7 @@
 use Rattle.std.proofs.Common.{◌≡◌, ◌∷◌, [], ℕ, Bool, List, Ok, Err, IfErr, subst, refl}
 use Rattle.std.specs.Prelude.{OnOk, Option, Result, None, Some}
 use Rattle.std.specs.List.{AllByRecursion}
-use Rattle.th_run_book.specs.Booked.{booked as booked_texts}
+use Rattle.th_run_parts.specs.Booked.{booked as booked_texts}
 use Rattle.th_devices.specs.Devices.{SinkState}
 use Rattle.th_devices.specs.Spots.{Spot, output}
 use Rattle.th_devices.specs.Folders.{Failing}

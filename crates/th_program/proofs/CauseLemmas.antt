@@ -2,10 +2,10 @@
 use Rattle.std.proofs.Common.{◌≡◌, ◌⊎◌, ◌<◌, ◌+◌, ◌∙◌, ℕ, Bool, true, List, [], ◌∷◌, Some, None, Ok, Err, IfErr, ap, arith, inl, inr, is_some, length, map, refl, subst, suc, sym, zero}
 use Rattle.std.specs.Prelude.{Option, Result, if◌then◌else◌, nat_eq, option_map, slice_get}
 use Rattle.std.proofs.lemmas.Option.{slice_get-map}
-use Rattle.th_run_book.specs.Booked.{IsOfBooking, input_of}
-use Rattle.th_run_book.specs.Mended.{IsOfMending}
-use Rattle.th_run_book.specs.declared.conversions.Conversion.{Conversion}
-use Rattle.th_run_book.specs.declared.conversions.Conversion.TheVariants.{Differences, Heights}
+use Rattle.th_run_parts.specs.Booked.{IsOfBooking, input_of}
+use Rattle.th_run_parts.specs.Mended.{IsOfMending}
+use Rattle.th_run_parts.specs.declared.conversions.Conversion.{Conversion}
+use Rattle.th_run_parts.specs.declared.conversions.Conversion.TheVariants.{Differences, Heights}
 use Rattle.th_devices.specs.Devices.{IsOpened, SinkState, SourceState}
 use Rattle.th_devices.specs.Spots.{Spot, file}
 use Rattle.th_devices.specs.Folders.{Failing, IsStopped}

@@ -17,10 +17,10 @@ use Rattle.th_commands.specs.declared.faults.PlanFault.TheVariants as fault
 use Rattle.th_commands.specs.declared.plans.Plan.{Plan}
 use Rattle.th_commands.specs.declared.plans.Plan.TheVariants as plan
 use Rattle.th_report.specs.Lists.{list_text}
-use Rattle.th_run_book.specs.Booked.{IsOfBooking}
-use Rattle.th_run_book.specs.Mended.{IsOfMending}
-use Rattle.th_run_book.specs.declared.conversions.Conversion.{Conversion}
-use Rattle.th_run_book.specs.declared.conversions.Conversion.TheVariants.{Differences, Heights}
+use Rattle.th_run_parts.specs.Booked.{IsOfBooking}
+use Rattle.th_run_parts.specs.Mended.{IsOfMending}
+use Rattle.th_run_parts.specs.declared.conversions.Conversion.{Conversion}
+use Rattle.th_run_parts.specs.declared.conversions.Conversion.TheVariants.{Differences, Heights}
 use Rattle.th_runs.specs.Adjusted.{AreOfAdjustment, adjusting}
 use Rattle.th_runs.specs.Checked.{IsRight, check_text, checking, verdict_line, verdict_on}
 use Rattle.th_runs.specs.Explained.{AreOfExplanation, explaining}

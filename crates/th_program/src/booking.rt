@@ -7,7 +7,7 @@ ghost use Rattle.th_run_parts.specs.Writes.{UnlessWrite};
 use std::alloc::Global;
 use th_devices::{Folder, Origin};
 use th_files::{close_sinks, sinks_of};
-use th_run_book::{BOOKED, Conversion, run_book};
+use th_run_parts::{BOOKED, Conversion, run_book};
 use th_runs::Refusal;
 
 /// Prints the book that the named file becomes on standard output.

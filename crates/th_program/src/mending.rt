@@ -7,7 +7,7 @@ ghost use Rattle.th_run_parts.specs.Writes.{UnlessWrite};
 use std::alloc::Global;
 use th_devices::{Folder, Origin};
 use th_files::{close_sinks, sinks_of};
-use th_run_book::{BOOKED, run_mend};
+use th_run_parts::{BOOKED, run_mend};
 use th_runs::Refusal;
 
 /// Prints the named book with the changes of the named table on standard output.

@@ -18,7 +18,7 @@ use th_commands::Plan;
 use th_devices::{Folder, Origin};
 use th_files::Stop;
 use th_messages::{refuse_memory, refuse_overwrite, tell_notes};
-use th_run_book::Conversion;
+use th_run_parts::Conversion;
 use th_runs::{DONE, Notes, Refusal, status_of_verdict};
 
 /// Runs a plan, and returns the exit status. A refusal has its lines on standard error. A plan whose

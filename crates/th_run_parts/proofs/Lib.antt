@@ -5,3 +5,5 @@ pub mod SourceLemmas
 pub mod OutputLemmas
 pub mod RunLemmas
 pub mod ReaderLemmas
+pub mod BookingLemmas
+pub mod MendingLemmas

@@ -12,7 +12,7 @@ use Rattle.th_certificate.specs.Certified.{Certified}
 use Rattle.th_certificate.specs.Reading.{certificate_of}
 use Rattle.th_certificate.specs.Limits.{max_certificate}
 use Rattle.th_conversions.specs.Limits.{max_differences}
-use Rattle.th_mend_table.specs.Limits.{max_changes}
+use Rattle.th_mend.specs.Limits.{max_changes}
 use Rattle.th_network.specs.Faults.{HasFault, IsNetwork}
 use Rattle.th_network.specs.Networks.{Survey, surveyed}
 use Rattle.th_network.specs.declared.faults.NetFault.{NetFault}

@@ -7,3 +7,5 @@ pub mod Outcomes
 pub mod Readers
 pub mod Summed
 pub mod Refused
+pub mod Booked
+pub mod Mended

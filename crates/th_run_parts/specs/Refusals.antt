@@ -7,7 +7,7 @@ use Rattle.th_checker.specs.declared.verdicts.Verdict.TheVariants.{Yes, No}
 use Rattle.th_conversions.specs.HeightFaults.{fault_text as height_fault_text}
 use Rattle.th_conversions.specs.Texts.{fault_text as difference_fault_text}
 use Rattle.th_mend.specs.Faults.{row_text}
-use Rattle.th_mend_table.specs.Texts.{fault_text as change_fault_text}
+use Rattle.th_mend.specs.Texts.{fault_text as change_fault_text}
 use Rattle.th_network.specs.Texts.{fault_text as net_fault_text}
 use Rattle.th_tables.specs.Texts.{fault_text as table_fault_text}
 use Rattle.th_run_parts.specs.Outputs.{output_text}

@@ -14,7 +14,7 @@ use th_certificate::MAX_CERTIFICATE;
 use th_conversions::MAX_DIFFERENCES;
 use th_devices::{ReadFault, Source, read_all};
 use th_inputs::{Input, Sum, add_sum};
-use th_mend_table::MAX_CHANGES;
+use th_mend::MAX_CHANGES;
 use th_tables::{Benchmarks, MAX_TABLE, TableKind, Weights, read_benchmarks, read_weights};
 
 /// The most bytes that an input has.

@@ -9,9 +9,9 @@ use Rattle.th_book.specs.declared.setups.Setup.{Setup}
 use Rattle.th_entries.specs.Entries.{begins_from, index_of}
 use Rattle.th_entries.specs.declared.entries.HeightKind.{HeightKind}
 use Rattle.th_entries.specs.declared.entries.HeightKind.TheVariants.{Reflector, Instrument}
-use Rattle.th_mend_table.specs.declared.changes.What.{What}
-use Rattle.th_mend_table.specs.declared.changes.What.TheVariants.{Height}
-use Rattle.th_mend_table.specs.declared.changes.Change.{Change}
+use Rattle.th_mend.specs.declared.changes.What.{What}
+use Rattle.th_mend.specs.declared.changes.What.TheVariants.{Height}
+use Rattle.th_mend.specs.declared.changes.Change.{Change}
 use Rattle.th_mend.specs.Reached.{are_one, own_fault, place_of, spot_below}
 use Rattle.th_mend.specs.declared.forces.Forces.{Forces}
 use Rattle.th_mend.specs.declared.sought.Locating.{Locating}

@@ -1,7 +1,7 @@
 -- What is known of a book that was read.
 use Rattle.std.specs.Prelude.{ℕ, List, length}
 use Rattle.th_book.specs.Books.{IsFaultless, parsed_of}
-use Rattle.th_mend_table.specs.declared.changes.Change.{Change}
+use Rattle.th_mend.specs.declared.changes.Change.{Change}
 use Rattle.th_mend.specs.Inside.Forces.{IsLocating}
 use Rattle.th_mend.specs.declared.sought.Locating.{Locating}
 

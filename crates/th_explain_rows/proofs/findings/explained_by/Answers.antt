@@ -15,9 +15,9 @@ use Rattle.th_network.specs.Heights.{residual}
 use Rattle.th_network.specs.Networks.{at_points_of}
 use Rattle.th_explain_rows.specs.Explanations.{summary_with}
 use Rattle.th_explain_rows.specs.Inside.Passing.{AreOwnRows}
-use Rattle.th_named.specs.Meant.{AreNamedIn}
+use Rattle.th_meant.specs.Named.{AreNamedIn}
 use Rattle.th_numbers.specs.Lists.{listed_in, listed_of}
-use Rattle.th_readings.specs.Readings.{IsBookRowOrNone}
+use Rattle.th_numbers.specs.Readings.{IsBookRowOrNone}
 use Rattle.th_explain_rows.proofs.FindLemmas.{explained_of}
 use Rattle.th_explain_rows.proofs.findings.explained_by.Goals as goal
 

@@ -9,7 +9,7 @@ use Rattle.th_files.proofs.OpenedLemmas.{given-there}
 use Rattle.th_files.specs.Opened.{AreApart, AreMade, IsTaken, IsUntouched}
 use Rattle.th_files.specs.Outputs.{spots_of}
 use Rattle.th_files.specs.Owed.{converted_owed}
-use Rattle.th_run_book.specs.Booked.{IsOfBooking, booked as booked_texts, booking, converted, input_of}
+use Rattle.th_run_parts.specs.Booked.{IsOfBooking, booked as booked_texts, booking, converted, input_of}
 use Rattle.th_run_parts.specs.Reads.{refused}
 use Rattle.th_program.proofs.booking.make_book.Goals as goal
 

@@ -10,8 +10,8 @@ use Rattle.th_files.specs.Outputs.{spots_of}
 use Rattle.th_files.specs.Owed.{mended_owed}
 use Rattle.th_inputs.specs.declared.inputs.Input.TheVariants as input
 use Rattle.th_program.specs.Failing.{IsInMending}
-use Rattle.th_run_book.specs.Booked.{booked as booked_texts, booking}
-use Rattle.th_run_book.specs.Mended.{IsOfMending, owed_for_mended}
+use Rattle.th_run_parts.specs.Booked.{booked as booked_texts, booking}
+use Rattle.th_run_parts.specs.Mended.{IsOfMending, owed_for_mended}
 use Rattle.th_run_parts.specs.Reads.{refused}
 use Rattle.th_program.proofs.mending.mend.Goals as goal
 

@@ -1,5 +1,5 @@
 use Rattle.std.proofs.Common.{ap, ◌∙◌}
-use Rattle.th_new_words.specs.NewWords.{info_of}
+use Rattle.th_mend.specs.NewWords.{info_of}
 use Rattle.th_conversions.proofs.HeightWordLemmas.{written_has_spelling}
 use Rattle.th_conversions.proofs.height_words.Written.word.Goals as goal
 

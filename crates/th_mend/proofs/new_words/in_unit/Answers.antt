@@ -1,0 +1,11 @@
+use Rattle.std.proofs.Common.{◌≡◌, List, ℕ, true, arith, subst, sym}
+use Rattle.std.specs.List.{list_all}
+use Rattle.gsi_word.specs.Bytes.{is_info}
+use Rattle.th_mend.specs.Inside.Bodies.{IsBody}
+use Rattle.th_mend.proofs.new_words.in_unit.Goals as goal
+
+pub invariant_of-result : goal.invariant_of-result
+invariant_of-result c =
+    let word = c.args.word.now in
+    let is : IsBody c.in_ok-body.body.items = c.in_ok-body.ensures.fits in
+    (omega (arith, c.index.ensures, word.index_in_range), (omega arith, (subst (λ (info : List ℕ). list_all is_info info ≡ true) (sym c.info.ensures) word.info_allowed, (is.long, is.printable))))

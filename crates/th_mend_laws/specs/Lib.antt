@@ -1,2 +1,0 @@
-pub mod Corrected
-pub mod Typed

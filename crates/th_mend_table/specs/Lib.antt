@@ -1,5 +1,0 @@
-pub mod Limits
-pub mod Fields
-pub mod Tables
-pub mod Texts
-pub mod Inside

@@ -1,5 +1,0 @@
-use Rattle.th_named.proofs.LawLemmas.{poles_or_none}
-use Rattle.th_named.proofs.laws.poles_elsewhere_come_first.Goals as goal
-
-pub returns : goal.returns
-returns c = λ entries limit rows named are. poles_or_none entries limit rows named are

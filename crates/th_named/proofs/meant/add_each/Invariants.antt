@@ -1,6 +1,0 @@
-use Rattle.std.proofs.Common.{◌≡◌, ◌++◌, drop, map}
-use Rattle.th_named.specs.Meant.{named_with}
-use Rattle.th_named.proofs.meant.add_each.Given as goal
-
-abbrev pub invariant-loop-height : goal.invariant-loop-height
-invariant-loop-height l = l.named.items ++ map (named_with l.keyed l.others) (drop l.height-index l.heights) ≡ l.fn.named.items ++ map (named_with l.keyed l.others) l.heights

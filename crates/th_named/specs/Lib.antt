@@ -1,4 +1,0 @@
-pub mod Keyed
-pub mod Meant
-pub mod Doubted
-pub mod Inside

@@ -1,5 +1,0 @@
-use Rattle.std.proofs.Common.{length}
-use Rattle.th_new_words.proofs.counting.+holds.Given as goal
-
-abbrev pub decreases-holds : goal.decreases-holds
-decreases-holds l = length l.words.now

@@ -1,5 +1,0 @@
-use Rattle.th_new_words.proofs.LengthLemmas.{added_word_read}
-use Rattle.th_new_words.proofs.laws.added_word_writes_its_length.Goals as goal
-
-pub returns : goal.returns
-returns c = added_word_read

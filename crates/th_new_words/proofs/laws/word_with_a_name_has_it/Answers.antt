@@ -1,5 +1,0 @@
-use Rattle.th_new_words.proofs.NameLemmas.{with_name_named}
-use Rattle.th_new_words.proofs.laws.word_with_a_name_has_it.Goals as goal
-
-pub returns : goal.returns
-returns c = with_name_named

@@ -1,2 +1,0 @@
-pub mod NewWords
-pub mod Inside

@@ -1,2 +1,0 @@
-mod RereadLemmas
-mod BookLemmas

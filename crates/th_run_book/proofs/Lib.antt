@@ -1,2 +1,0 @@
-pub mod BookingLemmas
-pub mod MendingLemmas

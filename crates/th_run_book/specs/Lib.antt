@@ -1,2 +1,0 @@
-pub mod Booked
-pub mod Mended
