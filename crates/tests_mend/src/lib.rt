@@ -1,4 +1,4 @@
-//! Tests of `th_mend_table` and `th_mend`: tables of changes, mended books, and refusals.
+//! Tests of `th_mend`: tables of changes, mended books, and refusals.
 //!
 //! They use public calls alone.
 #![tactic(auto)]
