@@ -40,24 +40,18 @@ fn offer_changes(kept: &mut Kept, sought: &Sought, typed: &Typed, digits: &[u8],
         ≡ with_offers sought.now kept.old.items (all_read typed.now (changes_at digits.now place)) }
 {
     for digit in &DIGITS {
-        offer_change(kept, sought, typed, digits, place, *digit);
+        offer_change(kept, sought, typed, digits, (place, *digit));
     }
 }
 
 /// Offers the slip that puts another digit into a place.
-fn offer_change(
-    kept: &mut Kept,
-    sought: &Sought,
-    typed: &Typed,
-    digits: &[u8],
-    place: usize,
-    digit: u8,
-)
+fn offer_change(kept: &mut Kept, sought: &Sought, typed: &Typed, digits: &[u8], other: (usize, u8))
     requires few { length digits.now ≤ 20 }
-    requires within { place < length digits.now }
+    requires within { other.0 < length digits.now }
     ensures { kept.new.items
-        ≡ with_offers sought.now kept.old.items (all_read typed.now (change_to digits.now place digit)) }
+        ≡ with_offers sought.now kept.old.items (all_read typed.now (change_to digits.now other.0 other.1)) }
 {
+    let (place, digit) = other;
     if digit != digits[place] {
         offer_read(kept, sought, typed, &changed(digits, place, digit));
     }
