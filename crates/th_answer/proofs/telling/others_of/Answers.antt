@@ -18,7 +18,7 @@ loop-place-preserved c =
     let benchmarks : BenchmarkRows = survey.benchmarks in
     let place : ℕ = c.loop-place.place in
     let as_many = AllZip-long (IsTold survey) benchmarks c.in_ok-rows.rows.items c.in_ok-rows.ensures.rows in
-    let within : place < length benchmarks = omega (arith, c.loop-place-test.true, c.min-count.ensures, c.len-2.ensures, as_many) in
+    let within : place < length benchmarks = omega (arith, c.loop-place-test.true, c.min-count.ensures, c.len.ensures, as_many) in
     let none : List ℕ × ℤ = ([], pos 0) in
     let row : List ℕ × ℤ = get_or benchmarks place none in
     let says : IsSaid survey row c.in_ok-said.said =
@@ -34,6 +34,6 @@ returns c =
     let benchmarks : BenchmarkRows = survey.benchmarks in
     let as_many = AllZip-long (IsTold survey) benchmarks c.in_ok-rows.rows.items c.in_ok-rows.ensures.rows in
     let most : ℕ = asked_benchmarks (length survey.observations) in
-    let asked : c.asked_benchmarks-most.result ≡ most = c.asked_benchmarks-most.ensures ∙ ap asked_benchmarks (c.len.ensures ∙ ap length c.observations.ensures.observations) in
-    let there : c.loop-place.place ≡ min most (length benchmarks) = omega (arith, c.loop-place-test.false, c.loop-place.auto.place-end, c.min-count.ensures, c.len-2.ensures, as_many, asked) in
+    let asked : c.asked_benchmarks-most.result ≡ most = c.asked_benchmarks-most.ensures ∙ ap asked_benchmarks (ap length c.observations.ensures.observations) in
+    let there : c.loop-place.place ≡ min most (length benchmarks) = omega (arith, c.loop-place-test.false, c.loop-place.auto.place-end, c.min-count.ensures, c.len.ensures, as_many, asked) in
     subst (λ (rows : BenchmarkRows). AllZip (IsSaid survey) rows c.loop-place.others.items) (ap (λ (n : ℕ). take n benchmarks) there ∙ take_min most benchmarks) c.loop-place.invariant.said
