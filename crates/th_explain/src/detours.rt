@@ -5,7 +5,6 @@ ghost use Rattle.th_changes.specs.Rerouted.{HoldsNumber};
 
 use crate::groups::{Ends, end_at, ends_of, link_at};
 use std::alloc::{AllocError, Global};
-use th_blunders::Fit;
 use th_changes::{Case, KeptFlows, Line, Number, Rerouted, Run};
 use th_detours::{Aim, Guide};
 
