@@ -257,7 +257,7 @@ def heights(page: Page) -> bytes:
 def benchmarks(page: Page) -> bytes:
     rows = [benchmark_row(page, row) for row in page.benchmarks[:ROWS]] + [b""] * max(0, len(page.benchmarks) - ROWS)
     return section(b"benchmarks", b"Benchmarks", b"The given heights, and what the other benchmarks say of each by the sights that lead there. "
-                   b"With more than 4,000 sights that is asked of the first rows alone.",
+                   b"With more than 4,000 sights it may be asked of the first rows alone.",
                    short_table(BENCHMARK_HEAD, rows)) if rows else b""
 
 

@@ -118,7 +118,7 @@ unfoldable pub benchmark_start : List ℕ
 benchmark_start =
     codes "<section id=\"benchmarks\">\n"
     ++ codes "<h2>Benchmarks</h2>\n"
-    ++ codes "<p class=\"note\">The given heights, and what the other benchmarks say of each by the sights that lead there. With more than 4,000 sights that is asked of the first rows alone.</p>\n"
+    ++ codes "<p class=\"note\">The given heights, and what the other benchmarks say of each by the sights that lead there. With more than 4,000 sights it may be asked of the first rows alone.</p>\n"
 
 -- the beginning of the section of residuals
 unfoldable pub residual_start : List ℕ

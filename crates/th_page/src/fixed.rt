@@ -118,7 +118,7 @@ const HEIGHT_NOTE: &[u8] =
 const BENCHMARKS: &[u8] = b"\
 <section id=\"benchmarks\">\n\
 <h2>Benchmarks</h2>\n\
-<p class=\"note\">The given heights, and what the other benchmarks say of each by the sights that lead there. With more than 4,000 sights that is asked of the first rows alone.</p>\n\
+<p class=\"note\">The given heights, and what the other benchmarks say of each by the sights that lead there. With more than 4,000 sights it may be asked of the first rows alone.</p>\n\
 ";
 
 /// The beginning of the section of residuals.
