@@ -80,6 +80,19 @@ impl<'a> Detours<'a> {
         send_back(&mut self.rerouted, &self.guide);
     }
 
+    /// Whether the walks that the guide proposed have more arcs than this together.
+    pub fn are_longer(&self, most: usize) -> bool {
+        let mut left = most;
+        for walk in self.guide.walks() {
+            let arcs = self.guide.arcs(walk).len();
+            if arcs > left {
+                return true;
+            }
+            left -= arcs;
+        }
+        false
+    }
+
     /// Has the guide propose walks for a number, through which so much flows. They send back more, so that no change
     /// beyond the limit is needed.
     pub fn propose(&mut self, number: &Number, run: Run, net: i64, limit: u64) -> Option<()>

@@ -11,6 +11,7 @@
 mod detours;
 mod gains;
 mod groups;
+mod keeping;
 mod pairs;
 mod sieve;
 mod touching;

@@ -6,40 +6,35 @@ ghost use Rattle.th_changes.specs.Rerouted.{HoldsNumber};
 use crate::detours::{Detours, Worth};
 use crate::gains::Gains;
 use crate::groups::link_at;
+use crate::keeping::{MOST_KEPT, MOST_TURNED, copies_of};
 use crate::pairs::{Pair, best_pair, costly_line, is_nearer, nearest_line};
 use crate::touching::Touching;
 use crate::unshown::Unshown;
 use std::alloc::{AllocError, Global};
-use th_changes::{Case, KeptFlows, Line, Number, Rerouted, Run, run_of};
+use th_changes::{Case, KeptFlows, Line, Number, Run, run_of};
 use th_freeing::{Seed, Simplex};
 use th_reliability::Runs;
-
-/// So many circulations are kept at most.
-const MOST_KEPT: usize = 64;
-
-/// So many of those that went other ways are kept beside them.
-const MOST_TURNED: usize = 16;
 
 /// The best flows of a network, circulations that freed one number or another, and what proposes other ways for
 /// them.
 #[derive(Drop)]
 pub struct Sieve<'a> {
     pub case: &'a Case<'a>,
-    best: Detours<'a>,
+    pub(crate) best: Detours<'a>,
     /// One of the circulations that are kept, and its place.
-    near: Detours<'a>,
-    near_place: Option<usize>,
+    pub(crate) near: Detours<'a>,
+    pub(crate) near_place: Option<usize>,
     pub(crate) kept: Vec<KeptFlows<'a>>,
     /// For each of them where the simplex goes on from it. Nothing is promised of that.
     pub(crate) seeds: Vec<Seed>,
     /// The last circulations that went other ways and showed something of a number, the latest last. They mostly show
     /// the same of the numbers that follow.
-    turned: Vec<KeptFlows<'a>>,
+    pub(crate) turned: Vec<KeptFlows<'a>>,
     pub(crate) runs: Runs<'a>,
     pub(crate) simplex: Simplex,
     /// What the kept circulations say of one number. Nothing is promised of it.
     pub(crate) lines: Vec<Line>,
-    lines_of: Option<Number>,
+    pub(crate) lines_of: Option<Number>,
     /// Where that number is, if it is a benchmark.
     touching: Touching,
     /// What numbers gain if all heights stay. Nothing is promised of that either.
@@ -141,7 +136,7 @@ impl<'a> Sieve<'a> {
         let _ = self.best.propose(number, run, given.net, limit);
         match self.turned(number) {
             Some(turned) if turned.are_costly_beyond(&given, limit) => {
-                self.keep_turned();
+                self.keep_turned(run);
                 true
             }
             _ => false,
@@ -233,7 +228,7 @@ impl<'a> Sieve<'a> {
         let _ = self.best.propose_below(number, run, given.net, worth);
         match self.turned(number) {
             Some(turned) if turned.leave_at_least(given, self.case.cost, least) => {
-                self.keep_turned();
+                self.keep_turned(run);
                 true
             }
             _ => false,
@@ -249,6 +244,7 @@ impl<'a> Sieve<'a> {
         let Some(place) = nearest_line(&self.lines, given) else {
             return false;
         };
+        let run = run_of(number, &self.runs);
         self.draw_near(place);
         let worth = Worth {
             net: given.net,
@@ -257,7 +253,7 @@ impl<'a> Sieve<'a> {
         };
         match self.turned_near(number, worth) {
             Some(turned) if turned.leave_at_least(given, self.case.cost, least) => {
-                self.keep_turned_near();
+                self.keep_turned_near(run);
                 true
             }
             _ => false,
@@ -406,92 +402,11 @@ impl<'a> Sieve<'a> {
             self.near_place = None;
         }
     }
-
-    /// Keeps the best flows where they go round the walks that were proposed last.
-    fn keep_turned(&mut self)
-        ensures { self.new.case.now ≡ self.old.case.now }
-    {
-        if let Some(mut own) = self.oldest_turned() {
-            self.best.give_turned(&mut own);
-            let _ = self.add_turned(own);
-        }
-    }
-
-    /// The same, of the near circulation.
-    fn keep_turned_near(&mut self)
-        ensures { self.new.case.now ≡ self.old.case.now }
-    {
-        if let Some(mut own) = self.oldest_turned() {
-            self.near.give_turned(&mut own);
-            let _ = self.add_turned(own);
-        }
-    }
-
-    /// Those circulations that went other ways that were kept longest, which are kept no more.
-    fn oldest_turned(&mut self) -> Option<KeptFlows<'a>>
-        ensures case { self.new.case.now ≡ self.old.case.now }
-        ensures same { IfSome result (λ own. own.case.now ≡ self.old.case.now) }
-    {
-        self.lines_of = None;
-        if self.turned.is_empty() {
-            return None;
-        }
-        Some(self.turned.remove(0))
-    }
-
-    /// Keeps a circulation that went other ways, where there is room.
-    fn add_turned(&mut self, own: KeptFlows<'a>) -> Option<()>
-        requires { own.case.now ≡ self.old.case.now }
-        ensures { self.new.case.now ≡ self.old.case.now }
-    {
-        self.turned.push(own).ok()
-    }
-
-    /// Keeps flows, in place of those that were kept longest if there is no room, and where the simplex goes on from
-    /// them.
-    pub(crate) fn keep(&mut self, own: KeptFlows<'a>, seed: Seed) -> Result<(), AllocError>
-        requires { own.case.now ≡ self.old.case.now }
-        ensures { self.new.case.now ≡ self.old.case.now }
-    {
-        self.lines_of = None;
-        if self.kept.len() >= MOST_KEPT {
-            self.drop_first();
-        }
-        self.seeds.push(seed)?;
-        Ok(self.kept.push(own)?)
-    }
-
-    /// Drops the flows that were kept longest.
-    fn drop_first(&mut self)
-        ensures { self.new.case.now ≡ self.old.case.now }
-    {
-        self.near_place = match self.near_place {
-            Some(place) if place > 0 => Some(place - 1),
-            _ => None,
-        };
-        if !self.kept.is_empty() && !self.seeds.is_empty() {
-            self.kept.remove(0);
-            self.seeds.remove(0);
-        }
-    }
 }
 
 /// How much less than a cost may be left, if at least another one is to be left.
 fn worth_above(cost: u128, least: u128) -> u64 {
     u64::try_from(cost.saturating_sub(least)).unwrap_or(u64::MAX)
-}
-
-/// So many copies of flows as circulations that went other ways are kept.
-fn copies_of<'a>(alloc: Global, flows: &Rerouted<'a>) -> Result<Vec<KeptFlows<'a>>, AllocError>
-    ensures { IfOk result (λ copies. All (λ own. own.case.now ≡ flows.now.case.now) copies.items) }
-{
-    let mut copies = Vec::with_capacity(alloc, MOST_TURNED)?;
-    for _ in 0..MOST_TURNED {
-        if let Some(own) = flows.kept(alloc)? {
-            copies.push(own)?;
-        }
-    }
-    Ok(copies)
 }
 
 /// The simplex for a network with its best flows.

@@ -1,5 +1,5 @@
 use Rattle.std.proofs.Common.{◌≡◌, All}
-use Rattle.th_explain.proofs.sieve.copies_of.Given as goal
+use Rattle.th_explain.proofs.keeping.copies_of.Given as goal
 
 abbrev pub invariant-loop : goal.invariant-loop
 invariant-loop l = All (λ own. own.case.now ≡ l.fn.flows.case.now) l.copies.items

@@ -2,8 +2,8 @@ use Rattle.std.proofs.Common.{◌≡◌, All, List, Option, ap, subst, sym, ◌�
 use Rattle.std.proofs.lemmas.List.Elements.{All-push}
 use Rattle.std.specs.Prelude.{IfSome}
 use Rattle.th_changes.specs.declared.kept.KeptFlows.{KeptFlows}
-use Rattle.th_explain.proofs.sieve.copies_of.Goals as goal
-use Rattle.th_explain.proofs.sieve.copies_of.Goals.{in-Some+in_ok-push, in_default}
+use Rattle.th_explain.proofs.keeping.copies_of.Goals as goal
+use Rattle.th_explain.proofs.keeping.copies_of.Goals.{in-Some+in_ok-push, in_default}
 
 pub loop-preserved : goal.loop-preserved
 loop-preserved c =
