@@ -8,9 +8,9 @@ use th_network::Network;
 /// How often a median is narrowed at most.
 const ROUNDS: u32 = 64;
 
-/// Of a longer run each second residual is looked at, or each third, and so on, so that they are no more than twice as
-/// many.
-const MOST_LOOKED_AT: usize = 256;
+/// Of a longer run at least so many residuals are looked at, and fewer than twice as many: each second one, or each third,
+/// and so on.
+const FEWEST_LOOKED_AT: usize = 256;
 
 /// The residuals of a network at its best heights, in units of 10 nm.
 #[derive(Drop)]
@@ -25,7 +25,7 @@ impl Gains {
     pub fn of(alloc: Global, fit: &Fit) -> Result<Gains, AllocError> {
         Ok(Gains {
             residuals: Vec::from_slice(alloc, &fit.residuals)?,
-            looked_at: Vec::with_capacity(alloc, 2 * MOST_LOOKED_AT)?,
+            looked_at: Vec::with_capacity(alloc, 2 * FEWEST_LOOKED_AT)?,
         })
     }
 
@@ -54,7 +54,7 @@ impl Gains {
             return None;
         }
         let count = run.end.saturating_sub(run.start);
-        let step = (count / MOST_LOOKED_AT).max(1);
+        let step = (count / FEWEST_LOOKED_AT).max(1);
         for k in 0..count / step {
             let place = run.start.saturating_add(k.saturating_mul(step));
             let residual = *self.residuals.get(place)?;

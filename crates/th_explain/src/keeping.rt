@@ -17,8 +17,8 @@ pub(crate) const MOST_TURNED: usize = 16;
 const SHORT: usize = 64;
 
 impl<'a> Sieve<'a> {
-    /// Keeps the best flows where they go round the walks that were proposed last, for a number in a run, unless finding
-    /// them took less.
+    /// Keeps the best flows where they go round the walks that were proposed last for a number in this run, unless it
+    /// takes less time to find such walks again.
     pub(crate) fn keep_turned(&mut self, run: Run)
         ensures { self.new.case.now ≡ self.old.case.now }
     {
