@@ -72,7 +72,7 @@ pub fn answer_of(
         groups: groups_of(alloc, &judge)?,
         moved: all_moved(alloc, network, low, &corrected, limit)?,
         drawn: drawn_of(alloc, low, firsts.len(), &corrected)?,
-        others: others_of(alloc, case)?,
+        others: others_of(alloc, &mut mending.sieve)?,
         outlier: outlier_of(alloc, network, &fit.residuals, limit)?,
     })
 }

@@ -9,23 +9,25 @@ ghost use Rattle.th_answer.specs.Others.{IsSaid};
 use crate::answers::Others;
 use crate::limits::asked_benchmarks;
 use std::alloc::{AllocError, Global};
-use th_changes::{Case, Number};
+use th_changes::Number;
 use th_explain::{Freed, Sieve, explanation_or_more};
 use th_numbers::{TiedRow, tied_rows};
 
 /// What the others say of the first rows of the benchmarks' table.
-pub(crate) fn others_of(alloc: Global, case: &Case<'_>) -> Result<Vec<Others>, AllocError>
-    ensures { IfOk result (λ others. AllZip (IsSaid case.now.network.now)
-        (take (asked_benchmarks (length case.now.network.now.observations)) case.now.network.now.benchmarks)
+pub(crate) fn others_of(alloc: Global, sieve: &mut Sieve<'_>) -> Result<Vec<Others>, AllocError>
+    ensures said { IfOk result (λ others. AllZip (IsSaid sieve.old.case.now.network.now)
+        (take (asked_benchmarks (length sieve.old.case.now.network.now.observations))
+        sieve.old.case.now.network.now.benchmarks)
         others.items) }
+    ensures case { sieve.new.case.now ≡ sieve.old.case.now }
 {
-    let rows = tied_rows(alloc, case.network)?;
-    let mut sieve = Sieve::of(alloc, case)?;
-    let most = asked_benchmarks(case.network.observations().len());
+    let network = sieve.case.network;
+    let rows = tied_rows(alloc, network)?;
+    let most = asked_benchmarks(network.observations().len());
     let count = rows.len().min(most);
     let mut others = Vec::with_capacity(alloc, count)?;
     for place in 0..count {
-        let said = said_of_row(alloc, &mut sieve, &rows, place)?;
+        let said = said_of_row(alloc, sieve, &rows, place)?;
         others.push(said)?;
     }
     Ok(others)

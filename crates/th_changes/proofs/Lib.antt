@@ -9,4 +9,4 @@ pub mod PriceLemmas
 pub mod NetLemmas
 pub mod SumLemmas
 pub mod LineLemmas
-pub mod BalanceLemmas
+pub mod ValueLemmas

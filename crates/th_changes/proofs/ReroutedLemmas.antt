@@ -14,9 +14,9 @@ use Rattle.th_tables.specs.Rows.{WeightRows, weight_of}
 use Rattle.th_points.specs.Points.{points}
 use Rattle.th_points.proofs.PointLemmas.{EndsAmong, ends_are_points}
 use Rattle.th_network.specs.Heights.{IsHeights}
-use Rattle.th_network.specs.Circulation.{Shows}
+use Rattle.th_network.specs.Circulation.{Circulation, Shows}
 use Rattle.th_network.specs.Links.{base, link_difference, link_of}
-use Rattle.th_network.specs.Networks.{Survey, arcs_of, at_points_of, weights_of}
+use Rattle.th_network.specs.Networks.{AreOfObservations, Survey, arcs_of, at_points_of, weights_of}
 use Rattle.th_network.specs.declared.links.Link.{Link}
 use Rattle.th_network.specs.Vertices.{vertex_of}
 use Rattle.th_network.proofs.Balance.{carried}
@@ -275,16 +275,22 @@ best_value survey best own =
     let same = ap (λ (s : Survey). cost_of s heights) none in
     omega (arith, ints)
 
+-- a circulation is kept with what its value is less than the cost
+pub circulation_is_kept : (survey : Survey) (cost : ℕ) (flows : List ℤ) (lost : ℤ) → AreOfObservations survey flows → Circulation survey.observations survey.benchmarks survey.weights flows → value survey flows +ℤ lost ≡ pos cost → IsKept survey cost flows lost
+circulation_is_kept survey cost flows lost each_flow circulation valued = record {
+  each_flow = each_flow;
+  bounded = at_each survey.weights survey.observations flows circulation.bounded;
+  valued = valued;
+  closed = λ potential.
+      up survey potential survey.observations flows
+      ∙ none_carried survey.observations survey.benchmarks survey.weights flows (lifted survey potential) circulation (lifted_kept survey potential);
+}
+
 -- the best flows lose nothing
 pub best_is_kept : (survey : Survey) (best : Best) (cost : ℕ) → IsBest survey best → cost ≡ cost_of survey (at_points_of survey best.low) → IsKept survey cost best.flows (pos 0)
-best_is_kept survey best cost own costs = record {
-  each_flow = own.each_flow;
-  bounded = at_each survey.weights survey.observations best.flows own.circulation.bounded;
-  valued = let all = best_value survey best own in omega (arith, ints);
-  closed = λ potential.
-      up survey potential survey.observations best.flows
-      ∙ none_carried survey.observations survey.benchmarks survey.weights best.flows (lifted survey potential) own.circulation (lifted_kept survey potential);
-}
+best_is_kept survey best cost own costs =
+    let all = best_value survey best own in
+    circulation_is_kept survey cost best.flows (pos 0) own.each_flow own.circulation (omega (arith, ints))
 
 -- a circulation before the first walk
 pub walk_at_first : (survey : Survey) (cost : ℕ) (flows : List ℤ) (lost : ℤ) → IsKept survey cost flows lost → IsRerouted survey cost flows lost 0 0 0

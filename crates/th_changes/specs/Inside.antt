@@ -1,4 +1,3 @@
 -- what private functions promise each other
 pub mod Sums
 pub mod Paid
-pub mod Balances

@@ -1,12 +1,11 @@
 //! Circulations of a network that are kept, to bound what it costs whatever a number is changed by.
 ghost use Rattle.std.specs.Prelude.{◌≡◌, ◌<◌, ◌≤◌, ◌+ℤ◌, ◌*ℤ◌, pos, All, IfOk, IfSome, length, slice_index, slice_index_or, slice_set, true, unsigned_abs, ℕ};
 ghost use Rattle.th_changes.specs.Flows.{net, value};
-ghost use Rattle.th_changes.specs.Inside.Balances.{AreBalances};
 ghost use Rattle.th_changes.specs.Inside.Sums.{AreSums};
-ghost use Rattle.th_changes.specs.Kept.{AreClosed, IsKept};
+ghost use Rattle.th_changes.specs.Kept.{IsKept};
 ghost use Rattle.th_changes.specs.Lines.{IsLine};
 ghost use Rattle.th_changes.specs.Rerouted.{HoldsNumber};
-ghost use Rattle.th_network.specs.Networks.{AreOfObservations, weights_of};
+ghost use Rattle.th_network.specs.Networks.{AreOfObservations};
 
 use crate::cases::Case;
 use crate::lines::Line;
@@ -16,6 +15,7 @@ use crate::prices::signed;
 use crate::rerouting::Rerouted;
 use crate::runs::Run;
 use std::alloc::{AllocError, Global};
+use th_circulation::is_circulation;
 use th_network::Network;
 
 /// A circulation of a network.
@@ -41,7 +41,7 @@ impl<'a> KeptFlows<'a> {
         ensures { IfOk result (λ own. IfSome own (λ own. own.case.now ≡ case.now)) }
     {
         let network = case.network;
-        if !are_light(network, flows) || !are_balanced(alloc, network, flows)? {
+        if !is_circulation(alloc, network, flows)? {
             return Ok(None);
         }
         let Some(lost) = lost_by(case, flows) else {
@@ -114,84 +114,6 @@ impl<'a> KeptFlows<'a> {
         }
         net_by_touch(self.case.network, number, &self.flows, run)
     }
-}
-
-/// Whether there is a flow for each observation, and none is more than its weight.
-fn are_light(network: &Network, flows: &[i64]) -> bool
-    ensures each { result ≡ true → AreOfObservations network.now flows.now }
-    ensures bounded { result ≡ true → (k : ℕ) → k < length flows.now
-        → unsigned_abs (slice_index_or flows.now k (pos 0)) ≤ slice_index (weights_of network.now) k }
-{
-    if flows.len() != network.observations().len() {
-        return false;
-    }
-    for k in 0..flows.len() {
-        if flows[k].unsigned_abs() > u64::from(network.weight(k)) {
-            return false;
-        }
-    }
-    true
-}
-
-/// Whether as much flows to each vertex as from it.
-fn are_balanced(alloc: Global, network: &Network, flows: &[i64]) -> Result<bool, AllocError>
-    requires { AreOfObservations network.now flows.now }
-    ensures { IfOk result (λ holds. holds ≡ true → AreClosed network.now flows.now) }
-{
-    let mut balances = vec![in alloc; 0i64; network.vertices() as usize]?;
-    Ok(are_level(&mut balances, network, flows))
-}
-
-/// The same, in a row of zeros for the balances of the vertices.
-fn are_level(balances: &mut [i64], network: &Network, flows: &[i64]) -> bool
-    requires flows { AreOfObservations network.now flows.now }
-    requires zero { All (λ balance. balance ≡ pos 0) balances.old }
-    ensures { result ≡ true → AreClosed network.now flows.now }
-{
-    match add_all(balances, network, flows) {
-        Some(()) => are_zero(balances),
-        None => false,
-    }
-}
-
-/// Takes each flow from the balance of the vertex that it leaves, and gives it to the one that it enters.
-fn add_all(balances: &mut [i64], network: &Network, flows: &[i64]) -> Option<()>
-    requires flows { AreOfObservations network.now flows.now }
-    requires zero { All (λ balance. balance ≡ pos 0) balances.old }
-    ensures { IfSome result (λ done. AreBalances network.now flows.now balances.new) }
-{
-    let arcs = network.arcs();
-    for k in 0..flows.len() {
-        add(balances, arcs[k].head, flows[k])?;
-        add(balances, arcs[k].tail, -flows[k])?;
-    }
-    Some(())
-}
-
-/// Adds a flow to the balance of a vertex.
-fn add(balances: &mut [i64], vertex: u32, flow: i64) -> Option<()>
-    ensures within { IfSome result (λ done. vertex < length balances.old) }
-    ensures added { IfSome result (λ done. balances.new
-        ≡ slice_set balances.old vertex (slice_index_or balances.old vertex (pos 0) +ℤ flow)) }
-{
-    let place = vertex as usize;
-    if place >= balances.len() {
-        return None;
-    }
-    balances[place] = balances[place].checked_add(flow)?;
-    Some(())
-}
-
-/// Whether all balances are zero.
-fn are_zero(balances: &[i64]) -> bool
-    ensures { result ≡ true → All (λ balance. balance ≡ pos 0) balances.now }
-{
-    for balance in balances {
-        if *balance != 0 {
-            return false;
-        }
-    }
-    true
 }
 
 /// By how much the value of the flows is less than what the network costs.

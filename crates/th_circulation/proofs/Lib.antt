@@ -31,3 +31,4 @@ pub mod ExtremesExist
 pub mod AnswerLemmas
 pub mod AskedLemmas
 pub mod BetweenLemmas
+pub mod BalanceLemmas

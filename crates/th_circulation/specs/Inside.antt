@@ -11,3 +11,4 @@ pub mod Proposals
 pub mod Phases
 pub mod Workspaces
 pub mod Cuts
+pub mod Balances

@@ -1,14 +1,16 @@
 //! `settle` and `spans` in one call: the lowest and the highest best heights of a network.
 ghost use Rattle.std.specs.Prelude.{◌≡◌, IfOk};
 ghost use Rattle.th_circulation.specs.Best.{IsBest};
+ghost use Rattle.th_circulation.specs.Settled.{IsSettled};
 
 use crate::settling::settle;
 use crate::spanning::spans;
+use crate::starts::{Start, settled_from};
 use crate::steps::Steps;
 use std::alloc::{AllocError, Global};
 use std::marker::Model;
-use th_network::Network;
 use th_network::laws::circulation_shows_least;
+use th_network::{Network, Settled};
 use th_search::LabelSearch;
 
 /// The lowest and the highest best heights of a network, and a circulation that shows both.
@@ -62,8 +64,30 @@ impl BestHeights {
 pub fn best_heights(alloc: Global, network: &Network) -> Result<BestHeights, AllocError>
     ensures { IfOk result (IsBest network.now) }
 {
-    circulation_shows_least();
     let settled = settle(alloc, network, &mut LabelSearch::new(), &mut Steps::new())?;
+    spanned(alloc, network, settled)
+}
+
+/// The same. Where these flows and heights show each other, it takes as long as `spans`.
+pub fn best_heights_from(
+    alloc: Global,
+    network: &Network,
+    start: Start<'_>,
+) -> Result<BestHeights, AllocError>
+    ensures { IfOk result (IsBest network.now) }
+{
+    match settled_from(alloc, network, start)? {
+        Some(settled) => spanned(alloc, network, settled),
+        None => best_heights(alloc, network),
+    }
+}
+
+/// The lowest and the highest heights that cost as little as settled ones.
+fn spanned(alloc: Global, network: &Network, settled: Settled) -> Result<BestHeights, AllocError>
+    requires { IsSettled network.now settled.heights.items settled.flows.items }
+    ensures { IfOk result (IsBest network.now) }
+{
+    circulation_shows_least();
     let spans = spans(alloc, network, &settled)?;
     Ok(BestHeights {
         low: spans.low,

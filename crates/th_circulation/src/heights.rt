@@ -43,3 +43,17 @@ pub(crate) fn take(heights: &mut [i64], guide: &Guide, vertices: u32)
             .clamp(-MOST_HEIGHT, MOST_HEIGHT);
     }
 }
+
+/// Takes given heights, as far as costs that they reduce stay in range; 0 where there is none.
+pub(crate) fn take_given(heights: &mut [i64], given: &[i64], vertices: u32)
+    requires heights { AreWithin vertices raised_bound heights.old }
+    ensures within { AreWithin vertices height_bound heights.new }
+{
+    for (vertex, height) in heights.iter_mut().enumerate() {
+        *height = given
+            .get(vertex)
+            .copied()
+            .unwrap_or(0)
+            .clamp(-MOST_HEIGHT, MOST_HEIGHT);
+    }
+}

@@ -20,11 +20,13 @@ mod states;
 
 // How flows change, phase by phase.
 mod cancels;
+mod flows;
 mod heights;
 mod point_heights;
 mod proposals;
 mod proposing;
 mod settling;
+mod starts;
 mod workspaces;
 
 // The lowest and the highest best heights.
@@ -37,8 +39,10 @@ mod best;
 // Laws of the definitions.
 pub mod laws;
 
-pub use best::{BestHeights, best_heights};
+pub use best::{BestHeights, best_heights, best_heights_from};
+pub use flows::is_circulation;
 pub use settling::settle;
 pub use spanning::spans;
+pub use starts::Start;
 pub use steps::Steps;
 pub use th_network::{Settled, Spans};

@@ -147,7 +147,7 @@ impl Workspace {
 
     /// Asks the search once: cancels the cycle that it names and answers true, or raises the heights
     /// by its potentials to heights that the flows show, and answers false.
-    fn advance<S: Search>(
+    pub fn advance<S: Search>(
         &mut self,
         alloc: Global,
         graph: &LinkGraph,

@@ -1,13 +1,15 @@
 //! Heights after a number was changed, and the blunders that are left then.
 ghost use Rattle.std.specs.Prelude.{◌≡◌, ◌≤◌, All, IfOk, IfSome, unsigned_abs};
+ghost use Rattle.th_circulation.specs.Best.{IsBest};
 ghost use Rattle.th_explain.specs.Mended.{AreLowestWith, LeavesBlunders};
 ghost use Rattle.th_changes.specs.Reach.{reach_of};
 ghost use Rattle.th_changes.specs.Tilted.{tilted};
 
+use crate::sieve::Sieve;
 use std::alloc::{AllocError, Global};
 use th_blunders::{Fit, blunder_count};
 use th_changes::{Case, Number, tilted};
-use th_circulation::best_heights;
+use th_circulation::{BestHeights, best_heights, best_heights_from};
 use th_network::Network;
 
 /// After so many changes heights are kept at most.
@@ -21,24 +23,27 @@ struct Mended {
     heights: Vec<i64>,
 }
 
-/// A network with its best heights, and the heights after the changes that were looked at first: it is not
-/// adjusted twice with one of them.
+/// A network with its best heights, what shows something of its numbers, and the heights after the changes that were
+/// looked at first: it is not adjusted twice with one of them.
 #[derive(Drop)]
 pub struct Mending<'a> {
     pub case: &'a Case<'a>,
+    pub sieve: Sieve<'a>,
     kept: Vec<Mended>,
+    ghost same: { sieve.case.now ≡ case.now },
     ghost lowest: { All (λ own. AreLowestWith case.now.network.now own.number own.change own.heights.items) kept.items },
 }
 
 impl<'a> Mending<'a> {
     /// No change was looked at.
-    pub fn of(alloc: Global, case: &'a Case<'a>) -> Mending<'a>
-        ensures { result.case.now ≡ case.now }
+    pub fn of(alloc: Global, case: &'a Case<'a>) -> Result<Mending<'a>, AllocError>
+        ensures { IfOk result (λ own. own.case.now ≡ case.now) }
     {
-        Mending {
+        Ok(Mending {
             case,
+            sieve: Sieve::of(alloc, case)?,
             kept: Vec::new(alloc),
-        }
+        })
     }
 
     /// The lowest best heights after a number was changed, in point order and in units of 10 nm, given the
@@ -57,13 +62,32 @@ impl<'a> Mending<'a> {
         if let Some(heights) = self.known(alloc, number, change)? {
             return Ok(heights);
         }
-        let best = best_heights(alloc, own)?;
+        let best = self.best_with(alloc, own, number, change)?;
         let heights = Vec::from_slice(alloc, best.low())?;
         self.keep(alloc, number, change, &heights)?;
         Ok(heights)
     }
 
-    /// The same, if they are kept.
+    /// The best heights of that network. Where the simplex frees the number with this change as the mildest, what it
+    /// finds may be such heights, which takes a part of the time of an adjustment.
+    fn best_with(
+        &mut self,
+        alloc: Global,
+        own: &Network,
+        number: &Number,
+        change: i64,
+    ) -> Result<BestHeights, AllocError>
+        ensures best { IfOk result (IsBest own.now) }
+        ensures case { self.new.case.now ≡ self.old.case.now }
+    {
+        if self.sieve.frees_with(number, change) {
+            best_heights_from(alloc, own, self.sieve.shown_by_simplex())
+        } else {
+            best_heights(alloc, own)
+        }
+    }
+
+    /// The lowest best heights after that change, if they are kept.
     fn known(
         &self,
         alloc: Global,

@@ -11,7 +11,8 @@ use crate::sieve::Sieve;
 use crate::turns::{Level, Turn, change_of, freed_by_turn};
 use std::alloc::{AllocError, Global};
 use th_changes::{KeptFlows, Line, Number, Sloped, run_of, slope_as_given, sloped};
-use th_freeing::{Found, Seed, Start, Task};
+use th_circulation::Start;
+use th_freeing::{Found, Seed, Start as Origin, Task};
 use th_network::Network;
 
 /// What is shown of a number.
@@ -73,6 +74,32 @@ impl<'a> Sieve<'a> {
         }
     }
 
+    /// Whether the simplex frees a number, with this as the mildest change that it proposes.
+    pub(crate) fn frees_with(&mut self, number: &Number, change: i64) -> bool
+        ensures { self.new.case.now ≡ self.old.case.now }
+    {
+        let Some(given) = self.line(number) else {
+            return false;
+        };
+        let task = Task {
+            limit: None,
+            least: 0,
+            worth: None,
+        };
+        match self.ask(number, &task) {
+            Some(Found::Freed { near, .. }) => change_of(given.net, near) == Some(change),
+            _ => false,
+        }
+    }
+
+    /// The flows without net and the heights of the vertices that the simplex found when it freed a number last.
+    pub(crate) fn shown_by_simplex(&self) -> Start<'_> {
+        Start {
+            flows: self.simplex.flows(),
+            heights: self.simplex.near_heights(),
+        }
+    }
+
     /// Has the simplex free a number, from the best flows or from some that are kept.
     fn ask(&mut self, number: &Number, task: &Task) -> Option<Found>
         ensures { self.new.case.now ≡ self.old.case.now }
@@ -87,7 +114,7 @@ impl<'a> Sieve<'a> {
         }
         match self.level(number) {
             Some(place) => {
-                let start = Start {
+                let start = Origin {
                     flows: self.kept.get(place)?.flows(),
                     seed: self.seeds.get(place)?,
                 };

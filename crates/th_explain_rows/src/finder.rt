@@ -7,7 +7,7 @@ ghost use Rattle.th_explain_rows.specs.Rows.{LeavesNoMore, half_of, limit_size};
 
 use std::alloc::{AllocError, Global};
 use th_explain::laws::freed_is_one;
-use th_explain::{Case, Freed, Number, Sieve, explanation_or_more, least_left, shown};
+use th_explain::{Case, Freed, Mending, Number, explanation_or_more, least_left, shown};
 use th_numbers::Candidate;
 
 /// What does not fit: a network with its best heights, and the limit of blunders in units of 10 nm.
@@ -41,24 +41,32 @@ pub(crate) enum Finding {
 #[derive(Drop)]
 pub(crate) struct Finder<'a> {
     pub misfit: Misfit<'a>,
-    sieve: Sieve<'a>,
+    pub mending: Mending<'a>,
     /// The whole entries of the changes that were looked at.
     wholes: Vec<Whole>,
-    ghost same: { sieve.case.now ≡ misfit.case.now },
+    ghost same: { mending.case.now ≡ misfit.case.now },
     ghost most: { All (λ own. IsMostOf misfit.case.now.network.now own.number own.left) wholes.items },
 }
 
 impl<'a> Finder<'a> {
     /// For a network. The limit of blunders is in units of 10 nm.
-    pub fn of(alloc: Global, case: &'a Case<'a>, limit: i64) -> Result<Finder<'a>, AllocError>
-        ensures case { IfOk result (λ own. own.misfit.case.now ≡ case.now) }
-        ensures limit { IfOk result (λ own. own.misfit.limit ≡ limit) }
+    pub fn of(alloc: Global, mending: Mending<'a>, limit: i64) -> Finder<'a>
+        ensures case { result.misfit.case.now ≡ mending.entry.case.now }
+        ensures limit { result.misfit.limit ≡ limit }
     {
-        Ok(Finder {
+        let case = mending.case;
+        Finder {
             misfit: Misfit { case, limit },
-            sieve: Sieve::of(alloc, case)?,
+            mending,
             wholes: Vec::new(alloc),
-        })
+        }
+    }
+
+    /// The network, with the heights after changes that were looked at.
+    pub fn into_mending(self) -> Mending<'a>
+        ensures { result.case.now ≡ self.entry.misfit.case.now }
+    {
+        self.mending
     }
 
     /// From now on numbers pass that are beyond this limit, in units of 10 nm.
@@ -136,7 +144,8 @@ impl<'a> Finder<'a> {
     {
         let size = limit_size(limit);
         let nearer = self.nearer(candidate, least);
-        shown(&mut self.sieve, &candidate.number(), size, nearer)
+        let mending = &mut self.mending;
+        shown(&mut mending.sieve, &candidate.number(), size, nearer)
     }
 
     /// `least`, or the least amount that is too much for a change to pass, where it is known what its whole entry
@@ -182,7 +191,8 @@ impl<'a> Finder<'a> {
         ensures misfit { self.new.misfit ≡ self.old.misfit }
     {
         let size = limit_size(self.misfit.limit);
-        explanation_or_more(alloc, &mut self.sieve, &candidate.number(), size, least)
+        let mending = &mut self.mending;
+        explanation_or_more(alloc, &mut mending.sieve, &candidate.number(), size, least)
     }
 
     /// The same, for a change of an entry: it passes if it leaves no more than any change within reach of the
@@ -203,7 +213,8 @@ impl<'a> Finder<'a> {
         let size = limit_size(self.misfit.limit);
         let most = self.least_of(alloc, whole)?;
         let nearer = lesser(least, next(Some(most)));
-        let found = explanation_or_more(alloc, &mut self.sieve, &number, size, nearer)?;
+        let mending = &mut self.mending;
+        let found = explanation_or_more(alloc, &mut mending.sieve, &number, size, nearer)?;
         Ok(at_most(&found, most))
     }
 
@@ -215,7 +226,8 @@ impl<'a> Finder<'a> {
         if let Some(left) = self.known(whole) {
             return Ok(left);
         }
-        let left = least_left(alloc, &mut self.sieve, whole)?;
+        let mending = &mut self.mending;
+        let left = least_left(alloc, &mut mending.sieve, whole)?;
         self.wholes.push(Whole {
             number: *whole,
             left,

@@ -51,21 +51,22 @@ pub fn explanations_of<P: Progress>(
     let best = best_heights(alloc, network)?;
     let fit = Fit::of(alloc, network, best.low())?;
     let case = Case::of(network, &best, &fit);
-    let mut mending = Mending::of(alloc, &case);
-    explained_by(alloc, &mut mending, reviews, limit, progress)
+    let mending = Mending::of(alloc, &case)?;
+    let found = explained_by(alloc, mending, reviews, limit, progress)?;
+    Ok(found.0)
 }
 
-/// The same, of a network that was adjusted.
-pub fn explained_by<P: Progress>(
+/// The same, of a network that was adjusted, which is given back.
+pub fn explained_by<'a, P: Progress>(
     alloc: Global,
-    mending: &mut Mending<'_>,
+    mending: Mending<'a>,
     reviews: &[BookReview],
     limit: i64,
     progress: &mut P,
-) -> Result<Explanations, AllocError>
+) -> Result<(Explanations, Mending<'a>), AllocError>
     requires { length reviews.now ≤ max_books }
-    ensures explained { IfOk result (AreExplained mending.old.case.now.network.now reviews.now limit) }
-    ensures case { mending.new.case.now ≡ mending.old.case.now }
+    ensures explained { IfOk result (λ own. AreExplained mending.entry.case.now.network.now reviews.now limit own.0) }
+    ensures case { IfOk result (λ own. own.1.case.now ≡ mending.entry.case.now) }
 {
     let case = mending.case;
     let network = case.network;
@@ -80,13 +81,13 @@ pub fn explained_by<P: Progress>(
     let summary = summary_with(fit.cost, marked, &listing, books.len(), limit);
     let all = in_order(alloc, listing)?;
     let candidates = all.as_slice();
-    let mut finder = Finder::of(alloc, case, limit)?;
+    let mut finder = Finder::of(alloc, mending, limit);
     let first = first_freed(alloc, case, candidates)?;
     let numbers = Numbers {
         all: candidates,
         first: &first,
     };
-    let mut found = rows_of(alloc, &mut finder, mending, numbers, progress)?;
+    let mut found = rows_of(alloc, &mut finder, numbers, progress)?;
     let reading = Reading {
         network,
         kinds: &kinds,
@@ -97,11 +98,12 @@ pub fn explained_by<P: Progress>(
     add_rows(&mut found, read.as_slice())?;
     let rows = ranked(alloc, found.as_slice())?;
     let named = heights_named(alloc, entries, limit, rows.as_slice())?;
-    Ok(Explanations {
+    let own = Explanations {
         summary,
         rows,
         named,
-    })
+    };
+    Ok((own, finder.into_mending()))
 }
 
 /// The numbers that are looked at.
@@ -116,18 +118,16 @@ struct Numbers<'a> {
 fn rows_of<P: Progress>(
     alloc: Global,
     finder: &mut Finder<'_>,
-    mending: &mut Mending<'_>,
     numbers: Numbers<'_>,
     progress: &mut P,
 ) -> Result<Vec<Row>, AllocError>
-    requires { finder.old.misfit.case.now ≡ mending.old.case.now }
     ensures rows { IfOk result (λ rows.
-        AreRowsOf mending.old.case.now finder.old.misfit.limit numbers.entry.all.now rows.items) }
-    ensures case { mending.new.case.now ≡ mending.old.case.now }
+        AreRowsOf finder.old.misfit.case.now finder.old.misfit.limit numbers.entry.all.now rows.items) }
+    ensures misfit { OnOk result (finder.new.misfit ≡ finder.old.misfit) }
 {
-    match rows_before_cutoff(alloc, finder, mending, numbers, progress)? {
+    match rows_before_cutoff(alloc, finder, numbers, progress)? {
         Some(rows) => Ok(rows),
-        None => rows_of_all(alloc, finder, mending, numbers.all, progress),
+        None => rows_of_all(alloc, finder, numbers.all, progress),
     }
 }
 
@@ -135,15 +135,12 @@ fn rows_of<P: Progress>(
 fn rows_before_cutoff<P: Progress>(
     alloc: Global,
     finder: &mut Finder<'_>,
-    mending: &mut Mending<'_>,
     numbers: Numbers<'_>,
     progress: &mut P,
 ) -> Result<Option<Vec<Row>>, AllocError>
-    requires { finder.old.misfit.case.now ≡ mending.old.case.now }
     ensures rows { IfOk result (λ found. IfSome found (λ rows.
-        AreRowsOf mending.old.case.now finder.old.misfit.limit numbers.entry.all.now rows.items)) }
+        AreRowsOf finder.old.misfit.case.now finder.old.misfit.limit numbers.entry.all.now rows.items)) }
     ensures misfit { OnOk result (finder.new.misfit ≡ finder.old.misfit) }
-    ensures case { mending.new.case.now ≡ mending.old.case.now }
 {
     let candidates = numbers.all;
     let found = passed_before_cutoff(alloc, finder, numbers.first, candidates, progress)?;
@@ -151,7 +148,7 @@ fn rows_before_cutoff<P: Progress>(
         return Ok(None);
     }
     let own = filtered(alloc, finder, candidates, found, progress)?;
-    let rows = rows_in(alloc, mending, candidates, &own)?;
+    let rows = rows_in(alloc, &mut finder.mending, candidates, &own)?;
     if is_enough(own.cutoff, rows.len()) {
         Ok(Some(rows))
     } else {
@@ -163,18 +160,16 @@ fn rows_before_cutoff<P: Progress>(
 fn rows_of_all<P: Progress>(
     alloc: Global,
     finder: &mut Finder<'_>,
-    mending: &mut Mending<'_>,
     candidates: &[Candidate],
     progress: &mut P,
 ) -> Result<Vec<Row>, AllocError>
-    requires { finder.old.misfit.case.now ≡ mending.old.case.now }
     ensures rows { IfOk result (λ rows.
-        AreRowsOf mending.old.case.now finder.old.misfit.limit candidates.now rows.items) }
-    ensures case { mending.new.case.now ≡ mending.old.case.now }
+        AreRowsOf finder.old.misfit.case.now finder.old.misfit.limit candidates.now rows.items) }
+    ensures misfit { OnOk result (finder.new.misfit ≡ finder.old.misfit) }
 {
     let all = all_passed(alloc, finder, candidates, progress)?;
     let own = filtered(alloc, finder, candidates, all, progress)?;
-    let rows = rows_in(alloc, mending, candidates, &own)?;
+    let rows = rows_in(alloc, &mut finder.mending, candidates, &own)?;
     Ok(rows)
 }
 

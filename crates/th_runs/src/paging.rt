@@ -1,6 +1,9 @@
 //! The command that makes a page of the height network of books.
 ghost use Rattle.std.specs.Prelude.{◌≡◌, ◌≤◌, ◌∷◌, [], All, IfErr, IfOk, length};
+ghost use Rattle.th_answer.specs.Answers.{IsAnswer};
+ghost use Rattle.th_circulation.specs.Best.{IsBest};
 ghost use Rattle.th_entries.specs.Stations.{HasOneStation};
+ghost use Rattle.th_explain_rows.specs.Explanations.{AreExplained};
 ghost use Rattle.th_inputs.specs.Inputs.{inputs_of};
 ghost use Rattle.th_limits.specs.Limits.{max_books};
 ghost use Rattle.th_review_rows.specs.Entries.{entries_of};
@@ -12,10 +15,10 @@ use crate::commands::SurveyCommand;
 use crate::findings::findings_of;
 use crate::reviews::{ReviewReader, all_sums};
 use std::alloc::{AllocError, Global};
-use th_answer::{Explaining, answer_of};
+use th_answer::{Answer, Explaining, answer_of};
 use th_blunders::Fit;
 use th_changes::Case;
-use th_circulation::best_heights;
+use th_circulation::{BestHeights, best_heights};
 use th_entries::laws::entry_of_several_books_has_one_station;
 use th_entries::{BookReview, Listed, Spelling};
 use th_explain::Mending;
@@ -133,18 +136,11 @@ fn page_of_network<'a, P: Progress>(
     let reviews = subject.reviews;
     let limit = subject.limit;
     let best = best_heights(alloc, network)?;
-    let fit = Fit::of(alloc, network, best.low())?;
-    let case = Case::of(network, &best, &fit);
-    let mut mending = Mending::of(alloc, &case);
-    let explained = explained_by(alloc, &mut mending, reviews, limit, progress)?;
+    let both = explained_of(alloc, network, &best, subject, progress)?;
+    let explained = &both.0;
+    let answer = &both.1;
     let rows = explained.rows.as_slice();
-    let explaining = Explaining {
-        reviews,
-        rows,
-        limit,
-    };
-    let answer = answer_of(alloc, &mut mending, explaining)?;
-    let sentences = sentences_of(alloc, &explained)?;
+    let sentences = sentences_of(alloc, explained)?;
     let findings = findings_of(alloc, network, reviews, progress)?;
     let found = found_of(alloc, &findings, &best, subject.spellings)?;
     let explained = Explained {
@@ -152,10 +148,41 @@ fn page_of_network<'a, P: Progress>(
         limit,
         rows,
         sentences: &sentences,
-        answer: &answer,
+        answer,
     };
     let page = page_of(alloc, subject.title, &found, subject.inputs, explained)?;
     Ok(page)
+}
+
+/// What explains what does not fit, and what that means for the survey. What was found of numbers on the way takes more
+/// memory than all else, and is given back here.
+fn explained_of<P: Progress>(
+    alloc: Global,
+    network: &Network,
+    best: &BestHeights,
+    subject: Subject<'_>,
+    progress: &mut P,
+) -> Result<(Explanations, Answer), AllocError>
+    requires few { length subject.reviews.now ≤ max_books }
+    requires best { IsBest network.now best.now }
+    ensures explained { IfOk result (λ own. AreExplained network.now subject.entry.reviews.now subject.entry.limit own.0) }
+    ensures answer { IfOk result (λ own. IsAnswer network.now subject.entry.reviews.now own.0.rows.items subject.entry.limit own.1) }
+{
+    let reviews = subject.reviews;
+    let limit = subject.limit;
+    let fit = Fit::of(alloc, network, best.low())?;
+    let case = Case::of(network, best, &fit);
+    let mending = Mending::of(alloc, &case)?;
+    let found = explained_by(alloc, mending, reviews, limit, progress)?;
+    let (explained, mut mending) = found;
+    let rows = explained.rows.as_slice();
+    let explaining = Explaining {
+        reviews,
+        rows,
+        limit,
+    };
+    let answer = answer_of(alloc, &mut mending, explaining)?;
+    Ok((explained, answer))
 }
 
 /// What explanations say, in sentences of a line each.

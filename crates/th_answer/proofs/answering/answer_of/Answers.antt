@@ -1,4 +1,4 @@
-use Rattle.std.proofs.Common.{◌≡◌, ◌∙◌, ◌<◌, ◌*◌, ◌==◌, ◌&&◌, ℕ, ℤ, FitsSigned, All, List, ap, length, map, of_z, rules, subst, sym, to_z, unsigned_abs, w64, arith}
+use Rattle.std.proofs.Common.{◌≡◌, ◌∙◌, ◌<◌, ◌*◌, ◌==◌, ◌&&◌, ℕ, ℤ, FitsSigned, All, List, ap, length, map, of_z, rules, subst, sym, take, to_z, unsigned_abs, w64, arith}
 use Rattle.std.proofs.lemmas.Int.{to_z-of_z}
 use Rattle.std.proofs.lemmas.Slice.Zip.{AllZip-long}
 use Rattle.std.specs.List.{AllZip, count_by, filter_map}
@@ -13,6 +13,9 @@ use Rattle.th_points.proofs.PlaceLemmas.{points_distinct}
 use Rattle.th_remarks.specs.Outliers.{IsOutlierNote, IsUsualOrNone, weighed}
 use Rattle.th_review_rows.specs.Entries.{entries_of}
 use Rattle.th_answer.specs.Answers.{those_corrected}
+use Rattle.th_answer.specs.Limits.{asked_benchmarks}
+use Rattle.th_answer.specs.Others.{IsSaid}
+use Rattle.th_explain.specs.declared.mended.Mending.{Mending}
 use Rattle.th_answer.specs.Corrected.{Corrected, IsCorrectedOrNone}
 use Rattle.th_answer.specs.Groups.{group_of, nothing_is_wrong}
 use Rattle.th_answer.specs.Inside.Moving.{drawn_heights}
@@ -99,6 +102,8 @@ returns-clause-answer c =
     ∙ ap (λ (n : ℕ). drawn_heights low n c.deref-11.result.now) (drawn_count ∙ ap (λ (own : List Row). length own) c.in_ok-firsts.ensures ∙ sym count) ∙ ap (drawn_heights low (length all.corrected)) c.deref-11.ensures.value
     ∙ drawn_listed survey limit heights low (listed_heights (points_of survey) low (points_distinct survey.observations survey.benchmarks) case.at_points.each) all.corrected listed all.are_listed in
     let outlier = subst (λ (limit : ℤ). IsOutlierNote survey left limit c.in_ok-outlier_of.field-0) plain (subst (λ (left : List ℤ). IsOutlierNote survey left bits c.in_ok-outlier_of.field-0) c.deref-12.ensures.value c.in_ok-outlier_of.ensures.note) in
+    let later : Mending = c.all_readjusted.new.mending in
+    let others = subst (λ (own : Case). AllZip (IsSaid own.network.now) (take (asked_benchmarks (length own.network.now.observations)) own.network.now.benchmarks) c.in_ok-others_of.field-0.items) (later.same ∙ c.in_ok-corrected.ensures.case) c.in_ok-others_of.ensures.said in
     let answer : Answer = record {
       groups = c.in_ok-groups_of.field-0;
       moved = c.in_ok-all_moved.field-0;
@@ -106,4 +111,4 @@ returns-clause-answer c =
       others = c.in_ok-others_of.field-0;
       outlier = c.in_ok-outlier_of.field-0;
     } in
-    answered survey reviews rows limit heights case.lowest left case.fits.residuals listed all c.in_ok-usual.usual usual remedies remedied c.is_nothing_wrong-is_quiet.result quiet answer groups moved drawn c.in_ok-others_of.ensures outlier
+    answered survey reviews rows limit heights case.lowest left case.fits.residuals listed all c.in_ok-usual.usual usual remedies remedied c.is_nothing_wrong-is_quiet.result quiet answer groups moved drawn others outlier

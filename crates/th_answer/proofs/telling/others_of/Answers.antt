@@ -14,7 +14,7 @@ use Rattle.th_answer.proofs.telling.others_of.Goals as goal
 
 pub loop-place-preserved : goal.loop-place-preserved
 loop-place-preserved c =
-    let survey = c.args.case.now.network.now in
+    let survey = c.args.sieve.now.case.now.network.now in
     let benchmarks : BenchmarkRows = survey.benchmarks in
     let place : ℕ = c.loop-place.place in
     let as_many = AllZip-long (IsTold survey) benchmarks c.in_ok-rows.rows.items c.in_ok-rows.ensures.rows in
@@ -30,10 +30,13 @@ loop-place-preserved c =
 
 pub returns : goal.returns
 returns c =
-    let survey = c.args.case.now.network.now in
+    let survey = c.args.sieve.now.case.now.network.now in
     let benchmarks : BenchmarkRows = survey.benchmarks in
     let as_many = AllZip-long (IsTold survey) benchmarks c.in_ok-rows.rows.items c.in_ok-rows.ensures.rows in
     let most : ℕ = asked_benchmarks (length survey.observations) in
     let asked : c.asked_benchmarks-most.result ≡ most = c.asked_benchmarks-most.ensures ∙ ap asked_benchmarks (ap length c.observations.ensures.observations) in
     let there : c.loop-place.place ≡ min most (length benchmarks) = omega (arith, c.loop-place-test.false, c.loop-place.auto.place-end, c.min-count.ensures, c.len.ensures, as_many, asked) in
-    subst (λ (rows : BenchmarkRows). AllZip (IsSaid survey) rows c.loop-place.others.items) (ap (λ (n : ℕ). take n benchmarks) there ∙ take_min most benchmarks) c.loop-place.invariant.said
+    record {
+      said = subst (λ (rows : BenchmarkRows). AllZip (IsSaid survey) rows c.loop-place.others.items) (ap (λ (n : ℕ). take n benchmarks) there ∙ take_min most benchmarks) c.loop-place.invariant.said;
+      case = c.loop-place.invariant.case;
+    }

@@ -5,6 +5,6 @@ use Rattle.th_answer.proofs.telling.others_of.Given as goal
 
 abbrev pub invariant-loop-place : goal.invariant-loop-place
 invariant-loop-place l = record {
-  said : AllZip (IsSaid l.fn.case.network.now) (take l.place l.fn.case.network.now.benchmarks) l.others.items;
-  case : l.sieve.case.now ≡ l.fn.case;
+  said : AllZip (IsSaid l.fn.sieve.case.now.network.now) (take l.place l.fn.sieve.case.now.network.now.benchmarks) l.others.items;
+  case : l.sieve.case.now ≡ l.fn.sieve.case.now;
 }

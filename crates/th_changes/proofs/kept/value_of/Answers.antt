@@ -7,7 +7,7 @@ use Rattle.th_observations.specs.Observed.{Observed}
 use Rattle.th_tables.specs.Limits.{max_weight}
 use Rattle.th_network.specs.Links.{link_difference, link_of}
 use Rattle.th_network.specs.declared.links.Link.{Link}
-use Rattle.th_changes.proofs.BalanceLemmas.{summed_all, summed_more, summed_to}
+use Rattle.th_changes.proofs.ValueLemmas.{summed_all, summed_more, summed_to}
 use Rattle.th_changes.proofs.PriceLemmas.{nowhere}
 use Rattle.th_changes.proofs.ReroutedLemmas.{link_at}
 use Rattle.th_changes.proofs.kept.value_of.Goals as goal

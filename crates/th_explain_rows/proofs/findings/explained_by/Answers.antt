@@ -23,13 +23,13 @@ use Rattle.th_explain_rows.proofs.findings.explained_by.Goals as goal
 
 pub blunder_count-marked-requires-clause-each : goal.blunder_count-marked-requires-clause-each
 blunder_count-marked-requires-clause-each g c =
-    let case : Case = c.args.mending.now.case.now in
+    let case : Case = c.args.mending.case.now in
     let survey = case.network.now in
     ap length (c.deref.ensures.value ∙ case.fits.residuals) ∙ length-map survey.observations (λ o. residual o (at_points_of survey case.best.now.low)) ∙ sym (ap length c.observations.ensures.observations)
 
 pub returns-clause-explained : goal.returns-clause-explained
 returns-clause-explained g c =
-    let given : Case = c.args.mending.now.case.now in
+    let given : Case = c.args.mending.case.now in
     let survey = given.network.now in
     let heights = at_points_of survey given.best.now.low in
     let (tied, are, listed) = c.in_ok-listing.ensures in
@@ -43,12 +43,13 @@ returns-clause-explained g c =
     c.blunder_count-marked.ensures ∙ ap (λ (own : ℤ). count_by (is_blunder own) c.deref.result.now) limit
     ∙ ap (count_by (is_blunder c.args.limit)) (c.deref.ensures.value ∙ given.fits.residuals) in
     let candidates : List Candidate = c.as_slice-candidates.result.now in
-    let misfit : Misfit = c.in_ok-finder.finder.misfit in
-    let size : misfit.limit ≡ c.args.limit = c.in_ok-finder.ensures.limit ∙ limit in
+    let misfit : Misfit = c.of-finder.result.misfit in
+    let size : misfit.limit ≡ c.args.limit = c.of-finder.ensures.limit ∙ limit in
     let found : List Row = c.in_ok-found.found.items in
     let rows : AreOwnRows survey given.fit.now.cost c.args.limit candidates found =
     subst (λ (limit : ℤ). AreOwnRows survey given.fit.now.cost limit candidates found) size
-    (subst (λ (cost : ℕ). AreOwnRows survey cost misfit.limit candidates found) (given.least ∙ sym cost) c.in_ok-found.ensures.rows) in
+    (subst (λ (cost : ℕ). AreOwnRows survey cost misfit.limit candidates found) (given.least ∙ sym cost)
+    (subst (λ (own : Case). AreOwnRows own.network.now own.cost misfit.limit candidates found) c.of-finder.ensures.case c.in_ok-found.ensures.rows)) in
     explained_of survey c.args.reviews.now c.args.limit (record { summary = c.summary_with-summary.result; rows = c.in_ok-rows.rows; named = c.in_ok-named.named }) heights tied entries all given.fit.now.cost
     candidates books found read given.lowest are
     (c.as_slice-entries.ensures.value ∙ c.in_ok-all_entries.ensures) (listed ∙ ap (λ (own : List Entry). listed_of survey own tied) c.in_ok-kinds.ensures) cost (c.as_slice-candidates.ensures.value ∙ c.in_ok-all.ensures) (c.as_slice-books.ensures.value ∙ c.in_ok-all_books.ensures)

@@ -14,8 +14,8 @@ of-case-requires-clause-fit g c =
 
 pub returns : goal.returns
 returns g c =
-    let network : c.of-mending.result.case.now.network.now ≡ c.args.network.now = ap (λ (own : Case). own.network.now) c.of-mending.ensures ∙ c.of-case.ensures.network in
+    let network : c.in_ok-mending.mending.case.now.network.now ≡ c.args.network.now = ap (λ (own : Case). own.network.now) c.in_ok-mending.ensures ∙ c.of-case.ensures.network in
     record {
-      explained = subst (λ (limit : ℤ). IfOk c.explained_by.result (AreExplained c.args.network.now c.args.reviews.now limit)) (to_z-of_z w64 c.args.limit c.ranges.limit)
-          (subst (λ (survey : Survey). IfOk c.explained_by.result (AreExplained survey c.args.reviews.now (to_z w64 (of_z w64 c.args.limit)))) network c.explained_by.ensures.explained);
+      explained = subst (λ (limit : ℤ). AreExplained c.args.network.now c.args.reviews.now limit c.in_ok-found.found.0) (to_z-of_z w64 c.args.limit c.ranges.limit)
+          (subst (λ (survey : Survey). AreExplained survey c.args.reviews.now (to_z w64 (of_z w64 c.args.limit)) c.in_ok-found.found.0) network c.in_ok-found.ensures.explained);
     }

@@ -17,24 +17,17 @@ use Rattle.th_review_rows.specs.Found.{FoundRows, found_rows, numbers_in, rows_i
 use Rattle.th_runs.specs.Paged.{said}
 use Rattle.th_runs.proofs.paging.page_of_network.Goals as goal
 
-pub of-case-requires-clause-fit : goal.of-case-requires-clause-fit
-of-case-requires-clause-fit g c =
-    let survey = c.args.network.now in
-    subst (λ (low : List ℤ). IsFit survey (at_points_of survey low) c.in_ok-fit.fit) c.low.ensures c.in_ok-fit.ensures
-
 pub returns-clause-page : goal.returns-clause-page
 returns-clause-page g c =
     let best : Best = c.in_ok-best.best in
     let findings = c.in_ok-findings.findings in
-    let explained = c.in_ok-explained.explained in
-    let meaning : Answer = c.in_ok-answer.answer in
+    let both = c.in_ok-both.both in
+    let explained = both.0 in
+    let meaning : Answer = both.1 in
     let subject = c.args.subject in
     let survey = c.args.network.now in
     let fits : FitsSigned w64 subject.limit = search rules in
     let limit_is = to_z-of_z w64 subject.limit fits in
-    let given : c.explained_by.new.mending.case.now ≡ c.of-case.result = c.in_ok-explained.ensures.case ∙ c.of-mending.ensures in
-    let explained_in : c.of-mending.result.case.now.network.now ≡ survey = ap (λ (own : Case). own.network.now) c.of-mending.ensures ∙ c.of-case.ensures.network in
-    let answered_in : c.explained_by.new.mending.case.now.network.now ≡ survey = ap (λ (own : Case). own.network.now) given ∙ c.of-case.ensures.network in
     let rows : c.as_slice-rows.result.now ≡ explained.rows.items = search rules in
     let says : c.deref.result.now ≡ said explained = search rules in
     let text_of : FoundRows → ExplainedRows → List ℕ = λ found own. page_text (shown_of subject.title.now found (inputs_of subject.inputs) own) in
@@ -46,11 +39,8 @@ returns-clause-page g c =
       found = numbers_in findings;
       finds = c.in_ok-findings.ensures.found;
       explained = explained;
-      explains = subst (λ (limit : ℤ). AreExplained survey subject.reviews.now limit explained) limit_is
-          (subst (λ (survey : Survey). AreExplained survey subject.reviews.now (to_z w64 (of_z w64 subject.limit)) explained) explained_in c.in_ok-explained.ensures.explained);
+      explains = c.in_ok-both.ensures.explained;
       meaning = meaning;
-      means = subst (λ (limit : ℤ). IsAnswer survey subject.reviews.now explained.rows.items limit meaning) limit_is
-          (subst (λ (own : List Row). IsAnswer survey subject.reviews.now own (to_z w64 (of_z w64 subject.limit)) meaning) rows
-          (subst (λ (survey : Survey). IsAnswer survey subject.reviews.now c.as_slice-rows.result.now (to_z w64 (of_z w64 subject.limit)) meaning) answered_in c.in_ok-answer.ensures.answer));
+      means = c.in_ok-both.ensures.answer;
       printed = c.in_ok-page.ensures ∙ (λ i. text_of (same i) (record { cost = explained.summary.cost; limit = limit_is i; rows = rows i; sentences = says i; answer = answered meaning }));
     }

@@ -12,6 +12,7 @@ invariant_of-self c =
     let x : ℤ = to_z w64 (of_z w64 c.args.change) in
     let heights = c.in_ok-heights.heights in
     record {
+      same = c.args.self.now.same;
       lowest = pushed (λ (own : Mended). AreLowestWith survey own.number own.change own.heights.items) c.args.self.now.kept.items c.push.new.self.items
           (record { number = number; change = x; heights = heights }) _ c.push.ensures.items c.args.self.now.lowest
           (subst (λ (change : ℤ). AreLowestWith survey number change heights.items) (sym (to_z-of_z w64 c.args.change c.ranges.change))

@@ -14,8 +14,8 @@ invariant_of-self-2 c =
     let survey = misfit.case.now.network.now in
     let whole = c.args.whole.now in
     let left = c.in_ok-left.left in
-    let least = subst (λ (own : Case). IsLeastInReach own.network.now whole left) c.args.self.now.same c.in_ok-left.ensures.least in
+    let least = subst (λ (own : Case). IsLeastInReach own.network.now whole left) (c.args.self.now.mending.same ∙ c.args.self.now.same) c.in_ok-left.ensures.least in
     record {
-      same = c.in_ok-left.ensures.case ∙ c.args.self.now.same;
+      same = c.args.self.now.same;
       most = pushed (λ (own : Whole). IsMostOf survey own.number own.left) c.args.self.now.wholes.items c.push.new.self.items (record { number = whole; left = left }) _ c.push.ensures.items c.args.self.now.most (most_of survey misfit.limit whole left least);
     }

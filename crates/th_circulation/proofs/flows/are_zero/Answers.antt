@@ -2,7 +2,7 @@ use Rattle.std.proofs.Common.{◌≡◌, ℤ, pos, All, FitsSigned, List, ap, ge
 use Rattle.std.proofs.lemmas.Int.{to_z-of_z}
 use Rattle.std.proofs.lemmas.List.{take_all}
 use Rattle.std.proofs.lemmas.List.Elements.{All-more}
-use Rattle.th_changes.proofs.kept.are_zero.Goals as goal
+use Rattle.th_circulation.proofs.flows.are_zero.Goals as goal
 
 pub loop-balance-preserved : goal.loop-balance-preserved
 loop-balance-preserved c =
