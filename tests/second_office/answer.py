@@ -8,7 +8,7 @@ from markings import Others, Span
 from network import Heights, Network, best_flows, cost_of, lowest_heights
 from notes import Outlier, far_beyond, outlier_of
 
-MOST_OTHERS, MOST_ASKED = 100, 400_000
+MOST_OTHERS, MOST_ASKED = 100, 1_600_000_000
 # The groups of sights: in question, stays marked, cleared, unlike the others, fits.
 GROUPS = ("a", "s", "c", "v", "q")
 
@@ -79,7 +79,7 @@ def others_of(survey: Survey) -> List[Others]:
     """What the others say of the first benchmarks. One is not differed from within reach alone."""
     network = survey.network
     numbers = {own.station: own for own in benchmark_numbers(network)}
-    most = min(MOST_OTHERS, MOST_ASKED // max(1, len(network.observations)))
+    most = min(MOST_OTHERS, MOST_ASKED // max(1, len(network.observations)) ** 2)
     found = []
     for name in list(network.benchmarks)[:most]:
         own = freed(survey, numbers[name]) if name in numbers else None
