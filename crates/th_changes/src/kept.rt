@@ -1,19 +1,20 @@
 //! Circulations of a network that are kept, to bound what it costs whatever a number is changed by.
 ghost use Rattle.std.specs.Prelude.{◌≡◌, ◌<◌, ◌≤◌, ◌+ℤ◌, ◌*ℤ◌, pos, All, IfOk, IfSome, length, slice_index, slice_index_or, slice_set, true, unsigned_abs, ℕ};
 ghost use Rattle.th_changes.specs.Flows.{net, value};
-ghost use Rattle.th_changes.specs.Inside.Sums.{AreSums};
+ghost use Rattle.th_changes.specs.Inside.Sums.{AreSums, flows_of};
 ghost use Rattle.th_changes.specs.Kept.{IsKept};
 ghost use Rattle.th_changes.specs.Lines.{IsLine};
 ghost use Rattle.th_changes.specs.Rerouted.{HoldsNumber};
 ghost use Rattle.th_network.specs.Networks.{AreOfObservations};
+ghost use Rattle.th_tables.specs.Limits.{max_weight};
 
 use crate::cases::Case;
 use crate::lines::Line;
-use crate::nets::{net_by_touch, sum_up, sums_of};
 use crate::numbers::Number;
 use crate::prices::signed;
 use crate::rerouting::Rerouted;
 use crate::runs::Run;
+use crate::summing::{flow_at, sum_up, sums_of, write_flows};
 use std::alloc::{AllocError, Global};
 use th_circulation::is_circulation;
 use th_network::Network;
@@ -22,16 +23,23 @@ use th_network::Network;
 #[derive(Drop)]
 pub struct KeptFlows<'a> {
     pub case: &'a Case<'a>,
-    pub(crate) flows: Vec<i64>,
+    /// What the flows before each place come to together, and behind these what all come to. The flows themselves would
+    /// take three times the memory.
+    sums: Vec<i32>,
     /// By how much the value of the flows is less than what the network costs.
     pub(crate) lost: i64,
-    /// What the flows before each place come to together.
-    sums: Vec<i64>,
-    ghost kept: { IsKept case.now.network.now case.now.cost flows.items lost },
-    ghost are_sums: { AreSums flows.items sums.items },
+    ghost are_sums: { AreSums (flows_of sums.items) sums.items },
+    ghost kept: { IsKept case.now.network.now case.now.cost (flows_of sums.items) lost },
 }
 
 impl<'a> KeptFlows<'a> {
+    /// The best flows of a case.
+    pub fn best(alloc: Global, case: &'a Case<'a>) -> Result<KeptFlows<'a>, AllocError>
+        ensures { IfOk result (λ own. own.case.now ≡ case.now) }
+    {
+        KeptFlows::with_sums(alloc, case, case.best.flows(), 0)
+    }
+
     /// These flows of the observations, if they are a circulation.
     pub fn of(
         alloc: Global,
@@ -52,7 +60,7 @@ impl<'a> KeptFlows<'a> {
     }
 
     /// A circulation with what it loses, and its sums.
-    pub(crate) fn with_sums(
+    fn with_sums(
         alloc: Global,
         case: &'a Case<'a>,
         flows: &[i64],
@@ -62,13 +70,7 @@ impl<'a> KeptFlows<'a> {
         ensures { IfOk result (λ own. own.case.now ≡ case.now) }
     {
         let sums = sums_of(alloc, case.network, flows)?;
-        let flows = Vec::from_slice(alloc, flows)?;
-        Ok(KeptFlows {
-            case,
-            flows,
-            lost,
-            sums,
-        })
+        Ok(KeptFlows { case, sums, lost })
     }
 
     /// Takes flows that were sent other ways, in place of its own, if their walk is closed.
@@ -77,15 +79,34 @@ impl<'a> KeptFlows<'a> {
         ensures { self.new.case.now ≡ self.old.case.now }
     {
         if let Some((flows, lost)) = rerouted.closed() {
-            self.flows.copy_from_slice(flows);
             self.lost = lost;
             sum_up(&mut self.sums, self.case.network, flows);
         }
     }
 
-    /// The flows of the observations, in their order.
-    pub fn flows(&self) -> &[i64] {
-        &self.flows
+    /// Writes the flows of the observations, in their order, over others.
+    pub(crate) fn write_flows(&self, flows: &mut [i64])
+        requires { length flows.old ≡ length self.now.case.now.network.now.observations }
+        ensures { IsKept self.now.case.now.network.now self.now.case.now.cost flows.new self.now.lost }
+    {
+        write_flows(&self.sums, flows);
+    }
+
+    /// The flow of the observation at a place, if there is one. Nothing is promised of it.
+    pub fn flow(&self, place: usize) -> Option<i64> {
+        if place >= self.case.network.observations().len() {
+            return None;
+        }
+        Some(self.flow_at(place))
+    }
+
+    /// The flow of an observation.
+    fn flow_at(&self, place: usize) -> i64
+        requires { place < length self.now.case.now.network.now.observations }
+        ensures flow { result ≡ slice_index_or (flows_of self.now.sums.items) place (pos 0) }
+        ensures light { unsigned_abs result ≤ max_weight }
+    {
+        flow_at(&self.sums, place)
     }
 
     /// By how much the value of the flows is less than what the network costs.
@@ -107,12 +128,26 @@ impl<'a> KeptFlows<'a> {
     /// What flows through a number, whose observations are in a run.
     fn net(&self, number: &Number, run: Run) -> i64
         requires { HoldsNumber self.now.case.now.network.now.observations number.now run }
-        ensures { result ≡ net number.now self.now.case.now.network.now self.now.flows.items }
+        ensures { result ≡ net number.now self.now.case.now.network.now (flows_of self.now.sums.items) }
     {
         if run.is_whole {
-            return number.signed(self.sums[run.end] - self.sums[run.start]);
+            let between = i64::from(self.sums[run.end]) - i64::from(self.sums[run.start]);
+            return number.signed(between);
         }
-        net_by_touch(self.case.network, number, &self.flows, run)
+        self.net_by_touch(number, run)
+    }
+
+    /// The same, with a look at how much the number touches each of the observations.
+    fn net_by_touch(&self, number: &Number, run: Run) -> i64
+        requires { HoldsNumber self.now.case.now.network.now.observations number.now run }
+        ensures { result ≡ net number.now self.now.case.now.network.now (flows_of self.now.sums.items) }
+    {
+        let observations = self.case.network.observations();
+        let mut net = 0;
+        for i in run.start..run.end {
+            net += number.times(&observations[i], self.flow_at(i));
+        }
+        net
     }
 }
 

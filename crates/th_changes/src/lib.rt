@@ -17,6 +17,7 @@ mod tilting;
 // What flows through a number.
 mod nets;
 mod runs;
+mod summing;
 
 // What circulations show: those that are kept, and flows that are sent other ways.
 mod kept;

@@ -66,11 +66,16 @@ impl<'a> Rerouted<'a> {
         requires { kept.now.case.now ≡ self.old.case.now }
         ensures { self.new.case.now ≡ self.old.case.now }
     {
-        self.flows.copy_from_slice(&kept.flows);
+        kept.write_flows(&mut self.flows);
         self.lost = kept.lost;
         self.start = 0;
         self.at = 0;
         self.amount = 0;
+    }
+
+    /// The flows as they are.
+    pub fn flows(&self) -> &[i64] {
+        &self.flows
     }
 
     /// Begins a walk at a vertex with an amount, if the walk before is closed.
@@ -182,17 +187,6 @@ impl<'a> Rerouted<'a> {
             lost: self.lost,
             net: net_in(self.case.network, number, &self.flows, run),
         })
-    }
-
-    /// The flows as they are, if the walk is closed.
-    pub fn kept(&self, alloc: Global) -> Result<Option<KeptFlows<'a>>, AllocError>
-        ensures { IfOk result (λ own. IfSome own (λ own. own.case.now ≡ self.now.case.now)) }
-    {
-        let Some((flows, lost)) = self.closed() else {
-            return Ok(None);
-        };
-        let kept = KeptFlows::with_sums(alloc, self.case, flows, lost)?;
-        Ok(Some(kept))
     }
 
     /// The flows as they are, and what they lose, if the walk is closed.

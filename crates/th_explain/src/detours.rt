@@ -43,8 +43,8 @@ impl<'a> Detours<'a> {
         requires { kept.now.case.now ≡ self.old.rerouted.case.now }
         ensures { self.new.rerouted.case.now ≡ self.old.rerouted.case.now }
     {
-        self.guide.load(kept.flows());
         self.rerouted.take(kept);
+        self.guide.load(self.rerouted.flows());
     }
 
     /// A line of the flows as they are, if the walk is closed.

@@ -3,14 +3,14 @@ ghost use Rattle.std.specs.Prelude.{◌≡◌, All, IfOk, IfSome};
 
 use crate::sieve::Sieve;
 use std::alloc::{AllocError, Global};
-use th_changes::{KeptFlows, Rerouted, Run};
+use th_changes::{Case, KeptFlows, Run};
 use th_freeing::Seed;
 
 /// So many circulations are kept at most.
-pub(crate) const MOST_KEPT: usize = 64;
+pub(crate) const MOST_KEPT: usize = 48;
 
 /// So many of those that went other ways are kept beside them.
-pub(crate) const MOST_TURNED: usize = 16;
+pub(crate) const MOST_TURNED: usize = 12;
 
 /// Of a single sight they are kept only where they went along more arcs than this. Shorter ways are found again in less
 /// time than it takes to copy the flows of a network.
@@ -71,17 +71,18 @@ impl<'a> Sieve<'a> {
         ensures { self.new.case.now ≡ self.old.case.now }
     {
         self.lines_of = None;
-        if self.kept.len() >= MOST_KEPT {
-            self.drop_first();
-        }
+        self.make_room();
         self.seeds.push(seed)?;
         Ok(self.kept.push(own)?)
     }
 
-    /// Drops the flows that were kept longest.
-    fn drop_first(&mut self)
+    /// Drops the flows that were kept longest, if there is no room for others.
+    fn make_room(&mut self)
         ensures { self.new.case.now ≡ self.old.case.now }
     {
+        if self.kept.len() < MOST_KEPT {
+            return;
+        }
         self.near_place = match self.near_place {
             Some(place) if place > 0 => Some(place - 1),
             _ => None,
@@ -98,18 +99,17 @@ fn is_single(run: Run) -> bool {
     run.end.saturating_sub(run.start) == 1
 }
 
-/// So many copies of flows as circulations that went other ways are kept.
+/// So many copies of the best flows as circulations that went other ways are kept.
 pub(crate) fn copies_of<'a>(
     alloc: Global,
-    flows: &Rerouted<'a>,
+    case: &'a Case<'a>,
 ) -> Result<Vec<KeptFlows<'a>>, AllocError>
-    ensures { IfOk result (λ copies. All (λ own. own.case.now ≡ flows.now.case.now) copies.items) }
+    ensures { IfOk result (λ copies. All (λ own. own.case.now ≡ case.now) copies.items) }
 {
     let mut copies = Vec::with_capacity(alloc, MOST_TURNED)?;
     for _ in 0..MOST_TURNED {
-        if let Some(own) = flows.kept(alloc)? {
-            copies.push(own)?;
-        }
+        let own = KeptFlows::best(alloc, case)?;
+        copies.push(own)?;
     }
     Ok(copies)
 }

@@ -13,6 +13,7 @@ mod gains;
 mod groups;
 mod keeping;
 mod pairs;
+mod pauses;
 mod sieve;
 mod touching;
 mod turns;

@@ -4,6 +4,9 @@ use th_changes::Line;
 /// How often the better one of a pair is looked for anew.
 const ROUNDS: usize = 4;
 
+/// What flows through a number by a line that is nearly level is at most this part of what does in the best flows.
+const NEARLY_LEVEL: u64 = 8;
+
 /// The places of two circulations; the best flows stand for the first, if it is none.
 #[derive(Clone, Copy)]
 pub(crate) struct Pair {
@@ -48,6 +51,29 @@ pub(crate) fn nearest_line(lines: &[Line], given: &Line) -> Option<usize> {
     }
     let (_, _, place) = nearest?;
     Some(place)
+}
+
+/// The place of the nearly level line whose net is nearest to nothing, and of such lines of the one that loses least.
+pub(crate) fn nearly_level_line(lines: &[Line], given: &Line) -> Option<usize> {
+    let mut nearest: Option<(u64, i64, usize)> = None;
+    for (place, line) in lines.iter().enumerate() {
+        let own = (line.net.unsigned_abs(), line.lost, place);
+        if is_nearly_level(line, given) && nearest.is_none_or(|other| own < other) {
+            nearest = Some(own);
+        }
+    }
+    let (_, _, place) = nearest?;
+    Some(place)
+}
+
+/// Whether hardly anything flows through a number by a line, beside what does by the one of the best flows.
+fn is_nearly_level(line: &Line, given: &Line) -> bool {
+    line.net.unsigned_abs() <= given.net.unsigned_abs() / NEARLY_LEVEL
+}
+
+/// Whether one of the lines is nearly level.
+pub(crate) fn is_one_nearly_level(lines: &[Line], given: &Line) -> bool {
+    lines.iter().any(|line| is_nearly_level(line, given))
 }
 
 /// Whether less flows through a number by the line that is nearest to nothing than by the one of the best flows.

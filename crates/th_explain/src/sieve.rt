@@ -7,7 +7,8 @@ use crate::detours::{Detours, Worth};
 use crate::gains::Gains;
 use crate::groups::link_at;
 use crate::keeping::{MOST_KEPT, MOST_TURNED, copies_of};
-use crate::pairs::{Pair, best_pair, costly_line, is_nearer, nearest_line};
+use crate::pairs::{Pair, best_pair, costly_line, is_nearer, is_one_nearly_level, nearest_line};
+use crate::pauses::Pauses;
 use crate::touching::Touching;
 use crate::unshown::Unshown;
 use std::alloc::{AllocError, Global};
@@ -20,6 +21,8 @@ use th_reliability::Runs;
 #[derive(Drop)]
 pub struct Sieve<'a> {
     pub case: &'a Case<'a>,
+    /// The best flows as they are, with their sums.
+    given: KeptFlows<'a>,
     pub(crate) best: Detours<'a>,
     /// One of the circulations that are kept, and its place.
     pub(crate) near: Detours<'a>,
@@ -41,7 +44,10 @@ pub struct Sieve<'a> {
     gains: Gains,
     /// What was not shown of the number that was asked for last. It only spares the same search.
     unshown: Unshown,
+    /// When other ways are searched for a number for which a circulation that is kept is nearly level.
+    pauses: Pauses,
     ghost same: { runs.observations.now ≡ case.now.network.now.observations },
+    ghost same_given: { given.case.now ≡ case.now },
     ghost same_best: { best.rerouted.case.now ≡ case.now },
     ghost same_near: { near.rerouted.case.now ≡ case.now },
     ghost same_kept: { All (λ own. own.case.now ≡ case.now) kept.items },
@@ -53,16 +59,15 @@ impl<'a> Sieve<'a> {
     pub fn of(alloc: Global, case: &'a Case<'a>) -> Result<Sieve<'a>, AllocError>
         ensures { IfOk result (λ own. own.case.now ≡ case.now) }
     {
-        let best = Detours::of(alloc, case)?;
-        let turned = copies_of(alloc, &best.rerouted)?;
         Ok(Sieve {
             case,
-            best,
+            given: KeptFlows::best(alloc, case)?,
+            best: Detours::of(alloc, case)?,
             near: Detours::of(alloc, case)?,
             near_place: None,
             kept: Vec::with_capacity(alloc, MOST_KEPT)?,
             seeds: Vec::with_capacity(alloc, MOST_KEPT)?,
-            turned,
+            turned: copies_of(alloc, case)?,
             runs: Runs::of(case.network.observations()),
             simplex: simplex_of(alloc, case)?,
             lines: Vec::with_capacity(alloc, MOST_KEPT + MOST_TURNED)?,
@@ -70,6 +75,7 @@ impl<'a> Sieve<'a> {
             touching: Touching::new(alloc, case.network)?,
             gains: Gains::of(alloc, case.fit)?,
             unshown: Unshown::new(),
+            pauses: Pauses::new(),
         })
     }
 
@@ -80,10 +86,8 @@ impl<'a> Sieve<'a> {
         ensures costly { result ≡ true
             → IsCostlyBeyond self.old.case.now.network.now number.now self.old.case.now.cost limit }
     {
-        match self.line(number) {
-            Some(given) => self.is_kept_costly(number, &given, limit),
-            None => false,
-        }
+        let given = self.line(number);
+        self.is_kept_costly(number, &given, limit)
     }
 
     /// Whether circulations that are kept show that at least so much is left, whatever a number is changed by. If not,
@@ -95,10 +99,8 @@ impl<'a> Sieve<'a> {
         if self.unshown.is_own_less(number, least) {
             return false;
         }
-        match self.line(number) {
-            Some(given) => self.is_kept_left(number, &given, least),
-            None => false,
-        }
+        let given = self.line(number);
+        self.is_kept_left(number, &given, least)
     }
 
     /// Whether other ways for what flows through a number in the best flows show that no change of it beyond a limit
@@ -130,9 +132,7 @@ impl<'a> Sieve<'a> {
         if self.gains.are_some_beyond(self.case.network, run, limit) {
             return false;
         }
-        let Some(given) = self.line(number) else {
-            return false;
-        };
+        let given = self.line(number);
         let _ = self.best.propose(number, run, given.net, limit);
         match self.turned(number) {
             Some(turned) if turned.are_costly_beyond(&given, limit) => {
@@ -191,16 +191,31 @@ impl<'a> Sieve<'a> {
         if self.gains.are_above(self.case.network, run, worth) {
             return false;
         }
-        let Some(given) = self.line(number) else {
-            return false;
-        };
+        let given = self.line(number);
         let _ = self.list_lines(number);
         self.is_left_by_ways(number, &given, limit, least)
     }
 
-    /// The same, by other ways for the best flows and for a circulation that is kept. The one that more may be hoped of
-    /// comes first.
+    /// The same, by other ways for the best flows and for a circulation that is kept. Where one that is kept is nearly
+    /// level the simplex frees the number in few pivots, so that searches pause if they find nothing.
     fn is_left_by_ways(&mut self, number: &Number, given: &Line, limit: u64, least: u128) -> bool
+        requires { IsLine self.old.case.now.network.now number.now self.old.case.now.cost given.now }
+        ensures case { self.new.case.now ≡ self.old.case.now }
+        ensures left { result ≡ true → LeavesAtLeast self.old.case.now.network.now number.now least }
+    {
+        if !is_one_nearly_level(&self.lines, given) {
+            return self.is_left_by_either(number, given, limit, least);
+        }
+        if self.pauses.wait() {
+            return false;
+        }
+        let is_left = self.is_left_by_either(number, given, limit, least);
+        self.pauses.note(is_left);
+        is_left
+    }
+
+    /// The same. The one that more may be hoped of comes first.
+    fn is_left_by_either(&mut self, number: &Number, given: &Line, limit: u64, least: u128) -> bool
         requires { IsLine self.old.case.now.network.now number.now self.old.case.now.cost given.now }
         ensures case { self.new.case.now ≡ self.old.case.now }
         ensures left { result ≡ true → LeavesAtLeast self.old.case.now.network.now number.now least }
@@ -329,10 +344,10 @@ impl<'a> Sieve<'a> {
     }
 
     /// A line of the best flows.
-    pub(crate) fn line(&self, number: &Number) -> Option<Line>
-        ensures { IfSome result (IsLine self.now.case.now.network.now number.now self.now.case.now.cost) }
+    pub(crate) fn line(&self, number: &Number) -> Line
+        ensures { IsLine self.now.case.now.network.now number.now self.now.case.now.cost result }
     {
-        self.best.line(number, run_of(number, &self.runs))
+        self.given.line(number, run_of(number, &self.runs))
     }
 
     /// How many circulations are kept, with those that went other ways.
@@ -381,7 +396,7 @@ impl<'a> Sieve<'a> {
     }
 
     /// Makes one of the circulations that are kept the near one.
-    fn draw_near(&mut self, place: usize)
+    pub(crate) fn draw_near(&mut self, place: usize)
         ensures { self.new.case.now ≡ self.old.case.now }
     {
         let kept = self.kept.len();

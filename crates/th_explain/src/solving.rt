@@ -7,6 +7,7 @@ ghost use Rattle.th_explain.specs.Inside.Solved.{IsExactOrUnknown, IsSolved};
 
 use crate::freed::Freed;
 use crate::groups::{Ends, end_at, ends_of};
+use crate::pairs::nearly_level_line;
 use crate::sieve::Sieve;
 use crate::turns::{Level, Turn, change_of, freed_by_turn};
 use std::alloc::{AllocError, Global};
@@ -78,16 +79,14 @@ impl<'a> Sieve<'a> {
     pub(crate) fn frees_with(&mut self, number: &Number, change: i64) -> bool
         ensures { self.new.case.now ≡ self.old.case.now }
     {
-        let Some(given) = self.line(number) else {
-            return false;
-        };
+        let net = self.line(number).net;
         let task = Task {
             limit: None,
             least: 0,
             worth: None,
         };
         match self.ask(number, &task) {
-            Some(Found::Freed { near, .. }) => change_of(given.net, near) == Some(change),
+            Some(Found::Freed { near, .. }) => change_of(net, near) == Some(change),
             _ => false,
         }
     }
@@ -104,7 +103,7 @@ impl<'a> Sieve<'a> {
     fn ask(&mut self, number: &Number, task: &Task) -> Option<Found>
         ensures { self.new.case.now ≡ self.old.case.now }
     {
-        let net = self.line(number)?.net;
+        let net = self.line(number).net;
         let run = run_of(number, &self.runs);
         let Ends { group, base, .. } = ends_of(self.case.network, number, run, net)?;
         if let Number::Benchmark(name) = number {
@@ -112,10 +111,11 @@ impl<'a> Sieve<'a> {
                 self.simplex.mark(place, end_at(o, name));
             }
         }
-        match self.level(number) {
+        match self.nearly_level(number) {
             Some(place) => {
+                self.draw_near(place);
                 let start = Origin {
-                    flows: self.kept.get(place)?.flows(),
+                    flows: self.near.rerouted.flows(),
                     seed: self.seeds.get(place)?,
                 };
                 self.simplex.free_from(group, base, task, start)
@@ -124,22 +124,13 @@ impl<'a> Sieve<'a> {
         }
     }
 
-    /// The place of the kept flows of which nothing flows through a number and that lose least, if there are any.
-    fn level(&mut self, number: &Number) -> Option<usize>
+    /// The place of the kept flows that are nearly level, if there are any: those by which least flows through a number.
+    fn nearly_level(&mut self, number: &Number) -> Option<usize>
         ensures { self.new.case.now ≡ self.old.case.now }
     {
+        let given = self.line(number);
         self.list_lines(number)?;
-        let mut best: Option<(i64, usize)> = None;
-        for (place, line) in self.lines.iter().enumerate() {
-            if place < self.kept.len()
-                && line.net == 0
-                && best.is_none_or(|(lost, _)| line.lost < lost)
-            {
-                best = Some((line.lost, place));
-            }
-        }
-        let (_, place) = best?;
-        Some(place)
+        nearly_level_line(self.lines.get(..self.kept.len())?, &given)
     }
 
     /// Keeps flows of which nothing flows through a number, unless others that are kept are as good for it.
@@ -152,9 +143,10 @@ impl<'a> Sieve<'a> {
         requires { own.case.now ≡ self.old.case.now }
         ensures { self.new.case.now ≡ self.old.case.now }
     {
-        if let Some(place) = self.level(number)
-            && let Some(other) = self.kept.get(place)
-            && other.lost() <= own.lost()
+        if let Some(place) = self.nearly_level(number)
+            && let Some(other) = self.lines.get(place)
+            && other.net == 0
+            && other.lost <= own.lost()
         {
             return Ok(());
         }
@@ -205,12 +197,9 @@ impl<'a> Sieve<'a> {
         requires { kept.now.case.now ≡ self.now.case.now }
         ensures { result ≡ true → IsNone self.now.case.now.network.now asked.limit asked.number }
     {
-        match self.line(&asked.number) {
-            Some(given) => self
-                .line_of(kept, &asked.number)
-                .are_costly_beyond(&given, asked.limit),
-            None => false,
-        }
+        let given = self.line(&asked.number);
+        self.line_of(kept, &asked.number)
+            .are_costly_beyond(&given, asked.limit)
     }
 
     /// Whether flows show that the network costs no less from the limit on.
@@ -240,11 +229,12 @@ impl<'a> Sieve<'a> {
         requires { kept.now.case.now ≡ self.now.case.now }
         ensures { result ≡ true → IsExplainedOrMore self.now.case.now.network.now asked.limit asked.least asked.number None }
     {
-        match (self.line(&asked.number), asked.least) {
-            (Some(given), Some(least)) => self
+        let given = self.line(&asked.number);
+        match asked.least {
+            Some(least) => self
                 .line_of(kept, &asked.number)
                 .leave_at_least(&given, self.case.cost, least),
-            _ => false,
+            None => false,
         }
     }
 

@@ -41,10 +41,9 @@ impl Touching {
 
     /// What flows show of the benchmark.
     pub fn line(&self, kept: &KeptFlows<'_>) -> Option<Line> {
-        let flows = kept.flows();
         let mut net = 0i64;
         for own in self.places.iter() {
-            let flow = *flows.get(own.place)?;
+            let flow = kept.flow(own.place)?;
             net = match own.end {
                 End::Head => net.checked_sub(flow)?,
                 End::Tail => net.checked_add(flow)?,

@@ -1,17 +1,15 @@
 //! The rows of all numbers, and how many were looked at.
-ghost use Rattle.std.specs.Prelude.{◌≡◌, ◌≤◌, ◌++◌, ℕ, List, Option, IfOk, IfSome, OnOk, length, option_to_list, true};
-ghost use Rattle.std.specs.List.{AllZip, enumerate_from, flat_map};
+ghost use Rattle.std.specs.Prelude.{◌≡◌, ◌≤◌, ◌++◌, IfOk, IfSome, OnOk, length, option_to_list, true};
+ghost use Rattle.std.specs.List.{flat_map};
 ghost use Rattle.th_limits.specs.Limits.{max_books};
 ghost use Rattle.th_explain_rows.specs.Explanations.{AreExplained, IsEnough, summary_with};
 ghost use Rattle.th_explain_rows.specs.Inside.Passing.{AreRowsOf};
-ghost use Rattle.th_explain_rows.specs.Inside.Sifting.{IsSiftedOrBehind};
-ghost use Rattle.th_explain_rows.specs.Rows.{IsRowOrBehind};
 ghost use Rattle.th_numbers.specs.Lists.{in_order, listed_in};
 
 use crate::finder::Finder;
 use crate::guesses::first_freed;
 use crate::passing::{all_passed, passed_before_cutoff};
-use crate::rows::{Cutoff, rows_ahead};
+use crate::rows::{Cutoff, add_row, rows_ahead};
 use crate::sifting::{Sifted, filtered, is_settled};
 use std::alloc::{AllocError, Global};
 use th_blunders::{Fit, blunder_count};
@@ -148,7 +146,7 @@ fn rows_before_cutoff<P: Progress>(
         return Ok(None);
     }
     let own = filtered(alloc, finder, candidates, found, progress)?;
-    let rows = rows_in(alloc, &mut finder.mending, candidates, &own)?;
+    let rows = rows_ahead(alloc, &mut finder.mending, candidates, &own)?;
     if is_enough(own.cutoff, rows.len()) {
         Ok(Some(rows))
     } else {
@@ -169,7 +167,7 @@ fn rows_of_all<P: Progress>(
 {
     let all = all_passed(alloc, finder, candidates, progress)?;
     let own = filtered(alloc, finder, candidates, all, progress)?;
-    let rows = rows_in(alloc, &mut finder.mending, candidates, &own)?;
+    let rows = rows_ahead(alloc, &mut finder.mending, candidates, &own)?;
     Ok(rows)
 }
 
@@ -181,25 +179,6 @@ fn is_enough(cutoff: Option<Cutoff>, count: usize) -> bool
         Some(_) => count >= MOST_ROWS,
         None => true,
     }
-}
-
-/// The rows of numbers that pass a filter.
-fn rows_in(
-    alloc: Global,
-    mending: &mut Mending<'_>,
-    candidates: &[Candidate],
-    found: &Sifted,
-) -> Result<Vec<Row>, AllocError>
-    requires { AllZip (IsSiftedOrBehind mending.old.case.now.network.now found.now.filter found.now.cutoff) (enumerate_from 0 candidates.now) found.now.freed.items }
-    ensures rows { IfOk result (λ rows. (own : List (Option Row))
-        × AllZip (IsRowOrBehind mending.old.case.now.network.now mending.old.case.now.cost found.now.filter found.now.cutoff) (enumerate_from 0 candidates.now) own
-        × (rows.items ≡ flat_map option_to_list own)) }
-    ensures case { mending.new.case.now ≡ mending.old.case.now }
-{
-    let own = rows_ahead(alloc, mending, candidates, found)?;
-    let mut rows = Vec::new(alloc);
-    add_rows(&mut rows, own.as_slice())?;
-    Ok(rows)
 }
 
 /// What was looked at in numbers.
@@ -242,16 +221,6 @@ fn add_rows(rows: &mut Vec<Row>, found: &[Option<Row>]) -> Result<(), AllocError
 {
     for row in found {
         add_row(rows, row)?;
-    }
-    Ok(())
-}
-
-/// Adds a row, if there is one.
-fn add_row(rows: &mut Vec<Row>, found: &Option<Row>) -> Result<(), AllocError>
-    ensures { OnOk result (rows.new.items ≡ rows.old.items ++ option_to_list found.now) }
-{
-    if let Some(row) = found {
-        rows.extend_from_slice(&[*row])?;
     }
     Ok(())
 }

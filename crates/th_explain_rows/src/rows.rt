@@ -1,10 +1,10 @@
 //! The row of a number that passes.
-ghost use Rattle.std.specs.Prelude.{◌≡◌, ◌≤◌, ◌↔◌, IfOk, IfSome, true, unsigned_abs};
+ghost use Rattle.std.specs.Prelude.{◌≡◌, ◌≤◌, ◌↔◌, ◌++◌, IfOk, IfSome, OnOk, option_to_list, true, unsigned_abs};
 ghost use Rattle.std.specs.List.{AllZip, enumerate_from};
 ghost use Rattle.th_observations.specs.Observed.{largest_difference};
-ghost use Rattle.th_explain_rows.specs.Inside.Passing.{IsAheadOrNone, IsRowOfFound};
+ghost use Rattle.th_explain_rows.specs.Inside.Passing.{AreRowsAhead, IsAheadOrNone, IsRowOfFound};
 ghost use Rattle.th_explain_rows.specs.Inside.Sifting.{IsSiftedOrBehind};
-ghost use Rattle.th_explain_rows.specs.Rows.{IsBehind, IsRow, IsRowOrBehind, Passes, mildest_change, row_of, values_of};
+ghost use Rattle.th_explain_rows.specs.Rows.{IsBehind, IsRow, Passes, mildest_change, row_of, values_of};
 
 use crate::sifting::Sifted;
 use std::alloc::{AllocError, Global};
@@ -12,7 +12,7 @@ use th_explain::laws::{freed_is_one, mistake_explains};
 use th_explain::{Freed, Mending, blunders_left};
 use th_explain_texts::{Row, Values};
 use th_network::Network;
-use th_numbers::{Candidate, Label, add_found, sight_count};
+use th_numbers::{Candidate, Label, sight_count};
 
 /// Which numbers are rows: those whose mildest change is beyond the limit of blunders, in units of 10 nm; and where
 /// there are such numbers, those whose mildest change is beyond half of the limit and which leave no more than `best`,
@@ -31,26 +31,36 @@ pub struct Cutoff {
     pub place: usize,
 }
 
-/// For each number its row, where it passes and is ahead of the cutoff, given what is left if it is freed.
+/// The rows of the numbers that pass and are ahead of the cutoff, in their order, given what is left if each is freed.
 pub(crate) fn rows_ahead(
     alloc: Global,
     mending: &mut Mending<'_>,
     candidates: &[Candidate],
     found: &Sifted,
-) -> Result<Vec<Option<Row>>, AllocError>
+) -> Result<Vec<Row>, AllocError>
     requires { AllZip (IsSiftedOrBehind mending.old.case.now.network.now found.now.filter found.now.cutoff) (enumerate_from 0 candidates.now) found.now.freed.items }
     ensures rows { IfOk result (λ rows.
-        AllZip (IsRowOrBehind mending.old.case.now.network.now mending.old.case.now.cost found.now.filter found.now.cutoff) (enumerate_from 0 candidates.now) rows.items) }
+        AreRowsAhead mending.old.case.now found.now.filter found.now.cutoff (enumerate_from 0 candidates.now) rows.items) }
     ensures case { mending.new.case.now ≡ mending.old.case.now }
 {
     freed_is_one();
-    let mut rows = Vec::with_capacity(alloc, candidates.len())?;
+    let mut rows = Vec::new(alloc);
     for k in 0..candidates.len() {
         let own = ahead(found.cutoff, k, &found.freed[k]);
         let row = row_of_found(alloc, mending, found.filter, &candidates[k], &own)?;
-        add_found(&mut rows, row)?;
+        add_row(&mut rows, &row)?;
     }
     Ok(rows)
+}
+
+/// Adds a row, if there is one.
+pub(crate) fn add_row(rows: &mut Vec<Row>, found: &Option<Row>) -> Result<(), AllocError>
+    ensures { OnOk result (rows.new.items ≡ rows.old.items ++ option_to_list found.now) }
+{
+    if let Some(row) = found {
+        rows.extend_from_slice(&[*row])?;
+    }
+    Ok(())
 }
 
 /// What was found of a number at a place, if it is ahead of the cutoff.

@@ -95,26 +95,10 @@ impl Net {
         })
     }
 
-    /// The tie of a number that changes by a size while nothing flows through it.
-    pub fn tie_level(&self, size: u64) -> Option<Tie> {
+    /// The tie of a number that changes by a step more, so that less flows through it, down to nothing.
+    pub fn tie_on(&self, change: i64, step: i64) -> Option<Tie> {
         Some(Tie {
-            change: self.change(i64::try_from(size).ok()?)?,
-            least: 0,
-            most: 0,
-        })
-    }
-
-    /// The tie of a number that changes by so much that nothing is to flow through it.
-    pub fn tie_beyond(&self, steep: i64) -> Option<Tie> {
-        let change = if self.now > 0 {
-            steep.checked_neg()?
-        } else if self.now < 0 {
-            steep
-        } else {
-            0
-        };
-        Some(Tie {
-            change,
+            change: change.checked_sub(step.checked_mul(self.now.signum())?)?,
             least: self.now.min(0),
             most: self.now.max(0),
         })

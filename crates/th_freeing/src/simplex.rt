@@ -12,6 +12,12 @@ use th_guide::{ResidualArc, push_if_room};
 /// No ends of links.
 const NOTHING: Group = Group::Tails { start: 0, end: 0 };
 
+/// By how much the change of a number grows at first while something flows through it, and how many times as much each
+/// next time. A change that is much too large takes flow from arcs to which it comes back later.
+const FIRST_STEP: i64 = 10_000;
+
+const GROWTH: i64 = 4;
+
 /// A primal network simplex that frees numbers. Nothing is promised of what it proposes.
 #[derive(Drop)]
 pub struct Simplex {
@@ -21,7 +27,7 @@ pub struct Simplex {
     given: Vec<i64>,
     best: Vec<i64>,
     tree: Vec<u32>,
-    /// More than any path is long.
+    /// The last step that is not above it is more than any path is long.
     steep: i64,
     proposal: Proposal,
 }
@@ -58,10 +64,12 @@ impl Simplex {
         self.tree.clear();
         self.network.start()?;
         self.network.part(NOTHING, 0)?;
-        self.steep = 1;
+        self.steep = GROWTH;
         for (place, link) in self.network.links().iter().enumerate() {
             *self.given.get_mut(place)? = link.flow;
-            self.steep = self.steep.checked_add(link.difference.checked_abs()?)?;
+            self.steep = self
+                .steep
+                .checked_add(link.difference.checked_abs()?.checked_mul(GROWTH)?)?;
         }
         self.basis.arcs.load(&self.network, &self.given)?;
         self.basis.begin(0)?;
@@ -190,23 +198,20 @@ impl Simplex {
         }
         let tie = match task.limit {
             Some(limit) => net.tie_at(limit)?,
-            None => net.tie_beyond(self.steep)?,
+            None => net.tie_on(0, FIRST_STEP)?,
         };
         let (base, spare) = (self.network.base(), self.network.spare());
         self.basis.arcs.tie(base, spare, net.now, tie)?;
         self.basis.choose_tie()
     }
 
-    /// Ties them so that the number changes as it did for a seed, if nothing flows through it, and chooses the tie.
+    /// Ties them so that the number changes as it did for a seed, and no more flows through it than now. Chooses the tie.
     fn tie_as(&mut self, seed: &Seed, net: &Net) -> Option<()> {
         if net.need == 0 {
             return None;
         }
-        let tie = if net.now == 0 {
-            net.tie_level(seed.size)?
-        } else {
-            net.tie_beyond(self.steep)?
-        };
+        let change = net.change(i64::try_from(seed.size).ok()?)?;
+        let tie = net.tie_on(change, 0)?;
         let (base, spare) = (self.network.base(), self.network.spare());
         self.basis.arcs.tie(base, spare, net.now, tie)?;
         self.basis.choose_tie()
@@ -218,15 +223,12 @@ impl Simplex {
         let all = self.basis.tree.nodes().len();
         self.basis.plant(all)?;
         let mut stop = self.run(task, &mut net)?;
-        if task.limit.is_some() && matches!(stop, Stop::Best) {
-            if net.turned().is_some() {
-                self.proposal.tell_heights(&self.basis);
-                stop = Stop::Shown(Found::Within);
-            } else {
-                let tie = net.tie_beyond(self.steep)?;
-                self.basis.set_tie(&self.network, tie)?;
-                stop = self.run(task, &mut net)?;
-            }
+        if task.limit.is_some() && matches!(stop, Stop::Best) && net.turned().is_some() {
+            self.proposal.tell_heights(&self.basis);
+            stop = Stop::Shown(Found::Within);
+        }
+        if matches!(stop, Stop::Best) {
+            stop = self.level(task, &mut net)?;
         }
         self.proposal.tell_flows(&self.network, &self.basis)?;
         match stop {
@@ -234,6 +236,24 @@ impl Simplex {
             Stop::Best if net.now == 0 => self.proposal.free(&mut self.network, &self.basis, &net),
             Stop::Best => None,
         }
+    }
+
+    /// Changes the number in growing steps until nothing flows through it, or the flows show enough.
+    fn level(&mut self, task: &Task, net: &mut Net) -> Option<Stop> {
+        let mut step = FIRST_STEP;
+        for _ in 0..i64::BITS {
+            if net.now == 0 || step > self.steep {
+                break;
+            }
+            let tie = net.tie_on(self.basis.arcs.change()?, step)?;
+            self.basis.set_tie(&self.network, tie)?;
+            let stop = self.run(task, net)?;
+            if matches!(stop, Stop::Shown(_)) {
+                return Some(stop);
+            }
+            step = step.checked_mul(GROWTH)?;
+        }
+        Some(Stop::Best)
     }
 
     /// Pivots until the flows are best, or show enough.

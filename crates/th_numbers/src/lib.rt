@@ -2,8 +2,8 @@
 //!
 //! `listing_of` lists them in the order of rows that explain equally: entered heights, changes that were
 //! forgotten, sights and benchmarks. `tied_rows` finds which benchmarks are tied to another one. `books_of`
-//! lists the books, each of which may have been read from mark to mark: `add_found` adds a row for each that fits
-//! much better without the heights of instruments and reflectors. `specs/` has the definitions.
+//! lists the books, each of which may have been read from mark to mark; a `Reading` has a row for each that fits much
+//! better without the heights of instruments and reflectors. `specs/` has the definitions.
 #![tactic(auto)]
 
 // A number, and where it is.
@@ -25,5 +25,5 @@ pub use books::{SightedBook, books_of};
 pub use candidates::{Candidate, Label, sight_count};
 pub use kinds::{Kinds, is_kind};
 pub use listing::{Listing, listing_of};
-pub use readings::{Reading, add_found, reread_network};
+pub use readings::{Reading, reread_network};
 pub use ties::{TiedRow, tied_rows};

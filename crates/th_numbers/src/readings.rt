@@ -76,8 +76,8 @@ impl Reading<'_> {
     }
 }
 
-/// Adds what was found of one more book or number.
-pub fn add_found(rows: &mut Vec<Option<Row>>, found: Option<Row>) -> Result<(), AllocError>
+/// Adds what was found of one more book.
+fn add_found(rows: &mut Vec<Option<Row>>, found: Option<Row>) -> Result<(), AllocError>
     ensures { OnOk result (rows.new.items ≡ rows.old.items ++ found ∷ []) }
 {
     rows.extend_from_slice(&[found])

@@ -96,3 +96,7 @@ pub record AreOwnRows (survey : Survey) (cost : ℕ) (limit : ℤ) (candidates :
 -- the same, of numbers of a case
 abbrev pub AreRowsOf : Case → ℤ → List Candidate → List Row → Type 0
 AreRowsOf case limit candidates rows = AreOwnRows case.network.now case.cost limit candidates rows
+
+-- the rows of these numbers at their places that pass and are ahead of the cutoff
+abbrev pub AreRowsAhead : Case → Filter → Option Cutoff → List (ℕ × Candidate) → List Row → Type 0
+AreRowsAhead case filter cutoff numbers rows = (own : List (Option Row)) × AllZip (IsRowOrBehind case.network.now case.cost filter cutoff) numbers own × (rows ≡ flat_map option_to_list own)

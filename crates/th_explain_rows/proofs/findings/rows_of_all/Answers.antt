@@ -11,8 +11,8 @@ use Rattle.th_explain_rows.specs.declared.finder.Misfit.{Misfit}
 use Rattle.th_explain_rows.proofs.FindLemmas.{own_rows}
 use Rattle.th_explain_rows.proofs.findings.rows_of_all.Goals as goal
 
-pub rows_in-requires : goal.rows_in-requires
-rows_in-requires g c =
+pub rows_ahead-requires : goal.rows_ahead-requires
+rows_ahead-requires g c =
     let own = c.in_ok-own.own in
     let later : Finder = c.filtered.new.finder in
     subst (λ (case : Case). AllZip (IsSiftedOrBehind case.network.now own.filter own.cutoff) (enumerate_from 0 c.args.candidates.now) own.freed.items)

@@ -2,7 +2,7 @@ use Rattle.std.proofs.Common.{◌≡◌, ◌≤◌, ◌*◌, unsigned_abs}
 use Rattle.th_tables.specs.Limits.{max_weight}
 use Rattle.th_changes.specs.Inside.Sums.{sum_before}
 use Rattle.th_changes.proofs.SumLemmas.{AreSumsTo}
-use Rattle.th_changes.proofs.nets.sum_up.Given as goal
+use Rattle.th_changes.proofs.summing.sum_up.Given as goal
 
 abbrev pub invariant-loop-k : goal.invariant-loop-k
 invariant-loop-k l = record {
