@@ -306,9 +306,12 @@ def plain_rows(lemon: Path, folder: Path, printed: List[List[str]], sample: int)
 
 
 def compared(lemon: Path, folder: Path, table: Path, sample: int) -> int:
-    """How many numbers the rows of a table were compared with. Fails where plain solves give others."""
+    """How many numbers the rows of a table were compared with. Fails where plain solves give others. What may have been
+    meant is not compared: the fields behind `blunders`, and the records without a number."""
     with table.open(newline="") as file:
-        printed = list(csv.reader(file))[1:]
+        header, *records = csv.reader(file)
+    fields = header.index("blunders") + 1
+    printed = [record[:fields] for record in records if record[0]]
     rows, count = plain_rows(lemon, folder, printed, sample)
     for own, plain in zip(printed + [[]] * len(rows), rows + [[]] * len(printed)):
         if own != plain:
