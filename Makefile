@@ -195,6 +195,7 @@ planted: built
 	@tests/planted/meant.py --program $(PROGRAM) --share $(EVERY)
 	@tests/planted/mended.py --program $(PROGRAM) --share $(EVERY)
 	@tests/planted/sentences.py --program $(PROGRAM) --tries $(TRIES)
+	@tests/planted/names.py --program $(PROGRAM) --tries $(TRIES)
 	@tests/planted/noted.py --program $(PROGRAM)
 	@tests/planted/verdicts.py --program $(PROGRAM) --tries $(TRIES)
 	@tests/planted/one_more.py --program $(PROGRAM)

@@ -67,8 +67,8 @@ DIFFERENCES_BOOK = (b"*110001+000000000000000A 84..40+0000000000000000 87..48+00
                     b"*110002+000000000000000B 33..48+0000000000150000 \r\n"
                     b"*110003+000000000000000C 33..48-0000000000000001 \r\n")
 # What explains them, as the second office prints it.
-MISREAD_EXPLAINED = (b"number,kind,book,line,word,from,to,sights,given,low,high,explains,left,blunders,last,poles,instruments\n"
-                        b"1,sight,1,4,,A,B,1,3.54500000,2.54500000,2.54600000,0.99900000,0.00100000,0,,,\n")
+MISREAD_EXPLAINED = (b"number,kind,book,line,word,from,to,sights,given,low,high,explains,left,blunders,last,poles,instruments,reading,name,fit\n"
+                        b"1,sight,1,4,,A,B,1,3.54500000,2.54500000,2.54600000,0.99900000,0.00100000,0,,,,,,\n")
 TRIANGLE_EXPLAINED = (b"cost                          0.50000000\n"
                         b"blunder limit                 0.02000000\n"
                         b"marked                                 1\n"

@@ -6,6 +6,7 @@ from certificates import csv_row, number_text
 from freed import Freed, Number, Survey, differences_read, marks_of, rows_of
 from named import Named, heights_named, last_line, last_lines
 from network import Heights, Network, cost_of
+from readings import MOST_FIRST, Reading, readings_of
 from tables import reader
 from texts import label_line, metres
 
@@ -17,7 +18,7 @@ LABELS = ("sights", "entries", "changes", "benchmarks", "books")
 
 
 class Explanation(NamedTuple):
-    """What is printed: the rows with their numbers, what stands above them, the last lines of their entries, and what may have been meant."""
+    """What is printed: the rows with their numbers, what stands above them, the last lines of their entries, what may have been meant, and which readings fit."""
 
     cost: int
     limit: int
@@ -26,6 +27,7 @@ class Explanation(NamedTuple):
     rows: List[Tuple[int, Freed]]
     lasts: List[Optional[int]]
     named: List[Named]
+    readings: List[Reading]
 
 
 def numbered(rows: List[Freed]) -> List[Tuple[int, Freed]]:
@@ -39,7 +41,7 @@ def explanation_of(network: Network, low: Heights, limit: int, books: List[bytes
     found, counts = rows_of(survey, books)
     rows, lasts = numbered(found[:MOST_ROWS]), last_lines(network, books)
     return Explanation(survey.cost, limit, marks_of(network, low, limit), counts, rows, [last_line(row, lasts) for _, row in rows],
-                       heights_named(network, books, rows, limit))
+                       heights_named(network, books, rows, limit), readings_of(survey, books, rows))
 
 
 # The table
@@ -54,20 +56,32 @@ def meant_field(explanation: Explanation, place: int, word: bytes) -> bytes:
     return b" ".join(reader.metres(own.meant) for own in explanation.named if (own.row, own.word) == (place, word))
 
 
+def place_fields(row: Freed) -> List[bytes]:
+    """Which number a row is, and its values."""
+    own = row.number
+    return [own.kind.encode("ascii"), optional(own.book, str).encode("ascii"), optional(own.line, str).encode("ascii"), own.word(),
+            own.station, own.target, number_text(len(own.places)),
+            *(optional(length, metres).encode("ascii") for length in (own.given, row.low, row.high))]
+
+
 def csv_line(explanation: Explanation, place: int) -> bytes:
     number, row = explanation.rows[place]
-    own = row.number
-    return csv_row(number_text(number), own.kind.encode("ascii"), optional(own.book, str).encode("ascii"),
-                   optional(own.line, str).encode("ascii"), own.word(), own.station, own.target, number_text(len(own.places)),
-                   *(optional(length, metres).encode("ascii") for length in (own.given, row.low, row.high)),
-                   reader.metres(row.explains), reader.metres(row.left), number_text(row.blunders),
+    return csv_row(number_text(number), *place_fields(row), reader.metres(row.explains), reader.metres(row.left), number_text(row.blunders),
                    optional(explanation.lasts[place], str).encode("ascii"), meant_field(explanation, place, reader.REFLECTOR_HEIGHT),
-                   meant_field(explanation, place, reader.INSTRUMENT_HEIGHT))
+                   meant_field(explanation, place, reader.INSTRUMENT_HEIGHT), b"", b"", b"")
+
+
+def reading_line(explanation: Explanation, own: Reading) -> bytes:
+    """The record of a reading: the fields of its row, but its number, its costs and the heights that are named."""
+    row = explanation.rows[own.row][1]
+    return csv_row(b"", *place_fields(row), b"", b"", b"", optional(explanation.lasts[own.row], str).encode("ascii"), b"", b"",
+                   own.kind.encode("ascii"), own.name, reader.metres(own.fit))
 
 
 def csv_text(explanation: Explanation) -> bytes:
-    header = b"number,kind,book,line,word,from,to,sights,given,low,high,explains,left,blunders,last,poles,instruments\n"
-    return header + b"".join(csv_line(explanation, place) for place in range(len(explanation.rows)))
+    header = b"number,kind,book,line,word,from,to,sights,given,low,high,explains,left,blunders,last,poles,instruments,reading,name,fit\n"
+    rows = [csv_line(explanation, place) for place in range(len(explanation.rows))]
+    return header + b"".join(rows + [reading_line(explanation, own) for own in explanation.readings])
 
 
 # The text
@@ -170,6 +184,31 @@ def meant_sentences(explanation: Explanation) -> List[str]:
     return lines
 
 
+def reading_said(explanation: Explanation, reading: Reading) -> str:
+    """What fits."""
+    own, name = explanation.rows[reading.row][1].number, reading.name.decode("ascii")
+    if reading.kind == "point":
+        return f"The height of {own.station.decode('ascii')} fits {name}"
+    where = lines_said(own, explanation.lasts[reading.row], explanation.counts["books"])
+    if reading.kind == "sign":
+        return f"{capital(where)} fits with the other sign of word 33"
+    if reading.kind == "target":
+        return f"{capital(where)} fits {name} in place of {own.target.decode('ascii')}"
+    return f"The setup of {where} fits {name} in place of {own.station.decode('ascii')}"
+
+
+def reading_sentences(explanation: Explanation, first: List[int]) -> List[str]:
+    """What fits of the rows with number 1; of an instrument height without any, that the setup may have stood elsewhere."""
+    lines = []
+    for place in first if len(first) <= MOST_FIRST else ():
+        own = explanation.rows[place][1].number
+        readings = [reading for reading in explanation.readings if reading.row == place]
+        lines += [f"{reading_said(explanation, reading)}, within {metres(reading.fit)} m." for reading in readings]
+        if not readings and own.kind == "instrument":
+            lines.append(f"Or the setup stood on another point than {own.station.decode('ascii')}.")
+    return lines
+
+
 def sentences(explanation: Explanation) -> List[str]:
     first = [place for place, (number, _) in enumerate(explanation.rows) if number == 1]
     if not first and explanation.marked:
@@ -182,6 +221,7 @@ def sentences(explanation: Explanation) -> List[str]:
     if len(named) <= MOST_NAMED:
         lines += ["The books do not say which of them."] if len(named) > 1 else []
         lines += [line for place in named for line in given_sentences(explanation, place)]
+    lines += reading_sentences(explanation, first)
     lines += meant_sentences(explanation)
     lines += [f"The next best leaves {metres(row.left)}." for _, row in explanation.rows[len(first) : len(first) + 1]]
     return lines if explaining else lines + ["Mend it and run again."]

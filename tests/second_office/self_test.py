@@ -281,6 +281,7 @@ One wrong number explains this: word 88 of line 2 or word 87 of line 2.
 The books do not say which of them.
 Word 88 of line 2: given 1.64500000, fits 1.54600000.
 Word 87 of line 2: given 1.50000000, fits 1.59900000.
+Or the setup stood on another point than KO1.
 Word 88 of line 2: typed 1.64500000, meant 1.54500000?
 The next best leaves 0.10100000.
 
@@ -288,23 +289,23 @@ If 1.54500000 was meant, height_office mend takes these changes:
 line,word,value
 2,88,1.54500000
 """
-TYPED_AT_KO1_TABLE = b"""number,kind,book,line,word,from,to,sights,given,low,high,explains,left,blunders,last,poles,instruments
-1,instrument,1,2,88,KO1,,4,1.64500000,1.54600000,1.54600000,0.19800000,0.00200000,0,2,,1.54500000
-1,reflector,1,2,87,KO1,,4,1.50000000,1.59900000,1.59900000,0.19800000,0.00200000,0,2,,
-2,sight,1,8,,KO2,KO1,1,-2.79600000,-2.89500000,-2.89500000,0.09900000,0.10100000,1,,,
-2,sight,1,15,,KO3,KO1,1,-1.54400000,-1.64300000,-1.64300000,0.09900000,0.10100000,1,,,
+TYPED_AT_KO1_TABLE = b"""number,kind,book,line,word,from,to,sights,given,low,high,explains,left,blunders,last,poles,instruments,reading,name,fit
+1,instrument,1,2,88,KO1,,4,1.64500000,1.54600000,1.54600000,0.19800000,0.00200000,0,2,,1.54500000,,,
+1,reflector,1,2,87,KO1,,4,1.50000000,1.59900000,1.59900000,0.19800000,0.00200000,0,2,,,,,
+2,sight,1,8,,KO2,KO1,1,-2.79600000,-2.89500000,-2.89500000,0.09900000,0.10100000,1,,,,,,
+2,sight,1,15,,KO3,KO1,1,-1.54400000,-1.64300000,-1.64300000,0.09900000,0.10100000,1,,,,,,
 """
 FORGOTTEN_POLE = Inputs([(EXAMPLES / "building_site" / "monday.gsi").read_bytes()], TYPED_AT_KO1.benchmarks, None)
-FORGOTTEN_POLE_TABLE = b"""number,kind,book,line,word,from,to,sights,given,low,high,explains,left,blunders,last,poles,instruments
-1,sight,1,14,,KO3,D1,1,0.07500000,-0.92600000,-0.92500000,1.00000000,0.00400000,0,,2.50000000,
+FORGOTTEN_POLE_TABLE = b"""number,kind,book,line,word,from,to,sights,given,low,high,explains,left,blunders,last,poles,instruments,reading,name,fit
+1,sight,1,14,,KO3,D1,1,0.07500000,-0.92600000,-0.92500000,1.00000000,0.00400000,0,,2.50000000,,,,
 """
 DAM = (EXAMPLES / "dam" / "crest.gsi").read_bytes().splitlines(True)
 TYPED_AT_P1 = Inputs([b"".join(DAM[:7] + DAM[8:18]).replace(b"88..10+00001612", b"88..10+00001712")],
                      (EXAMPLES / "dam" / "rocks.csv").read_bytes(), None)
-TYPED_AT_P1_TABLE = b"""number,kind,book,line,word,from,to,sights,given,low,high,explains,left,blunders,last,poles,instruments
-1,instrument,1,2,88,P1,,5,1.71200000,1.61200000,1.61300000,0.09900000,0.01000000,0,2,,1.61200000
-1,reflector,1,2,87,P1,,5,1.30000000,1.39900000,1.40000000,0.09900000,0.01000000,0,2,,
-1,sight,1,9,,C1,P1,1,-0.80200000,-0.90200000,-0.90100000,0.09900000,0.01000000,0,,,
+TYPED_AT_P1_TABLE = b"""number,kind,book,line,word,from,to,sights,given,low,high,explains,left,blunders,last,poles,instruments,reading,name,fit
+1,instrument,1,2,88,P1,,5,1.71200000,1.61200000,1.61300000,0.09900000,0.01000000,0,2,,1.61200000,,,
+1,reflector,1,2,87,P1,,5,1.30000000,1.39900000,1.40000000,0.09900000,0.01000000,0,2,,,,,
+1,sight,1,9,,C1,P1,1,-0.80200000,-0.90200000,-0.90100000,0.09900000,0.01000000,0,,,,,,
 """
 LINE = EXAMPLES / "levelling_line"
 ONE_WAY = Inputs([(LINE / "there.gsi").read_bytes()], (LINE / "marks.csv").read_bytes(), (LINE / "weights.csv").read_bytes())
@@ -385,14 +386,15 @@ MISTYPED = (REPEATED.replace(b"88..10+00001500", b"88..10+00001680", 4).replace(
             .replace(b"+00003000", b"+00001640", 1).replace(b"+00004000", b"+00002640", 1))
 MISTYPED_LINES = (b"\nWord 88 of lines 1 to 4: given 1.68000000, fits 1.86000000.\n"
                   b"Word 87 of lines 1 to 4: given 1.50000000, fits 1.32000000.\n"
+                  b"Or the setup stood on another point than A.\n"
                   b"Word 88 of lines 1 to 4: typed 1.68000000, meant 1.86000000?\n")
 # A benchmark, D, that is 30 mm wrong. Nothing ties C twice, so that the last two sights could be wrong together.
 SUNK = S + b"110002+0000000B 33..00+00000000 87..10+00001500 \n110003+0000000C 33..00+00000000 \n110004+0000000D 33..00+00000000 \n"
-SUNK_TABLE = b"""number,kind,book,line,word,from,to,sights,given,low,high,explains,left,blunders,last,poles,instruments
-1,instrument since,1,3,88,A,,2,1.50000000,1.53000000,1.53000000,0.03000000,0.00000000,0,,,
-1,reflector since,1,3,87,A,,2,1.50000000,1.47000000,1.47000000,0.03000000,0.00000000,0,,,
-1,sight,1,4,,A,D,1,0.00000000,0.03000000,0.03000000,0.03000000,0.00000000,0,,,
-1,benchmark,,4,,D,,1,100.03000000,100.00000000,100.00000000,0.03000000,0.00000000,0,,,
+SUNK_TABLE = b"""number,kind,book,line,word,from,to,sights,given,low,high,explains,left,blunders,last,poles,instruments,reading,name,fit
+1,instrument since,1,3,88,A,,2,1.50000000,1.53000000,1.53000000,0.03000000,0.00000000,0,,,,,,
+1,reflector since,1,3,87,A,,2,1.50000000,1.47000000,1.47000000,0.03000000,0.00000000,0,,,,,,
+1,sight,1,4,,A,D,1,0.00000000,0.03000000,0.03000000,0.03000000,0.00000000,0,,,,,,
+1,benchmark,,4,,D,,1,100.03000000,100.00000000,100.00000000,0.03000000,0.00000000,0,,,,,,
 """
 # A book whose word 33 holds the heights already.
 MARK_TO_MARK = S + b"".join(b"1100%02d+0000000%s 33..00+00001000 87..10+0000%04d \n" % (2 + k, name, 1300 - 200 * k)
@@ -401,9 +403,20 @@ MARK_TO_MARK = S + b"".join(b"1100%02d+0000000%s 33..00+00001000 87..10+0000%04d
 FAR = (b"110001+0000000A 84..10+00000000 88..10+06000000 87..10+00000000 \n110002+0000000B 33..00+06000000 \n"
        b"110003+0000000B 84..10+00000000 88..10+06000000 87..10+00000000 \n110004+0000000C 33..00+06000000 \n"
        b"110005+0000000C 84..10+00000000 88..10+00000000 87..10+00000000 \n110006+0000000A 33..00-04000000 \n")
-FAR_TABLE = b"""number,kind,book,line,word,from,to,sights,given,low,high,explains,left,blunders,last,poles,instruments
-1,sight,1,6,,C,A,1,-4000.00000000,-24000.00000000,-24000.00000000,20000.00000000,0.00000000,0,,,
+FAR_TABLE = b"""number,kind,book,line,word,from,to,sights,given,low,high,explains,left,blunders,last,poles,instruments,reading,name,fit
+1,sight,1,6,,C,A,1,-4000.00000000,-24000.00000000,-24000.00000000,20000.00000000,0.00000000,0,,,,,,
 """
+# The building site observed right, but for one name or sign at a time.
+RIGHT = (BUILDING_SITE.replace(b"33..10-00001027 ", b"33..10-00000027 87..10+00002500 ")
+         .replace(b"33..10-00001646 ", b"33..10-00001646 87..10+00001500 "))
+WRONG_TARGET = RIGHT.replace(b"110008+00000KO1", b"110008+000000D1")
+WRONG_TARGET_TABLE = b"""number,kind,book,line,word,from,to,sights,given,low,high,explains,left,blunders,last,poles,instruments,reading,name,fit
+1,sight,1,8,,KO2,D1,1,-2.79600000,-2.17700000,-2.17700000,0.61900000,0.00300000,0,,,,,,
+,sight,1,8,,KO2,D1,1,-2.79600000,-2.17700000,-2.17700000,,,,,,,target,KO1,0.00100000
+"""
+WRONG_STATION = RIGHT.replace(b"110012+00000KO3", b"110012+0000BM12")
+WRONG_SIGN = RIGHT.replace(b"33..10-00002876", b"33..10+00002876")
+WRONG_ROW = b"point,height\nBM12,251.384\nKO3,251.655\nD1,250.112\n"
 EXPLAINED = (
     ("an instrument height keyed in wrongly", TYPED_AT_KO1, people_text, TYPED_AT_KO1_TEXT),
     ("the same as a table", TYPED_AT_KO1, csv_text, TYPED_AT_KO1_TABLE),
@@ -413,9 +426,17 @@ EXPLAINED = (
     ("a line both ways", BOTH_WAYS, people_text, BOTH_WAYS_TEXT),
     ("nothing", Inputs([b""], b"point,height\n", None), people_text, NOTHING_TEXT),
     ("changes beyond reach", Inputs([FAR], A_100, None), csv_text, FAR_TABLE),
+    ("another target", Inputs([WRONG_TARGET], TYPED_AT_KO1.benchmarks, None), csv_text, WRONG_TARGET_TABLE),
     ("a benchmark that sank", Inputs([SUNK], A_100 + b"B,100\nD,100.03\n", None), csv_text, SUNK_TABLE),
 )
 EXPLAINED_LINES = (
+    ("another target in a sentence", Inputs([WRONG_TARGET], TYPED_AT_KO1.benchmarks, None),
+     b"\nLine 8 fits KO1 in place of D1, within 0.00100000 m.\n"),
+    ("another station", Inputs([WRONG_STATION], TYPED_AT_KO1.benchmarks, None),
+     b"\nThe setup of line 12 fits KO3 in place of BM12, within 0.00000000 m.\n"),
+    ("the other sign", Inputs([WRONG_SIGN], TYPED_AT_KO1.benchmarks, None),
+     b"\nLine 8 fits with the other sign of word 33, within 0.00100000 m.\n"),
+    ("a benchmark under another name", Inputs([RIGHT], WRONG_ROW, None), b"\nThe height of D1 fits KO1, within 0.00000000 m.\n"),
     ("a forgotten change", Inputs([FORGOTTEN], A_100, None), FORGOTTEN_LINES),
     ("the same with words 87 and 88 in each sight", Inputs([REPEATED], A_100, None), FORGOTTEN_LINES),
     ("two digits exchanged in four lines", Inputs([MISTYPED], A_100, None), MISTYPED_LINES),

@@ -10,7 +10,7 @@ from rows import Case, Row, RowCase
 
 MARKS = "--benchmarks marks.csv"
 LIST = "number,from,to,difference"
-ROWS_OF_EXPLANATIONS = "number,kind,book,line,word,from,to,sights,given,low,high,explains,left,blunders,last,poles,instruments"
+ROWS_OF_EXPLANATIONS = "number,kind,book,line,word,from,to,sights,given,low,high,explains,left,blunders,last,poles,instruments,reading,name,fit"
 
 READ_FAILED = [
     ("book 1", "list missing.gsi"),

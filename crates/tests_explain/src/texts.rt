@@ -5,7 +5,8 @@ use std::alloc::Global;
 use std::process::Abort;
 use th_entries::HeightKind;
 use th_explain_texts::{
-    Kind, Named, Row, Summary, Values, explanations_csv, explanations_text, ranked,
+    Kind, Named, ReadAs, ReadingRow, Row, Summary, Values, explanations_csv, explanations_text,
+    ranked,
 };
 
 /// The name of a point.
@@ -92,11 +93,11 @@ const NAMED: [Named; 1] = [Named {
 
 /// Its table.
 const TABLE: &[u8] =
-    b"number,kind,book,line,word,from,to,sights,given,low,high,explains,left,blunders,last,poles,instruments
-1,instrument,1,2,88,KO1,,4,1.64500000,1.54600000,1.54600000,0.19800000,0.00200000,0,2,,1.54500000
-1,reflector,1,2,87,KO1,,4,1.50000000,1.59900000,1.59900000,0.19800000,0.00200000,0,2,,
-2,sight,1,8,,KO2,KO1,1,-2.79600000,-2.89500000,-2.89500000,0.09900000,0.10100000,1,,,
-2,sight,1,15,,KO3,KO1,1,-1.54400000,-1.64300000,-1.64300000,0.09900000,0.10100000,1,,,
+    b"number,kind,book,line,word,from,to,sights,given,low,high,explains,left,blunders,last,poles,instruments,reading,name,fit
+1,instrument,1,2,88,KO1,,4,1.64500000,1.54600000,1.54600000,0.19800000,0.00200000,0,2,,1.54500000,,,
+1,reflector,1,2,87,KO1,,4,1.50000000,1.59900000,1.59900000,0.19800000,0.00200000,0,2,,,,,
+2,sight,1,8,,KO2,KO1,1,-2.79600000,-2.89500000,-2.89500000,0.09900000,0.10100000,1,,,,,,
+2,sight,1,15,,KO3,KO1,1,-1.54400000,-1.64300000,-1.64300000,0.09900000,0.10100000,1,,,,,,
 ";
 
 /// Its text for people.
@@ -119,6 +120,7 @@ One wrong number explains this: word 88 of line 2 or word 87 of line 2.
 The books do not say which of them.
 Word 88 of line 2: given 1.64500000, fits 1.54600000.
 Word 87 of line 2: given 1.50000000, fits 1.59900000.
+Or the setup stood on another point than KO1.
 Word 88 of line 2: typed 1.64500000, meant 1.54500000?
 The next best leaves 0.10100000.
 
@@ -131,16 +133,16 @@ line,word,value
 fn building_site(rt: HostRuntime) {
     let alloc = rt.alloc();
     let rows = rows_of(&rt, alloc);
-    let table = explanations_csv(alloc, &rows, &NAMED).expect(&rt, "memory");
+    let table = explanations_csv(alloc, &rows, &NAMED, &[]).expect(&rt, "memory");
     assert!(rt; table.as_slice() == TABLE);
-    let text = explanations_text(alloc, &SUMMARY, &rows, &NAMED).expect(&rt, "memory");
+    let text = explanations_text(alloc, &SUMMARY, &rows, &NAMED, &[]).expect(&rt, "memory");
     assert!(rt; text.as_slice() == TEXT);
 }
 
 /// What is written where there is no row.
 fn ends_with(rt: &impl Abort, alloc: Global, marked: usize, wanted: &[u8]) {
     let summary = Summary { marked, ..SUMMARY };
-    let text = explanations_text(alloc, &summary, &[], &[]).expect(rt, "memory");
+    let text = explanations_text(alloc, &summary, &[], &[], &[]).expect(rt, "memory");
     assert!(rt; text.as_slice().ends_with(wanted));
 }
 
@@ -167,7 +169,7 @@ fn many_rows(rt: HostRuntime) {
     let found = [sighted(&rt, 8, b"KO2", -279_600_000, -289_500_000); 21];
     let rows = ranked(alloc, &found).expect(&rt, "memory");
     assert_eq!(rt; rows.len(), 20);
-    let text = explanations_text(alloc, &SUMMARY, &rows, &[]).expect(&rt, "memory");
+    let text = explanations_text(alloc, &SUMMARY, &rows, &[], &[]).expect(&rt, "memory");
     assert!(rt;
         text.as_slice().ends_with(
             b"
@@ -186,7 +188,7 @@ fn says(rt: &impl Abort, alloc: Global, row: Row, wanted: &[u8]) {
 /// What is said of one row, and of the heights that may have been meant.
 fn says_of(rt: &impl Abort, alloc: Global, row: Row, named: &[Named], wanted: &[u8]) {
     let rows = ranked(alloc, &[row]).expect(rt, "memory");
-    let text = explanations_text(alloc, &SUMMARY, &rows, named).expect(rt, "memory");
+    let text = explanations_text(alloc, &SUMMARY, &rows, named, &[]).expect(rt, "memory");
     assert!(rt; text.as_slice().ends_with(wanted));
 }
 
@@ -236,8 +238,96 @@ fn heights_of_a_sight_in_the_table(rt: HostRuntime) {
     let alloc = rt.alloc();
     let row = sighted(&rt, 8, b"KO2", -279_600_000, -289_500_000);
     let named = [pole(250_000_000), pole(249_900_000)];
-    let table = explanations_csv(alloc, &[row], &named).expect(&rt, "memory");
-    assert!(rt; table.as_slice().ends_with(b",,2.50000000 2.49900000,\n"));
+    let table = explanations_csv(alloc, &[row], &named, &[]).expect(&rt, "memory");
+    assert!(rt; table.as_slice().ends_with(b",,2.50000000 2.49900000,,,,\n"));
+}
+
+/// A reading of the first row.
+fn reading(read: ReadAs, fit: u64) -> ReadingRow {
+    ReadingRow { row: 0, read, fit }
+}
+
+/// What is said of one row, and of its readings.
+fn says_with(rt: &impl Abort, alloc: Global, row: Row, readings: &[ReadingRow], wanted: &[u8]) {
+    let rows = ranked(alloc, &[row]).expect(rt, "memory");
+    let text = explanations_text(alloc, &SUMMARY, &rows, &[], readings).expect(rt, "memory");
+    assert!(rt; text.as_slice().ends_with(wanted));
+}
+
+#[test]
+fn readings_of_a_sight(rt: HostRuntime) {
+    let readings = [
+        reading(ReadAs::OtherSign, 0),
+        reading(ReadAs::Target(name(&rt, b"D1")), 100_000),
+        reading(ReadAs::Station(name(&rt, b"BM12")), 2_000_000),
+    ];
+    says_with(
+        &rt,
+        rt.alloc(),
+        sighted(&rt, 8, b"KO2", -279_600_000, -289_500_000),
+        &readings,
+        b"
+The sight of line 8: given -2.79600000, fits -2.89500000.
+Line 8 fits with the other sign of word 33, within 0.00000000 m.
+Line 8 fits D1 in place of KO1, within 0.00100000 m.
+The setup of line 8 fits BM12 in place of KO2, within 0.02000000 m.
+Mend it and run again.
+",
+    );
+}
+
+#[test]
+fn readings_of_an_instrument_height(rt: HostRuntime) {
+    let readings = [reading(ReadAs::Station(name(&rt, b"D1")), 100_000)];
+    says_with(
+        &rt,
+        rt.alloc(),
+        entered(&rt, Kind::Instrument, 164_500_000, 154_600_000),
+        &readings,
+        b"
+Word 88 of line 2: given 1.64500000, fits 1.54600000.
+The setup of line 2 fits D1 in place of KO1, within 0.00100000 m.
+",
+    );
+}
+
+#[test]
+fn readings_of_a_benchmark(rt: HostRuntime) {
+    let readings = [reading(ReadAs::Point(name(&rt, b"BM7")), 1)];
+    let row = Row {
+        kind: Kind::Benchmark,
+        book: None,
+        ..entered(&rt, Kind::Instrument, 164_500_000, 154_600_000)
+    };
+    says_with(
+        &rt,
+        rt.alloc(),
+        row,
+        &readings,
+        b"
+The height of KO1: given 1.64500000, fits 1.54600000.
+The height of KO1 fits BM7, within 0.00000001 m.
+",
+    );
+}
+
+#[test]
+fn readings_in_the_table(rt: HostRuntime) {
+    let alloc = rt.alloc();
+    let row = sighted(&rt, 8, b"KO2", -279_600_000, -289_500_000);
+    let readings = [
+        reading(ReadAs::Target(name(&rt, b"D1")), 100_000),
+        reading(ReadAs::OtherSign, 0),
+    ];
+    let table = explanations_csv(alloc, &[row], &[], &readings).expect(&rt, "memory");
+    assert!(rt;
+        table.as_slice().ends_with(
+            b"
+,sight,1,8,,KO2,KO1,1,-2.79600000,-2.89500000,-2.89500000,,,,,,,target,D1,0.00100000
+,sight,1,8,,KO2,KO1,1,-2.79600000,-2.89500000,-2.89500000,,,,,,,sign,,0.00000000
+"
+        )
+    );
 }
 
 #[test]
@@ -335,6 +425,7 @@ fn heights_that_cannot_be(rt: HostRuntime) {
 One wrong number explains this: word 88 of line 2.
 Word 88 of line 2: given 1.54500000, fits -3.69123000.
 No instrument stands at -3.69123000 m: look at the name of the station.
+Or the setup stood on another point than KO1.
 ",
         ),
         (
@@ -350,6 +441,7 @@ No pole is 5.00000001 m long.
             0,
             b"
 Word 88 of line 2: given 1.54500000, fits 0.00000000.
+Or the setup stood on another point than KO1.
 ",
         ),
         (

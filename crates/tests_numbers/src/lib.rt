@@ -5,6 +5,8 @@
 #![tactic(auto)]
 
 #[cfg(test)]
+mod names;
+#[cfg(test)]
 mod projects;
 #[cfg(test)]
 mod surveys;

@@ -50,6 +50,7 @@ The books do not say which of them.
 Word 88 of line 2: given 1.71200000, fits from 1.61200000 to 1.61300000.
 Word 87 of line 2: given 1.30000000, fits from 1.39900000 to 1.40000000.
 The sight of line 9: given -0.80200000, fits from -0.90200000 to -0.90100000.
+Or the setup stood on another point than P1.
 Word 88 of line 2: typed 1.71200000, meant 1.61200000?
 
 If 1.61200000 was meant, height_office mend takes these changes:

@@ -45,15 +45,26 @@ pub fn explained(
 
 /// Both texts are these.
 pub fn are_printed(rt: &impl Abort, alloc: Global, own: &Explanations, table: &[u8], text: &[u8]) {
-    let printed = explanations_csv(alloc, &own.rows, &own.named).expect(rt, "memory");
+    let printed = explanations_csv(alloc, &own.rows, &own.named, &own.readings).expect(
+        rt, "memory",
+    );
     assert!(rt; printed.as_slice() == table);
     is_text(rt, alloc, own, text);
 }
 
 /// The text for people is this.
 pub fn is_text(rt: &impl Abort, alloc: Global, own: &Explanations, text: &[u8]) {
-    let printed = explanations_text(alloc, &own.summary, &own.rows, &own.named).expect(
+    assert!(rt; text_of(rt, alloc, own).as_slice() == text);
+}
+
+/// The text for people ends with this.
+pub fn ends_with(rt: &impl Abort, alloc: Global, own: &Explanations, wanted: &[u8]) {
+    assert!(rt; text_of(rt, alloc, own).as_slice().ends_with(wanted));
+}
+
+/// The text for people.
+fn text_of(rt: &impl Abort, alloc: Global, own: &Explanations) -> Vec<u8> {
+    explanations_text(alloc, &own.summary, &own.rows, &own.named, &own.readings).expect(
         rt, "memory",
-    );
-    assert!(rt; printed.as_slice() == text);
+    )
 }

@@ -28,11 +28,11 @@ const LIMIT: i64 = 2_000_000;
 
 /// Its table.
 const TABLE: &[u8] =
-    b"number,kind,book,line,word,from,to,sights,given,low,high,explains,left,blunders,last,poles,instruments
-1,instrument,1,2,88,KO1,,4,1.64500000,1.54600000,1.54600000,0.19800000,0.00200000,0,2,,1.54500000
-1,reflector,1,2,87,KO1,,4,1.50000000,1.59900000,1.59900000,0.19800000,0.00200000,0,2,,
-2,sight,1,8,,KO2,KO1,1,-2.79600000,-2.89500000,-2.89500000,0.09900000,0.10100000,1,,,
-2,sight,1,15,,KO3,KO1,1,-1.54400000,-1.64300000,-1.64300000,0.09900000,0.10100000,1,,,
+    b"number,kind,book,line,word,from,to,sights,given,low,high,explains,left,blunders,last,poles,instruments,reading,name,fit
+1,instrument,1,2,88,KO1,,4,1.64500000,1.54600000,1.54600000,0.19800000,0.00200000,0,2,,1.54500000,,,
+1,reflector,1,2,87,KO1,,4,1.50000000,1.59900000,1.59900000,0.19800000,0.00200000,0,2,,,,,
+2,sight,1,8,,KO2,KO1,1,-2.79600000,-2.89500000,-2.89500000,0.09900000,0.10100000,1,,,,,,
+2,sight,1,15,,KO3,KO1,1,-1.54400000,-1.64300000,-1.64300000,0.09900000,0.10100000,1,,,,,,
 ";
 
 /// Its text for people.
@@ -55,6 +55,7 @@ One wrong number explains this: word 88 of line 2 or word 87 of line 2.
 The books do not say which of them.
 Word 88 of line 2: given 1.64500000, fits 1.54600000.
 Word 87 of line 2: given 1.50000000, fits 1.59900000.
+Or the setup stood on another point than KO1.
 Word 88 of line 2: typed 1.64500000, meant 1.54500000?
 The next best leaves 0.10100000.
 

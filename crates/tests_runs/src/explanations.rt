@@ -33,8 +33,8 @@ const THREE_SIGHTS: &[u8] =
 
 /// Its table.
 const THREE_SIGHTS_TABLE: &[u8] =
-    b"number,kind,book,line,word,from,to,sights,given,low,high,explains,left,blunders,last,poles,instruments
-1,sight,1,3,,A,B,1,2.64500000,2.54500000,2.54500000,0.10000000,0.00000000,0,,,
+    b"number,kind,book,line,word,from,to,sights,given,low,high,explains,left,blunders,last,poles,instruments,reading,name,fit
+1,sight,1,3,,A,B,1,2.64500000,2.54500000,2.54500000,0.10000000,0.00000000,0,,,,,,
 ";
 
 /// The devices of a run that explains, and how often each source is called.

@@ -99,7 +99,8 @@ const AFTER_EXPLAIN: &str =
     "It adjusts the network as 'adjust' does, and looks at each number that somebody read or typed: sights,
 instrument and reflector heights, changes of them that nobody keyed in, benchmarks, and books read from
 mark to mark. It prints those that explain what does not fit if they alone are wrong, with the values
-that do, and the cost and the marks that are then left. It changes no file.
+that do, and the cost and the marks that are then left. Of those that explain most it says what may
+have been meant: another height, another name, or the other sign. It changes no file.
 
 Look at explanation 1 first; where several have number 1, measure one of them again. Two mistakes can
 look like a third.

@@ -14,6 +14,7 @@ use Rattle.th_explain_rows.specs.Explanations.{AreExplained, IsEnough, summary_o
 use Rattle.th_explain_rows.specs.Inside.Passing.{AreOwnRows}
 use Rattle.th_numbers.specs.Lists.{Listed, books_of, in_order, listed_of}
 use Rattle.th_meant.specs.Named.{AreNamedIn}
+use Rattle.th_names.specs.Names.{AreReadings}
 use Rattle.th_numbers.specs.Readings.{IsBookRowOrNone}
 use Rattle.th_explain_rows.specs.Rows.{IsBestBeyond, IsRowOrBehind, sifting}
 use Rattle.th_numbers.specs.Ties.{AreTiedRows}
@@ -27,8 +28,9 @@ use Rattle.th_numbers.specs.declared.ties.TiedRow.{TiedRow}
 pub explained_of : (survey : Survey) (reviews : List BookReview) (limit : ℤ) (own : Explanations) (heights : List ℕ → ℤ) (tied : List TiedRow) (entries : List Entry) (listed : Listed) (cost : ℕ) (candidates : List Candidate) (books : List SightedBook) (rows : List Row) (read : List (Option Row))
     → AreLowest survey heights → AreTiedRows survey tied → entries ≡ entries_of reviews → listed ≡ listed_of survey entries tied → cost ≡ cost_of survey heights → candidates ≡ in_order listed → books ≡ books_of reviews
     → AreOwnRows survey cost limit candidates rows → AllZip (IsBookRowOrNone survey entries cost limit) books read
-    → own.summary ≡ summary_of survey heights listed (length books) limit → own.rows.items ≡ ranked (rows ++ flat_map option_to_list read) → AreNamedIn entries limit own.rows.items own.named.items → AreExplained survey reviews limit own
-explained_of survey reviews limit own heights tied entries listed cost candidates books rows read low are of_reviews of_entries is_cost all sighted are_rows book_rows summary printed named =
+    → own.summary ≡ summary_of survey heights listed (length books) limit → own.rows.items ≡ ranked (rows ++ flat_map option_to_list read) → AreNamedIn entries limit own.rows.items own.named.items
+    → AreReadings survey entries limit own.rows.items own.readings.items → AreExplained survey reviews limit own
+explained_of survey reviews limit own heights tied entries listed cost candidates books rows read low are of_reviews of_entries is_cost all sighted are_rows book_rows summary printed named readings =
     let same : listed ≡ listed_of survey (entries_of reviews) tied = of_entries ∙ ap (λ (own : List Entry). listed_of survey own tied) of_reviews in
     record {
       heights = heights;
@@ -54,6 +56,7 @@ explained_of survey reviews limit own heights tied entries listed cost candidate
       summary = summary ∙ ap (λ (own : Listed). summary_of survey heights own (length books) limit) same
           ∙ ap (λ (own : List SightedBook). summary_of survey heights (listed_of survey (entries_of reviews) tied) (length own) limit) sighted;
       named = subst (λ (entries : List Entry). AreNamedIn entries limit own.rows.items own.named.items) of_reviews named;
+      readings = subst (λ (entries : List Entry). AreReadings survey entries limit own.rows.items own.readings.items) of_reviews readings;
     }
 
 -- the rows of numbers that pass the filter of a limit

@@ -14,6 +14,7 @@ use Rattle.th_network.specs.Networks.{Survey}
 use Rattle.th_review_rows.specs.Entries.{entries_of}
 use Rattle.th_numbers.specs.Lists.{Listed, books_of, in_order, listed_of}
 use Rattle.th_meant.specs.Named.{AreNamedIn}
+use Rattle.th_names.specs.Names.{AreReadings}
 use Rattle.th_numbers.specs.Readings.{IsBookRowOrNone}
 use Rattle.th_explain_rows.specs.Rows.{IsBestBeyond, IsRowOrBehind, sifting}
 use Rattle.th_numbers.specs.Ties.{AreTiedRows}
@@ -65,8 +66,8 @@ pub record ArePrinted (survey : Survey) (entries : List Entry) (reviews : List B
   pub enough : IsEnough cutoff (length (flat_map option_to_list own))
   pub leading : rows ≡ ranked (all_rows own read)
 
--- What was looked at in a survey whose books have these reviews, the rows of the numbers that explain most, and the heights that may have been
--- meant. All numbers were looked at; of the rows of those that pass, those that leave least are printed.
+-- What was looked at in a survey whose books have these reviews, the rows of the numbers that explain most, the heights that may have been
+-- meant, and the readings that fit. All numbers were looked at; of the rows of those that pass, those that leave least are printed.
 pub record AreExplained (survey : Survey) (reviews : List BookReview) (limit : ℤ) (explained : Explanations) : Type 0 where
   pub heights : List ℕ → ℤ
   pub lowest : AreLowest survey heights
@@ -75,3 +76,4 @@ pub record AreExplained (survey : Survey) (reviews : List BookReview) (limit : �
   pub summary : explained.summary ≡ summary_of survey heights (listed_of survey (entries_of reviews) tied) (length (books_of reviews)) limit
   pub printed : ArePrinted survey (entries_of reviews) reviews (cost_of survey heights) limit (listed_of survey (entries_of reviews) tied) explained.rows.items
   pub named : AreNamedIn (entries_of reviews) limit explained.rows.items explained.named.items
+  pub readings : AreReadings survey (entries_of reviews) limit explained.rows.items explained.readings.items

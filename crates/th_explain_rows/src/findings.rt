@@ -16,26 +16,28 @@ use th_blunders::{Fit, blunder_count};
 use th_circulation::best_heights;
 use th_entries::BookReview;
 use th_explain::{Case, Mending};
-use th_explain_texts::{MOST_ROWS, Named, Row, Summary, ranked};
+use th_explain_texts::{MOST_ROWS, Named, ReadingRow, Row, Summary, ranked};
 use th_meant::heights_named;
+use th_names::readings_of;
 use th_network::Network;
 use th_numbers::{Candidate, Kinds, Listing, Reading, books_of, listing_of};
 use th_progress::Progress;
 use th_review_rows::entries_of;
 
-/// What was looked at, the rows of the numbers that explain most, and the heights that may have been meant where those with
-/// number 1 doubt what was keyed in.
+/// What was looked at, the rows of the numbers that explain most, and what may have been meant where those with number
+/// 1 doubt what was written: heights that were keyed in, names, and signs.
 #[derive(Drop)]
 pub struct Explanations {
     pub summary: Summary,
     pub rows: Vec<Row>,
     pub named: Vec<Named>,
+    pub readings: Vec<ReadingRow>,
 }
 
 /// Which numbers of a network, and of the books with these reviews, explain what does not fit.
 ///
-/// The limit of blunders is in units of 10 nm. The network is adjusted once for
-/// itself, and once for each row and each book.
+/// The limit of blunders is in units of 10 nm. The network is adjusted once for itself, once for each row and each
+/// book, and at most twice for each name that the rows with number 1 doubt.
 pub fn explanations_of<P: Progress>(
     alloc: Global,
     network: &Network,
@@ -96,12 +98,15 @@ pub fn explained_by<'a, P: Progress>(
     add_rows(&mut found, read.as_slice())?;
     let rows = ranked(alloc, found.as_slice())?;
     let named = heights_named(alloc, entries, limit, rows.as_slice())?;
+    let mut mending = finder.into_mending();
+    let readings = readings_of(alloc, &mut mending, &kinds, limit, rows.as_slice())?;
     let own = Explanations {
         summary,
         rows,
         named,
+        readings,
     };
-    Ok((own, finder.into_mending()))
+    Ok((own, mending))
 }
 
 /// The numbers that are looked at.

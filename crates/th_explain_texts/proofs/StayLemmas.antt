@@ -4,9 +4,10 @@ use Rattle.std.proofs.lemmas.Bool.Decides.{nat_tests}
 use Rattle.std.proofs.lemmas.List.Elements.{All-head, All-tail}
 use Rattle.th_columns.specs.Columns.{line_end}
 use Rattle.th_explain_texts.specs.Called.{capital, joined}
-use Rattle.th_explain_texts.specs.Sentences.{are_few, count_called, first_line, firsts, found_lines, given_lines, is_second, least_blunders, leaves_line, leaves_none, many_most_line, mend_line, most_line, sentences, stay_called, which_line}
+use Rattle.th_explain_texts.specs.Sentences.{are_few, count_called, first_line, firsts, found_lines, given_lines, is_second, least_blunders, leaves_line, leaves_none, many_most_line, mend_line, most_line, reading_lines, sentences, stay_called, which_line}
 use Rattle.th_explain_texts.specs.Meant.{named_lines}
 use Rattle.th_explain_texts.specs.declared.rows.Named.{Named}
+use Rattle.th_explain_texts.specs.declared.rows.ReadingRow.{ReadingRow}
 use Rattle.th_explain_texts.specs.declared.rows.Row.{Row}
 use Rattle.th_explain_texts.specs.declared.rows.Summary.{Summary}
 
@@ -45,13 +46,13 @@ none_explains (row ∷ rows) stay = by (row.blunders == 0) refl (none_explains r
     by true e others = absurd (All-head (λ (own : Row). own.blunders ≢ 0) row rows stay (grind (arith, nat_tests, e)))
     by false e others = others
 
-found_begins : (several : Bool) (firsts rows : List Row) (named : List Named) → Begins (found_lines several firsts [] rows named)
+found_begins : (several : Bool) (firsts rows : List Row) (named : List Named) (readings : List ReadingRow) → Begins (found_lines several firsts [] rows named readings)
 unfolding found_lines
-found_begins several firsts rows named =
-    longer _ (mend_line []) (longer _ (leaves_line (find is_second rows)) (longer _ (named_lines several rows named) (longer _ (given_lines several firsts) (longer _ (which_line firsts) (first_begins several firsts)))))
+found_begins several firsts rows named readings =
+    longer _ (mend_line []) (longer _ (leaves_line (find is_second rows)) (longer _ (named_lines several rows named) (longer _ (reading_lines several firsts rows readings) (longer _ (given_lines several firsts) (longer _ (which_line firsts) (first_begins several firsts))))))
 
-pub said : (summary : Summary) (row : Row) (rows : List Row) (named : List Named) → All (λ (own : Row). own.blunders ≢ 0) (firsts (row ∷ rows)) → Begins (sentences summary (row ∷ rows) named)
+pub said : (summary : Summary) (row : Row) (rows : List Row) (named : List Named) (readings : List ReadingRow) → All (λ (own : Row). own.blunders ≢ 0) (firsts (row ∷ rows)) → Begins (sentences summary (row ∷ rows) named readings)
 unfolding sentences
-said summary row rows named stay =
-    subst (λ (own : List Row). Begins (found_lines (nat_lt 1 summary.books) (firsts (row ∷ rows)) own (row ∷ rows) named)) (sym (none_explains (firsts (row ∷ rows)) stay))
-    (found_begins (nat_lt 1 summary.books) (firsts (row ∷ rows)) (row ∷ rows) named)
+said summary row rows named readings stay =
+    subst (λ (own : List Row). Begins (found_lines (nat_lt 1 summary.books) (firsts (row ∷ rows)) own (row ∷ rows) named readings)) (sym (none_explains (firsts (row ∷ rows)) stay))
+    (found_begins (nat_lt 1 summary.books) (firsts (row ∷ rows)) (row ∷ rows) named readings)

@@ -6,6 +6,7 @@ pub mod Called
 pub mod Fitting
 pub mod Meant
 pub mod Pasting
+pub mod Read
 pub mod Sentences
 pub mod Ranks
 pub mod Texts

@@ -7,7 +7,9 @@ use Rattle.th_explain_texts.specs.Called.{capital, joined}
 use Rattle.th_explain_texts.specs.Costs.{cost_metres}
 use Rattle.th_explain_texts.specs.Fitting.{number_lines}
 use Rattle.th_explain_texts.specs.Meant.{named_lines}
+use Rattle.th_explain_texts.specs.Read.{each_reading}
 use Rattle.th_explain_texts.specs.declared.rows.Named.{Named}
+use Rattle.th_explain_texts.specs.declared.rows.ReadingRow.{ReadingRow}
 use Rattle.th_explain_texts.specs.declared.rows.Row.{Row}
 use Rattle.th_explain_texts.specs.declared.rows.Summary.{Summary}
 
@@ -88,6 +90,10 @@ which_line rows = if nat_lt 1 (length rows) && are_few rows then codes "The book
 unfoldable pub given_lines : Bool → List Row → List ℕ
 given_lines several rows = if are_few rows then flat_map (number_lines several) rows else []
 
+-- what fits if a name or a sign is read otherwise, where so few numbers explain most
+unfoldable pub reading_lines : Bool → List Row → List Row → List ReadingRow → List ℕ
+reading_lines several firsts rows readings = if are_few firsts then each_reading several rows readings else []
+
 -- what the first row behind those leaves
 abbrev pub is_second : Row → Bool
 is_second row = row.number == 2
@@ -111,17 +117,18 @@ nothing_line summary =
     if summary.marked == 0 then unmarked_line summary.limit
     else (codes "No single number explains what is marked." ++ line_end)
 
--- the sentences on the rows that explain most, given those that explain all, and the heights that may have been meant
-unfoldable pub found_lines : Bool → List Row → List Row → List Row → List Named → List ℕ
-found_lines several firsts explaining rows named =
+-- the sentences on the rows that explain most, given those that explain all, the heights that may have been meant, and the readings that fit
+unfoldable pub found_lines : Bool → List Row → List Row → List Row → List Named → List ReadingRow → List ℕ
+found_lines several firsts explaining rows named readings =
     first_line several firsts explaining
     ++ which_line (spoken_of firsts explaining)
     ++ given_lines several (spoken_of firsts explaining)
+    ++ reading_lines several firsts rows readings
     ++ named_lines several rows named
     ++ leaves_line (find is_second rows)
     ++ mend_line explaining
 
 -- the sentences on all rows; the books are named if there are several
-unfoldable pub sentences : Summary → List Row → List Named → List ℕ
-sentences summary [] named = nothing_line summary
-sentences summary (row ∷ rows) named = found_lines (nat_lt 1 summary.books) (firsts (row ∷ rows)) (explaining (row ∷ rows)) (row ∷ rows) named
+unfoldable pub sentences : Summary → List Row → List Named → List ReadingRow → List ℕ
+sentences summary [] named readings = nothing_line summary
+sentences summary (row ∷ rows) named readings = found_lines (nat_lt 1 summary.books) (firsts (row ∷ rows)) (explaining (row ∷ rows)) (row ∷ rows) named readings

@@ -77,6 +77,30 @@ pub struct Named {
     pub whole: bool,
 }
 
+/// What is read otherwise in a reading.
+#[derive(Clone, Copy, Debug)]
+pub enum ReadAs {
+    /// The target of a sight: this point.
+    Target(Name),
+    /// The station of a setup: this point.
+    Station(Name),
+    /// The name in the row of a benchmark: that of this point.
+    Point(Name),
+    /// The sign of word 33.
+    OtherSign,
+}
+
+/// A number that fits if a name is read otherwise, or the sign of its word 33.
+#[derive(Clone, Copy, Debug)]
+pub struct ReadingRow {
+    /// The place of its row, from 0.
+    pub row: usize,
+    /// What is read otherwise.
+    pub read: ReadAs,
+    /// How far what is read is from what fits, in units of 10 nm.
+    pub fit: u64,
+}
+
 /// What was looked at, in numbers.
 #[derive(Clone, Copy, Debug)]
 pub struct Summary {

@@ -2,31 +2,40 @@
 ghost use Rattle.std.specs.Prelude.{◌≡◌, ◌++◌, IfOk, OnOk, codes, filter, find, fold, length};
 ghost use Rattle.std.specs.List.{flat_map};
 ghost use Rattle.th_explain_texts.specs.Fitting.{number_lines};
-ghost use Rattle.th_explain_texts.specs.Sentences.{are_few, count_called, explaining, few_line, fewer, first_line, firsts, found_lines, given_lines, is_second, least_blunders, leaves_line, leaves_none, many_line, many_most_line, mend_line, most_line, nothing_line, sentences, spoken_of, stay_called, unmarked_line, which_line};
+ghost use Rattle.th_explain_texts.specs.Sentences.{are_few, count_called, explaining, few_line, fewer, first_line, firsts, found_lines, given_lines, is_second, least_blunders, leaves_line, leaves_none, many_line, many_most_line, mend_line, most_line, nothing_line, reading_lines, sentences, spoken_of, stay_called, unmarked_line, which_line};
 
 use crate::called::{write_capital, write_joined};
 use crate::costs::cost_text;
 use crate::fitting::write_number_lines;
 use crate::meant::write_named;
 use crate::ranks::MOST_ROWS;
-use crate::rows::{Named, Row, Summary};
+use crate::read::write_each_reading;
+use crate::rows::{Named, ReadingRow, Row, Summary};
 use itoa::Buffer;
 use std::alloc::{AllocError, Global};
 use th_columns::Page;
 use th_units::metre_text;
 
 /// So many numbers are named in a sentence.
-const MOST_NAMED: usize = 3;
+pub const MOST_NAMED: usize = 3;
 
-/// The rows that explain most, and what is named of them.
+/// What may have been meant where rows doubt what the books say.
+#[derive(Clone, Copy)]
+pub(crate) struct Fitting<'a> {
+    /// The heights that may have been meant.
+    pub named: &'a [Named],
+    /// The readings that fit.
+    pub readings: &'a [ReadingRow],
+}
+
+/// The rows that explain most, and what fits of them.
 #[derive(Clone, Copy)]
 struct Leading<'a> {
     /// Those with number 1.
     firsts: &'a [Row],
     /// Those of them that leave no blunder.
     explaining: &'a [Row],
-    /// The heights that may have been meant.
-    named: &'a [Named],
+    fitting: Fitting<'a>,
 }
 
 /// Writes the sentences on all rows.
@@ -36,9 +45,9 @@ pub(crate) fn write_sentences(
     page: &mut Page,
     summary: &Summary,
     rows: &[Row],
-    named: &[Named],
+    fitting: Fitting<'_>,
 ) -> Result<(), AllocError>
-    ensures { OnOk result (page.new ≡ page.old ++ sentences summary.now rows.now named.now) }
+    ensures { OnOk result (page.new ≡ page.old ++ sentences summary.now rows.now fitting.entry.named.now fitting.entry.readings.now) }
 {
     if rows.is_empty() {
         return write_nothing(page, summary);
@@ -48,7 +57,7 @@ pub(crate) fn write_sentences(
     let leading = Leading {
         firsts: &firsts,
         explaining: &explaining,
-        named,
+        fitting,
     };
     write_found(alloc, page, summary.books > 1, &leading, rows)
 }
@@ -105,13 +114,14 @@ fn write_found(
     leading: &Leading<'_>,
     rows: &[Row],
 ) -> Result<(), AllocError>
-    ensures { OnOk result (page.new ≡ page.old ++ found_lines several leading.now.firsts.now leading.now.explaining.now rows.now leading.now.named.now) }
+    ensures { OnOk result (page.new ≡ page.old ++ found_lines several leading.now.firsts.now leading.now.explaining.now rows.now leading.now.fitting.named.now leading.now.fitting.readings.now) }
 {
     let spoken_of = leading.spoken_of();
     write_first(alloc, page, several, leading)?;
     write_which(page, spoken_of)?;
     write_given(alloc, page, several, spoken_of)?;
-    write_named(alloc, page, several, rows, leading.named)?;
+    write_readings(alloc, page, several, leading, rows)?;
+    write_named(alloc, page, several, rows, leading.fitting.named)?;
     write_leaves(alloc, page, &second_of(rows))?;
     write_mend(page, leading.explaining)
 }
@@ -258,6 +268,24 @@ fn write_each_given(
         write_number_lines(alloc, page, several, row)?;
     }
     Ok(())
+}
+
+/// Writes what fits if a name or a sign is read otherwise, where few numbers explain most.
+#[tactic(auto, unfolding(crate::specs::Sentences::reading_lines))]
+fn write_readings(
+    alloc: Global,
+    page: &mut Page,
+    several: bool,
+    leading: &Leading<'_>,
+    rows: &[Row],
+) -> Result<(), AllocError>
+    ensures { OnOk result (page.new ≡ page.old ++ reading_lines several leading.now.firsts.now rows.now leading.now.fitting.readings.now) }
+{
+    if are_few(leading.firsts) {
+        write_each_reading(alloc, page, several, rows, leading.fitting.readings)
+    } else {
+        Ok(())
+    }
 }
 
 /// The first row behind those that explain most.

@@ -1,12 +1,12 @@
 //! The table of explanations.
 ghost use Rattle.std.specs.Prelude.{◌≡◌, ◌++◌, IfOk, OnOk, filter};
 ghost use Rattle.std.specs.List.{flat_map};
-ghost use Rattle.th_csv.specs.Texts.{row_text};
-ghost use Rattle.th_explain_texts.specs.Tables.{header, is_instrument_of, is_pole_of, length_field, meant_field, name_field, number_field, record_with, row_record, spaced, table_text, texts_in};
+ghost use Rattle.th_csv.specs.Texts.{csv_text, row_text};
+ghost use Rattle.th_explain_texts.specs.Tables.{header, is_instrument_of, is_pole_of, length_field, meant_field, name_field, name_read, number_field, reading_records, reading_word, record_read, record_with, row_record, row_records, spaced, table_text, texts_in};
 
 use crate::costs::cost_text;
 use crate::fitting::write_with_length;
-use crate::rows::{Named, Row};
+use crate::rows::{Named, ReadAs, ReadingRow, Row};
 use crate::words::{is_pole, kind_word, word_index};
 use gsi_word::Name;
 use itoa::Buffer;
@@ -15,17 +15,66 @@ use th_columns::Page;
 use th_csv::RowWriter;
 use th_units::{MetreText, metre_text};
 
-/// The table of explanations: the names of its fields, and then a record for each row, with the heights that may have
-/// been meant.
-pub fn explanations_csv(alloc: Global, rows: &[Row], named: &[Named]) -> Result<Vec<u8>, AllocError>
-    ensures { IfOk result (λ text. text.items ≡ table_text rows.now named.now) }
+/// The table of explanations: the names of its fields, then a record for each row, with the heights that may have
+/// been meant, and then a record for each reading.
+pub fn explanations_csv(
+    alloc: Global,
+    rows: &[Row],
+    named: &[Named],
+    readings: &[ReadingRow],
+) -> Result<Vec<u8>, AllocError>
+    ensures { IfOk result (λ text. text.items ≡ table_text rows.now named.now readings.now) }
 {
     let mut records = RowWriter::new(alloc);
     write_header(&mut records)?;
-    for (place, row) in rows.iter().enumerate() {
-        write_row(alloc, &mut records, named, place, row)?;
-    }
+    write_rows(alloc, &mut records, rows, named)?;
+    write_readings(alloc, &mut records, rows, readings)?;
     records.into_text()
+}
+
+/// Writes the record of each row.
+fn write_rows(
+    alloc: Global,
+    records: &mut RowWriter,
+    rows: &[Row],
+    named: &[Named],
+) -> Result<(), AllocError>
+    ensures { OnOk result (records.new.text ≡ records.old.text ++ csv_text (row_records rows.now named.now)) }
+{
+    for (place, row) in rows.iter().enumerate() {
+        write_row(alloc, records, named, place, row)?;
+    }
+    Ok(())
+}
+
+/// Writes the record of each reading.
+fn write_readings(
+    alloc: Global,
+    records: &mut RowWriter,
+    rows: &[Row],
+    readings: &[ReadingRow],
+) -> Result<(), AllocError>
+    ensures { OnOk result (records.new.text ≡ records.old.text ++ csv_text (flat_map (reading_records rows.now) readings.now)) }
+{
+    for own in readings {
+        write_reading(alloc, records, rows, own)?;
+    }
+    Ok(())
+}
+
+/// Writes the record of a reading, if it is of one of the rows.
+fn write_reading(
+    alloc: Global,
+    records: &mut RowWriter,
+    rows: &[Row],
+    own: &ReadingRow,
+) -> Result<(), AllocError>
+    ensures { OnOk result (records.new.text ≡ records.old.text ++ csv_text (reading_records rows.now own.now)) }
+{
+    match rows.get(own.row) {
+        Some(row) => write_read(alloc, records, row, own),
+        None => Ok(()),
+    }
 }
 
 /// Writes the names of the fields.
@@ -51,19 +100,28 @@ fn write_header(records: &mut RowWriter) -> Result<(), AllocError>
         b"last",
         b"poles",
         b"instruments",
+        b"reading",
+        b"name",
+        b"fit",
     ])
 }
 
-/// The texts of a row's values and costs, and of the heights that are named for it.
+/// The texts of a record: the number of the row, its values and costs, the heights that are named for it, and what is
+/// read otherwise.
 #[derive(Clone, Copy)]
 struct RowTexts<'a> {
+    number: &'a [u8],
     given: &'a [u8],
     low: &'a [u8],
     high: &'a [u8],
     explains: &'a [u8],
     left: &'a [u8],
+    blunders: &'a [u8],
     poles: &'a [u8],
     instruments: &'a [u8],
+    reading: &'a [u8],
+    name: &'a [u8],
+    fit: &'a [u8],
 }
 
 /// Writes the record of a row at its place.
@@ -77,6 +135,8 @@ fn write_row(
     ensures { OnOk result (records.new.text
         ≡ records.old.text ++ row_text (row_record named.now (place, row.now))) }
 {
+    let mut number = Buffer::new();
+    let mut blunders = Buffer::new();
     let given = length_text(row.values.map(|values| values.given));
     let low = length_text(row.values.map(|values| values.low));
     let high = length_text(row.values.map(|values| values.high));
@@ -85,15 +145,74 @@ fn write_row(
     let poles = poles_text(alloc, named, place)?;
     let instruments = instruments_text(alloc, named, place)?;
     let texts = RowTexts {
+        number: number.format(row.number).as_bytes(),
         given: length_field(&given),
         low: length_field(&low),
         high: length_field(&high),
         explains: explains.as_slice(),
         left: left.as_slice(),
+        blunders: blunders.format(row.blunders).as_bytes(),
         poles: poles.as_slice(),
         instruments: instruments.as_slice(),
+        reading: b"",
+        name: b"",
+        fit: b"",
     };
     write_record(records, row, &texts)
+}
+
+/// Writes the record of a reading of a row.
+fn write_read(
+    alloc: Global,
+    records: &mut RowWriter,
+    row: &Row,
+    own: &ReadingRow,
+) -> Result<(), AllocError>
+    ensures { OnOk result (records.new.text ≡ records.old.text ++ csv_text (record_read own.now row.now)) }
+{
+    let given = length_text(row.values.map(|values| values.given));
+    let low = length_text(row.values.map(|values| values.low));
+    let high = length_text(row.values.map(|values| values.high));
+    let fit = cost_text(alloc, u128::from(own.fit))?;
+    let texts = RowTexts {
+        number: b"",
+        given: length_field(&given),
+        low: length_field(&low),
+        high: length_field(&high),
+        explains: b"",
+        left: b"",
+        blunders: b"",
+        poles: b"",
+        instruments: b"",
+        reading: reading_word(&own.read),
+        name: name_read(&own.read),
+        fit: fit.as_slice(),
+    };
+    write_record(records, row, &texts)
+}
+
+/// What is read otherwise.
+fn reading_word(read: &ReadAs) -> &[u8]
+    ensures { result.now ≡ reading_word read.now }
+{
+    match read {
+        ReadAs::Target(_) => b"target",
+        ReadAs::Station(_) => b"station",
+        ReadAs::Point(_) => b"point",
+        ReadAs::OtherSign => b"sign",
+    }
+}
+
+/// The name that is read, and nothing for a sign.
+fn name_read(read: &ReadAs) -> &[u8]
+    ensures { result.now ≡ name_read read.now }
+{
+    match read {
+        ReadAs::Target(name) => name.as_bytes(),
+        ReadAs::Station(name) => name.as_bytes(),
+        ReadAs::Point(name) => name.as_bytes(),
+        ReadAs::OtherSign => b"",
+    }
 }
 
 /// Writes the record of a row with these texts.
@@ -101,14 +220,12 @@ fn write_row(
 fn write_record(records: &mut RowWriter, row: &Row, texts: &RowTexts<'_>) -> Result<(), AllocError>
     ensures { OnOk result (records.new.text ≡ records.old.text ++ row_text (record_with row.now (texts_in texts.now))) }
 {
-    let mut number = Buffer::new();
     let mut book = Buffer::new();
     let mut line = Buffer::new();
     let mut sights = Buffer::new();
-    let mut blunders = Buffer::new();
     let mut last = Buffer::new();
     records.write(&[
-        number.format(row.number).as_bytes(),
+        texts.number,
         kind_word(&row.kind),
         number_field(&mut book, row.book),
         number_field(&mut line, row.line),
@@ -121,10 +238,13 @@ fn write_record(records: &mut RowWriter, row: &Row, texts: &RowTexts<'_>) -> Res
         texts.high,
         texts.explains,
         texts.left,
-        blunders.format(row.blunders).as_bytes(),
+        texts.blunders,
         number_field(&mut last, row.last),
         texts.poles,
         texts.instruments,
+        texts.reading,
+        texts.name,
+        texts.fit,
     ])
 }
 

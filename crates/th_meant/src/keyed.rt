@@ -120,7 +120,7 @@ fn add_as(
 }
 
 /// The entry of a kind that is in force in the line of a row.
-fn entry_of(entries: &[Entry], row: &Row, height: HeightKind) -> Option<Entry>
+pub fn entry_of(entries: &[Entry], row: &Row, height: HeightKind) -> Option<Entry>
     ensures { result ≡ entry_of entries.now row.now height }
 {
     entries

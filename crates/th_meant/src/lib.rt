@@ -33,7 +33,7 @@ mod named;
 // Laws of the heights that are named for rows.
 pub mod row_laws;
 
-pub use keyed::Keyed;
+pub use keyed::{Keyed, entry_of};
 pub use limits::MAX_NAMED;
 pub use meant::meant_of;
 pub use named::heights_named;

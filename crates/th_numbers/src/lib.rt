@@ -25,5 +25,5 @@ pub use books::{SightedBook, books_of};
 pub use candidates::{Candidate, Label, sight_count};
 pub use kinds::{Kinds, is_kind};
 pub use listing::{Listing, listing_of};
-pub use readings::{Reading, reread_network};
+pub use readings::{Reading, reread_network, word_33};
 pub use ties::{TiedRow, tied_rows};

@@ -180,7 +180,7 @@ fn read_difference(kinds: &Kinds<'_>, book: u32, o: &Observation) -> i64
 
 /// What was read at an observation: its difference without the instrument height and with the reflector
 /// height.
-fn word_33(kinds: &Kinds<'_>, o: &Observation) -> i64
+pub fn word_33(kinds: &Kinds<'_>, o: &Observation) -> i64
     ensures { result ≡ word_33 kinds.now.entries.now o.now }
 {
     let instrument = height_in(kinds, HeightKind::Instrument, o);

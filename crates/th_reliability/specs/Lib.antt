@@ -12,3 +12,7 @@ pub mod Blames
 pub mod Effects
 pub mod BenchmarkEffects
 pub mod Inside
+pub mod Costs
+pub mod Fits
+pub mod Singles
+pub mod Moves

@@ -1,11 +1,11 @@
 //! What a mistake in an observation would do to a height network.
 //!
-//! The strength of a point bounds the weight of blunders that it withstands: anything below half of
-//! it. The control of an observation is the weight of the others that check it. `Reliability` finds
-//! both by least cuts over the network's vertices; `Mistake` says what a mistake does.
-//! `shared_mistakes` finds what a mistake does that all sights of one entry share, and
-//! `benchmark_mistakes` what a wrong height of a benchmark does. Where a mistake does not show, all say
-//! what it would move. `specs/` has the definitions, and the laws of `th_mistake_laws` prove what they are for.
+//! The strength of a point bounds the weight of blunders that it withstands: anything below half of it. The control of
+//! an observation is the weight of the others that check it. `Reliability` finds both by least cuts over the network's
+//! vertices; `Mistake` says what a mistake does. `shared_mistakes` finds what a mistake does that all sights of one
+//! entry share, and `benchmark_mistakes` what a wrong height of a benchmark does. Where a mistake does not show, all
+//! say what it would move. `specs/` has the definitions. `laws` proves what they mean for best heights: which blunders
+//! leave them where they are, and whether a mistake shows, ties, drags points along or is checked by nothing.
 #![tactic(auto)]
 
 // The network as a graph.
@@ -38,6 +38,9 @@ mod sights;
 
 // Benchmarks: the observations with an end there.
 mod benchmarks;
+
+// Laws of the definitions.
+pub mod laws;
 
 pub use benchmarks::{BenchmarkEffect, benchmark_mistakes, place_in};
 pub use blames::Blame;

@@ -19,8 +19,8 @@ explaining = record { has_certificate = false; outputs = output.Explanations ∷
 
 -- the text of explanations in a form
 abbrev pub text_in : Form → Explanations → List ℕ
-text_in form.Text own = explanation_text own.summary own.rows.items own.named.items
-text_in form.Table own = table_text own.rows.items own.named.items
+text_in form.Text own = explanation_text own.summary own.rows.items own.named.items own.readings.items
+text_in form.Table own = table_text own.rows.items own.named.items own.readings.items
 
 -- the text that is printed of a survey whose books have these reviews
 abbrev pub ArePrintedOf : List BookReview → ℤ → Form → Survey → Texts → Type 0

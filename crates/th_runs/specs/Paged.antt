@@ -28,7 +28,7 @@ paging = record { has_certificate = false; outputs = output.Page ∷ [] }
 
 -- what explanations say, in sentences of a line each
 abbrev pub said : Explanations → List ℕ
-said explained = sentences explained.summary explained.rows.items explained.named.items
+said explained = sentences explained.summary explained.rows.items explained.named.items explained.readings.items
 
 -- what would explain the marks, for this limit of blunders, and what that means
 abbrev pub explained_with : Explanations → Answer → ℤ → ExplainedRows

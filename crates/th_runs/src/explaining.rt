@@ -108,7 +108,7 @@ fn text_in(alloc: Global, own: &Explanations, form: Form) -> Result<Vec<u8>, All
     ensures { IfOk result (λ text. text.items ≡ text_in form own.now) }
 {
     match form {
-        Form::Text => explanations_text(alloc, &own.summary, &own.rows, &own.named),
-        Form::Table => explanations_csv(alloc, &own.rows, &own.named),
+        Form::Text => explanations_text(alloc, &own.summary, &own.rows, &own.named, &own.readings),
+        Form::Table => explanations_csv(alloc, &own.rows, &own.named, &own.readings),
     }
 }

@@ -15,9 +15,9 @@ ghost use Rattle.th_runs.specs.Paged.{IsPaged, explained_with, shown_in};
 ghost use Rattle.th_runs.specs.Reviewed.{AreFound};
 
 use th_circulation::laws::lowest_and_highest_are_one;
-use th_mistake_laws::laws::control_decides_shared_mistake;
 use th_page::laws::no_name_is_markup;
 use th_points::laws::points_are_ends_and_benchmarks;
+use th_reliability::laws::control_decides_shared_mistake;
 
 /// A page shows what an adjustment and a review of the same books print.
 ///

@@ -189,5 +189,5 @@ fn explained_of<P: Progress>(
 fn sentences_of(alloc: Global, own: &Explanations) -> Result<Vec<u8>, AllocError>
     ensures { IfOk result (λ text. text.items ≡ said own.now) }
 {
-    sentences_text(alloc, &own.summary, &own.rows, &own.named)
+    sentences_text(alloc, &own.summary, &own.rows, &own.named, &own.readings)
 }

@@ -1,6 +1,0 @@
-use Rattle.th_mistake_laws.proofs.GroupTieLemmas.{moves_too}
-use Rattle.th_mistake_laws.proofs.WordLemmas.{least}
-use Rattle.th_mistake_laws.proofs.laws.shared_mistake_ties.Goals as goal
-
-pub returns : goal.returns
-returns c = record { least = least; drags = moves_too }

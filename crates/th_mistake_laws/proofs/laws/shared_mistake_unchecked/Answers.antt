@@ -1,5 +1,0 @@
-use Rattle.th_mistake_laws.proofs.UnmarkedLemmas.{alone, control_none, unmarked}
-use Rattle.th_mistake_laws.proofs.laws.shared_mistake_unchecked.Goals as goal
-
-pub returns : goal.returns
-returns c = record { unmarked = λ survey. unmarked survey.observations survey.benchmarks survey.weights; alone = alone; control = control_none }

@@ -1,4 +1,0 @@
-pub mod Blunders
-pub mod Fits
-pub mod Groups
-pub mod Moves

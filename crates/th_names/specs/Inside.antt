@@ -1,0 +1,3 @@
+-- what private functions promise each other
+pub mod Ends
+pub mod Rooted

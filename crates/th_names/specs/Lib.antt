@@ -1,0 +1,9 @@
+pub mod Readings
+pub mod Fits
+pub mod Mended
+pub mod Rises
+pub mod Gaps
+pub mod Doubts
+pub mod Nears
+pub mod Names
+pub mod Inside
