@@ -165,7 +165,7 @@ fn add_near(
     ensures { OnOk result (nears.new.items
         ≡ nears.old.items ++ near_at own.now.network.now naming.now own.now.limit located.now) }
 {
-    if naming.may_be(own.network, &located.point) && located.distance <= u128::from(own.limit) {
+    if located.distance <= u128::from(own.limit) && naming.may_be(own.network, &located.point) {
         nears.push(Near {
             read: naming.read_as(located.point),
             fit: located.distance as u64,
