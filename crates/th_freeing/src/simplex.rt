@@ -64,7 +64,7 @@ impl Simplex {
         self.tree.clear();
         self.network.start()?;
         self.network.part(NOTHING, 0)?;
-        self.steep = GROWTH;
+        self.steep = FIRST_STEP;
         for (place, link) in self.network.links().iter().enumerate() {
             *self.given.get_mut(place)? = link.flow;
             self.steep = self
